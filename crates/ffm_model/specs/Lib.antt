@@ -1,0 +1,11 @@
+pub mod Items
+pub mod Keys
+pub mod Counts
+pub mod Scripts
+pub mod WellFormed
+pub mod Parts
+pub mod Actors
+pub mod Memory
+pub mod State
+pub mod Signals
+pub mod Panic

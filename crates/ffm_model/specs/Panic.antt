@@ -1,0 +1,59 @@
+-- What the panic of a partition does.
+use Rattle.std.specs.Prelude.{ℕ, ℤ, ◌==◌, Bool, true, false, not, ◌&&◌, if◌then◌else◌, List, filter, fold, Option, Some, None, option_and_then, slice_set, get_or, ◌++◌}
+use Rattle.std.specs.List.{filter_map}
+use Rattle.std.specs.Option.{option_map}
+use Rattle.ffm_model.specs.declared.constants.TheConstants.{PSA_IPC_DISCONNECT, PSA_ERROR_CONNECTION_REFUSED, PSA_ERROR_COMMUNICATION_FAILURE}
+use Rattle.ffm_model.specs.declared.system.System.{System}
+use Rattle.ffm_model.specs.declared.objects.OpenConnection.{OpenConnection}
+use Rattle.ffm_model.specs.declared.objects.ConnPhase.{ConnPhase}
+use Rattle.ffm_model.specs.declared.objects.ConnPhase.TheVariants.{Opening, Busy, Closing, Dead}
+use Rattle.ffm_model.specs.declared.objects.ActorPhase.{ActorPhase}
+use Rattle.ffm_model.specs.declared.objects.ActorPhase.TheVariants.{Ready, Panicked, Ended}
+use Rattle.ffm_model.specs.declared.objects.PendingMessage.{PendingMessage}
+use Rattle.ffm_model.specs.declared.machine.Outcome.TheVariants.{Value, Done}
+use Rattle.ffm_model.specs.Actors.{is_service_of}
+use Rattle.ffm_model.specs.Memory.{no_vectors}
+use Rattle.ffm_model.specs.State.{SpmState}
+use Rattle.ffm_model.specs.Signals.{is_blocked}
+
+abbrev pub is_dead : ConnPhase → Bool
+is_dead Dead = true
+is_dead _ = false
+
+-- the answer to the client of a lost connection, where it waits for one
+abbrev pub client_answered : ConnPhase → List ActorPhase → ℕ → List ActorPhase
+client_answered Opening phases client = slice_set phases client (Ready (Value PSA_ERROR_CONNECTION_REFUSED))
+client_answered Busy phases client = slice_set phases client (Ready (Value PSA_ERROR_COMMUNICATION_FAILURE))
+client_answered Closing phases client = if is_blocked (get_or phases client Ended) then slice_set phases client (Ready Done) else phases
+client_answered _ phases client = phases
+
+abbrev pub clients_answered : System → ℕ → List OpenConnection → List ActorPhase → List ActorPhase
+clients_answered s p cs phases = fold (λ ps c. if is_service_of s p c.service then client_answered c.phase ps c.client.0 else ps) phases cs
+
+-- a lost connection that was opening or closing is freed, and any other is dead
+abbrev pub lost : ConnPhase → Option ConnPhase
+lost Opening = None
+lost Closing = None
+lost _ = Some Dead
+
+abbrev pub without_service : System → ℕ → OpenConnection → Option OpenConnection
+without_service s p c = if is_service_of s p c.service then option_map (λ f. record c { phase = f }) (lost c.phase) else Some c
+
+-- a dead connection of the partition's own is freed, and any other is closing
+abbrev pub without_client : ℕ → OpenConnection → Option OpenConnection
+without_client p c = if c.client.0 == p then (if is_dead c.phase then None else Some (record c { phase = Closing })) else Some c
+
+-- the message that closes a connection of the partition's own, for which nobody waits
+abbrev pub disconnection : ℕ → OpenConnection → Option PendingMessage
+disconnection p c =
+    if (c.client.0 == p) && not (is_dead c.phase)
+    then Some (record { service = c.service; client = c.client; connection = c.serial; kind = PSA_IPC_DISCONNECT; vectors = no_vectors; handle = None })
+    else None
+
+-- the partition is panicked and the clients of its services are answered; its services are gone, and then it is gone as a client
+abbrev pub panic_effect : System → SpmState → ℕ → SpmState
+panic_effect s b p = record b {
+  phases = clients_answered s p b.connections (slice_set b.phases p Panicked);
+  connections = filter_map (λ c. option_and_then (without_client p) (without_service s p c)) b.connections;
+  messages = filter (λ m. not (is_service_of s p m.service)) b.messages ++ filter_map (λ c. option_and_then (disconnection p) (without_service s p c)) b.connections;
+}

@@ -1,0 +1,25 @@
+-- What a script keeps. It names no `Script`.
+use Rattle.std.specs.Prelude.{ℕ, ◌<◌, ◌≤◌, ◌≡◌, List, length}
+use Rattle.std.specs.List.{AllByRecursion}
+use Rattle.ffm_model.specs.declared.script.Operand.{Operand}
+use Rattle.ffm_model.specs.declared.script.Operand.TheVariants.{Register, Number}
+use Rattle.ffm_model.specs.declared.script.Instruction.{Instruction}
+use Rattle.ffm_model.specs.declared.script.Instruction.TheVariants as line
+
+abbrev pub IsOperand : Operand → Type 0
+IsOperand (Register r) = r < 16
+IsOperand (Number n) = Unit {0}
+
+-- fits a part of so many instructions
+abbrev pub FitsIn : ℕ → Instruction → Type 0
+FitsIn count (line.Change operation register operand) = (register < 16) × IsOperand operand
+FitsIn count (line.Jump target) = target ≤ count
+FitsIn count (line.JumpIf comparison register operand target) = (register < 16) × IsOperand operand × (target ≤ count)
+FitsIn count (line.Make name operands) = AllByRecursion IsOperand operands
+
+abbrev pub IsPart : List Instruction → Type 0
+IsPart instructions = AllByRecursion (FitsIn (length instructions)) instructions
+
+pub record IsScript (parts : List (List Instruction)) : Type 0 where
+  pub count : length parts ≡ 1
+  pub each : AllByRecursion IsPart parts

@@ -1,0 +1,87 @@
+-- When the parts of a system fit each other. It names no `System`, which keeps this fact.
+use Rattle.std.specs.Prelude.{ℕ, zero, suc, ◌+◌, ◌-◌, ◌*◌, ◌^◌, ◌==◌, nat_lt, nat_le, Bool, true, false, not, ◌&&◌, ◌||◌, if◌then◌else◌, List, [], ◌∷◌, ◌++◌, length, Some, None, Option, map, filter, count_by, sum_by, slice_get}
+use Rattle.std.specs.List.{list_any, list_all, enumerate_from, range_with_len}
+use Rattle.std.specs.Option.{option_map_or}
+use Rattle.ffm_model.specs.declared.system.Region.{Region}
+use Rattle.ffm_model.specs.declared.system.Class.{Class}
+use Rattle.ffm_model.specs.declared.system.Class.TheVariants.{Ram, NonSecure, Mmio}
+use Rattle.ffm_model.specs.declared.system.Partition.{Partition}
+use Rattle.ffm_model.specs.declared.system.Service.{Service}
+use Rattle.ffm_model.specs.declared.system.Source.{Source}
+use Rattle.ffm_model.specs.declared.system.Budget.{Budget}
+
+-- each pair of items, the earlier first, passes the test
+abbrev pub each_pair : {T : Type 0} → (T → T → Bool) → List T → Bool
+each_pair p [] = true
+each_pair p (x ∷ xs) = list_all (p x) xs && each_pair p xs
+
+abbrev pub is_ram_in : ℕ → Class → Bool
+is_ram_in domain (Ram d) = d == domain
+is_ram_in domain NonSecure = false
+is_ram_in domain (Mmio owner writable) = false
+
+abbrev pub is_ram : Class → Bool
+is_ram (Ram d) = true
+is_ram NonSecure = false
+is_ram (Mmio owner writable) = false
+
+abbrev pub is_nonsecure : Class → Bool
+is_nonsecure (Ram d) = false
+is_nonsecure NonSecure = true
+is_nonsecure (Mmio owner writable) = false
+
+-- an MMIO region's owner is one of the partitions
+abbrev pub owner_below : ℕ → Class → Bool
+owner_below n (Ram d) = true
+owner_below n NonSecure = true
+owner_below n (Mmio owner writable) = nat_lt owner n
+
+abbrev pub apart : Region → Region → Bool
+apart r q = (r.size == 0) || ((q.size == 0) || (nat_le (r.base + r.size) q.base || nat_le (q.base + q.size) r.base))
+
+abbrev pub partitions_fit : List Partition → List Region → Bool
+partitions_fit partitions regions =
+    list_all (λ p. option_map_or (λ r. is_ram_in p.domain r.class) (slice_get regions p.ram) false) partitions
+    && each_pair (λ p q. not (p.ram == q.ram)) partitions
+    && list_all (λ e. not (is_ram e.1.class) || list_any (λ p. p.ram == e.0) partitions) (enumerate_from 0 regions)
+
+abbrev pub regions_fit : ℕ → List Region → Bool
+regions_fit n regions =
+    (count_by (λ r. is_nonsecure r.class) regions == 1)
+    && list_all (λ r. owner_below n r.class && nat_le r.size 1048576 && nat_le (r.base + r.size) 4294967296) regions
+    && nat_le (sum_by (λ r. r.size) regions) 16777216
+    && each_pair apart regions
+
+-- one bit from 4 to 31
+abbrev pub is_signal_bit : ℕ → Bool
+is_signal_bit w = list_any (λ k. 2 ^ k == w) (range_with_len 4 28)
+
+-- the owner is a partition, and the signal is one bit
+abbrev pub signal_fits : ℕ → ℕ → ℕ → Bool
+signal_fits n owner signal = nat_lt owner n && is_signal_bit signal
+
+abbrev pub signals_fit : ℕ → List Service → List Source → Bool
+signals_fit n services sources =
+    list_all (λ v. signal_fits n v.owner v.signal) services
+    && list_all (λ v. signal_fits n v.owner v.signal) sources
+    && each_pair (λ v w. not ((v.owner == w.owner) && (v.signal == w.signal))) services
+    && each_pair (λ v w. not ((v.owner == w.owner) && (v.signal == w.signal))) sources
+    && list_all (λ v. list_all (λ w. not ((v.owner == w.owner) && (v.signal == w.signal))) sources) services
+
+abbrev pub budget_before : Budget → Budget → Bool
+budget_before b c = nat_lt b.client.0 c.client.0 || ((b.client.0 == c.client.0) && nat_lt b.service c.service)
+
+abbrev pub budgets_fit : ℕ → List Service → List Budget → Bool
+budgets_fit actors services budgets =
+    list_all (λ b. nat_lt b.client.0 actors && option_map_or (λ v. not (v.owner == b.client.0)) (slice_get services b.service) false) budgets
+    && each_pair budget_before budgets
+    && nat_le (sum_by (λ b. b.count) budgets) 256
+
+unfoldable pub is_well_formed : ℕ → List Partition → List Service → List Source → List Region → List (List ℕ) → List Budget → Bool
+is_well_formed level partitions services sources regions clients budgets =
+    (nat_le 1 level && nat_le level 3 && nat_le (length partitions) 32 && nat_le (length clients) 16)
+    && partitions_fit partitions regions
+    && regions_fit (length partitions) regions
+    && signals_fit (length partitions) services sources
+    && each_pair (λ v w. not (v.sid.0 == w.sid.0)) services
+    && budgets_fit (length partitions + length clients) services budgets

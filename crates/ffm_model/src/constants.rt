@@ -1,0 +1,58 @@
+//! The constants of the standard's headers, and the limits of this profile.
+
+/// The version of the framework that `psa_framework_version` answers: 1.0.
+pub const PSA_FRAMEWORK_VERSION: u32 = 0x0100;
+
+/// What `psa_version` answers where there is no such service for the caller.
+pub const PSA_VERSION_NONE: u32 = 0;
+
+/// The handle that no connection has.
+pub const PSA_NULL_HANDLE: i32 = 0;
+
+/// The most input and output vectors of one `psa_call`, together.
+pub const PSA_MAX_IOVEC: u32 = 4;
+
+/// The kind of a message that `psa_call` makes, and of each kind above it.
+pub const PSA_IPC_CALL: i32 = 0;
+
+/// The kind of a message that `psa_connect` makes.
+pub const PSA_IPC_CONNECT: i32 = -1;
+
+/// The kind of a message that `psa_close` or the panic of a client makes.
+pub const PSA_IPC_DISCONNECT: i32 = -2;
+
+/// A connection or a request was accepted.
+pub const PSA_SUCCESS: i32 = 0;
+
+/// A client broke a rule of the API.
+pub const PSA_ERROR_PROGRAMMER_ERROR: i32 = -129;
+
+/// A connection was refused.
+pub const PSA_ERROR_CONNECTION_REFUSED: i32 = -130;
+
+/// The service or the manager has no room for another connection.
+pub const PSA_ERROR_CONNECTION_BUSY: i32 = -131;
+
+/// The service of a connection is gone.
+pub const PSA_ERROR_COMMUNICATION_FAILURE: i32 = -145;
+
+/// The bit of a time-out that makes `psa_wait` wait.
+pub const PSA_BLOCK: u32 = 0x8000_0000;
+
+/// The signal that `psa_notify` asserts.
+pub const PSA_DOORBELL: u32 = 0x0000_0008;
+
+/// The most partitions of a system.
+pub const MAX_PARTITIONS: u32 = 32;
+
+/// The most non-secure clients of a system.
+pub const MAX_CLIENTS: u32 = 16;
+
+/// The most bytes of one region: 1 MiB.
+pub const MAX_REGION_BYTES: u32 = 1_048_576;
+
+/// The most bytes of all regions of a system together: 16 MiB.
+pub const MAX_IMAGE_BYTES: u32 = 16_777_216;
+
+/// The most entries of a run.
+pub const MAX_ENTRIES: u32 = 262_144;

@@ -1,0 +1,207 @@
+//! A system.
+ghost use Rattle.std.specs.Prelude.{IsTrue, length, ◌<◌, ◌≤◌, ◌^◌, ◌≡◌, ◌==◌, position};
+ghost use Rattle.ffm_model.specs.WellFormed.{is_well_formed};
+
+use crate::list::List;
+use crate::machine::{ActorId, Sid};
+use crate::name::Name;
+use crate::well_formed::do_parts_fit;
+
+#[derive(Clone, Copy, Debug, PartialEq, Eq)]
+pub enum ActorKind {
+    Partition,
+    Client,
+    Device,
+}
+
+#[derive(Clone, Copy, Debug, PartialEq, Eq)]
+pub enum RotType {
+    PsaRot,
+    ApplicationRot,
+}
+
+#[derive(Clone, Copy, Debug, PartialEq, Eq)]
+pub enum Priority {
+    Low,
+    Normal,
+    High,
+}
+
+#[derive(Clone, Copy, Debug, PartialEq, Eq)]
+pub enum Policy {
+    Strict,
+    Relaxed,
+}
+
+#[derive(Clone, Copy, Debug, PartialEq, Eq)]
+pub enum Class {
+    Ram { domain: u32 },
+    NonSecure,
+    Mmio { owner: u32, writable: bool },
+}
+
+#[derive(Clone, Copy, Debug, PartialEq, Eq)]
+pub struct Region {
+    pub base: u32,
+    pub size: u32,
+    pub class: Class,
+}
+
+#[derive(Drop)]
+pub struct Partition {
+    pub name: Name,
+    pub rot: RotType,
+    pub priority: Priority,
+    pub domain: u32,
+    pub ram: u32,
+}
+
+#[derive(Drop)]
+pub struct Service {
+    pub name: Name,
+    pub sid: Sid,
+    pub owner: u32,
+    pub nonsecure: bool,
+    pub version: u32,
+    pub policy: Policy,
+    pub signal: u32,
+}
+
+#[derive(Drop)]
+pub struct Source {
+    pub name: Name,
+    pub signal_name: Name,
+    pub owner: u32,
+    pub signal: u32,
+}
+
+#[derive(Clone, Copy, Debug, PartialEq, Eq)]
+pub struct Budget {
+    pub client: ActorId,
+    pub service: u32,
+    pub count: u32,
+}
+
+#[derive(Drop)]
+pub struct System {
+    pub level: u32,
+    pub partitions: List<Partition>,
+    pub services: List<Service>,
+    pub sources: List<Source>,
+    pub regions: List<Region>,
+    pub clients: List<Name>,
+    pub budgets: List<Budget>,
+    pub ghost few_partitions: { length partitions ≤ 32 },
+    pub ghost few_clients: { length clients ≤ 16 },
+    pub ghost services_counted: { length services < 2 ^ 31 },
+    pub ghost well_formed: { IsTrue (is_well_formed level partitions services sources regions clients budgets) },
+}
+
+// The place of the first service with the SID.
+fn place_of(services: &[Service], sid: Sid) -> Option<usize>
+    ensures { result ≡ position (λ v. v.sid.0 == sid.0) services.now }
+{
+    services.iter().position(|v| v.sid.0 == sid.0)
+}
+
+impl System {
+    ghost use Rattle.std.specs.Prelude.{◌≡◌, ◌<◌, ◌^◌, length, is_some, IfSome};
+    ghost use Rattle.ffm_model.specs.WellFormed.{is_well_formed};
+    ghost use Rattle.ffm_model.specs.Parts.{HasParts};
+    ghost use Rattle.ffm_model.specs.Actors.{actor_count, kind_of, client_id_of, service_at, budget_of};
+
+    /// None exactly where the parts don't fit each other.
+    pub fn new(
+        level: u32,
+        partitions: List<Partition>,
+        services: List<Service>,
+        sources: List<Source>,
+        regions: List<Region>,
+        clients: List<Name>,
+        budgets: List<Budget>,
+    ) -> Option<System>
+        requires services { length services < 2 ^ 31 }
+        requires regions { length regions < 2 ^ 31 }
+        requires budgets { length budgets < 2 ^ 31 }
+        ensures exact { is_some result ≡ is_well_formed level partitions services sources regions clients budgets }
+        ensures parts { IfSome result (λ s. HasParts s level partitions services sources regions clients budgets) }
+    {
+        let fits = do_parts_fit(
+            level,
+            partitions.as_slice(),
+            services.as_slice(),
+            sources.as_slice(),
+            regions.as_slice(),
+            clients.as_slice(),
+            budgets.as_slice(),
+        );
+        if !fits {
+            return None;
+        }
+        Some(System {
+            level,
+            partitions,
+            services,
+            sources,
+            regions,
+            clients,
+            budgets,
+        })
+    }
+
+    pub fn actor_count(&self) -> u32
+        ensures { result ≡ actor_count self.now }
+    {
+        let device: u32 = if self.sources.as_slice().is_empty() {
+            0
+        } else {
+            1
+        };
+        self.partitions.len() as u32 + self.clients.len() as u32 + device
+    }
+
+    pub fn actor_kind(&self, actor: ActorId) -> ActorKind
+        requires { actor.0 < actor_count self.now }
+        ensures { result ≡ kind_of self.now actor.0 }
+    {
+        let partitions = self.partitions.len();
+        let at = actor.0 as usize;
+        if at < partitions {
+            ActorKind::Partition
+        } else if at < partitions + self.clients.len() {
+            ActorKind::Client
+        } else {
+            ActorKind::Device
+        }
+    }
+
+    pub fn client_id(&self, actor: ActorId) -> i32
+        requires { actor.0 < actor_count self.now }
+        ensures { result ≡ client_id_of self.now actor.0 }
+    {
+        match self.actor_kind(actor) {
+            ActorKind::Partition => actor.0 as i32 + 1,
+            ActorKind::Client => -1 - (actor.0 - self.partitions.len() as u32) as i32,
+            ActorKind::Device => 0,
+        }
+    }
+
+    pub fn service_at(&self, sid: Sid) -> Option<u32>
+        ensures { result ≡ service_at self.now sid }
+    {
+        match place_of(self.services.as_slice(), sid) {
+            Some(i) => Some(i as u32),
+            None => None,
+        }
+    }
+
+    pub fn budget(&self, actor: ActorId, service: u32) -> Option<u32>
+        ensures { result ≡ budget_of self.now actor.0 service }
+    {
+        self.budgets
+            .as_slice()
+            .iter()
+            .find(|b| b.client == actor && b.service == service)
+            .map(|b| b.count)
+    }
+}
