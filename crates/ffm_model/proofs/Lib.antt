@@ -1,1 +1,3 @@
 pub mod ActorLemmas
+pub mod ReadingLemmas
+pub mod StepLemmas

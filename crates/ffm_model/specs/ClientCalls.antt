@@ -93,7 +93,7 @@ call_on b a c kind v =
 abbrev pub psa_call : System → State → ℕ → Handle → ℤ → ℕ → ℕ → ℕ → ℕ → Option Move
 psa_call s st a h kind in_vec in_len out_vec out_len =
     option_and_then (λ c. option_and_then (λ v. if refuses_requests c.phase || int_lt kind (pos 0) then None else Some (call_on st.spm a c kind v))
-      (vectors_of s st.memory a in_vec in_len out_vec out_len)) (connection_held st.spm a h)
+    (vectors_of s st.memory a in_vec in_len out_vec out_len)) (connection_held st.spm a h)
 
 -- ---- psa_close()
 

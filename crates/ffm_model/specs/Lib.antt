@@ -9,3 +9,14 @@ pub mod Memory
 pub mod State
 pub mod Signals
 pub mod Panic
+pub mod ClientCalls
+pub mod ServiceCalls
+pub mod Accesses
+pub mod Calls
+pub mod Step
+pub mod Verdicts
+pub mod Reach
+pub mod Names
+pub mod Reading
+pub mod Records
+pub mod Passes

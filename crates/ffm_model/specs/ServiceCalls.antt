@@ -130,7 +130,7 @@ write_of st h index buffer len m =
 abbrev pub psa_write : System → State → ℕ → Handle → ℕ → ℕ → ℕ → Option Effect
 psa_write s st a h index buffer len =
     option_and_then (λ m. if valid_buffer s a buffer len && nat_le len (rest_of (output_at m index)) then Some (write_of st h index buffer len m) else None)
-      (request_held s st.spm a h index)
+    (request_held s st.spm a h index)
 
 -- ---- psa_reply()
 
@@ -167,3 +167,75 @@ answered s b m status =
     if int_eq m.kind PSA_IPC_CONNECT
     then connect_answered b m status
     else (if int_lt m.kind PSA_IPC_CALL then close_answered b m else request_answered s b m status)
+
+-- the message is gone, and its client is answered
+abbrev pub replied : System → SpmState → Handle → ℤ → PendingMessage → SpmState
+replied s b h status m = answered s (without_message b h) m status
+
+-- a partition whose request was answered with PROGRAMMER ERROR panics in the same event
+abbrev pub owes_panic : System → PendingMessage → ℤ → Bool
+owes_panic s m status = int_le PSA_IPC_CALL m.kind && (int_eq status PSA_ERROR_PROGRAMMER_ERROR && is_partition (kind_of s m.client.0))
+
+-- the given output vectors of a request
+abbrev pub outputs_given : PendingMessage → List Span
+outputs_given m = take m.vectors.out_len m.vectors.output
+
+abbrev pub reply_of : System → State → Handle → ℤ → PendingMessage → Effect
+reply_of s st h status m =
+    let b = replied s st.spm h status m in
+    effect Done (record st {
+      spm = if owes_panic s m status then panic_effect s b m.client.0 else b;
+      memory = if int_lt m.kind PSA_IPC_CALL then st.memory else lengths_written st.memory m.vectors.out_vec (outputs_given m);
+    })
+
+-- the message that may be answered so: a PROGRAMMER ERROR where the handle is no message's of the partition, or the status is none for psa_connect
+abbrev pub reply_to : System → SpmState → ℕ → Handle → ℤ → Option PendingMessage
+reply_to s b a h status = option_and_then (λ m. if int_eq m.kind PSA_IPC_CONNECT && not (is_connect_status status) then None else Some m) (message_held s b a h)
+
+abbrev pub psa_reply : System → State → ℕ → Handle → ℤ → Option Effect
+psa_reply s st a h status = option_map (reply_of s st h status) (reply_to s st.spm a h status)
+
+-- what a reply leaves before any panic, and the partition that then has to panic
+pub record Answered : Type 0 where
+  pub spm : SpmState
+  pub owing : Option ℕ
+
+abbrev pub reply_on : System → SpmState → ℕ → Handle → ℤ → Option Answered
+reply_on s b a h status =
+    option_map (λ m. record { spm = replied s b h status m; owing = if owes_panic s m status then Some m.client.0 else None }) (reply_to s b a h status)
+
+-- ---- psa_notify() and psa_clear()
+
+-- the place of the partition with an ID
+abbrev pub place_of_id : ℤ → ℕ
+place_of_id (pos n) = n - 1
+place_of_id (negsuc n) = 0
+
+abbrev pub with_doorbell : SpmState → ℕ → Bool → SpmState
+with_doorbell b p set = record b { doorbells = slice_set b.doorbells p set }
+
+-- a PROGRAMMER ERROR where no partition has the ID
+abbrev pub psa_notify : System → SpmState → ℤ → Option Move
+psa_notify s b id = if int_le (pos 1) id && int_le id (pos (length s.partitions)) then Some (move Done (with_doorbell b (place_of_id id) true)) else None
+
+-- a PROGRAMMER ERROR where the doorbell isn't asserted
+abbrev pub psa_clear : SpmState → ℕ → Option Move
+psa_clear b a = if get_or b.doorbells a false then Some (move Done (with_doorbell b a false)) else None
+
+-- ---- psa_eoi(), and the interrupts that it ends
+
+-- the interrupt source of the partition that has the signal
+abbrev pub source_of_signal : System → ℕ → ℕ → Option ℕ
+source_of_signal s a signal = position (λ v. (v.owner == a) && (v.signal == signal)) s.sources
+
+-- an enabled source that is pending asserts its signal as soon as that is clear
+abbrev pub forwarded : SourceFlags → SourceFlags
+forwarded f = if f.enabled && (f.pending && not f.asserted) then record f { pending = false; asserted = true } else f
+
+abbrev pub with_flags : SpmState → ℕ → SourceFlags → SpmState
+with_flags b i f = record b { sources = slice_set b.sources i f }
+
+-- a PROGRAMMER ERROR where it isn't the asserted signal of one of the partition's sources
+abbrev pub psa_eoi : System → SpmState → ℕ → ℕ → Option Move
+psa_eoi s b a signal =
+    option_and_then (λ i. if (flags_at b i).asserted then Some (move Done (with_flags b i (forwarded (record (flags_at b i) { asserted = false })))) else None) (source_of_signal s a signal)

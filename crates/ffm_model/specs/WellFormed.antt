@@ -1,4 +1,5 @@
 -- When the parts of a system fit each other. It names no `System`, which keeps this fact.
+-- Source: FF-M 1.0, manifests and isolation levels; the limits are this profile's.
 use Rattle.std.specs.Prelude.{ℕ, zero, suc, ◌+◌, ◌-◌, ◌*◌, ◌^◌, ◌==◌, nat_lt, nat_le, Bool, true, false, not, ◌&&◌, ◌||◌, if◌then◌else◌, List, [], ◌∷◌, ◌++◌, length, Some, None, Option, map, filter, count_by, sum_by, slice_get}
 use Rattle.std.specs.List.{list_any, list_all, enumerate_from, range_with_len}
 use Rattle.std.specs.Option.{option_map_or}
@@ -17,24 +18,20 @@ each_pair p (x ∷ xs) = list_all (p x) xs && each_pair p xs
 
 abbrev pub is_ram_in : ℕ → Class → Bool
 is_ram_in domain (Ram d) = d == domain
-is_ram_in domain NonSecure = false
-is_ram_in domain (Mmio owner writable) = false
+is_ram_in domain _ = false
 
 abbrev pub is_ram : Class → Bool
 is_ram (Ram d) = true
-is_ram NonSecure = false
-is_ram (Mmio owner writable) = false
+is_ram _ = false
 
 abbrev pub is_nonsecure : Class → Bool
-is_nonsecure (Ram d) = false
 is_nonsecure NonSecure = true
-is_nonsecure (Mmio owner writable) = false
+is_nonsecure _ = false
 
 -- an MMIO region's owner is one of the partitions
 abbrev pub owner_below : ℕ → Class → Bool
-owner_below n (Ram d) = true
-owner_below n NonSecure = true
 owner_below n (Mmio owner writable) = nat_lt owner n
+owner_below n _ = true
 
 abbrev pub apart : Region → Region → Bool
 apart r q = (r.size == 0) || ((q.size == 0) || (nat_le (r.base + r.size) q.base || nat_le (q.base + q.size) r.base))

@@ -17,7 +17,7 @@ mod system;
 mod trace;
 mod well_formed;
 
-pub use api::{Gate, OpenGate};
+pub use api::{Api, Gate, OpenGate};
 pub use codes::{
     BAD_VALUE, BUDGET_WITHOUT_PERMISSION, DEPENDENCY_CYCLE, DUPLICATE_IRQ_SOURCE,
     DUPLICATE_PARTITION, DUPLICATE_SERVICE, DUPLICATE_SID, FILE_TOO_LONG, JSON, MEMORY_TOO_LARGE,
@@ -42,7 +42,7 @@ pub use name::Name;
 pub use objects::{
     ActorPhase, ConnPhase, OpenConnection, PendingMessage, SourceFlags, Span, Vectors,
 };
-pub use place::{PartRefusal, PathStep, Place, ReadError, Refusal, Root};
+pub use place::{PartRefusal, PartsError, PathStep, Place, ReadError, Refusal, Root};
 pub use scenario::{Bytes, Lines, Scenario};
 pub use script::{CallName, Comparison, Instruction, Operand, Operation, Part, Script};
 pub use system::{

@@ -54,8 +54,19 @@ pub enum ReadError {
     Memory,
 }
 
+/// Why a system file, or a file that it names, wasn't read.
+#[derive(Debug, Drop, Error)]
+pub enum PartsError {
+    #[error("a file is refused")]
+    Refused(Refusal),
+    #[error("a file can't be read")]
+    ReadFault,
+    #[error("no memory was found")]
+    Memory,
+}
+
 impl From<AllocError> for Memory {
-    ghost from_gives = { λ _ e. e ≡ record { } };
+    ghost from_gives = { λ _ e. e ≡ record {} };
 
     fn from(_e: AllocError) -> Memory {
         Memory
@@ -63,7 +74,7 @@ impl From<AllocError> for Memory {
 }
 
 impl<T: Drop> From<AllocFailed<T>> for Memory {
-    ghost from_gives = { λ _ e. e ≡ record { } };
+    ghost from_gives = { λ _ e. e ≡ record {} };
 
     fn from(_e: AllocFailed<T>) -> Memory {
         Memory
@@ -97,5 +108,48 @@ impl From<Memory> for ReadError {
 
     fn from(_e: Memory) -> ReadError {
         ReadError::Memory
+    }
+}
+
+impl From<ReadError> for PartsError {
+    ghost use Rattle.ffm_model.specs.Reading.{parts_error_of};
+
+    ghost from_gives = { λ r e. e ≡ parts_error_of r };
+
+    fn from(e: ReadError) -> PartsError {
+        match e {
+            ReadError::Refused(refusal) => PartsError::Refused(refusal),
+            ReadError::Memory => PartsError::Memory,
+        }
+    }
+}
+
+impl From<AllocError> for PartsError {
+    ghost use Rattle.ffm_model.specs.declared.place.PartsError.TheVariants as parts_error;
+
+    ghost from_gives = { λ _ e. e ≡ parts_error.Memory };
+
+    fn from(_e: AllocError) -> PartsError {
+        PartsError::Memory
+    }
+}
+
+impl<T: Drop> From<AllocFailed<T>> for PartsError {
+    ghost use Rattle.ffm_model.specs.declared.place.PartsError.TheVariants as parts_error;
+
+    ghost from_gives = { λ _ e. e ≡ parts_error.Memory };
+
+    fn from(_e: AllocFailed<T>) -> PartsError {
+        PartsError::Memory
+    }
+}
+
+impl From<Memory> for PartsError {
+    ghost use Rattle.ffm_model.specs.declared.place.PartsError.TheVariants as parts_error;
+
+    ghost from_gives = { λ _ e. e ≡ parts_error.Memory };
+
+    fn from(_e: Memory) -> PartsError {
+        PartsError::Memory
     }
 }

@@ -10,7 +10,10 @@ use crate::system::{Budget, Class, Partition, Region, Service, Source};
 fn are_apart(a: &Region, b: &Region) -> bool
     ensures { result ≡ apart a.now b.now }
 {
-    a.size == 0 || (b.size == 0 || (a.base as u64 + a.size as u64 <= b.base as u64 || b.base as u64 + b.size as u64 <= a.base as u64))
+    a.size == 0
+        || (b.size == 0
+            || (a.base as u64 + a.size as u64 <= b.base as u64
+                || b.base as u64 + b.size as u64 <= a.base as u64))
 }
 
 fn are_all_apart_from(region: &Region, rest: &[Region]) -> bool
