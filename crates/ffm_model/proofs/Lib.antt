@@ -1,3 +1,4 @@
 pub mod ActorLemmas
+pub mod PartsLemmas
 pub mod ReadingLemmas
 pub mod StepLemmas

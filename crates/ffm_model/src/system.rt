@@ -1,5 +1,5 @@
 //! A system.
-ghost use Rattle.std.specs.Prelude.{IsTrue, length, ◌<◌, ◌≤◌, ◌^◌, ◌≡◌, ◌==◌, position};
+ghost use Rattle.std.specs.Prelude.{IsTrue, length, nat_lt, ◌^◌, ◌≡◌, ◌==◌, position};
 ghost use Rattle.ffm_model.specs.WellFormed.{is_well_formed};
 
 use crate::list::List;
@@ -91,9 +91,7 @@ pub struct System {
     pub regions: List<Region>,
     pub clients: List<Name>,
     pub budgets: List<Budget>,
-    pub ghost few_partitions: { length partitions ≤ 32 },
-    pub ghost few_clients: { length clients ≤ 16 },
-    pub ghost services_counted: { length services < 2 ^ 31 },
+    pub ghost services_counted: { IsTrue (nat_lt (length services) (2 ^ 31)) },
     pub ghost well_formed: { IsTrue (is_well_formed level partitions services sources regions clients budgets) },
 }
 
@@ -107,10 +105,11 @@ fn place_of(services: &[Service], sid: Sid) -> Option<usize>
 impl System {
     ghost use Rattle.std.specs.Prelude.{◌≡◌, ◌<◌, ◌^◌, length, is_some, IfSome};
     ghost use Rattle.ffm_model.specs.WellFormed.{is_well_formed};
-    ghost use Rattle.ffm_model.specs.Parts.{HasParts};
+    ghost use Rattle.ffm_model.specs.Parts.{SystemParts, system_from, parts_of_system};
     ghost use Rattle.ffm_model.specs.Actors.{actor_count, kind_of, client_id_of, service_at, budget_of};
 
     /// None exactly where the parts don't fit each other.
+    #[tactic(auto, using(crate::proofs::PartsLemmas::system_of_parts, crate::proofs::PartsLemmas::no_system_of_parts))]
     pub fn new(
         level: u32,
         partitions: List<Partition>,
@@ -124,7 +123,7 @@ impl System {
         requires regions { length regions < 2 ^ 31 }
         requires budgets { length budgets < 2 ^ 31 }
         ensures exact { is_some result ≡ is_well_formed level partitions services sources regions clients budgets }
-        ensures parts { IfSome result (λ s. HasParts s level partitions services sources regions clients budgets) }
+        ensures made { result ≡ system_from (record { level = level; partitions = partitions; services = services; sources = sources; regions = regions; clients = clients; budgets = budgets }) }
     {
         let fits = do_parts_fit(
             level,
@@ -149,6 +148,7 @@ impl System {
         })
     }
 
+    #[tactic(auto, using(crate::proofs::ActorLemmas::few_partitions, crate::proofs::ActorLemmas::few_clients))]
     pub fn actor_count(&self) -> u32
         ensures { result ≡ actor_count self.now }
     {
@@ -160,6 +160,7 @@ impl System {
         self.partitions.len() as u32 + self.clients.len() as u32 + device
     }
 
+    #[tactic(auto, using(crate::proofs::ActorLemmas::few_partitions, crate::proofs::ActorLemmas::few_clients))]
     pub fn actor_kind(&self, actor: ActorId) -> ActorKind
         requires { actor.0 < actor_count self.now }
         ensures { result ≡ kind_of self.now actor.0 }
@@ -175,6 +176,7 @@ impl System {
         }
     }
 
+    #[tactic(auto, using(crate::proofs::ActorLemmas::few_partitions, crate::proofs::ActorLemmas::few_clients))]
     pub fn client_id(&self, actor: ActorId) -> i32
         requires { actor.0 < actor_count self.now }
         ensures { result ≡ client_id_of self.now actor.0 }
