@@ -2,3 +2,4 @@ pub mod ActorLemmas
 pub mod PartsLemmas
 pub mod ReadingLemmas
 pub mod StepLemmas
+pub mod RunLemmas

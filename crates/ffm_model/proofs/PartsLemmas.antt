@@ -1,6 +1,6 @@
 -- A system is the one that its parts make.
-use Rattle.std.proofs.Common.{ℕ, ◌≡◌, ◌<◌, ◌^◌, length, Bool, true, false, refl, ap, ◌∙◌, sym, subst, arith}
-use Rattle.std.specs.Prelude.{Option, Some, None, nat_lt}
+use Rattle.std.proofs.Common.{◌≡◌, Bool, true, false, refl, ap, ◌∙◌, sym}
+use Rattle.std.specs.Prelude.{Some, None}
 use Rattle.std.proofs.Math.Bool.{Bool-set}
 use Rattle.ffm_model.specs.declared.system.System.{System}
 use Rattle.ffm_model.specs.Parts.{SystemParts, are_numbered, do_fit, system_by, system_from, parts_of_system}

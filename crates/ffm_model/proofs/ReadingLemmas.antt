@@ -37,16 +37,9 @@ ended seen view last parts_error.Memory names gives f h = tt
 pub after_err : {X W Y Z : Type 0} (seen : W → Y) (view : X → Z) (last : Option (Option (List ℕ))) (t : PartsError) (first : Reading Y) (f : Y → Reading Z) → Gives seen last (Err t) first → Gives view last (Err t) (first >>= f)
 after_err seen view last t first f h = ended seen view last t first.names first.gives f h
 
--- the end at the second of two steps, over what the files tell
-pub ends_second : {X Y Z : Type 0} (view : X → Z) (held mid : Option Contents) (last : Option (Option (List ℕ))) (t : PartsError) (r : Result X PartsError) (first : Contents → Reading Y) (second : Contents → Y → Reading Z) (y : Y)
-    → r ≡ Err t → mid ≡ held → IfSome held (λ of. (first of).gives ≡ Ok y) → IfSome mid (λ of. Gives view last (Err t) (second of y))
-    → IfSome held (λ of. Gives view last r (first of >>= second of))
-ends_second view None mid last t r first second y is_err same one two = tt
-ends_second view (Some of) mid last t r first second y is_err same one two =
-    rw is_err (after_ok view last (Err t) (first of) (second of) y one (subst (λ (o : Option Contents). IfSome o (λ at. Gives view last (Err t) (second at y))) same two))
-
--- the end at a first step, over what the files tell
-pub ends_first : {X W Y Z : Type 0} (seen : W → Y) (view : X → Z) (held : Option Contents) (last : Option (Option (List ℕ))) (t : PartsError) (first : Contents → Reading Y) (second : Contents → Y → Reading Z)
-    → IfSome held (λ of. Gives seen last (Err t) (first of)) → IfSome held (λ of. Gives view last (Err t) (first of >>= second of))
-ends_first seen view None last t first second h = tt
-ends_first seen view (Some of) last t first second h = after_err seen view last t (first of) (second of) h
+-- the second of two steps decides, over what the files tell
+pub goes_second : {X Y Z : Type 0} (view : X → Z) (held mid : Option Contents) (last : Option (Option (List ℕ))) (r : Result X PartsError) (first : Contents → Reading Y) (second : Contents → Y → Reading Z) (y : Y)
+    → mid ≡ held → IfSome held (λ of. (first of).gives ≡ Ok y) → IfSome mid (λ of. Gives view last r (second of y)) → IfSome held (λ of. Gives view last r (first of >>= second of))
+goes_second view None mid last r first second y same one two = tt
+goes_second view (Some of) mid last r first second y same one two =
+    after_ok view last r (first of) (second of) y one (subst (λ (o : Option Contents). IfSome o (λ at. Gives view last r (second at y))) same two)

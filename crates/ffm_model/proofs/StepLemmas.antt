@@ -1,10 +1,8 @@
 -- Laws of steps and runs, for the crates above.
-use Rattle.std.proofs.Common.{ℕ, ◌≡◌, ◌<◌, ◌+◌, Bool, true, false, ◌&&◌, ◌||◌, not, List, [], ◌∷◌, ◌++◌, length, refl, ap, sym, ◌∙◌, arith, ℤ, eq-eqb, zero-add}
-use Rattle.std.specs.Prelude.{Option, Some, None, option_and_then, nat_lt, ◌==◌, get_or, fold, if◌then◌else◌, is_some, IsSome}
-use Rattle.std.specs.Option.{option_map, option_map_or}
+use Rattle.std.proofs.Common.{ℕ, ◌≡◌, ◌<◌, Bool, true, ◌&&◌, List, [], ◌∷◌, ◌++◌, length, refl, ap, sym, ◌∙◌, ℤ, eq-eqb, zero-add}
+use Rattle.std.specs.Prelude.{Some, None, option_and_then, ◌==◌, get_or, fold, if◌then◌else◌}
 use Rattle.std.specs.Ordering.{int_eq}
 use Rattle.std.specs.Str.{bytes_eq}
-use Rattle.std.specs.List.{list_any, range_with_len}
 use Rattle.std.proofs.lemmas.List.Folds.{list_any_at}
 use Rattle.std.proofs.lemmas.List.FromFn.{length-range_with_len, get_or-range_with_len}
 use Rattle.std.proofs.lemmas.Bool.Decides.{Decides-int_eq}
@@ -18,13 +16,13 @@ use Rattle.ffm_model.specs.declared.machine.Outcome.{Outcome}
 use Rattle.ffm_model.specs.declared.machine.Outcome.TheVariants.{Value, Number, Signals, Got, Blocked, Done, Panicked}
 use Rattle.ffm_model.specs.Actors.{actor_count, kind_of}
 use Rattle.ffm_model.specs.Memory.{ByteMap}
-use Rattle.ffm_model.specs.State.{SpmState, State, opening, handle_eq}
+use Rattle.ffm_model.specs.State.{SpmState, State, opening}
 use Rattle.ffm_model.specs.Signals.{enabled}
 use Rattle.ffm_model.specs.ClientCalls.{Effect, effect}
 use Rattle.ffm_model.specs.Calls.{case_of, has_call, client_has, call_case, effect_of, effect_or_error, error_effect, refusal_of}
 use Rattle.ffm_model.specs.Step.{step, step_on, after, outcome_eq, message_eq, may_call, handle_allowed, handle_shown}
 use Rattle.ffm_model.specs.Verdicts.{some_enabled, all_actors}
-use Rattle.ffm_model.specs.Names.{NamedState, NamesSoFar, named_step, named_step_on, named_after, first_named, names_after, shows_name}
+use Rattle.ffm_model.specs.Names.{named_step, named_step_on, named_after, first_named}
 
 -- a fold over one item more
 pub fold-push : {A B : Type 0} (f : B → A → B) (b : B) (xs : List A) (x : A) → fold f b (xs ++ x ∷ []) ≡ f (fold f b xs) x
@@ -78,28 +76,6 @@ taken a b due o st h k q = rw (h, k, q, outcome_eq-self due) refl
 pub step-fits : (s : System) (st : State) (e : Entry) → Fits s st e → step s st e ≡ Some (effect_of s st e.actor.0 e.call (handle_shown e.outcome)).state
 unfolding step
 step-fits s st e f = taken _ _ _ _ _ f.may f.allowed f.outcome
-
--- an actor that is enabled shows that some actor is
-pub some_enabled-at : (s : System) (b : SpmState) (a : ℕ) → a < actor_count s → enabled s b a ≡ true → some_enabled s b ≡ true
-some_enabled-at s b a below h =
-    let here : get_or (all_actors s) a 0 ≡ a = get_or-range_with_len 0 (actor_count s) a 0 below ∙ zero-add a in
-    let inside : a < length (all_actors s) = rw (length-range_with_len 0 (actor_count s)) below in
-    let found : enabled s b (get_or (all_actors s) a 0) ≡ true = ap (enabled s b) here ∙ h in
-    list_any_at (enabled s b) (all_actors s) a 0 inside found
-
--- the definition of a call that the actor's kind has is its effect
-pub effect-right : (s : System) (st : State) (a : ℕ) (c : Call) (h : Handle) (e : Effect) → has_call (kind_of s a) c ≡ true → call_case s st a c h ≡ Some e → effect_of s st a c h ≡ e
-effect-right s st a c h e has case_is =
-    let due : case_of s st a c h ≡ Some e = rw has case_is in
-    ap (λ o. effect_or_error o (kind_of s a) s st a c) due
-
--- a client's PROGRAMMER ERROR is refused
-pub effect-refused : (s : System) (st : State) (a : ℕ) (c : Call) (h : Handle) → kind_of s a ≡ Client → client_has c ≡ true → call_case s st a c h ≡ None
-    → effect_of s st a c h ≡ effect (refusal_of c) st
-effect-refused s st a c h kind has none =
-    let has : has_call (kind_of s a) c ≡ true = ap (λ k. has_call k c) kind ∙ has in
-    let due : case_of s st a c h ≡ None = rw has none in
-    ap (λ o. effect_or_error o (kind_of s a) s st a c) due ∙ ap (λ k. error_effect k s st a c) kind
 
 -- an entry with the outcome of the effect is a step
 pub step-effect : (s : System) (st new : State) (a : ℕ) (c : Call) (o : Outcome)

@@ -1,6 +1,6 @@
 -- What the simulator adds to the two headers: loads and stores of an actor, and the interrupts that the device raises.
 -- Source: FF-M 1.0, isolation and interrupts of partitions. Nothing where it is a PROGRAMMER ERROR.
-use Rattle.std.specs.Prelude.{ℕ, ◌==◌, nat_lt, Bool, true, false, ◌&&◌, ◌||◌, if◌then◌else◌, Some, None, Option, length}
+use Rattle.std.specs.Prelude.{ℕ, ◌==◌, nat_lt, Bool, true, ◌&&◌, ◌||◌, if◌then◌else◌, Some, None, Option, length}
 use Rattle.ffm_model.specs.declared.system.System.{System}
 use Rattle.ffm_model.specs.declared.machine.Outcome.TheVariants.{Number, Done}
 use Rattle.ffm_model.specs.Memory.{load_number, store_number, may_read, may_write}

@@ -1,9 +1,8 @@
 -- Who the actors of a system are, which services they may use, and which versions of a service are accepted.
 -- Source: FF-M 1.0, client IDs and RoT Service access (`psa/client.h`, `psa_connect` and `psa_version`; the manifest's `dependencies`, `non_secure_clients`, `version_policy`).
-use Rattle.std.specs.Prelude.{ℕ, ℤ, pos, negsuc, ◌+◌, ◌-◌, ◌==◌, nat_lt, nat_le, Bool, true, false, ◌&&◌, if◌then◌else◌, List, [], ◌∷◌, length, Some, None, Option, position, find, is_some, slice_get}
+use Rattle.std.specs.Prelude.{ℕ, ℤ, pos, negsuc, ◌+◌, ◌-◌, ◌==◌, nat_lt, nat_le, Bool, true, false, ◌&&◌, if◌then◌else◌, List, [], ◌∷◌, length, Option, position, find, is_some, slice_get}
 use Rattle.std.specs.Option.{option_map, option_map_or}
 use Rattle.ffm_model.specs.declared.system.System.{System}
-use Rattle.ffm_model.specs.declared.system.Service.{Service}
 use Rattle.ffm_model.specs.declared.system.Source.{Source}
 use Rattle.ffm_model.specs.declared.system.Policy.{Policy}
 use Rattle.ffm_model.specs.declared.system.Policy.TheVariants.{Strict, Relaxed}

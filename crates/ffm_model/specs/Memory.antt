@@ -1,6 +1,6 @@
 -- Memory: bytes by address, which ranges an actor may name, and the vectors of a request.
 -- Source: FF-M 1.0, memory isolation of partitions, and `psa/client.h`, psa_invec, psa_outvec and psa_call.
-use Rattle.std.specs.Prelude.{ℕ, zero, suc, ◌+◌, ◌-◌, ◌*◌, ◌/◌, ◌%◌, ◌==◌, nat_lt, nat_le, min, Bool, true, false, ◌&&◌, ◌||◌, if◌then◌else◌, List, [], ◌∷◌, ◌++◌, length, take, fold, slice_index, slice_get, Some, None, Option, replicate}
+use Rattle.std.specs.Prelude.{ℕ, zero, suc, ◌+◌, ◌-◌, ◌*◌, ◌/◌, ◌%◌, ◌==◌, nat_lt, nat_le, min, Bool, false, ◌&&◌, ◌||◌, if◌then◌else◌, List, [], ◌∷◌, ◌++◌, length, take, fold, slice_index, slice_get, Some, None, Option, replicate}
 use Rattle.std.specs.List.{list_any, list_all}
 use Rattle.std.specs.Option.{option_map_or}
 use Rattle.ffm_model.specs.declared.constants.TheConstants.{PSA_MAX_IOVEC}

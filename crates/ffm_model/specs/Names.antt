@@ -1,7 +1,7 @@
 -- The numbers that handles show: the slot of a connection or message, and how often that slot was used.
 -- Source: this profile's choice of handles; the standard leaves psa_handle_t open.
 -- A slot's index is the least one that is free; its generation is one more than the number of earlier uses.
-use Rattle.std.specs.Prelude.{ℕ, ℤ, pos, zero, suc, ◌+◌, ◌-◌, ◌*◌, ◌==◌, nat_lt, Bool, true, false, not, ◌&&◌, ◌||◌, if◌then◌else◌, List, [], ◌∷◌, ◌++◌, length, Some, None, Option, map, find, position, get_or, count_by, sum_by, option_and_then, fold, is_some}
+use Rattle.std.specs.Prelude.{ℕ, pos, zero, suc, ◌+◌, ◌-◌, ◌*◌, ◌==◌, nat_lt, Bool, true, not, ◌&&◌, ◌||◌, if◌then◌else◌, List, [], ◌∷◌, ◌++◌, length, Some, None, Option, map, find, position, get_or, count_by, sum_by, option_and_then, fold, is_some}
 use Rattle.std.specs.List.{list_any, range_with_len}
 use Rattle.std.specs.Option.{option_map, option_map_or, unwrap_or}
 use Rattle.std.specs.Ordering.{int_eq}

@@ -1,6 +1,6 @@
 -- What the panic of a partition does to everyone else.
 -- Source: FF-M 1.0, PROGRAMMER ERROR of a partition; `psa/service.h`, psa_panic. What becomes of its clients is this profile's choice.
-use Rattle.std.specs.Prelude.{ℕ, ℤ, ◌==◌, Bool, true, false, not, ◌&&◌, if◌then◌else◌, List, filter, fold, Option, Some, None, option_and_then, slice_set, get_or, ◌++◌}
+use Rattle.std.specs.Prelude.{ℕ, ◌==◌, Bool, true, false, not, ◌&&◌, if◌then◌else◌, List, filter, fold, Option, Some, None, option_and_then, slice_set, get_or, ◌++◌}
 use Rattle.std.specs.List.{filter_map}
 use Rattle.std.specs.Option.{option_map}
 use Rattle.ffm_model.specs.declared.constants.TheConstants.{PSA_IPC_DISCONNECT, PSA_ERROR_CONNECTION_REFUSED, PSA_ERROR_COMMUNICATION_FAILURE}

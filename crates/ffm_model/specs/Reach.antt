@@ -8,7 +8,7 @@ use Rattle.ffm_model.specs.declared.system.Region.{Region}
 use Rattle.ffm_model.specs.declared.objects.Span.{Span}
 use Rattle.ffm_model.specs.declared.objects.PendingMessage.{PendingMessage}
 use Rattle.ffm_model.specs.Actors.{is_service_of}
-use Rattle.ffm_model.specs.Memory.{ByteMap, is_ram_of, is_mmio_of, is_writable_mmio_of}
+use Rattle.ffm_model.specs.Memory.{is_ram_of, is_mmio_of, is_writable_mmio_of}
 use Rattle.ffm_model.specs.State.{SpmState, State}
 
 abbrev pub covers : Region → ℕ → Bool

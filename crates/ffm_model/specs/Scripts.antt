@@ -1,4 +1,5 @@
--- What a script keeps. It names no `Script`.
+-- What a script keeps: registers below 16, and targets inside its part. It names no `Script`.
+-- Source: this simulator's script language.
 use Rattle.std.specs.Prelude.{ℕ, ◌<◌, ◌≤◌, ◌≡◌, List, length}
 use Rattle.std.specs.List.{AllByRecursion}
 use Rattle.ffm_model.specs.declared.script.Operand.{Operand}

@@ -19,7 +19,7 @@ use Rattle.ffm_model.specs.Memory.{copy_bytes, valid_buffer, no_span, lengths_wr
 use Rattle.ffm_model.specs.State.{SpmState, State, phase_of, with_phase, message_held, connection_by_serial, with_connection_phase, without_connection, without_message, with_vectors, with_rhandle, delivered, is_undelivered, flags_at}
 use Rattle.ffm_model.specs.Signals.{signals_of, assigned_to, has_signal_of, is_blocked}
 use Rattle.ffm_model.specs.Panic.{panic_effect}
-use Rattle.ffm_model.specs.ClientCalls.{Move, Effect, move, effect, in_state}
+use Rattle.ffm_model.specs.ClientCalls.{Move, Effect, move, effect}
 
 -- ---- psa_wait()
 

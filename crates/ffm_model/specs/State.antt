@@ -1,7 +1,7 @@
 -- The state of the machine: connections, messages, what each actor does, doorbells, interrupts, memory.
 -- Source: FF-M 1.0, IPC model: a connection from psa_connect to psa_close, a message from its making to psa_reply.
 -- There is no slot, queue or stored signal here; those belong to a manager, not to the machine.
-use Rattle.std.specs.Prelude.{ℕ, ℤ, pos, ◌+◌, ◌==◌, int_le, Bool, true, false, not, ◌&&◌, if◌then◌else◌, List, [], ◌∷◌, ◌++◌, length, Some, None, Option, map, replicate, filter, find, count_by, slice_set, is_none, get_or}
+use Rattle.std.specs.Prelude.{ℕ, ℤ, pos, ◌==◌, int_le, Bool, true, false, not, ◌&&◌, if◌then◌else◌, List, [], ◌∷◌, ◌++◌, length, Some, None, Option, map, replicate, filter, find, count_by, slice_set, is_none, get_or}
 use Rattle.std.specs.List.{list_any}
 use Rattle.std.specs.Option.{option_map_or}
 use Rattle.std.specs.Ordering.{int_eq}

@@ -1,6 +1,6 @@
 -- Steps and runs: which entries may follow which.
 -- Source: this simulator's reading of FF-M 1.0: one entry is one API call, memory access, interrupt, stop or return of one actor.
-use Rattle.std.specs.Prelude.{ℕ, pos, ◌==◌, nat_lt, Bool, true, false, not, ◌&&◌, ◌||◌, if◌then◌else◌, List, [], ◌∷◌, Some, None, Option, option_and_then, fold, IsSome}
+use Rattle.std.specs.Prelude.{ℕ, pos, ◌==◌, nat_lt, Bool, true, false, not, ◌&&◌, ◌||◌, if◌then◌else◌, List, Some, None, Option, option_and_then, fold, IsSome}
 use Rattle.std.specs.Str.{bytes_eq}
 use Rattle.std.specs.Ordering.{int_eq}
 use Rattle.ffm_model.specs.declared.system.System.{System}

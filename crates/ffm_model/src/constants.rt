@@ -12,7 +12,7 @@ pub const PSA_NULL_HANDLE: i32 = 0;
 /// The most input and output vectors of one `psa_call`, together.
 pub const PSA_MAX_IOVEC: u32 = 4;
 
-/// The kind of a message that `psa_call` makes, and of each kind above it.
+/// The least kind of a request. `psa_call` makes messages of this kind and of those above it.
 pub const PSA_IPC_CALL: i32 = 0;
 
 /// The kind of a message that `psa_connect` makes.
@@ -53,6 +53,9 @@ pub const MAX_REGION_BYTES: u32 = 1_048_576;
 
 /// The most bytes of all regions of a system together: 16 MiB.
 pub const MAX_IMAGE_BYTES: u32 = 16_777_216;
+
+/// The most bytes of a file that isn't a trace: 1 MiB.
+pub const MAX_FILE_BYTES: u32 = 1_048_576;
 
 /// The most entries of a run.
 pub const MAX_ENTRIES: u32 = 262_144;

@@ -8,44 +8,123 @@ mod constants;
 mod key;
 mod list;
 mod machine;
+mod manifest;
 mod name;
 mod objects;
+mod parts;
 mod place;
 mod scenario;
 mod script;
+mod script_item;
 mod system;
 mod trace;
 mod well_formed;
 
-pub use api::{Api, Gate, OpenGate};
-pub use codes::{
-    BAD_VALUE, BUDGET_WITHOUT_PERMISSION, DEPENDENCY_CYCLE, DUPLICATE_IRQ_SOURCE,
-    DUPLICATE_PARTITION, DUPLICATE_SERVICE, DUPLICATE_SID, FILE_TOO_LONG, JSON, MEMORY_TOO_LARGE,
-    MISSING_ATTRIBUTE, REGION_OVERLAP, REGION_UNKNOWN, SCRIPT_SYNTAX, SELF_DEPENDENCY,
-    TOO_MANY_CONNECTIONS, TOO_MANY_PARTITIONS, TOO_MANY_SIGNALS, TRACE_SYNTAX, UNKNOWN_ACTOR,
-    UNKNOWN_DEPENDENCY, WRONG_TYPE,
-};
-pub use constants::{
-    MAX_CLIENTS, MAX_ENTRIES, MAX_IMAGE_BYTES, MAX_PARTITIONS, MAX_REGION_BYTES, PSA_BLOCK,
-    PSA_DOORBELL, PSA_ERROR_COMMUNICATION_FAILURE, PSA_ERROR_CONNECTION_BUSY,
-    PSA_ERROR_CONNECTION_REFUSED, PSA_ERROR_PROGRAMMER_ERROR, PSA_FRAMEWORK_VERSION, PSA_IPC_CALL,
-    PSA_IPC_CONNECT, PSA_IPC_DISCONNECT, PSA_MAX_IOVEC, PSA_NULL_HANDLE, PSA_SUCCESS,
-    PSA_VERSION_NONE,
-};
+pub use api::Api;
+pub use api::Gate;
+pub use api::OpenGate;
+pub use codes::BAD_VALUE;
+pub use codes::BUDGET_WITHOUT_PERMISSION;
+pub use codes::DEPENDENCY_CYCLE;
+pub use codes::DUPLICATE_IRQ_SOURCE;
+pub use codes::DUPLICATE_PARTITION;
+pub use codes::DUPLICATE_SERVICE;
+pub use codes::DUPLICATE_SID;
+pub use codes::FILE_TOO_LONG;
+pub use codes::JSON;
+pub use codes::MEMORY_TOO_LARGE;
+pub use codes::MISSING_ATTRIBUTE;
+pub use codes::REGION_OVERLAP;
+pub use codes::REGION_UNKNOWN;
+pub use codes::SCRIPT_SYNTAX;
+pub use codes::SELF_DEPENDENCY;
+pub use codes::TOO_MANY_CONNECTIONS;
+pub use codes::TOO_MANY_PARTITIONS;
+pub use codes::TOO_MANY_SIGNALS;
+pub use codes::TRACE_SYNTAX;
+pub use codes::UNKNOWN_ACTOR;
+pub use codes::UNKNOWN_DEPENDENCY;
+pub use codes::WRONG_TYPE;
+pub use constants::MAX_CLIENTS;
+pub use constants::MAX_ENTRIES;
+pub use constants::MAX_FILE_BYTES;
+pub use constants::MAX_IMAGE_BYTES;
+pub use constants::MAX_PARTITIONS;
+pub use constants::MAX_REGION_BYTES;
+pub use constants::PSA_BLOCK;
+pub use constants::PSA_DOORBELL;
+pub use constants::PSA_ERROR_COMMUNICATION_FAILURE;
+pub use constants::PSA_ERROR_CONNECTION_BUSY;
+pub use constants::PSA_ERROR_CONNECTION_REFUSED;
+pub use constants::PSA_ERROR_PROGRAMMER_ERROR;
+pub use constants::PSA_FRAMEWORK_VERSION;
+pub use constants::PSA_IPC_CALL;
+pub use constants::PSA_IPC_CONNECT;
+pub use constants::PSA_IPC_DISCONNECT;
+pub use constants::PSA_MAX_IOVEC;
+pub use constants::PSA_NULL_HANDLE;
+pub use constants::PSA_SUCCESS;
+pub use constants::PSA_VERSION_NONE;
 pub use key::Key;
 pub use list::List;
-pub use machine::{
-    ActorId, Answer, Call, Entry, Fault, Handle, Memory, Message, Outcome, Phase, Sid, Status,
-    Verdict,
-};
+pub use machine::ActorId;
+pub use machine::Answer;
+pub use machine::Call;
+pub use machine::Entry;
+pub use machine::Fault;
+pub use machine::Handle;
+pub use machine::Memory;
+pub use machine::Message;
+pub use machine::Outcome;
+pub use machine::Phase;
+pub use machine::Sid;
+pub use machine::Status;
+pub use machine::Verdict;
+pub use manifest::IrqItem;
+pub use manifest::Location;
+pub use manifest::Manifest;
+pub use manifest::MmioItem;
+pub use manifest::ServiceItem;
 pub use name::Name;
-pub use objects::{
-    ActorPhase, ConnPhase, OpenConnection, PendingMessage, SourceFlags, Span, Vectors,
-};
-pub use place::{PartRefusal, PartsError, PathStep, Place, ReadError, Refusal, Root};
-pub use scenario::{Bytes, Lines, Scenario};
-pub use script::{CallName, Comparison, Instruction, Operand, Operation, Part, Script};
-pub use system::{
-    ActorKind, Budget, Class, Partition, Policy, Priority, Region, RotType, Service, Source, System,
-};
-pub use trace::{Counts, Trace};
+pub use objects::ActorPhase;
+pub use objects::ConnPhase;
+pub use objects::OpenConnection;
+pub use objects::PendingMessage;
+pub use objects::SourceFlags;
+pub use objects::Span;
+pub use objects::Vectors;
+pub use parts::ConnectionItem;
+pub use parts::Parts;
+pub use parts::RegionItem;
+pub use place::PartRefusal;
+pub use place::PartsError;
+pub use place::PathStep;
+pub use place::Place;
+pub use place::ReadError;
+pub use place::Refusal;
+pub use place::Root;
+pub use scenario::Bytes;
+pub use scenario::Lines;
+pub use scenario::Scenario;
+pub use script::CallName;
+pub use script::Comparison;
+pub use script::Head;
+pub use script::Instruction;
+pub use script::Operand;
+pub use script::Operation;
+pub use script::Part;
+pub use script::Script;
+pub use script_item::ScriptItem;
+pub use system::ActorKind;
+pub use system::Budget;
+pub use system::Class;
+pub use system::Partition;
+pub use system::Policy;
+pub use system::Priority;
+pub use system::Region;
+pub use system::RotType;
+pub use system::Service;
+pub use system::Source;
+pub use system::System;
+pub use trace::Counts;
+pub use trace::Trace;

@@ -18,9 +18,8 @@ impl<T> Model for List<T> {
 }
 
 impl<T> List<T> {
-    ghost use Rattle.std.specs.Borrow.{Lends, sem, Array};
-    ghost use Rattle.ffm_model.specs.contracts.list.List.{the_row};
-    ghost use Rattle.ffm_model.specs.Items.{overwritten};
+    ghost use Rattle.std.specs.Borrow.{sem};
+    ghost use Rattle.ffm_model.specs.Lending.{LendsItems};
 
     /// The list of these items. It takes no memory.
     pub fn of(items: Vec<T>) -> List<T>
@@ -38,7 +37,7 @@ impl<T> List<T> {
 
     /// The items, lent to be changed in their places. Their number stays.
     pub fn as_mut_slice(&mut self) -> &mut [T]
-        ensures* lent { sem 𝓛 (Lends (the_row T.row) (Array T.row 0) self.entry result (λ w. overwritten self.entry.now w)) }
+        ensures* lent { sem 𝓛 (LendsItems T.row self.entry result) }
         ensures value { result.now ≡ self.old }
     {
         self.items.as_mut_slice()

@@ -24,7 +24,7 @@ pub struct Fault;
 #[derive(Clone, Copy, Debug, PartialEq, Eq)]
 pub struct Memory;
 
-/// What `psa_get` tells of a message: `psa_msg_t` without the sizes' unused places.
+/// What `psa_get` tells of a message: the fields of `psa_msg_t`.
 #[derive(Clone, Copy, Debug, PartialEq, Eq)]
 pub struct Message {
     pub kind: i32,

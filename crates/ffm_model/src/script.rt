@@ -1,6 +1,8 @@
 //! Scripts: the small programs of partitions and clients.
 
 use crate::list::List;
+use crate::machine::Memory;
+use std::alloc::Global;
 use std::marker::Model;
 
 /// A register, or a number that stands for itself.
@@ -52,6 +54,15 @@ pub enum CallName {
     Store,
     Raise,
     Stop,
+}
+
+/// What the first word of a line asks for; a call with the number of its operands.
+#[derive(Clone, Copy, Debug, PartialEq, Eq)]
+pub enum Head {
+    Change(Operation),
+    Jump,
+    JumpIf(Comparison),
+    Make(CallName, usize),
 }
 
 /// One instruction. A target is the place of an instruction of the same part, or their number.
@@ -110,4 +121,34 @@ impl Model for Script {
     ghost view = { λ s. s.parts };
 
     ghost invariant = { λ s. IsScript s.parts };
+}
+
+impl Script {
+    ghost use Rattle.std.specs.Prelude.{◌≡◌, [], ◌∷◌, IfOk};
+    ghost use Rattle.ffm_model.specs.Scripts.{IsPart};
+    ghost use Rattle.ffm_model.specs.ScriptRuns.{only_part};
+
+    /// The script of one part with these instructions. Err where no memory was found.
+    pub fn plain(alloc: Global, instructions: Vec<Instruction>) -> Result<Script, Memory>
+        requires { IsPart instructions.items }
+        ensures { IfOk result (λ s. s ≡ instructions.items ∷ []) }
+    {
+        let mut parts = Vec::new(alloc);
+        parts.push(Part {
+            instructions: List::of(instructions),
+        })?;
+        Ok(Script {
+            parts: List::of(parts),
+        })
+    }
+
+    /// The instructions of its part, lent.
+    pub fn instructions(&self) -> &[Instruction]
+        ensures part { result.now ≡ only_part self.now }
+        ensures fits { IsPart result.now }
+    {
+        let parts = self.parts.as_slice();
+        let part = &parts[0];
+        part.instructions.as_slice()
+    }
 }

@@ -5,8 +5,10 @@ ghost use Rattle.ffm_model.specs.WellFormed.{is_well_formed};
 use crate::list::List;
 use crate::machine::{ActorId, Sid};
 use crate::name::Name;
+use crate::trace::Counts;
 use crate::well_formed::do_parts_fit;
 
+/// What an actor is.
 #[derive(Clone, Copy, Debug, PartialEq, Eq)]
 pub enum ActorKind {
     Partition,
@@ -14,12 +16,14 @@ pub enum ActorKind {
     Device,
 }
 
+/// The manifest's `type`: part of the PSA Root of Trust, or an application's Root of Trust.
 #[derive(Clone, Copy, Debug, PartialEq, Eq)]
 pub enum RotType {
     PsaRot,
     ApplicationRot,
 }
 
+/// The manifest's `priority`, which has no effect here.
 #[derive(Clone, Copy, Debug, PartialEq, Eq)]
 pub enum Priority {
     Low,
@@ -27,12 +31,15 @@ pub enum Priority {
     High,
 }
 
+/// A service's `version_policy`.
 #[derive(Clone, Copy, Debug, PartialEq, Eq)]
 pub enum Policy {
     Strict,
     Relaxed,
 }
 
+/// What a region of memory is: RAM of a domain's partitions, the RAM of all non-secure clients, or
+/// the registers of a device, which belong to one partition.
 #[derive(Clone, Copy, Debug, PartialEq, Eq)]
 pub enum Class {
     Ram { domain: u32 },
@@ -40,6 +47,7 @@ pub enum Class {
     Mmio { owner: u32, writable: bool },
 }
 
+/// A region of memory: `size` bytes from `base` on.
 #[derive(Clone, Copy, Debug, PartialEq, Eq)]
 pub struct Region {
     pub base: u32,
@@ -47,6 +55,7 @@ pub struct Region {
     pub class: Class,
 }
 
+/// A Secure Partition. `ram` is the place of its RAM among the system's regions.
 #[derive(Drop)]
 pub struct Partition {
     pub name: Name,
@@ -56,6 +65,7 @@ pub struct Partition {
     pub ram: u32,
 }
 
+/// An RoT Service. `owner` is its partition's place, and `signal` its bit in that partition's signals.
 #[derive(Drop)]
 pub struct Service {
     pub name: Name,
@@ -67,6 +77,8 @@ pub struct Service {
     pub signal: u32,
 }
 
+/// An interrupt source. `owner` is its partition's place, and `signal` its bit in that partition's
+/// signals.
 #[derive(Drop)]
 pub struct Source {
     pub name: Name,
@@ -75,6 +87,7 @@ pub struct Source {
     pub signal: u32,
 }
 
+/// How many connections a client may have to a service. `service` is the service's place.
 #[derive(Clone, Copy, Debug, PartialEq, Eq)]
 pub struct Budget {
     pub client: ActorId,
@@ -82,6 +95,10 @@ pub struct Budget {
     pub count: u32,
 }
 
+/// A system whose parts fit each other: an isolation level from 1 to 3, at most 32 partitions and 16
+/// non-secure clients, services and interrupt sources with signals of their own, regions that share no
+/// byte, and one budget for each client that may use a service, in actor order and then in service
+/// order.
 #[derive(Drop)]
 pub struct System {
     pub level: u32,
@@ -106,9 +123,10 @@ impl System {
     ghost use Rattle.std.specs.Prelude.{◌≡◌, ◌<◌, ◌^◌, length, is_some, IfSome};
     ghost use Rattle.ffm_model.specs.WellFormed.{is_well_formed};
     ghost use Rattle.ffm_model.specs.Parts.{SystemParts, system_from, parts_of_system};
-    ghost use Rattle.ffm_model.specs.Actors.{actor_count, kind_of, client_id_of, service_at, budget_of};
+    ghost use Rattle.ffm_model.specs.Actors.{actor_count, counts_of, kind_of, client_id_of, service_at, budget_of};
 
-    /// None exactly where the parts don't fit each other.
+    /// The system of these parts. None exactly where they don't fit each other. The services, the
+    /// regions and the budgets are each fewer than 2^31.
     #[tactic(auto, using(crate::proofs::PartsLemmas::system_of_parts, crate::proofs::PartsLemmas::no_system_of_parts))]
     pub fn new(
         level: u32,
@@ -148,6 +166,20 @@ impl System {
         })
     }
 
+    /// How many actors of each kind there are.
+    #[tactic(auto, using(crate::proofs::ActorLemmas::few_partitions, crate::proofs::ActorLemmas::few_clients))]
+    pub fn counts(&self) -> Counts
+        ensures { result ≡ counts_of self.now }
+    {
+        Counts {
+            partitions: self.partitions.len() as u32,
+            clients: self.clients.len() as u32,
+            device: !self.sources.is_empty(),
+        }
+    }
+
+    /// The number of actors: partitions, then non-secure clients, then the device where there is an
+    /// interrupt source. At most 49.
     #[tactic(auto, using(crate::proofs::ActorLemmas::few_partitions, crate::proofs::ActorLemmas::few_clients))]
     pub fn actor_count(&self) -> u32
         ensures { result ≡ actor_count self.now }
@@ -160,6 +192,7 @@ impl System {
         self.partitions.len() as u32 + self.clients.len() as u32 + device
     }
 
+    /// What the actor is. The actor has to be one of the system's.
     #[tactic(auto, using(crate::proofs::ActorLemmas::few_partitions, crate::proofs::ActorLemmas::few_clients))]
     pub fn actor_kind(&self, actor: ActorId) -> ActorKind
         requires { actor.0 < actor_count self.now }
@@ -176,6 +209,8 @@ impl System {
         }
     }
 
+    /// The actor's client ID: a partition's place plus one, -k for the k-th non-secure client, 0 for
+    /// the device. The actor has to be one of the system's.
     #[tactic(auto, using(crate::proofs::ActorLemmas::few_partitions, crate::proofs::ActorLemmas::few_clients))]
     pub fn client_id(&self, actor: ActorId) -> i32
         requires { actor.0 < actor_count self.now }
@@ -188,6 +223,7 @@ impl System {
         }
     }
 
+    /// The place of the service with a SID. None exactly where no service has it.
     pub fn service_at(&self, sid: Sid) -> Option<u32>
         ensures { result ≡ service_at self.now sid }
     {
@@ -197,6 +233,8 @@ impl System {
         }
     }
 
+    /// How many connections an actor may have to a service. None exactly where it may not use the
+    /// service.
     pub fn budget(&self, actor: ActorId, service: u32) -> Option<u32>
         ensures { result ≡ budget_of self.now actor.0 service }
     {

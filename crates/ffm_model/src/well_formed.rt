@@ -37,7 +37,7 @@ fn is_non_secure(region: &Region) -> bool
     matches!(region.class, Class::NonSecure)
 }
 
-fn is_region_small(region: &Region, partitions: usize) -> bool
+fn is_region_right(region: &Region, partitions: usize) -> bool
     ensures { result ≡ owner_below partitions region.now.class && nat_le region.now.size 1048576 && nat_le (region.now.base + region.now.size) 4294967296 }
 {
     let owned = match region.class {
@@ -60,18 +60,19 @@ fn total_size(regions: &[Region]) -> u64
     regions.iter().map(|r| r.size as u64).sum()
 }
 
-fn are_small(regions: &[Region], partitions: usize) -> bool
+fn are_regions_right(regions: &[Region], partitions: usize) -> bool
     ensures { result ≡ list_all (λ r. owner_below partitions r.class && nat_le r.size 1048576 && nat_le (r.base + r.size) 4294967296) regions.now }
 {
-    regions.iter().all(|r| is_region_small(r, partitions))
+    regions.iter().all(|r| is_region_right(r, partitions))
 }
 
-pub fn do_regions_fit(partitions: usize, regions: &[Region]) -> bool
+/// Whether the regions lie apart, within the limits, with one non-secure RAM.
+pub(crate) fn do_regions_fit(partitions: usize, regions: &[Region]) -> bool
     requires { length regions.now < 2 ^ 31 }
     ensures { result ≡ regions_fit partitions regions.now }
 {
     non_secure_count(regions) == 1
-        && are_small(regions, partitions)
+        && are_regions_right(regions, partitions)
         && total_size(regions) <= 16777216
         && all_apart(regions)
 }
@@ -120,7 +121,8 @@ fn are_right(budgets: &[Budget], actors: usize, services: &[Service]) -> bool
     budgets.iter().all(|b| is_budget_right(b, actors, services))
 }
 
-pub fn do_budgets_fit(actors: usize, services: &[Service], budgets: &[Budget]) -> bool
+/// Whether each budget is of an actor for a service of another, in order, and they are few enough.
+pub(crate) fn do_budgets_fit(actors: usize, services: &[Service], budgets: &[Budget]) -> bool
     requires { length budgets.now < 2 ^ 31 }
     ensures { result ≡ budgets_fit actors services.now budgets.now }
 {
@@ -181,7 +183,8 @@ fn is_each_ram_owned(regions: &[Region], partitions: &[Partition]) -> bool
         .all(|(i, r)| is_ram_owned(r, i, partitions))
 }
 
-pub fn do_partitions_fit(partitions: &[Partition], regions: &[Region]) -> bool
+/// Whether each partition has a RAM of its own in its domain.
+pub(crate) fn do_partitions_fit(partitions: &[Partition], regions: &[Region]) -> bool
     ensures { result ≡ partitions_fit partitions.now regions.now }
 {
     all_have_their_ram(partitions, regions)
@@ -195,7 +198,8 @@ fn has_own_sid(service: &Service, rest: &[Service]) -> bool
     rest.iter().all(|w| service.sid.0 != w.sid.0)
 }
 
-pub fn have_own_sids(services: &[Service]) -> bool
+/// Whether no two services have one SID.
+pub(crate) fn have_own_sids(services: &[Service]) -> bool
     ensures { result ≡ each_pair (λ v w. not (v.sid.0 == w.sid.0)) services.now }
 {
     match services {
@@ -281,7 +285,8 @@ fn no_service_clashes_with_a_source(services: &[Service], sources: &[Source]) ->
     services.iter().all(|v| clashes_with_no_source(v, sources))
 }
 
-pub fn do_signals_fit(partitions: usize, services: &[Service], sources: &[Source]) -> bool
+/// Whether each service and each source has a bit of its own among its owner's signals.
+pub(crate) fn do_signals_fit(partitions: usize, services: &[Service], sources: &[Source]) -> bool
     ensures { result ≡ signals_fit partitions services.now sources.now }
 {
     do_service_signals_fit(services, partitions)
@@ -291,8 +296,9 @@ pub fn do_signals_fit(partitions: usize, services: &[Service], sources: &[Source
         && no_service_clashes_with_a_source(services, sources)
 }
 
+/// Whether the parts of a system fit each other.
 #[tactic(auto, unfolding(crate::specs::WellFormed::is_well_formed))]
-pub fn do_parts_fit(
+pub(crate) fn do_parts_fit(
     level: u32,
     partitions: &[Partition],
     services: &[Service],

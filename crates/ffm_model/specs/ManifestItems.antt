@@ -1,0 +1,78 @@
+-- What a manifest says, as plain records, and the ranges that they keep.
+-- Source: FF-M 1.0, the attributes of a Secure Partition's manifest.
+use Rattle.std.specs.Prelude.{ℕ, ◌≡◌, ◌+◌, ◌^◌, ◌<◌, ◌≤◌, List, Bool, IsTrue, ◌⊎◌}
+use Rattle.std.specs.List.{AllByRecursion}
+use Rattle.std.specs.Fmt.{decimal}
+use Rattle.ffm_model.specs.declared.machine.Sid.{Sid}
+use Rattle.ffm_model.specs.declared.system.RotType.{RotType}
+use Rattle.ffm_model.specs.declared.system.Policy.{Policy}
+use Rattle.ffm_model.specs.declared.system.Priority.{Priority}
+use Rattle.ffm_model.specs.declared.manifest.Location.{Location}
+use Rattle.ffm_model.specs.declared.manifest.Location.TheVariants.{Named, Numbered}
+use Rattle.ffm_model.specs.Texts.{is_name}
+
+abbrev pub IsName : List ℕ → Type 0
+IsName text = IsTrue (is_name text)
+
+-- ---- MMIO regions
+
+pub record MmioRecord : Type 0 where
+  pub location : Location
+  pub writable : Bool
+
+-- a name, or a range of at least one byte that ends by 2 ^ 32
+abbrev pub IsLocation : Location → Type 0
+IsLocation (Named name) = IsName name
+IsLocation (Numbered base size) = (0 < size) × (base + size ≤ 2 ^ 32)
+
+pub record IsMmio (m : MmioRecord) : Type 0 where
+  pub location : IsLocation m.location
+
+-- ---- services
+
+pub record ServiceRecord : Type 0 where
+  pub name : List ℕ
+  pub sid : Sid
+  pub nonsecure : Bool
+  pub version : ℕ
+  pub policy : Policy
+
+pub record IsService (s : ServiceRecord) : Type 0 where
+  pub name : IsName s.name
+  pub version : 0 < s.version
+
+-- ---- interrupts
+
+pub record IrqRecord : Type 0 where
+  pub source : List ℕ
+  pub signal : List ℕ
+
+-- a name, or the decimal text of a number below 2 ^ 32
+abbrev pub IsSource : List ℕ → Type 0
+IsSource text = IsName text ⊎ ((n : ℕ) × (n < 2 ^ 32) × (text ≡ decimal n))
+
+pub record IsIrq (i : IrqRecord) : Type 0 where
+  pub source : IsSource i.source
+  pub signal : IsName i.signal
+
+-- ---- a manifest
+
+pub record ManifestRecord : Type 0 where
+  pub name : List ℕ
+  pub rot : RotType
+  pub priority : Priority
+  pub entry_point : List ℕ
+  pub stack_size : ℕ
+  pub heap_size : ℕ
+  pub mmio : List MmioRecord
+  pub services : List ServiceRecord
+  pub dependencies : List (List ℕ)
+  pub irqs : List IrqRecord
+
+pub record IsManifest (m : ManifestRecord) : Type 0 where
+  pub name : IsName m.name
+  pub entry_point : IsName m.entry_point
+  pub mmio : AllByRecursion IsMmio m.mmio
+  pub services : AllByRecursion IsService m.services
+  pub dependencies : AllByRecursion IsName m.dependencies
+  pub irqs : AllByRecursion IsIrq m.irqs

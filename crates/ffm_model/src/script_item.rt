@@ -1,0 +1,11 @@
+//! What a scenario file says of one actor.
+
+use crate::machine::ActorId;
+use crate::scenario::Lines;
+
+/// The script that a scenario file gives an actor.
+#[derive(Debug, Drop)]
+pub struct ScriptItem {
+    pub actor: ActorId,
+    pub lines: Lines,
+}

@@ -1,0 +1,4 @@
+pub mod Reports
+pub mod ScriptLemmas
+pub mod Tested
+pub mod Traces

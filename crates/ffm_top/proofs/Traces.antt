@@ -1,0 +1,32 @@
+-- The lines of a trace, one after the other.
+use Rattle.std.proofs.Common.{ℕ, ◌≡◌, ◌<◌, ◌≤◌, ◌+◌, List, [], ◌∷◌, ◌++◌, length, take, get_or, ap, ◌∙◌, subst, sym, arith}
+use Rattle.std.specs.Prelude.{Option, Some, IfSome, slice_get, Result, Ok, Err}
+use Rattle.std.specs.List.{flat_map}
+use Rattle.std.proofs.lemmas.List.{append-nil, take_more, take_all}
+use Rattle.std.proofs.lemmas.List.Concat.{flat_map-append, flat_map-cons}
+use Rattle.std.proofs.lemmas.Option.{slice_get-get_or}
+use Rattle.outside_io.specs.Told.{Takes, TakesPart, Puts}
+use Rattle.outside_io.proofs.Told.{Takes-then, part_of_first, part_of_items, puts_after}
+
+-- what is said of the item at a place
+at_place : {X : Type 0} (P : X → Type 0) (xs : List X) (i : ℕ) (d : X) → i < length xs → IfSome (slice_get xs i) P → P (get_or xs i d)
+at_place {X = X} P xs i d lt h = let Q : Option X → Type 0 = λ o. IfSome o P in subst Q (slice_get-get_or xs i d lt) h
+
+-- one line more
+pub line_more : {X : Type 0} (f : X → List ℕ) (xs : List X) (i : ℕ) (d : X) (a b c : Option (List ℕ)) → i < length xs
+    → Takes a b (flat_map f (take i xs)) → IfSome (slice_get xs i) (λ x. Takes b c (f x)) → Takes a c (flat_map f (take (i + 1) xs))
+line_more {X = X} f xs i d a b c lt p q =
+    let x : X = get_or xs i d in
+    let more : flat_map f (take (i + 1) xs) ≡ flat_map f (take i xs) ++ f x =
+    ap (flat_map f) (take_more xs i d lt) ∙ (flat_map-append f (take i xs) (x ∷ []) ∙ ap (λ (t : List ℕ). flat_map f (take i xs) ++ t) (flat_map-cons f x [] ∙ append-nil (f x))) in
+    subst (λ (t : List ℕ). Takes a c t) (sym more) (Takes-then a b c _ _ p (at_place (λ (y : X). Takes b c (f y)) xs i d lt q))
+
+-- a text that ends inside a line
+pub line_cut : {X : Type 0} (f : X → List ℕ) (xs : List X) (i : ℕ) (d : X) (last : List ℕ) (a b c : Option (List ℕ)) → i < length xs
+    → Takes a b (flat_map f (take i xs)) → IfSome (slice_get xs i) (λ x. TakesPart b c (f x)) → TakesPart a c (flat_map f xs ++ last)
+line_cut {X = X} f xs i d last a b c lt p q = part_of_first a c _ last (part_of_items f xs i d a b c lt p (at_place (λ (y : X). TakesPart b c (f y)) xs i d lt q))
+
+-- all lines, and then the last one
+pub lines_then : {X T E : Type 0} (f : X → List ℕ) (xs : List X) (i : ℕ) (last : List ℕ) (a b c : Option (List ℕ)) (r : Result T E) → length xs ≤ i
+    → Takes a b (flat_map f (take i xs)) → Puts b c r last → Puts a c r (flat_map f xs ++ last)
+lines_then {X = X} f xs i last a b c r all p q = puts_after a b c r _ last (subst (λ (ys : List X). Takes a b (flat_map f ys)) (take_all i xs all) p) q

@@ -1,0 +1,26 @@
+-- The answers of the top call, and their causes.
+-- Source: this simulator's exit statuses.
+use Rattle.std.specs.Prelude.{ℕ, ◌≡◌, ◌<◌, ◌≤◌, ◌⊎◌, List, Option, IfSome, IsSomeAnd, Contains}
+use Rattle.outside_io.specs.Told.{Takes, TakesPart}
+use Rattle.ffm_model.specs.Reading.{Contents, FailedAmong}
+use Rattle.ffm_top.specs.Due.{Due, asked}
+
+-- 0: done. 1: a file is refused. 2: the words are no command. 4, 5: a run is stalled, full. 7: a file can't be read. 8: the text can't be written. 9: no memory
+abbrev pub IsStatus : ℕ → Type 0
+IsStatus status = (status ≤ 2) ⊎ ((4 ≤ status) × (status ≤ 5)) ⊎ ((7 ≤ status) × (status ≤ 9))
+
+-- the statuses of a run that ended
+abbrev pub IsRunStatus : ℕ → Type 0
+IsRunStatus status = (status ≡ 0) ⊎ ((status ≡ 4) ⊎ (status ≡ 5))
+
+-- a text that is due with this status was taken, all of it
+abbrev pub WritesDue : List (List ℕ) → Contents → Option (List ℕ) → Option (List ℕ) → ℕ → Type 0
+WritesDue words of before after status = (text : List ℕ) × Due words of text status × Takes before after text
+
+-- a proper prefix of a text that is due was taken
+abbrev pub WritesPart : List (List ℕ) → Contents → Option (List ℕ) → Option (List ℕ) → Type 0
+WritesPart words of before after = (text : List ℕ) × (status : ℕ) × Due words of text status × TakesPart before after text
+
+-- the last failed name, where it is told, is one that is asked for
+abbrev pub FailedAsked : List (List ℕ) → Contents → Option (Option (List ℕ)) → Type 0
+FailedAsked words of last = FailedAmong (asked words of) last

@@ -1,0 +1,7 @@
+pub mod Words
+pub mod Lines
+pub mod Work
+pub mod Due
+pub mod Answers
+pub mod Report
+pub mod View

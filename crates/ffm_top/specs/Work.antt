@@ -1,0 +1,87 @@
+-- The work that an order asks for: what is read of the files, in which order, until the first refusal.
+-- Source: this simulator's order of work: the system file and its manifests, the compiler, the scenario, its scripts.
+use Rattle.std.specs.Prelude.{ℕ, ◌+◌, List, [], ◌∷◌, get_or, slice_set, replicate, Result, Ok, Err}
+use Rattle.ffm_model.specs.declared.constants.TheConstants.{MAX_FILE_BYTES}
+use Rattle.ffm_model.specs.declared.machine.ActorId.{ActorId}
+use Rattle.ffm_model.specs.declared.place.Place.{Place}
+use Rattle.ffm_model.specs.declared.place.Root.TheVariants as root
+use Rattle.ffm_model.specs.declared.scenario.Scenario.{Scenario}
+use Rattle.ffm_model.specs.declared.script.Instruction.{Instruction}
+use Rattle.ffm_model.specs.declared.system.System.{System}
+use Rattle.ffm_model.specs.Actors.{actor_count, kind_of}
+use Rattle.ffm_model.specs.Reading.{Contents, Reading, Stop, ◌>>=◌, asks_nothing, file_at}
+use Rattle.ffm_model.specs.Scenarios.{scenario_in}
+use Rattle.ffm_model.specs.ScriptLines.{script_read}
+use Rattle.ffm_model.specs.Systems.{system_of, stopped}
+use Rattle.manifest_compile.specs.FirstSystems.{compiled}
+use Rattle.ffm_top.specs.Words.{Order, run}
+
+-- a script, as the list of its parts
+abbrev pub Parts : Type 0
+Parts = List (List Instruction)
+
+-- ---- scripts
+
+-- a script without a line
+abbrev pub empty_script : Parts
+empty_script = [] ∷ []
+
+abbrev pub and_script : Result Parts Stop → (Parts → Result (List Parts) Stop) → Result (List Parts) Stop
+and_script (Ok script) f = f script
+and_script (Err e) f = Err e
+
+-- the script of one of the actors, assembled of its lines
+abbrev pub script_of_actor : System → Scenario → ℕ → ActorId → Result Parts Stop
+script_of_actor s c number actor = script_read (kind_of s actor.0) number (get_or c.lines actor.0 [])
+
+-- the scripts from that number on, each put at its actor's place
+unfoldable pub scripts_from : System → Scenario → ℕ → List ActorId → List Parts → Result (List Parts) Stop
+scripts_from s c number [] scripts = Ok scripts
+scripts_from s c number (actor ∷ actors) scripts = and_script (script_of_actor s c number actor) (λ script. scripts_from s c (number + 1) actors (slice_set scripts actor.0 script))
+
+-- the script of each actor, or the refusal of the first wrong line in the file's order of scripts; an actor without a script has the empty one
+unfoldable pub scripts_of : System → Scenario → Result (List Parts) Stop
+scripts_of s c = scripts_from s c 0 c.order (replicate (actor_count s) empty_script)
+
+-- ---- files
+
+abbrev pub system_place : Place
+system_place = record { root = root.System; steps = [] }
+
+abbrev pub scenario_place : Place
+scenario_place = record { root = root.Scenario; steps = [] }
+
+-- the system of a system file's bytes
+unfoldable pub system_in : Contents → List ℕ → Reading System
+system_in of bytes = do
+  parts ← system_of of bytes
+  asks_nothing (compiled parts)
+
+-- the system of a system file
+unfoldable pub system_at : Contents → List ℕ → Reading System
+system_at of name = do
+  bytes ← file_at of system_place MAX_FILE_BYTES name
+  system_in of bytes
+
+-- the scenario of a scenario file
+unfoldable pub scenario_at : Contents → System → List ℕ → Reading Scenario
+scenario_at of s name = do
+  bytes ← file_at of scenario_place MAX_FILE_BYTES name
+  asks_nothing (stopped (scenario_in s bytes))
+
+-- ---- work
+
+pub data Work : Type 0 where
+  run_of : System → Scenario → List Parts → Work
+
+-- the scenario's run of a system
+unfoldable pub run_in : Contents → System → List ℕ → Reading Work
+run_in of s scenario = do
+  c ← scenario_at of s scenario
+  scripts ← asks_nothing (scripts_of s c)
+  asks_nothing (Ok (run_of s c scripts))
+
+unfoldable pub work_of : Contents → Order → Reading Work
+work_of of (run system scenario) = do
+  s ← system_at of system
+  run_in of s scenario

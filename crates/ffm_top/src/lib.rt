@@ -1,0 +1,13 @@
+//! The top call: what the words of the command line ask for, done over any files and any sink.
+#![tactic(auto)]
+
+mod lines;
+mod report;
+mod run;
+#[cfg(test)]
+mod tests;
+mod top;
+mod words;
+mod work;
+
+pub use top::ffm;

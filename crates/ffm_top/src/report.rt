@@ -1,0 +1,102 @@
+//! What is written at the end.
+
+ghost use Rattle.std.specs.Prelude.{◌≡◌, ◌<◌, ◌≤◌, IfSome, OnErr, length, slice_get};
+ghost use Rattle.outside_io.specs.Count.{Rose};
+ghost use Rattle.outside_io.specs.Told.{Puts};
+ghost use Rattle.ffm_model.specs.Actors.{counts_of};
+ghost use Rattle.ffm_model.specs.TraceText.{entry_text, line, trace_text, verdict_text};
+ghost use Rattle.ffm_top.specs.Due.{verdict_status};
+ghost use Rattle.ffm_top.specs.Report.{text_of, status_of};
+
+use crate::lines::usage_line;
+use crate::run::Ran;
+use ffm_model::Verdict;
+use outside_io::{Failed, Sink, put_all};
+use spm_core::Spm;
+use trace_print::{print, print_verdict};
+
+/// What is to be written.
+#[derive(Drop)]
+pub enum Report {
+    /// The words are no command.
+    Usage,
+    /// A file is refused, by this line.
+    Refused(Vec<u8>),
+    /// A run ended.
+    Ran(Ran),
+}
+
+// Puts the line of the entry at a place, counted from 0.
+fn put_entry<S: Sink>(out: &mut S, spm: &Spm, place: u32) -> Result<(), Failed>
+    requires { place < length spm.now.history }
+    ensures puts { IfSome (slice_get spm.now.history place) (λ e.
+        Puts (S.taken out.old) (S.taken out.new) result (line (entry_text (counts_of spm.now.opening.system) e))) }
+    ensures later { S.faults out.old ≤ S.faults out.new }
+    ensures failed { OnErr result (Rose (S.faults out.old) (S.faults out.new)) }
+{
+    let _length = spm.length();
+    let counts = spm.system().counts();
+    let entry = spm.entry(place + 1);
+    let text = print(counts, &entry);
+    put_all(out, text.as_slice())
+}
+
+// Puts the last line of a run's trace.
+fn put_verdict<S: Sink>(out: &mut S, verdict: Verdict, count: u32) -> Result<(), Failed>
+    ensures puts { Puts (S.taken out.old) (S.taken out.new) result (line (verdict_text verdict count)) }
+    ensures later { S.faults out.old ≤ S.faults out.new }
+    ensures failed { OnErr result (Rose (S.faults out.old) (S.faults out.new)) }
+{
+    let text = print_verdict(verdict, count);
+    put_all(out, text.as_slice())
+}
+
+// Puts a run's trace, line by line.
+fn put_trace<S: Sink>(out: &mut S, spm: &Spm, verdict: Verdict) -> Result<(), Failed>
+    ensures puts { Puts (S.taken out.old) (S.taken out.new) result (trace_text (counts_of spm.now.opening.system) spm.now.history verdict) }
+    ensures later { S.faults out.old ≤ S.faults out.new }
+    ensures failed { OnErr result (Rose (S.faults out.old) (S.faults out.new)) }
+{
+    let length = spm.length();
+    for place in 0..length {
+        put_entry(out, spm, place)?;
+    }
+    put_verdict(out, verdict, length)
+}
+
+/// Writes a report. Everything that it says is known by now, and no memory is taken.
+#[tactic(auto, unfolding(crate::specs::Report::text_of))]
+pub fn put_report<S: Sink>(out: &mut S, report: &Report) -> Result<(), Failed>
+    ensures puts { Puts (S.taken out.old) (S.taken out.new) result (text_of report.now) }
+    ensures later { S.faults out.old ≤ S.faults out.new }
+    ensures failed { OnErr result (Rose (S.faults out.old) (S.faults out.new)) }
+{
+    match report {
+        Report::Usage => put_all(out, usage_line().as_bytes()),
+        Report::Refused(line) => put_all(out, line.as_slice()),
+        Report::Ran(ran) => put_trace(out, &ran.spm, ran.verdict),
+    }
+}
+
+fn verdict_status(verdict: Verdict) -> u8
+    ensures { result ≡ verdict_status verdict }
+{
+    match verdict {
+        Verdict::Quiet => 0,
+        Verdict::Stalled => 4,
+        Verdict::Full => 5,
+    }
+}
+
+impl Report {
+    /// The status of a report that was written.
+    pub fn status(&self) -> u8
+        ensures { result ≡ status_of self.now }
+    {
+        match self {
+            Report::Usage => 2,
+            Report::Refused(_) => 1,
+            Report::Ran(ran) => verdict_status(ran.verdict),
+        }
+    }
+}

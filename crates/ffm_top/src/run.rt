@@ -1,0 +1,46 @@
+//! Runs the scripts of a scenario over a system.
+
+ghost use Rattle.std.specs.Prelude.{◌≡◌, IfOk, length};
+ghost use Rattle.std.specs.List.{All};
+ghost use Rattle.ffm_model.specs.Actors.{actor_count};
+ghost use Rattle.ffm_model.specs.Scenarios.{IsScenarioOf};
+ghost use Rattle.ffm_model.specs.ScriptRuns.{CallsBuilt, only_part};
+ghost use Rattle.ffm_top.specs.Due.{RanBy};
+
+use ffm_model::{List, Memory, Scenario, Script, System, Verdict};
+use memory_image::Image;
+use partition_sim::drive_scheduled;
+use spm_core::Spm;
+use std::alloc::Global;
+
+/// A run that ended.
+#[derive(Drop)]
+pub struct Ran {
+    pub spm: Spm,
+    pub verdict: Verdict,
+}
+
+/// The run of a scenario's scripts, one for each actor, over a system. Memory where no memory was
+/// found.
+#[tactic(auto, using(memory_image::proofs::Systems::system_fits))]
+pub fn run(
+    alloc: Global,
+    system: System,
+    scenario: &Scenario,
+    scripts: &List<Script>,
+) -> Result<Ran, Memory>
+    requires scenario { IsScenarioOf system scenario.now }
+    requires scripts { length scripts.now ≡ actor_count system }
+    requires built { All (λ script. CallsBuilt (only_part script)) scripts.now }
+    ensures system { IfOk result (λ ran. ran.spm.opening.system ≡ system) }
+    ensures ran { IfOk result (λ ran. RanBy system scenario.now scripts.now ran.spm.history ran.verdict) }
+{
+    let image = Image::new(alloc, &system.regions, &scenario.memory)?;
+    let mut spm = Spm::new(alloc, system, image, scenario.limit)?;
+    drive_scheduled(alloc, &mut spm, scripts, &scenario.schedule)?;
+    let _length = spm.length();
+    match spm.verdict() {
+        Some(verdict) => Ok(Ran { spm, verdict }),
+        None => unreachable!(),
+    }
+}

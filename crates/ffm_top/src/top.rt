@@ -1,0 +1,177 @@
+//! The top call.
+
+ghost use Rattle.std.specs.Prelude.{◌≡◌, ◌<◌, ◌≤◌, ◌≢◌, ◌↔◌, [], ◌⊎◌, None, Ok, IfOk, IfSome, IsErrOf, IsOk, map, string_bytes};
+ghost use Rattle.outside_io.specs.Count.{Rose};
+ghost use Rattle.outside_io.specs.Told.{Puts, Takes};
+ghost use Rattle.ffm_model.specs.Reading.{FailedAmong};
+ghost use Rattle.ffm_top.specs.Answers.{IsStatus, IsRunStatus, WritesDue, WritesPart, FailedAsked};
+ghost use Rattle.ffm_top.specs.Due.{Due, DueBy, WorkDue, asked, IsValid};
+ghost use Rattle.ffm_top.specs.Lines.{refusal_line, usage_line};
+ghost use Rattle.ffm_top.specs.Report.{text_of, status_of};
+ghost use Rattle.ffm_top.specs.View.{work as work_seen, IsWork};
+ghost use Rattle.ffm_top.specs.Words.{order, order_of};
+ghost use Rattle.ffm_top.specs.Work.{work_of};
+
+use crate::lines::refusal_line;
+use crate::report::{Report, put_report};
+use crate::run::run;
+use crate::words::{Command, command_of};
+use crate::work::{Work, work_of};
+use ffm_model::{Gate, PartsError, Refusal};
+use outside_io::{Failed, Files, Sink};
+use std::alloc::Global;
+
+/// Why there is nothing to write.
+#[derive(Clone, Copy, Debug, PartialEq, Eq)]
+enum Halt {
+    Files,
+    Memory,
+}
+
+// The report of words that are no command.
+#[tactic(auto, unfolding(crate::specs::Report::text_of))]
+fn usage() -> Report
+    ensures text { text_of result ≡ usage_line }
+    ensures status { status_of result ≡ 2 }
+{
+    Report::Usage
+}
+
+// The report of a refusal.
+#[tactic(auto, unfolding(crate::specs::Report::text_of))]
+fn refused(alloc: Global, refusal: &Refusal) -> Result<Report, Halt>
+    ensures text { IfOk result (λ report. text_of report ≡ refusal_line refusal.now) }
+    ensures status { IfOk result (λ report. status_of report ≡ 1) }
+    ensures memory { IsErrOf result Halt.Files → ⊥ }
+{
+    match refusal_line(alloc, refusal) {
+        Ok(line) => Ok(Report::Refused(line)),
+        Err(_) => Err(Halt::Memory),
+    }
+}
+
+// The report of work that was asked for.
+#[tactic(auto, using(crate::proofs::Reports::run_due))]
+fn done(alloc: Global, work: Work) -> Result<Report, Halt>
+    requires { IsWork work }
+    ensures due { IfOk result (λ report. WorkDue (work_seen work) (text_of report) (status_of report)) }
+    ensures status { IfOk result (λ report. IsRunStatus (status_of report)) }
+    ensures memory { IsErrOf result Halt.Files → ⊥ }
+{
+    let Work {
+        system,
+        scenario,
+        scripts,
+    } = work;
+    match run(alloc, system, &scenario, &scripts) {
+        Ok(ran) => Ok(Report::Ran(ran)),
+        Err(_) => Err(Halt::Memory),
+    }
+}
+
+// The report of an accepted command.
+fn report_of_command<F: Files>(
+    alloc: Global,
+    command: Command<'_>,
+    files: &mut F,
+) -> Result<Report, Halt>
+    ensures due { IfSome (F.held files.old) (λ of. IfOk result (λ report.
+        DueBy (work_of of (order command.entry)).gives (text_of report) (status_of report))) }
+    ensures valid { IfSome (F.held files.old) (λ of. IsOk (work_of of (order command.entry)).gives →
+        IfOk result (λ report. IsRunStatus (status_of report))) }
+    ensures status { IfOk result (λ report. (status_of report ≡ 1) ⊎ IsRunStatus (status_of report)) }
+    ensures keeps { F.held files.new ≡ F.held files.old }
+    ensures later { F.faults files.old ≤ F.faults files.new }
+    ensures failed { IsErrOf result Halt.Files → Rose (F.faults files.old) (F.faults files.new) }
+    ensures asked { IsErrOf result Halt.Files → IfSome (F.held files.old) (λ of.
+        FailedAmong (work_of of (order command.entry)).names (F.last_failed files.new)) }
+{
+    match work_of(alloc, command, files) {
+        Ok(work) => done(alloc, work),
+        Err(PartsError::Refused(refusal)) => refused(alloc, &refusal),
+        Err(PartsError::ReadFault) => Err(Halt::Files),
+        Err(PartsError::Memory) => Err(Halt::Memory),
+    }
+}
+
+// All that is to be written.
+fn report_of<F: Files>(alloc: Global, words: &Vec<String>, files: &mut F) -> Result<Report, Halt>
+    ensures due { IfSome (F.held files.old) (λ of. IfOk result (λ report.
+        Due (map string_bytes words.now.items) of (text_of report) (status_of report))) }
+    ensures valid { IfSome (F.held files.old) (λ of. IsValid (map string_bytes words.now.items) of →
+        IfOk result (λ report. IsRunStatus (status_of report))) }
+    ensures usage { IfOk result (λ report. (status_of report ≡ 2) ↔ (order_of (map string_bytes words.now.items) ≡ None)) }
+    ensures no_words { order_of (map string_bytes words.now.items) ≡ None → IsOk result }
+    ensures status { IfOk result (λ report. (status_of report ≤ 2) ⊎ IsRunStatus (status_of report)) }
+    ensures keeps { F.held files.new ≡ F.held files.old }
+    ensures later { F.faults files.old ≤ F.faults files.new }
+    ensures failed { IsErrOf result Halt.Files → Rose (F.faults files.old) (F.faults files.new) }
+    ensures asked { IsErrOf result Halt.Files → IfSome (F.held files.old) (λ of.
+        FailedAsked (map string_bytes words.now.items) of (F.last_failed files.new)) }
+{
+    match command_of(words) {
+        None => Ok(usage()),
+        Some(command) => report_of_command(alloc, command, files),
+    }
+}
+
+/// Does what the words ask for over these files, writes the text that is due, and answers the
+/// status to end with.
+///
+/// 0, 4 and 5: a run that is quiet, stalled, full. 1: a file is refused, by the line written. 2: the
+/// words are no command, by the usage line. 7: a file that is asked for can't be read, and nothing
+/// is written. 8: the text can't be written whole. 9: no memory was found, and nothing is written.
+pub fn ffm<R, F: Files, S: Sink, G: Gate>(
+    rt: &R,
+    alloc: Global,
+    words: &Vec<String>,
+    files: &mut F,
+    out: &mut S,
+    gate: &G,
+) -> u8
+    ensures status { IsStatus result }
+
+    // A status below 7 comes with a text that is due with it, written whole: for a run the trace of
+    // a run of the FF-M machine in which each actor's events are its script's calls with the
+    // machine's answers, in the turns of the schedule.
+    ensures due { result < 7 → IfSome (F.held files.old) (λ of.
+        WritesDue (map string_bytes words.now.items) of (S.taken out.old) (S.taken out.new) result) }
+
+    // 2: the words alone decide it, whatever the files tell.
+    ensures usage { result ≡ 2 → order_of (map string_bytes words.now.items) ≡ None }
+    ensures no_words { order_of (map string_bytes words.now.items) ≡ None → (result ≡ 2) ⊎ (result ≡ 8) }
+
+    // 7: a read failed in this call, of a file that is asked for.
+    ensures files { result ≡ 7 → Rose (F.faults files.old) (F.faults files.new) }
+    ensures failed { result ≡ 7 → IfSome (F.held files.old) (λ of.
+        FailedAsked (map string_bytes words.now.items) of (F.last_failed files.new)) }
+
+    // 8: a put failed in this call, and a proper prefix of a text that is due was written.
+    ensures sink { result ≡ 8 → Rose (S.faults out.old) (S.faults out.new) }
+    ensures part { result ≡ 8 → IfSome (F.held files.old) (λ of.
+        WritesPart (map string_bytes words.now.items) of (S.taken out.old) (S.taken out.new)) }
+
+    // 7 and 9: nothing was written.
+    ensures nothing { (result ≡ 7) ⊎ (result ≡ 9) → Takes (S.taken out.old) (S.taken out.new) [] }
+
+    // Accepted words, files that give no refusal and no fault: the run ends, or no memory was found.
+    ensures complete { IfSome (F.held files.old) (λ of. IsValid (map string_bytes words.now.items) of →
+        (Rose (F.faults files.old) (F.faults files.new) → ⊥) → (Rose (S.faults out.old) (S.faults out.new) → ⊥) →
+        IsRunStatus result ⊎ (result ≡ 9)) }
+
+    // What the files hold stays, and no count falls.
+    ensures keeps { F.held files.new ≡ F.held files.old }
+    ensures files_later { F.faults files.old ≤ F.faults files.new }
+    ensures sink_later { S.faults out.old ≤ S.faults out.new }
+{
+    let _ = rt;
+    let _ = gate;
+    match report_of(alloc, words, files) {
+        Ok(report) => match put_report(out, &report) {
+            Ok(()) => report.status(),
+            Err(Failed) => 8,
+        },
+        Err(Halt::Files) => 7,
+        Err(Halt::Memory) => 9,
+    }
+}

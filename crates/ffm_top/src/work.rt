@@ -1,0 +1,217 @@
+//! What a command and its files ask to be done.
+
+ghost use Rattle.std.specs.Prelude.{◌≡◌, ◌<◌, ◌≤◌, ◌^◌, [], Ok, IfOk, IfErr, IfSome, IsErrOf, length, replicate};
+ghost use Rattle.std.specs.List.{All};
+ghost use Rattle.outside_io.specs.Count.{Rose};
+ghost use Rattle.ffm_model.specs.Actors.{actor_count};
+ghost use Rattle.ffm_model.specs.Reading.{Gives, Reads, file_at};
+ghost use Rattle.ffm_model.specs.Scenarios.{IsScenarioOf};
+ghost use Rattle.ffm_model.specs.ScriptRuns.{CallsBuilt, only_part};
+ghost use Rattle.ffm_top.specs.Words.{order};
+ghost use Rattle.ffm_top.specs.Work.{empty_script, script_of_actor, scripts_of, system_in, system_at, scenario_at, run_in, work_of};
+ghost use Rattle.ffm_top.specs.View.{work, IsWork};
+
+use crate::words::Command;
+use ffm_model::{
+    ActorId, FILE_TOO_LONG, List, MAX_FILE_BYTES, Memory, PartsError, Place, ReadError, Refusal,
+    Root, Scenario, Script, System,
+};
+use manifest_compile::compile;
+use outside_io::{FileError, Files};
+use script_asm::assemble;
+use std::alloc::Global;
+use system_json::{read_scenario, read_system};
+
+// The most lines of a script.
+const MAX_SCRIPT_LINES: usize = 4_096;
+
+/// What is to be done: the run of a scenario's scripts, one for each actor, over a system.
+#[derive(Drop)]
+pub struct Work {
+    pub system: System,
+    pub scenario: Scenario,
+    pub scripts: List<Script>,
+}
+
+// A refusal of a whole file.
+fn too_long(alloc: Global, root: Root) -> Refusal
+    ensures { result ≡ record { code = FILE_TOO_LONG; place = record { root = root; steps = [] }; cycle = [] } }
+{
+    Refusal {
+        code: FILE_TOO_LONG,
+        place: Place {
+            root,
+            steps: List::of(Vec::new(alloc)),
+        },
+        cycle: List::of(Vec::new(alloc)),
+    }
+}
+
+// The bytes of a file, at most 1 MiB.
+fn bytes_of<F: Files>(
+    alloc: Global,
+    files: &mut F,
+    root: Root,
+    name: &str,
+) -> Result<Vec<u8>, PartsError>
+    ensures gives { IfSome (F.held files.old) (λ of. Gives (λ bytes. bytes.items) (F.last_failed files.new) result (file_at of (record { root = root; steps = [] }) MAX_FILE_BYTES name.now)) }
+    ensures keeps { F.held files.new ≡ F.held files.old }
+    ensures later { F.faults files.old ≤ F.faults files.new }
+    ensures failed { IsErrOf result PartsError.ReadFault → Rose (F.faults files.old) (F.faults files.new) }
+    ensures short { IfOk result (λ bytes. length bytes.items ≤ MAX_FILE_BYTES) }
+{
+    match files.read(alloc, name, MAX_FILE_BYTES) {
+        Ok(bytes) => Ok(bytes),
+        Err(FileError::TooLong) => Err(PartsError::Refused(too_long(alloc, root))),
+        Err(FileError::Failed) => Err(PartsError::ReadFault),
+        Err(FileError::Memory) => Err(PartsError::Memory),
+    }
+}
+
+// The system of a system file's bytes.
+#[tactic(auto, unfolding(crate::specs::Work::system_in), using(ffm_model::proofs::ReadingLemmas::after_ok, ffm_model::proofs::ReadingLemmas::after_err))]
+fn system_in<F: Files>(alloc: Global, files: &mut F, bytes: &[u8]) -> Result<System, PartsError>
+    ensures gives { IfSome (F.held files.old) (λ of. Gives (λ s. s) (F.last_failed files.new) result (system_in of bytes.now)) }
+    ensures keeps { F.held files.new ≡ F.held files.old }
+    ensures later { F.faults files.old ≤ F.faults files.new }
+    ensures failed { IsErrOf result PartsError.ReadFault → Rose (F.faults files.old) (F.faults files.new) }
+{
+    let parts = read_system(alloc, bytes, files)?;
+    Ok(compile(alloc, &parts)?)
+}
+
+// The system of a system file.
+#[tactic(auto, unfolding(crate::specs::Work::system_at), using(ffm_model::proofs::ReadingLemmas::after_ok, ffm_model::proofs::ReadingLemmas::after_err))]
+fn system_at<F: Files>(alloc: Global, files: &mut F, name: &str) -> Result<System, PartsError>
+    ensures gives { IfSome (F.held files.old) (λ of. Gives (λ s. s) (F.last_failed files.new) result (system_at of name.now)) }
+    ensures keeps { F.held files.new ≡ F.held files.old }
+    ensures later { F.faults files.old ≤ F.faults files.new }
+    ensures failed { IsErrOf result PartsError.ReadFault → Rose (F.faults files.old) (F.faults files.new) }
+{
+    let bytes = bytes_of(alloc, files, Root::System, name)?;
+    system_in(alloc, files, &bytes)
+}
+
+// The scenario of a scenario file.
+#[tactic(auto, unfolding(crate::specs::Work::scenario_at), using(ffm_model::proofs::ReadingLemmas::after_ok, ffm_model::proofs::ReadingLemmas::after_err))]
+fn scenario_at<F: Files>(
+    alloc: Global,
+    files: &mut F,
+    system: &System,
+    name: &str,
+) -> Result<Scenario, PartsError>
+    ensures gives { IfSome (F.held files.old) (λ of. Gives (λ c. c) (F.last_failed files.new) result (scenario_at of system.now name.now)) }
+    ensures keeps { F.held files.new ≡ F.held files.old }
+    ensures later { F.faults files.old ≤ F.faults files.new }
+    ensures failed { IsErrOf result PartsError.ReadFault → Rose (F.faults files.old) (F.faults files.new) }
+    ensures kept { IfOk result (IsScenarioOf system.now) }
+{
+    let bytes = bytes_of(alloc, files, Root::Scenario, name)?;
+    Ok(read_scenario(alloc, &bytes, system)?)
+}
+
+// An empty script for each actor.
+fn empty_scripts(alloc: Global, count: u32) -> Result<Vec<Script>, Memory>
+    ensures scripts { IfOk result (λ scripts. scripts.items ≡ replicate count empty_script) }
+    ensures built { IfOk result (λ scripts. All (λ script. CallsBuilt (only_part script)) scripts.items) }
+{
+    let mut scripts = Vec::new(alloc);
+    for _ in 0..count {
+        scripts.push(Script::plain(alloc, Vec::new(alloc))?)?;
+    }
+    Ok(scripts)
+}
+
+// A script's number in its file. It fits 32 bits where there is memory for so many scripts.
+fn number_at(place: usize) -> Result<u32, ReadError>
+    ensures number { IfOk result (λ number. number ≡ place) }
+    ensures memory { IfErr result (λ e. e ≡ ReadError.Memory) }
+{
+    match u32::try_from(place) {
+        Ok(number) => Ok(number),
+        Err(_) => Err(ReadError::Memory),
+    }
+}
+
+// The script of one of the actors.
+fn script_of_actor(
+    alloc: Global,
+    system: &System,
+    scenario: &Scenario,
+    place: usize,
+    actor: ActorId,
+) -> Result<Script, ReadError>
+    requires scenario { IsScenarioOf system.now scenario.now }
+    requires actor { actor.0 < actor_count system.now }
+    ensures reads { Reads (λ script. script) result (script_of_actor system.now scenario.now place actor) }
+    ensures built { IfOk result (λ script. CallsBuilt (only_part script)) }
+{
+    let number = number_at(place)?;
+    let kind = system.actor_kind(actor);
+    let lines = &scenario.lines.as_slice()[actor.0 as usize];
+    if lines.len() > MAX_SCRIPT_LINES {
+        return Err(ReadError::Memory);
+    }
+    assemble(alloc, lines, kind, number)
+}
+
+// The script of each actor.
+#[tactic(auto, unfolding(crate::specs::Work::scripts_of))]
+fn scripts_of(
+    alloc: Global,
+    system: &System,
+    scenario: &Scenario,
+) -> Result<List<Script>, ReadError>
+    requires { IsScenarioOf system.now scenario.now }
+    ensures reads { Reads (λ scripts. scripts) result (scripts_of system.now scenario.now) }
+    ensures long { IfOk result (λ scripts. length scripts ≡ actor_count system.now) }
+    ensures built { IfOk result (λ scripts. All (λ script. CallsBuilt (only_part script)) scripts) }
+{
+    let mut scripts = empty_scripts(alloc, system.actor_count())?;
+    let order = scenario.order.as_slice();
+    for (place, actor) in order.iter().enumerate() {
+        let script = script_of_actor(alloc, system, scenario, place, *actor)?;
+        scripts[actor.0 as usize] = script;
+    }
+    Ok(List::of(scripts))
+}
+
+// The scenario's run of a system.
+#[tactic(auto, unfolding(crate::specs::Work::run_in), using(ffm_model::proofs::ReadingLemmas::after_ok, ffm_model::proofs::ReadingLemmas::after_err))]
+fn run_in<F: Files>(
+    alloc: Global,
+    files: &mut F,
+    system: System,
+    name: &str,
+) -> Result<Work, PartsError>
+    ensures gives { IfSome (F.held files.old) (λ of. Gives work (F.last_failed files.new) result (run_in of system name.now)) }
+    ensures keeps { F.held files.new ≡ F.held files.old }
+    ensures later { F.faults files.old ≤ F.faults files.new }
+    ensures failed { IsErrOf result PartsError.ReadFault → Rose (F.faults files.old) (F.faults files.new) }
+    ensures kept { IfOk result IsWork }
+{
+    let scenario = scenario_at(alloc, files, &system, name)?;
+    let scripts = scripts_of(alloc, &system, &scenario)?;
+    Ok(Work {
+        system,
+        scenario,
+        scripts,
+    })
+}
+
+/// The work of a command.
+#[tactic(auto, unfolding(crate::specs::Work::work_of), using(ffm_model::proofs::ReadingLemmas::after_ok, ffm_model::proofs::ReadingLemmas::after_err))]
+pub fn work_of<F: Files>(
+    alloc: Global,
+    command: Command<'_>,
+    files: &mut F,
+) -> Result<Work, PartsError>
+    ensures gives { IfSome (F.held files.old) (λ of. Gives work (F.last_failed files.new) result (work_of of (order command.entry))) }
+    ensures keeps { F.held files.new ≡ F.held files.old }
+    ensures later { F.faults files.old ≤ F.faults files.new }
+    ensures failed { IsErrOf result PartsError.ReadFault → Rose (F.faults files.old) (F.faults files.new) }
+    ensures kept { IfOk result IsWork }
+{
+    let system = system_at(alloc, files, command.system)?;
+    run_in(alloc, files, system, command.scenario)
+}

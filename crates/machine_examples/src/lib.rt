@@ -1,0 +1,30 @@
+//! Worked runs of the machine, checked by computing with its definitions. No function here does
+//! anything: each says that written traces are runs with their verdict and their names, and that
+//! the machine takes no wrong entry in them.
+#![tactic(auto)]
+
+mod connections;
+mod constants;
+mod isolation;
+mod judgements;
+mod panics;
+mod requests;
+mod signals;
+
+pub use connections::{
+    budget_of_two_connections, closed_handle_of_a_partition, closed_handle_used_again,
+    handle_of_another_client, turned_away_by_the_service, version_policies, versions_of_services,
+};
+pub use constants::values_of_the_headers;
+pub use isolation::isolation_levels;
+pub use judgements::{first_wrong_entry, runs_without_end};
+pub use panics::{
+    clients_of_a_panicked_service, disconnections_in_order,
+    programmer_error_answered_to_a_partition,
+};
+pub use requests::{
+    bytes_moved_in_order, descriptor_changed_behind_the_call, one_request_served,
+    reach_of_a_partition, request_answered_with_programmer_error, rhandle_of_a_connection,
+    vectors_of_a_request, written_past_the_end,
+};
+pub use signals::{doorbell_rung_twice, interrupt_raised_while_asserted, two_messages_one_signal};

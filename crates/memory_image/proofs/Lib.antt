@@ -1,0 +1,6 @@
+pub mod Places
+pub mod Stored
+pub mod Opened
+pub mod Systems
+pub mod Copied
+pub mod Numbers

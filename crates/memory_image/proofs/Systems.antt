@@ -1,0 +1,84 @@
+-- What an image needs to know of a system's regions, for callers that have a system.
+use Rattle.std.proofs.Common.{ℕ, ◌≡◌, ◌+◌, Bool, true, false, ◌&&◌, ◌||◌, List, [], ◌∷◌, length, ◌∙◌, ap, sym, refl}
+use Rattle.std.specs.Prelude.{◌==◌, nat_le, fold, sum_by}
+use Rattle.std.specs.List.{list_any, list_all}
+use Rattle.std.proofs.lemmas.List.{length-map}
+use Rattle.std.proofs.lemmas.List.Folds.{list_all-map}
+use Rattle.ffm_model.specs.declared.scenario.Bytes.{Bytes}
+use Rattle.ffm_model.specs.declared.system.System.{System}
+use Rattle.ffm_model.specs.declared.system.Region.{Region}
+use Rattle.ffm_model.specs.Memory.{lies_in, is_ram_of, is_mmio_of, is_writable_mmio_of, valid_buffer, may_read, may_write}
+use Rattle.ffm_model.specs.WellFormed.{each_pair, apart, owner_below, regions_fit, is_well_formed}
+use Rattle.memory_image.specs.Pieces.{range_of, regions_of, ranges_of, share_no_byte, fit_an_image, is_inside}
+use Rattle.memory_image.proofs.Places.{and_left, and_right}
+use Rattle.memory_image.proofs.Opened.{is_inside-lies}
+
+and_both : (a b : Bool) → a ≡ true → b ≡ true → (a && b) ≡ true
+and_both true b h k = k
+and_both false b h k = cc
+
+apart-ranges : (rs : List Region) → each_pair apart rs ≡ true → each_pair share_no_byte (ranges_of rs) ≡ true
+apart-ranges [] h = refl
+apart-ranges (r ∷ rs) h =
+    and_both _ _ (list_all-map (share_no_byte (r.base, r.size)) (λ (q : Region). (q.base, q.size)) rs ∙ and_left _ _ h) (apart-ranges rs (and_right _ _ h))
+
+ends-ranges : (n : ℕ) (rs : List Region) → list_all (λ r. owner_below n r.class && nat_le r.size 1048576 && nat_le (r.base + r.size) 4294967296) rs ≡ true
+    → list_all (λ e. nat_le (e.0 + e.1) 4294967296) (ranges_of rs) ≡ true
+ends-ranges n [] h = refl
+ends-ranges n (r ∷ rs) h = and_both _ _ (and_right _ _ (and_left _ _ h)) (ends-ranges n rs (and_right _ _ h))
+
+added-ranges : (n : ℕ) (rs : List Region) → fold (λ m (e : ℕ × ℕ). m + e.1) n (ranges_of rs) ≡ fold (λ m (r : Region). m + r.size) n rs
+added-ranges n [] = refl
+added-ranges n (r ∷ rs) = added-ranges (n + r.size) rs
+
+total-ranges : (rs : List Region) → sum_by (λ e. e.1) (ranges_of rs) ≡ sum_by (λ r. r.size) rs
+total-ranges rs = added-ranges 0 rs
+
+regions_fit-image : (n : ℕ) (rs : List Region) → regions_fit n rs ≡ true → fit_an_image (ranges_of rs) ≡ true
+unfolding fit_an_image
+regions_fit-image n rs h =
+    let most : nat_le (sum_by (λ e. e.1) (ranges_of rs)) 16777216 ≡ true = rw (total-ranges rs) (and_right _ _ (and_left _ _ h)) in
+    and_both _ _ (and_both _ _ (apart-ranges rs (and_right _ _ h)) (ends-ranges n rs (and_right _ _ (and_left _ _ (and_left _ _ h))))) most
+
+-- a system's regions fit an image
+pub system_fits : (s : System) → fit_an_image (ranges_of s.regions) ≡ true
+unfolding is_well_formed
+system_fits s = regions_fit-image (length s.partitions) s.regions (and_right _ _ (and_left _ _ (and_left _ _ (and_left _ _ s.well_formed))))
+
+either : (a b c d : Bool) → ((a && b) || c) ≡ true → (c ≡ true → d ≡ true) → (b || d) ≡ true
+either true true c d h rest = refl
+either true false c d h rest = rest h
+either false true c d h rest = refl
+either false false c d h rest = rest h
+
+lies_in-any : (class : Region → Bool) (base len : ℕ) (rs : List Region) → list_any (λ r. class r && lies_in base len r) rs ≡ true → list_any (lies_in base len) rs ≡ true
+lies_in-any class base len [] h = cc
+lies_in-any class base len (r ∷ rs) h = either (class r) (lies_in base len r) _ _ h (lies_in-any class base len rs)
+
+empty_or : (b c d : Bool) → (b || c) ≡ true → (c ≡ true → (b || d) ≡ true) → (b || d) ≡ true
+empty_or true c d h rest = refl
+empty_or false c d h rest = rest h
+
+or_else : (a b c : Bool) → (a || b) ≡ true → (a ≡ true → c ≡ true) → (b ≡ true → c ≡ true) → c ≡ true
+or_else true b c h first second = first refl
+or_else false b c h first second = second h
+
+-- a range of a region of some class lies inside
+class_inside : (class : Region → Bool) (base len : ℕ) (rs : List Region) → list_any (λ r. class r && lies_in base len r) rs ≡ true → is_inside base len (ranges_of rs) ≡ true
+class_inside class base len rs h = is_inside-lies base len rs (lies_in-any class base len rs h)
+
+-- a valid buffer lies inside of an image of the system's regions
+pub buffer_inside : (s : System) (a base len : ℕ) → valid_buffer s a base len ≡ true → is_inside base len (ranges_of s.regions) ≡ true
+buffer_inside s a base len h = empty_or (len == 0) _ _ h (class_inside (λ r. is_ram_of s a r.class) base len s.regions)
+
+-- so does what an actor may read
+pub readable_inside : (s : System) (a base len : ℕ) → may_read s a base len ≡ true → is_inside base len (ranges_of s.regions) ≡ true
+readable_inside s a base len h = or_else _ _ _ h (buffer_inside s a base len) (class_inside (λ r. is_mmio_of a r.class) base len s.regions)
+
+-- and what it may write
+pub writable_inside : (s : System) (a base len : ℕ) → may_write s a base len ≡ true → is_inside base len (ranges_of s.regions) ≡ true
+writable_inside s a base len h = or_else _ _ _ h (buffer_inside s a base len) (class_inside (λ r. is_writable_mmio_of a r.class) base len s.regions)
+
+-- an image has a piece for each region
+pub as_many_pieces : (pieces : List Bytes) (rs : List Region) → regions_of pieces ≡ ranges_of rs → length pieces ≡ length rs
+as_many_pieces pieces rs same = sym (length-map pieces range_of) ∙ ap length same ∙ length-map rs (λ (r : Region). (r.base, r.size))

@@ -1,0 +1,12 @@
+//! The memory of a system: the bytes of its regions by address, and which ranges an actor may name.
+#![tactic(auto)]
+
+mod image;
+mod pieces;
+mod ranges;
+
+pub use image::Image;
+pub use ranges::{may_read, may_write, open_within, valid_buffer};
+
+#[cfg(test)]
+mod tests;

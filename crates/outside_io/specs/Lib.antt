@@ -1,0 +1,5 @@
+pub mod Count
+pub mod Told
+pub mod MemoryFiles
+pub mod MemorySink
+pub mod Host

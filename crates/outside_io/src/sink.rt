@@ -1,0 +1,50 @@
+//! Where bytes are written.
+
+ghost use Rattle.std.specs.Prelude.{◌≡◌, ℕ, ◌<◌, ◌≤◌, List, [], IfOk, OnErr, Option, length, take};
+ghost use Rattle.outside_io.specs.Count.{Rose};
+ghost use Rattle.outside_io.specs.Told.{Takes, Puts};
+
+/// A put failed: it took nothing, and the count of faults rose.
+#[derive(Clone, Copy, Debug, PartialEq, Eq)]
+pub struct Failed;
+
+/// A sink: the bytes that it took, and how often it failed.
+pub trait Sink {
+    /// The bytes taken so far, where they are told.
+    ghost taken: { Self → Option (List ℕ) };
+
+    /// How often a put has failed, up to 2^64 - 1.
+    ghost faults: { Self → ℕ };
+
+    /// Takes a front of the piece, at least one byte of it, and answers how many bytes it took. The
+    /// piece may not be empty.
+    ///
+    /// `Failed` comes only where the count of faults rose in this call, and then nothing was taken.
+    /// Where the bytes are told afterwards, they were told before.
+    fn put(&mut self, piece: &[u8]) -> Result<usize, Failed>
+        requires { 0 < length piece.now }
+        ensures some { IfOk result (λ count. 0 < count) }
+        ensures within { IfOk result (λ count. count ≤ length piece.now) }
+        ensures takes { IfOk result (λ count. Takes (taken self.old) (taken self.new) (take count piece.now)) }
+        ensures none { OnErr result (Takes (taken self.old) (taken self.new) []) }
+        ensures later { faults self.old ≤ faults self.new }
+        ensures failed { OnErr result (Rose (faults self.old) (faults self.new)) };
+}
+
+/// Puts these bytes, and again the rest of them, until all are taken. Empty bytes make no put.
+///
+/// `Failed` comes from the first put that fails, and then a proper prefix of the bytes was taken.
+pub fn put_all<S: Sink>(out: &mut S, bytes: &[u8]) -> Result<(), Failed>
+    ensures puts { Puts (S.taken out.old) (S.taken out.new) result bytes.now }
+    ensures later { S.faults out.old ≤ S.faults out.new }
+    ensures failed { OnErr result (Rose (S.faults out.old) (S.faults out.new)) }
+
+    // Nothing is asked of the sink where there is nothing to put.
+    ensures empty { bytes.now ≡ [] → out.new ≡ out.old }
+{
+    let mut at = 0;
+    while at < bytes.len() {
+        at += out.put(&bytes[at..])?;
+    }
+    Ok(())
+}

@@ -1,0 +1,4 @@
+pub mod StepLemmas
+pub mod CallLemmas
+pub mod TurnLemmas
+pub mod ScheduleLemmas

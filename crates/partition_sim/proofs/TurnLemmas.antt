@@ -1,0 +1,280 @@
+-- One turn.
+use Rattle.std.proofs.Common.{ℕ, ◌≡◌, ◌≢◌, ◌<◌, ◌≤◌, Bool, true, false, not, List, [], ◌∷◌, ◌++◌, length, refl, ap, sym, ◌∙◌, arith, subst, get_or, get_or-set_same, get_or-set_other, length-set, append_assoc, inl, inr, eq-eqb, ne_eqb, append-nil, true≢false}
+use Rattle.std.specs.Prelude.{Option, Some, None, option_and_then, slice_set, nat_le, if◌then◌else◌, ◌==◌, IsSome, ◌⊎◌}
+use Rattle.std.specs.List.{All}
+use Rattle.std.proofs.lemmas.Bool.Decides.{eqb_tells}
+use Rattle.std.proofs.lemmas.List.Elements.{filter-append}
+use Rattle.std.proofs.lemmas.List.{map-append, get_or_read, get_or_default}
+use Rattle.ffm_model.specs.declared.system.System.{System}
+use Rattle.ffm_model.specs.declared.machine.Entry.{Entry}
+use Rattle.ffm_model.specs.declared.machine.Call.{Call}
+use Rattle.ffm_model.specs.declared.machine.Outcome.{Outcome}
+use Rattle.ffm_model.specs.declared.machine.Answer.{Answer}
+use Rattle.ffm_model.specs.declared.machine.Answer.TheVariants as answer
+use Rattle.ffm_model.specs.declared.objects.ActorPhase.{ActorPhase}
+use Rattle.ffm_model.specs.declared.objects.ActorPhase.TheVariants as phase
+use Rattle.ffm_model.specs.declared.machine.Verdict.TheVariants.{Quiet, Stalled, Full}
+use Rattle.ffm_model.specs.Actors.{actor_count}
+use Rattle.ffm_model.specs.State.{State, phase_of}
+use Rattle.ffm_model.specs.Signals.{enabled, can_go_on, signals_of}
+use Rattle.ffm_model.specs.Verdicts.{some_enabled, some_blocked, verdict_at}
+use Rattle.ffm_model.specs.Records.{entries_of, outcomes_of, is_blocked_outcome}
+use Rattle.ffm_model.specs.Schedule.{enabled_in}
+use Rattle.ffm_model.specs.declared.script.Instruction.{Instruction}
+use Rattle.ffm_model.specs.ScriptRuns.{next_call, only_part, script_at, RunFrom, ScriptRun, CallsBuilt}
+use Rattle.spm_core.specs.Manager.{Opening, IsMade, IsRefused, refusal_at, is_gone, is_built, is_resume, state_after, awaits_return, CallDue}
+use Rattle.partition_sim.specs.Standing.{Standing, Follows, Asked}
+use Rattle.partition_sim.specs.Driving.{Driving, MadeOne, PassedOne, IsOver, runner_at, outcomes_at, first_standing}
+use Rattle.partition_sim.proofs.StepLemmas.{asked-follows, ends_blocked-push}
+use Rattle.partition_sim.proofs.CallLemmas.{next_call-resume, next_call-built, made-unblocked}
+
+-- one entry more
+pub RunFrom-push : (script : List Instruction) (os : List Outcome) (es : List Entry) (e : Entry) → RunFrom script os es → e.call ≡ next_call script (os ++ outcomes_of es)
+    → RunFrom script os (es ++ e ∷ [])
+RunFrom-push script os [] e h c = (c ∙ ap (next_call script) (append-nil os), tt)
+RunFrom-push script os (d ∷ es) e h c =
+    (h.0, RunFrom-push script (os ++ d.outcome ∷ []) es e h.1 (c ∙ ap (next_call script) (sym (append_assoc os (d.outcome ∷ []) (outcomes_of es)))))
+
+entries-own : (a : ℕ) (es : List Entry) (e : Entry) → e.actor.0 ≡ a → entries_of a (es ++ e ∷ []) ≡ entries_of a es ++ e ∷ []
+entries-own a es e h = filter-append (λ x. x.actor.0 == a) es (e ∷ []) ∙ ap (λ b. entries_of a es ++ (if b then e ∷ [] else [])) (eq-eqb _ _ h)
+
+entries-other : (a : ℕ) (es : List Entry) (e : Entry) → e.actor.0 ≢ a → entries_of a (es ++ e ∷ []) ≡ entries_of a es
+entries-other a es e h =
+    filter-append (λ x. x.actor.0 == a) es (e ∷ []) ∙ ap (λ b. entries_of a es ++ (if b then e ∷ [] else [])) (ne_eqb _ _ h) ∙ append-nil (entries_of a es)
+
+outcomes-push : (es : List Entry) (e : Entry) → outcomes_of (es ++ e ∷ []) ≡ outcomes_of es ++ e.outcome ∷ []
+outcomes-push es e = map-append (λ (x : Entry). x.outcome) es (e ∷ [])
+
+same_or_not : (x y : ℕ) → (x ≡ y) ⊎ (x ≢ y)
+same_or_not x y = elim (eqb_tells x y) [ inl p ↦ inl p.1 | inr p ↦ inr p.1 ]
+
+-- what holds of each runner and of a new one at its place
+put-at : (P : ℕ → Standing → Type 0) (runners : List Standing) (a b : ℕ) (r : Standing) → a < length runners → P a r → P b (runner_at runners b)
+    → (a ≡ b) ⊎ (a ≢ b) → P b (runner_at (slice_set runners a r) b)
+put-at P runners a b r below here there (inl e) =
+    let found : r ≡ runner_at (slice_set runners a r) b = sym (get_or-set_same runners a r first_standing below) ∙ ap (runner_at (slice_set runners a r)) e in
+    let Q : Standing → Type 0 = λ x. P b x in
+    let R : ℕ → Type 0 = λ n. P n r in
+    subst Q found (subst R e here)
+put-at P runners a b r below here there (inr n) =
+    let other : b ≢ a = λ e. n (sym e) in
+    let Q : Standing → Type 0 = λ x. P b x in
+    subst Q (sym (get_or-set_other runners a b r first_standing other)) there
+
+-- the same runs, with another value of one runner
+driving-asked : (scripts : List (List (List Instruction))) (o : Opening) (history : List Entry) (runners : List Standing) (a : ℕ) (r : Standing) → a < actor_count o.system
+    → Driving scripts o history runners → Asked (script_at scripts a) (outcomes_at history a) r → Driving scripts o history (slice_set runners a r)
+driving-asked scripts o history runners a r below d asked =
+    let P : ℕ → Standing → Type 0 = λ b x. Follows (script_at scripts b) (outcomes_at history b) x in
+    let inside : a < length runners = omega (arith, d.runners_long) in
+    record {
+      scripts_long = d.scripts_long;
+      runners_long = length-set runners a r ∙ d.runners_long;
+      follows = λ b h. put-at P runners a b r inside (asked-follows _ _ _ asked) (d.follows b h) (same_or_not a b);
+      runs = d.runs;
+      returned = d.returned;
+    }
+
+follows-made : (script : List Instruction) (es : List Entry) (e : Entry) (b : ℕ) (x : Standing) → (e.actor.0 ≡ b) ⊎ (e.actor.0 ≢ b)
+    → (e.actor.0 ≢ b → Follows script (outcomes_of (entries_of b es)) x) → (e.actor.0 ≡ b → Follows script (outcomes_of (entries_of b es) ++ e.outcome ∷ []) x)
+    → Follows script (outcomes_of (entries_of b (es ++ e ∷ []))) x
+follows-made script es e b x (inl h) other own = rw (entries-own b es e h, outcomes-push (entries_of b es) e) (own h)
+follows-made script es e b x (inr n) other own = rw (entries-other b es e n) (other n)
+
+runs-made : (script : List Instruction) (es : List Entry) (e : Entry) (b : ℕ) → (e.actor.0 ≡ b) ⊎ (e.actor.0 ≢ b) → ScriptRun script (entries_of b es)
+    → (e.actor.0 ≡ b → e.call ≡ next_call script (outcomes_of (entries_of b es))) → ScriptRun script (entries_of b (es ++ e ∷ []))
+runs-made script es e b (inl h) run own = rw (entries-own b es e h) (RunFrom-push script [] (entries_of b es) e run (own h))
+runs-made script es e b (inr n) run own = rw (entries-other b es e n) run
+
+returned-made : (es : List Entry) (e : Entry) (b : ℕ) → (e.actor.0 ≡ b) ⊎ (e.actor.0 ≢ b) → is_blocked_outcome e.outcome ≡ false → awaits_return es b ≡ false
+    → awaits_return (es ++ e ∷ []) b ≡ false
+returned-made es e b (inl h) unblocked before =
+    rw (entries-own b es e h, outcomes-push (entries_of b es) e) (ends_blocked-push (outcomes_of (entries_of b es)) e.outcome ∙ unblocked)
+returned-made es e b (inr n) unblocked before = rw (entries-other b es e n) before
+
+-- an entry more
+driving-made : (scripts : List (List (List Instruction))) (o : Opening) (history : List Entry) (runners : List Standing) (a : ℕ) (r : Standing) (e : Entry) → a < actor_count o.system
+    → Driving scripts o history runners → e.actor.0 ≡ a → e.call ≡ next_call (script_at scripts a) (outcomes_at history a)
+    → is_blocked_outcome e.outcome ≡ false
+    → Follows (script_at scripts a) (outcomes_at history a ++ e.outcome ∷ []) r
+    → Driving scripts o (history ++ e ∷ []) (slice_set runners a r)
+driving-made scripts o history runners a r e below d actor call unblocked follows =
+    let inside : a < length runners = omega (arith, d.runners_long) in
+    record {
+      scripts_long = d.scripts_long;
+      runners_long = length-set runners a r ∙ d.runners_long;
+      follows = λ b h. follows-made (script_at scripts b) history e b (runner_at (slice_set runners a r) b) (same_or_not e.actor.0 b)
+          (λ n.
+          let other : b ≢ a = λ q. n (actor ∙ sym q) in
+          rw (get_or-set_other runners a b r first_standing other) (d.follows b h))
+          (λ q.
+          let same : a ≡ b = sym actor ∙ q in
+          let R : ℕ → Type 0 = λ n. Follows (script_at scripts n) (outcomes_at history n ++ e.outcome ∷ []) (runner_at (slice_set runners a r) n) in
+          subst R same (rw (get_or-set_same runners a r first_standing inside) follows));
+      runs = λ b h. runs-made (script_at scripts b) history e b (same_or_not e.actor.0 b) (d.runs b h)
+          (λ q.
+          let same : a ≡ b = sym actor ∙ q in
+          let R : ℕ → Type 0 = λ n. e.call ≡ next_call (script_at scripts n) (outcomes_at history n) in
+          subst R same call);
+      returned = λ b. returned-made history e b (same_or_not e.actor.0 b) unblocked (d.returned b);
+    }
+
+-- ---- what an answer says of the turn
+
+phase-gone : (p : ActorPhase) (word : ℕ) → is_gone p ≡ true → can_go_on p word ≡ false
+phase-gone phase.Running word h = cc
+phase-gone phase.Blocked word h = refl
+phase-gone (phase.Waiting mask) word h = cc
+phase-gone (phase.Ready o) word h = cc
+phase-gone (phase.Connected n) word h = cc
+phase-gone phase.Ended word h = refl
+phase-gone phase.Panicked word h = refl
+
+-- the refusal by the four tests
+by_tests : Bool → Bool → Bool → Bool → Option Answer
+by_tests gone some full on =
+    if gone then Some answer.Gone else (if not some then Some answer.Over else (if full then Some answer.Full else (if on then None else Some answer.NotYet)))
+
+gone_is : (gone some full on : Bool) → by_tests gone some full on ≡ Some answer.Gone → gone ≡ true
+unfolding by_tests
+gone_is true some full on h = refl
+gone_is false false full on h = cc
+gone_is false true true on h = cc
+gone_is false true false true h = cc
+gone_is false true false false h = cc
+
+not_yet_is : (gone some full on : Bool) → by_tests gone some full on ≡ Some answer.NotYet → on ≡ false
+unfolding by_tests
+not_yet_is true some full on h = cc
+not_yet_is false false full on h = cc
+not_yet_is false true true on h = cc
+not_yet_is false true false true h = cc
+not_yet_is false true false false h = refl
+
+over_is : (gone some full on : Bool) → by_tests gone some full on ≡ Some answer.Over → some ≡ false
+unfolding by_tests
+over_is true some full on h = cc
+over_is false false full on h = refl
+over_is false true true on h = cc
+over_is false true false true h = cc
+over_is false true false false h = cc
+
+full_is : (gone some full on : Bool) → by_tests gone some full on ≡ Some answer.Full → full ≡ true
+unfolding by_tests
+full_is true some full on h = cc
+full_is false false full on h = cc
+full_is false true true on h = refl
+full_is false true false true h = cc
+full_is false true false false h = cc
+
+none_is : (gone some full on : Bool) → by_tests gone some full on ≡ None → (on ≡ true) × (full ≡ false)
+unfolding by_tests
+none_is true some full on h = cc
+none_is false false full on h = cc
+none_is false true true on h = cc
+none_is false true false true h = (refl, refl)
+none_is false true false false h = cc
+
+pub verdict-off : (some full blocked : Bool) → some ≡ false → IsSome (if some then (if full then Some Full else None) else (if blocked then Some Stalled else Some Quiet))
+verdict-off true full blocked h = absurd (true≢false h)
+verdict-off false full true h = refl
+verdict-off false full false h = refl
+
+verdict-full : (some full blocked : Bool) → full ≡ true → IsSome (if some then (if full then Some Full else None) else (if blocked then Some Stalled else Some Quiet))
+verdict-full true true blocked h = refl
+verdict-full true false blocked h = absurd (true≢false (sym h))
+verdict-full false full true h = refl
+verdict-full false full false h = refl
+
+off-gone : (s : System) (limit count a : ℕ) (st : Option State) → option_and_then (λ x. refusal_at s limit count x.spm a) st ≡ Some answer.Gone → enabled_in s st a ≡ false
+unfolding by_tests
+off-gone s limit count a None h = refl
+off-gone s limit count a (Some x) h =
+    phase-gone (phase_of x.spm a) (signals_of s x.spm a) (gone_is (is_gone (phase_of x.spm a)) (some_enabled s x.spm) (nat_le limit count) (enabled s x.spm a) h)
+
+off-not_yet : (s : System) (limit count a : ℕ) (st : Option State) → option_and_then (λ x. refusal_at s limit count x.spm a) st ≡ Some answer.NotYet → enabled_in s st a ≡ false
+unfolding by_tests
+off-not_yet s limit count a None h = refl
+off-not_yet s limit count a (Some x) h = not_yet_is (is_gone (phase_of x.spm a)) (some_enabled s x.spm) (nat_le limit count) (enabled s x.spm a) h
+
+is-over : (s : System) (limit count a : ℕ) (st : Option State) → option_and_then (λ x. refusal_at s limit count x.spm a) st ≡ Some answer.Over
+    → IsSome (option_and_then (λ x. verdict_at s limit count x.spm) st)
+unfolding by_tests
+is-over s limit count a None h = cc
+is-over s limit count a (Some x) h =
+    verdict-off (some_enabled s x.spm) (count == limit) (some_blocked s x.spm) (over_is (is_gone (phase_of x.spm a)) (some_enabled s x.spm) (nat_le limit count) (enabled s x.spm a) h)
+
+is-full : (s : System) (limit count a : ℕ) (st : Option State) → count ≤ limit → option_and_then (λ x. refusal_at s limit count x.spm a) st ≡ Some answer.Full
+    → IsSome (option_and_then (λ x. verdict_at s limit count x.spm) st)
+unfolding by_tests
+is-full s limit count a None short h = cc
+is-full s limit count a (Some x) short h =
+    let past : nat_le limit count ≡ true = full_is (is_gone (phase_of x.spm a)) (some_enabled s x.spm) (nat_le limit count) (enabled s x.spm a) h in
+    let full : (count == limit) ≡ true = grind arith in
+    verdict-full (some_enabled s x.spm) (count == limit) (some_blocked s x.spm) full
+
+on-made : (s : System) (limit count a : ℕ) (st : Option State) (f : State → Option State) → option_and_then (λ x. refusal_at s limit count x.spm a) st ≡ None
+    → IsSome (option_and_then f st) → (enabled_in s st a ≡ true) × (nat_le limit count ≡ false)
+unfolding by_tests
+on-made s limit count a None f h k = absurd (true≢false (sym k))
+on-made s limit count a (Some x) f h k = none_is (is_gone (phase_of x.spm a)) (some_enabled s x.spm) (nat_le limit count) (enabled s x.spm a) h
+
+pub passed-gone : (o : Opening) (old new : List Entry) (a : ℕ) → IsRefused o old a answer.Gone new → PassedOne o old a new
+passed-gone o old new a r = record { off = off-gone o.system o.limit (length old) a (state_after o old) r.due; unchanged = r.unchanged }
+
+pub passed-not_yet : (o : Opening) (old new : List Entry) (a : ℕ) → IsRefused o old a answer.NotYet new → PassedOne o old a new
+passed-not_yet o old new a r = record { off = off-not_yet o.system o.limit (length old) a (state_after o old) r.due; unchanged = r.unchanged }
+
+pub over-over : (o : Opening) (old new : List Entry) (a : ℕ) → IsRefused o old a answer.Over new → IsOver o old new
+over-over o old new a r = record { verdict = is-over o.system o.limit (length old) a (state_after o old) r.due; unchanged = r.unchanged }
+
+pub over-full : (o : Opening) (old new : List Entry) (a : ℕ) → length old ≤ o.limit → IsRefused o old a answer.Full new → IsOver o old new
+over-full o old new a short r = record { verdict = is-full o.system o.limit (length old) a (state_after o old) short r.due; unchanged = r.unchanged }
+
+pub made-one : (o : Opening) (old new : List Entry) (a : ℕ) (c : Call) (place : ℕ) (e : Entry) → IsMade o old a c place e new → MadeOne o old a new e
+made-one o old new a c place e m =
+    let P : Option State → Type 0 = λ x. IsSome x in
+    let some = on-made o.system o.limit (length old) a (state_after o old) _ m.due (subst P m.stepped m.is_state) in
+    let left : nat_le o.limit (length old) ≡ false = some.1 in
+    record { on = some.0; actor = m.actor; added = m.added; room = grind arith; is_state = m.is_state }
+
+-- ---- the call that was asked for
+
+-- it is the one of the actor's script after its outcomes
+pub record IsNextOf (scripts : List (List (List Instruction))) (history : List Entry) (a : ℕ) (c : Call) (r : Standing) : Type 0 where
+  pub call : c ≡ next_call (script_at scripts a) (outcomes_at history a)
+  pub asked : Asked (script_at scripts a) (outcomes_at history a) r
+
+pub asked-in : (scripts : List (List (List Instruction))) (o : Opening) (history : List Entry) (runners : List Standing) (a : ℕ) (parts : List (List Instruction)) (old new : Standing) (c : Call)
+    → a < actor_count o.system → Driving scripts o history runners → parts ≡ get_or scripts a parts
+    → ((os : List Outcome) → Follows (only_part parts) os (get_or runners a old) → c ≡ next_call (only_part parts) os)
+    → ((os : List Outcome) → Follows (only_part parts) os (get_or runners a old) → Asked (only_part parts) os new)
+    → IsNextOf scripts history a c new
+asked-in scripts o history runners a parts old new c below d is calls asks =
+    let script : parts ≡ get_or scripts a [] = get_or_read scripts a parts (omega (arith, d.scripts_long)) is [] in
+    let runner : runner_at runners a ≡ get_or runners a old = get_or_default runners a first_standing old (omega (arith, d.runners_long)) in
+    let P : List (List Instruction) → Type 0 = λ x. c ≡ next_call (only_part x) (outcomes_at history a) in
+    let A : List (List Instruction) → Type 0 = λ x. Asked (only_part x) (outcomes_at history a) new in
+    let Q : List (List Instruction) → Type 0 = λ x. Follows (only_part x) (outcomes_at history a) (get_or runners a old) in
+    let R : Standing → Type 0 = λ x. Follows (script_at scripts a) (outcomes_at history a) x in
+    let follows : Follows (only_part parts) (outcomes_at history a) (get_or runners a old) = subst Q (sym script) (subst R runner (d.follows a below)) in
+    record { call = subst P script (calls (outcomes_at history a) follows); asked = subst A script (asks (outcomes_at history a) follows) }
+
+pub call-is-due : (scripts : List (List (List Instruction))) (o : Opening) (history : List Entry) (a : ℕ) (c : Call) (r : Standing) → IsNextOf scripts history a c r → CallDue o history a c
+call-is-due scripts o history a c r n = inl (ap is_resume n.call ∙ next_call-resume (script_at scripts a) (outcomes_at history a))
+
+pub call-is-built : (scripts : List (List (List Instruction))) (o : Opening) (history : List Entry) (runners : List Standing) (a : ℕ) (c : Call) (r : Standing)
+    → All (λ s. CallsBuilt (only_part s)) scripts → Driving scripts o history runners → IsNextOf scripts history a c r → is_built c ≡ true
+call-is-built scripts o history runners a c r built d n = ap is_built n.call ∙ next_call-built scripts a (outcomes_at history a) built (d.returned a)
+
+-- a turn that changes nothing
+pub driving-still : (scripts : List (List (List Instruction))) (o : Opening) (old new : List Entry) (runners : List Standing) (a : ℕ) (c : Call) (r : Standing) → a < actor_count o.system
+    → Driving scripts o old runners → IsNextOf scripts old a c r → new ≡ old → Driving scripts o new (slice_set runners a r)
+driving-still scripts o old new runners a c r below d n e = rw e (driving-asked scripts o old runners a r below d n.asked)
+
+pub driving-step : (scripts : List (List (List Instruction))) (o : Opening) (old new : List Entry) (runners : List Standing) (a : ℕ) (c : Call) (asked r : Standing) (place : ℕ) (e : Entry)
+    → a < actor_count o.system → All (λ s. CallsBuilt (only_part s)) scripts → Driving scripts o old runners → IsNextOf scripts old a c asked → IsMade o old a c place e new
+    → Follows (script_at scripts a) (outcomes_at old a ++ e.outcome ∷ []) r → Driving scripts o new (slice_set runners a r)
+driving-step scripts o old new runners a c asked r place e below built d n m follows =
+    let unblocked : is_blocked_outcome e.outcome ≡ false = made-unblocked o old new a c place e m (call-is-built scripts o old runners a c asked built d n) in
+    rw m.added (driving-made scripts o old runners a r e below d m.actor (m.called ∙ n.call) unblocked follows)

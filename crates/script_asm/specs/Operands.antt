@@ -1,0 +1,17 @@
+-- An instruction has room for six operands.
+-- Source: this simulator's script language.
+use Rattle.std.specs.Prelude.{◌≤◌, nat_le, Bool, true}
+use Rattle.ffm_model.specs.declared.script.Head.{Head}
+use Rattle.ffm_model.specs.declared.script.Head.TheVariants.{Change, Jump, JumpIf, Make}
+
+abbrev pub has_room : Head → Bool
+has_room (Make name count) = nat_le count 6
+has_room (Change o) = true
+has_room Jump = true
+has_room (JumpIf c) = true
+
+abbrev pub HasRoom : Head → Type 0
+HasRoom (Make name count) = count ≤ 6
+HasRoom (Change o) = Unit {0}
+HasRoom Jump = Unit {0}
+HasRoom (JumpIf c) = Unit {0}

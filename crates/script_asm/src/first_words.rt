@@ -1,0 +1,47 @@
+//! First words, and what they ask for.
+ghost use Rattle.std.specs.Prelude.{◌≡◌, IfSome, map, true};
+ghost use Rattle.std.specs.List.{list_all};
+ghost use Rattle.ffm_model.specs.ScriptWords.{head_of, look_up};
+ghost use Rattle.script_asm.specs.Operands.{has_room, HasRoom};
+
+use ffm_model::{CallName, Comparison, Head, Operation};
+
+const FIRST_WORDS: [(&str, Head); 13] = [
+    ("set", Head::Change(Operation::Set)),
+    ("add", Head::Change(Operation::Add)),
+    ("sub", Head::Change(Operation::Sub)),
+    ("and", Head::Change(Operation::And)),
+    ("or", Head::Change(Operation::Or)),
+    ("xor", Head::Change(Operation::Xor)),
+    ("jmp", Head::Jump),
+    ("jeq", Head::JumpIf(Comparison::Equal)),
+    ("jne", Head::JumpIf(Comparison::Different)),
+    ("jlt", Head::JumpIf(Comparison::Less)),
+    (
+        "framework_version",
+        Head::Make(CallName::FrameworkVersion, 0),
+    ),
+    ("version", Head::Make(CallName::Version, 1)),
+    ("end", Head::Make(CallName::Stop, 0)),
+];
+
+fn head_in(table: &[(&'static str, Head)], word: &[u8]) -> Option<Head>
+    requires { list_all (λ t. has_room t.1) table.now ≡ true }
+    ensures gives { result ≡ look_up (map (λ t. (t.0.now, t.1)) table.now) word.now }
+    ensures room { IfSome result HasRoom }
+{
+    for (name, head) in table {
+        if name.as_bytes() == word {
+            return Some(*head);
+        }
+    }
+    None
+}
+
+/// What the first word of a line asks for; None where it is unknown.
+pub fn head_of(word: &[u8]) -> Option<Head>
+    ensures gives { result ≡ head_of word.now }
+    ensures room { IfSome result HasRoom }
+{
+    head_in(&FIRST_WORDS, word)
+}

@@ -1,0 +1,138 @@
+//! The instruction of a line's words.
+ghost use Rattle.std.specs.Prelude.{◌≡◌, ◌≤◌, ◌<◌, ◌^◌, ℕ, IfSome, length, map, option_map, sum_by};
+ghost use Rattle.std.specs.List.{AllByRecursion};
+ghost use Rattle.ffm_model.specs.ScriptLines.{change_of, filled, has_line, instruction_of, jump_if_of, jump_of, make_of, one_word, operands_of, three_words, two_words, width};
+ghost use Rattle.ffm_model.specs.Scripts.{FitsIn, IsOperand};
+ghost use Rattle.script_asm.specs.Views.{lines_view};
+
+use crate::first_words::head_of;
+use crate::lines::{Line, place_of};
+use crate::words::{operand_of, register_of};
+use ffm_model::{ActorKind, CallName, Comparison, Head, Instruction, Operand, Operation};
+
+#[tactic(auto, unfolding(ffm_model::specs::ScriptLines::operands_of))]
+fn operands_of(words: &[&[u8]]) -> Option<[Operand; 6]>
+    requires { length words.now ≤ 6 }
+    ensures gives { result ≡ option_map filled (operands_of (map (λ w. w.now) words.now)) }
+    ensures each { IfSome result (AllByRecursion IsOperand) }
+{
+    let mut operands = [Operand::Number(0); 6];
+    for (i, word) in words.iter().enumerate() {
+        operands[i] = operand_of(word)?;
+    }
+    Some(operands)
+}
+
+// Whether a script of this kind may have the call's line.
+#[tactic(auto, unfolding(ffm_model::specs::ScriptLines::has_line))]
+fn has_line(kind: ActorKind, name: CallName) -> bool
+    ensures { result ≡ has_line kind name }
+{
+    match kind {
+        ActorKind::Partition => !matches!(name, CallName::Raise),
+        ActorKind::Client => matches!(
+            name,
+            CallName::FrameworkVersion
+                | CallName::Version
+                | CallName::Connect
+                | CallName::Invoke
+                | CallName::Close
+                | CallName::Load
+                | CallName::Store
+                | CallName::Stop
+        ),
+        ActorKind::Device => true,
+    }
+}
+
+fn one_word<'a>(words: &[&'a [u8]]) -> Option<&'a [u8]>
+    ensures { option_map (λ w. w.now) result ≡ one_word (map (λ w. w.now) words.now) }
+{
+    let (word, rest) = words.split_first()?;
+    if rest.is_empty() { Some(*word) } else { None }
+}
+
+fn two_words<'a>(words: &[&'a [u8]]) -> Option<(&'a [u8], &'a [u8])>
+    ensures { option_map (λ w. (w.0.now, w.1.now)) result ≡ two_words (map (λ w. w.now) words.now) }
+{
+    let (word, rest) = words.split_first()?;
+    let last = one_word(rest)?;
+    Some((*word, last))
+}
+
+fn three_words<'a>(words: &[&'a [u8]]) -> Option<(&'a [u8], (&'a [u8], &'a [u8]))>
+    ensures { option_map (λ w. (w.0.now, (w.1.0.now, w.1.1.now))) result ≡ three_words (map (λ w. w.now) words.now) }
+{
+    let (word, rest) = words.split_first()?;
+    let others = two_words(rest)?;
+    Some((*word, others))
+}
+
+fn change_of(operation: Operation, words: &[&[u8]]) -> Option<Instruction>
+    ensures gives { result ≡ change_of operation (map (λ w. w.now) words.now) }
+    ensures fits { (count : ℕ) → IfSome result (FitsIn count) }
+{
+    let (register, operand) = two_words(words)?;
+    let register = register_of(register)?;
+    let operand = operand_of(operand)?;
+    Some(Instruction::Change {
+        operation,
+        register,
+        operand,
+    })
+}
+
+fn jump_of(lines: &[Line<'_>], words: &[&[u8]]) -> Option<Instruction>
+    requires { length lines.now < 2 ^ 31 }
+    ensures gives { result ≡ jump_of (lines_view lines.now) (map (λ w. w.now) words.now) }
+    ensures fits { IfSome result (FitsIn (sum_by width (lines_view lines.now))) }
+{
+    let label = one_word(words)?;
+    let target = place_of(lines, label)?;
+    Some(Instruction::Jump { target })
+}
+
+fn jump_if_of(comparison: Comparison, lines: &[Line<'_>], words: &[&[u8]]) -> Option<Instruction>
+    requires { length lines.now < 2 ^ 31 }
+    ensures gives { result ≡ jump_if_of comparison (lines_view lines.now) (map (λ w. w.now) words.now) }
+    ensures fits { IfSome result (FitsIn (sum_by width (lines_view lines.now))) }
+{
+    let (register, (operand, label)) = three_words(words)?;
+    let register = register_of(register)?;
+    let operand = operand_of(operand)?;
+    let target = place_of(lines, label)?;
+    Some(Instruction::JumpIf {
+        comparison,
+        register,
+        operand,
+        target,
+    })
+}
+
+fn make_of(kind: ActorKind, name: CallName, count: usize, words: &[&[u8]]) -> Option<Instruction>
+    requires { count ≤ 6 }
+    ensures gives { result ≡ make_of kind name count (map (λ w. w.now) words.now) }
+    ensures fits { (count : ℕ) → IfSome result (FitsIn count) }
+{
+    if !has_line(kind, name) || words.len() != count {
+        return None;
+    }
+    let operands = operands_of(words)?;
+    Some(Instruction::Make { name, operands })
+}
+
+/// The instruction of these words in a script of these lines; None where they are wrong.
+#[tactic(auto, unfolding(ffm_model::specs::ScriptLines::instruction_of))]
+pub fn instruction_of(kind: ActorKind, lines: &[Line<'_>], words: &[&[u8]]) -> Option<Instruction>
+    requires { length lines.now < 2 ^ 31 }
+    ensures gives { result ≡ instruction_of kind (lines_view lines.now) (map (λ w. w.now) words.now) }
+    ensures fits { IfSome result (FitsIn (sum_by width (lines_view lines.now))) }
+{
+    let (first, words) = words.split_first()?;
+    match head_of(first)? {
+        Head::Change(operation) => change_of(operation, words),
+        Head::Jump => jump_of(lines, words),
+        Head::JumpIf(comparison) => jump_if_of(comparison, lines, words),
+        Head::Make(name, count) => make_of(kind, name, count, words),
+    }
+}

@@ -1,0 +1,3 @@
+pub mod Manager
+pub mod Views
+pub mod Performed

@@ -1,0 +1,176 @@
+//! Runs by hand over one system: a partition with two services, a client, and an interrupt source.
+ghost use Rattle.std.specs.Prelude.{◌≡◌, ◌≤◌, length, IfOk};
+ghost use Rattle.ffm_model.specs.declared.constants.TheConstants.{MAX_ENTRIES};
+ghost use Rattle.spm_core.specs.Manager.{is_built, is_resume};
+
+use crate::Spm;
+use ffm_model::{
+    ActorId, Answer, Budget, Call, Class, List, Name, Outcome, Partition, Phase, Policy, Priority,
+    Region, RotType, Service, Sid, Source, System, Verdict,
+};
+use memory_image::Image;
+use std::alloc::{AllocError, Global};
+use std::process::Abort;
+use std::test::Fail;
+
+const VAULT: ActorId = ActorId(0);
+
+const CLIENT: ActorId = ActorId(1);
+
+const DEVICE: ActorId = ActorId(2);
+
+fn name(alloc: Global, text: &str) -> Result<Name, AllocError> {
+    Ok(Name::of(String::from_str(alloc, text)?))
+}
+
+fn service(
+    alloc: Global,
+    sid: u32,
+    nonsecure: bool,
+    version: u32,
+    signal: u32,
+) -> Result<Service, AllocError> {
+    Ok(Service {
+        name: name(alloc, "SERVICE")?,
+        sid: Sid(sid),
+        owner: 0,
+        nonsecure,
+        version,
+        policy: Policy::Strict,
+        signal,
+    })
+}
+
+fn partition(alloc: Global) -> Result<Partition, AllocError> {
+    Ok(Partition {
+        name: name(alloc, "VAULT")?,
+        rot: RotType::ApplicationRot,
+        priority: Priority::Normal,
+        domain: 0,
+        ram: 0,
+    })
+}
+
+fn regions(alloc: Global) -> Result<Vec<Region>, AllocError>
+    ensures { IfOk result (λ v. length v.items ≡ 2) }
+{
+    let ram = Region {
+        base: 0x2000_0000,
+        size: 0x400,
+        class: Class::Ram { domain: 0 },
+    };
+    let nonsecure = Region {
+        base: 0x3000_0000,
+        size: 0x1000,
+        class: Class::NonSecure,
+    };
+    Ok(vec![in alloc; ram, nonsecure]?)
+}
+
+fn system(alloc: Global) -> Result<System, Fail> {
+    let services = vec![in alloc;
+        service(alloc, 0x40, true, 1, 0x10)?,
+        service(alloc, 0x41, false, 2, 0x20)?,
+    ]?;
+    let source = Source {
+        name: name(alloc, "TIMER_IRQ")?,
+        signal_name: name(alloc, "TIMER_SIGNAL")?,
+        owner: 0,
+        signal: 0x40,
+    };
+    let budget = Budget {
+        client: CLIENT,
+        service: 0,
+        count: 1,
+    };
+    let made = System::new(
+        3,
+        List::of(vec![in alloc; partition(alloc)?]?),
+        List::of(services),
+        List::of(vec![in alloc; source]?),
+        List::of(regions(alloc)?),
+        List::of(vec![in alloc; name(alloc, "NS")?]?),
+        List::of(vec![in alloc; budget]?),
+    );
+    Ok(made.ok_or("the parts don't fit")?)
+}
+
+#[tactic(auto, using(memory_image::proofs::Systems::system_fits))]
+fn manager(alloc: Global, limit: u32) -> Result<Spm, Fail>
+    requires positive { 1 ≤ limit }
+    requires limited { limit ≤ MAX_ENTRIES }
+{
+    let system = system(alloc)?;
+    let image = Image::new(alloc, &system.regions, &List::of(Vec::new(alloc)))?;
+    Ok(Spm::new(alloc, system, image, limit)?)
+}
+
+fn is_made_now(call: Call) -> bool
+    ensures { result ≡ is_built call }
+{
+    matches!(
+        call,
+        Call::FrameworkVersion | Call::Version { .. } | Call::Stop { .. }
+    )
+}
+
+fn ask(rt: &impl Abort, spm: &mut Spm, actor: ActorId, call: Call) -> Answer {
+    assert!(rt; actor.0 < spm.actor_count());
+    assert!(rt; !spm.pending(actor));
+    assert!(rt; is_made_now(call));
+    spm.step(actor, call)
+}
+
+const STOP: Call = Call::Stop { spent: false };
+
+#[test]
+fn versions_and_stops(rt: HostRuntime) -> Result<(), Fail> {
+    let mut spm = manager(rt.alloc(), 10)?;
+    let expected = [
+        (CLIENT, Call::FrameworkVersion, Outcome::Number(256)),
+        (CLIENT, Call::Version { sid: Sid(0x40) }, Outcome::Number(1)),
+        (CLIENT, Call::Version { sid: Sid(0x99) }, Outcome::Number(0)),
+        (CLIENT, Call::Version { sid: Sid(0x41) }, Outcome::Number(0)),
+        (DEVICE, Call::FrameworkVersion, Outcome::Value(-129)),
+        (VAULT, STOP, Outcome::Done),
+        (DEVICE, STOP, Outcome::Done),
+        (CLIENT, STOP, Outcome::Done),
+    ];
+    for (i, (actor, call, outcome)) in expected.iter().enumerate() {
+        assert_eq!(rt; spm.verdict(), None, "before {i}");
+        match ask(&rt, &mut spm, *actor, *call) {
+            Answer::Made { place, entry } => {
+                assert_eq!(rt; place as usize, i + 1);
+                assert_eq!(rt; entry.outcome, *outcome, "at {i}");
+                assert!(rt; place <= spm.length());
+                assert_eq!(rt; spm.entry(place), entry);
+            }
+            answer => assert!(rt; false, "{answer:?} at {i}"),
+        }
+    }
+    assert_eq!(rt; spm.verdict(), Some(Verdict::Quiet));
+    assert_eq!(rt; ask(&rt, &mut spm, CLIENT, STOP), Answer::Gone);
+    assert_eq!(rt; spm.length(), 8);
+    Ok(())
+}
+
+#[test]
+fn full_at_the_limit(rt: HostRuntime) -> Result<(), Fail> {
+    let mut spm = manager(rt.alloc(), 2)?;
+    let _ = ask(&rt, &mut spm, CLIENT, Call::FrameworkVersion);
+    let _ = ask(&rt, &mut spm, CLIENT, STOP);
+    assert_eq!(rt; spm.verdict(), Some(Verdict::Full));
+    for (actor, answer, phase, enabled) in [
+        (VAULT, Answer::Full, Phase::Running, true),
+        (CLIENT, Answer::Gone, Phase::Ended, false),
+    ] {
+        assert_eq!(rt; ask(&rt, &mut spm, actor, STOP), answer);
+        assert!(rt; actor.0 < spm.actor_count());
+        assert_eq!(rt; spm.phase(actor), phase);
+        assert_eq!(rt; spm.enabled(actor), enabled);
+    }
+    assert_eq!(rt; spm.length(), 2);
+    assert_eq!(rt; spm.system().level, 3);
+    let _image = spm.image();
+    Ok(())
+}

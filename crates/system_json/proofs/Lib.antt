@@ -1,0 +1,5 @@
+pub mod ShortLists
+pub mod Positions
+pub mod HexDigits
+pub mod Files
+pub mod ManifestSteps

@@ -1,0 +1,15 @@
+//! System files with the manifests that they name, and scenario files, out of the bytes of JSON
+//! files.
+#![tactic(auto)]
+
+mod lists;
+mod manifests;
+mod scenario;
+mod system;
+mod text_bytes;
+
+pub use manifests::{MAX_FILE_BYTES, read_system};
+pub use scenario::read_scenario;
+
+#[cfg(test)]
+mod tests;
