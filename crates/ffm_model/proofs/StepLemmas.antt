@@ -1,27 +1,20 @@
 -- Laws of steps and runs, for the crates above.
-use Rattle.std.proofs.Common.{ℕ, ◌≡◌, ◌<◌, Bool, true, ◌&&◌, List, [], ◌∷◌, ◌++◌, length, refl, ap, sym, ◌∙◌, ℤ, eq-eqb, zero-add}
-use Rattle.std.specs.Prelude.{Some, None, option_and_then, ◌==◌, get_or, fold, if◌then◌else◌}
+use Rattle.std.proofs.Common.{ℕ, ◌≡◌, Bool, true, ◌&&◌, List, [], ◌∷◌, ◌++◌, refl, ap, sym, ◌∙◌, ℤ, eq-eqb}
+use Rattle.std.specs.Prelude.{Some, None, option_and_then, ◌==◌, fold, if◌then◌else◌}
 use Rattle.std.specs.Ordering.{int_eq}
 use Rattle.std.specs.Str.{bytes_eq}
-use Rattle.std.proofs.lemmas.List.Folds.{list_any_at}
-use Rattle.std.proofs.lemmas.List.FromFn.{length-range_with_len, get_or-range_with_len}
 use Rattle.std.proofs.lemmas.Bool.Decides.{Decides-int_eq}
 use Rattle.ffm_model.specs.declared.system.System.{System}
-use Rattle.ffm_model.specs.declared.system.ActorKind.TheVariants.{Client}
 use Rattle.ffm_model.specs.declared.machine.Entry.{Entry}
 use Rattle.ffm_model.specs.declared.machine.Message.{Message}
 use Rattle.ffm_model.specs.declared.machine.Call.{Call}
-use Rattle.ffm_model.specs.declared.machine.Handle.{Handle}
 use Rattle.ffm_model.specs.declared.machine.Outcome.{Outcome}
 use Rattle.ffm_model.specs.declared.machine.Outcome.TheVariants.{Value, Number, Signals, Got, Blocked, Done, Panicked}
-use Rattle.ffm_model.specs.Actors.{actor_count, kind_of}
 use Rattle.ffm_model.specs.Memory.{ByteMap}
-use Rattle.ffm_model.specs.State.{SpmState, State, opening}
-use Rattle.ffm_model.specs.Signals.{enabled}
-use Rattle.ffm_model.specs.ClientCalls.{Effect, effect}
-use Rattle.ffm_model.specs.Calls.{case_of, has_call, client_has, call_case, effect_of, effect_or_error, error_effect, refusal_of}
+use Rattle.ffm_model.specs.State.{State, opening}
+use Rattle.ffm_model.specs.ClientCalls.{effect}
+use Rattle.ffm_model.specs.Calls.{effect_of}
 use Rattle.ffm_model.specs.Step.{step, step_on, after, outcome_eq, message_eq, may_call, handle_allowed, handle_shown}
-use Rattle.ffm_model.specs.Verdicts.{some_enabled, all_actors}
 use Rattle.ffm_model.specs.Names.{named_step, named_step_on, named_after, first_named}
 
 -- a fold over one item more

@@ -36,3 +36,10 @@ pub mod PartsItems
 pub mod SystemAttributes
 pub mod Systems
 pub mod Scenarios
+pub mod Repeats
+pub mod Circles
+pub mod Layout
+pub mod Permissions
+pub mod Rules
+pub mod Compiled
+pub mod Listing

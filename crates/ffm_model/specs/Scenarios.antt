@@ -9,6 +9,7 @@ use Rattle.std.specs.Str.{bytes_eq}
 use Rattle.serde_json.specs.Data.{Data}
 use Rattle.serde_json.specs.Find.{as_str}
 use Rattle.ffm_model.specs.declared.codes.TheConstants.{JSON, WRONG_TYPE, BAD_VALUE, UNKNOWN_ACTOR}
+use Rattle.ffm_model.specs.declared.constants.TheConstants.{MAX_SCRIPT_LINES}
 use Rattle.ffm_model.specs.declared.key.Key.TheVariants as key
 use Rattle.ffm_model.specs.declared.machine.ActorId.{ActorId}
 use Rattle.ffm_model.specs.declared.script_item.ScriptItem.{ScriptItem}
@@ -60,7 +61,7 @@ unfoldable pub script_of : System → List ScriptItem → Data → Result Script
 script_of s scripts d = do
   object ← object_of d
   actor ← required (new_actor_of s scripts) key.Actor d
-  lines ← required (list_up_to 4096 line_of) key.Lines d
+  lines ← required (list_up_to MAX_SCRIPT_LINES line_of) key.Lines d
   Ok (record { actor = actor; lines = lines })
 
 -- each script's lines at its actor's place; an actor without a script has none
@@ -100,12 +101,14 @@ bytes_of regions d = do
 
 -- ---- the file
 
--- what a scenario keeps, for its system: the limits, lines for each actor, no other actors, and memory in regions
+-- what a scenario keeps, for its system: the limits, few enough lines for each actor, at most one script for each and none for others, and memory in regions
 pub record IsScenarioOf (s : System) (c : Scenario) : Type 0 where
   pub limit : 0 < c.limit
   pub limit_end : c.limit ≤ 262144
   pub lines : length c.lines ≡ actor_count s
+  pub short : AllByRecursion (λ lines. length lines ≤ MAX_SCRIPT_LINES) c.lines
   pub order : AllByRecursion (λ actor. actor.0 < actor_count s) c.order
+  pub few : length c.order ≤ actor_count s
   pub schedule : AllByRecursion (λ actor. actor.0 < actor_count s) c.schedule
   pub memory : AllByRecursion (λ bytes. IsTrue (list_any (lies_in bytes.address (length bytes.content)) s.regions)) c.memory
 

@@ -48,6 +48,18 @@ pub const MAX_PARTITIONS: u32 = 32;
 /// The most non-secure clients of a system.
 pub const MAX_CLIENTS: u32 = 16;
 
+/// The most services and interrupts of a partition, together: each has a bit from 4 to 31.
+pub const MAX_SIGNALS: u32 = 28;
+
+/// The most connections that a system may declare.
+pub const MAX_CONNECTIONS: u32 = 256;
+
+/// Where the RAM of partitions begins.
+pub const RAM_BASE: u32 = 0x3000_0000;
+
+/// Where the RAM of non-secure clients begins.
+pub const NON_SECURE_RAM_BASE: u32 = 0x2000_0000;
+
 /// The most bytes of one region: 1 MiB.
 pub const MAX_REGION_BYTES: u32 = 1_048_576;
 
@@ -56,6 +68,9 @@ pub const MAX_IMAGE_BYTES: u32 = 16_777_216;
 
 /// The most bytes of a file that isn't a trace: 1 MiB.
 pub const MAX_FILE_BYTES: u32 = 1_048_576;
+
+/// The most lines of a script.
+pub const MAX_SCRIPT_LINES: u32 = 4_096;
 
 /// The most entries of a run.
 pub const MAX_ENTRIES: u32 = 262_144;

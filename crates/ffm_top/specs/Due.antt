@@ -7,6 +7,7 @@ use Rattle.ffm_model.specs.declared.machine.Verdict.TheVariants.{Quiet, Stalled,
 use Rattle.ffm_model.specs.declared.scenario.Scenario.{Scenario}
 use Rattle.ffm_model.specs.declared.system.System.{System}
 use Rattle.ffm_model.specs.Actors.{actor_count, counts_of}
+use Rattle.ffm_model.specs.Listing.{listing}
 use Rattle.ffm_model.specs.Memory.{opening_memory}
 use Rattle.ffm_model.specs.Names.{names}
 use Rattle.ffm_model.specs.Reading.{Contents, Stop, refused, missing}
@@ -18,7 +19,7 @@ use Rattle.ffm_model.specs.TraceText.{trace_text}
 use Rattle.ffm_model.specs.Verdicts.{verdict_of}
 use Rattle.ffm_top.specs.Lines.{usage_line, refusal_line}
 use Rattle.ffm_top.specs.Words.{Order, order_of}
-use Rattle.ffm_top.specs.Work.{Work, Parts, run_of, work_of}
+use Rattle.ffm_top.specs.Work.{Work, Parts, listing_of, run_of, work_of}
 
 -- a trace that a scenario's run of a system may have
 pub record RanBy (s : System) (c : Scenario) (scripts : List Parts) (es : List Entry) (v : Verdict) : Type 0 where
@@ -47,7 +48,12 @@ pub record RunDue (s : System) (c : Scenario) (scripts : List Parts) (text : Lis
   pub text_is : text ≡ trace_text (counts_of s) entries ended
   pub status_is : status ≡ verdict_status ended
 
+-- a system's text is its listing
+abbrev pub ListingDue : System → List ℕ → ℕ → Type 0
+ListingDue s text status = (text ≡ listing s) × (status ≡ 0)
+
 abbrev pub WorkDue : Work → List ℕ → ℕ → Type 0
+WorkDue (listing_of s) text status = ListingDue s text status
 WorkDue (run_of s c scripts) text status = RunDue s c scripts text status
 
 abbrev pub DueBy : Result Work Stop → List ℕ → ℕ → Type 0

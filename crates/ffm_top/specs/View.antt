@@ -8,11 +8,18 @@ use Rattle.ffm_model.specs.Actors.{actor_count}
 use Rattle.ffm_model.specs.Scenarios.{IsScenarioOf}
 use Rattle.ffm_model.specs.ScriptRuns.{CallsBuilt, only_part}
 use Rattle.ffm_top.specs.declared.work.Work as code
-use Rattle.ffm_top.specs.Work.{Work, run_of}
+use Rattle.ffm_top.specs.declared.work.Work.TheVariants as code_work
+use Rattle.ffm_top.specs.declared.work.RunWork.{RunWork}
+use Rattle.ffm_top.specs.Work.{Work, listing_of, run_of}
 
 abbrev pub work : code.Work → Work
-work w = run_of w.system w.scenario w.scripts
+work (code_work.Listing system) = listing_of system
+work (code_work.Run run) = run_of run.system run.scenario run.scripts
 
 -- a scenario of the system, and one script for each actor that calls what the manager makes
+abbrev pub IsRun : RunWork → Type 0
+IsRun run = IsScenarioOf run.system run.scenario × (length run.scripts ≡ actor_count run.system) × All (λ script. CallsBuilt (only_part script)) run.scripts
+
 abbrev pub IsWork : code.Work → Type 0
-IsWork w = IsScenarioOf w.system w.scenario × (length w.scripts ≡ actor_count w.system) × All (λ script. CallsBuilt (only_part script)) w.scripts
+IsWork (code_work.Listing system) = Unit {0}
+IsWork (code_work.Run run) = IsRun run

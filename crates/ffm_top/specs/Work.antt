@@ -13,8 +13,8 @@ use Rattle.ffm_model.specs.Reading.{Contents, Reading, Stop, ◌>>=◌, asks_not
 use Rattle.ffm_model.specs.Scenarios.{scenario_in}
 use Rattle.ffm_model.specs.ScriptLines.{script_read}
 use Rattle.ffm_model.specs.Systems.{system_of, stopped}
-use Rattle.manifest_compile.specs.FirstSystems.{compiled}
-use Rattle.ffm_top.specs.Words.{Order, run}
+use Rattle.ffm_model.specs.Compiled.{compiled}
+use Rattle.ffm_top.specs.Words.{Order, compile, run}
 
 -- a script, as the list of its parts
 abbrev pub Parts : Type 0
@@ -72,6 +72,7 @@ scenario_at of s name = do
 -- ---- work
 
 pub data Work : Type 0 where
+  listing_of : System → Work
   run_of : System → Scenario → List Parts → Work
 
 -- the scenario's run of a system
@@ -81,7 +82,18 @@ run_in of s scenario = do
   scripts ← asks_nothing (scripts_of s c)
   asks_nothing (Ok (run_of s c scripts))
 
-unfoldable pub work_of : Contents → Order → Reading Work
-work_of of (run system scenario) = do
+-- the listing of a system
+unfoldable pub list_in : Contents → List ℕ → Reading Work
+list_in of system = do
+  s ← system_at of system
+  asks_nothing (Ok (listing_of s))
+
+-- the scenario's run of a system, from their files
+unfoldable pub run_at : Contents → List ℕ → List ℕ → Reading Work
+run_at of system scenario = do
   s ← system_at of system
   run_in of s scenario
+
+abbrev pub work_of : Contents → Order → Reading Work
+work_of of (compile system) = list_in of system
+work_of of (run system scenario) = run_at of system scenario

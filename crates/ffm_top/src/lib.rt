@@ -1,6 +1,8 @@
 //! The top call: what the words of the command line ask for, done over any files and any sink.
 #![tactic(auto)]
 
+#[cfg(test)]
+mod compile_tests;
 mod lines;
 mod report;
 mod run;

@@ -1,6 +1,6 @@
 //! What is written at the end.
 
-ghost use Rattle.std.specs.Prelude.{◌≡◌, ◌<◌, ◌≤◌, IfSome, OnErr, length, slice_get};
+ghost use Rattle.std.specs.Prelude.{◌≡◌, ◌<◌, ◌≤◌, IfSome, OnErr, ◌+◌, drop, length, slice_get, take};
 ghost use Rattle.outside_io.specs.Count.{Rose};
 ghost use Rattle.outside_io.specs.Told.{Puts};
 ghost use Rattle.ffm_model.specs.Actors.{counts_of};
@@ -22,6 +22,8 @@ pub enum Report {
     Usage,
     /// A file is refused, by this line.
     Refused(Vec<u8>),
+    /// A system is listed, by this text.
+    Listed(Vec<u8>),
     /// A run ended.
     Ran(Ran),
 }
@@ -64,6 +66,44 @@ fn put_trace<S: Sink>(out: &mut S, spm: &Spm, verdict: Verdict) -> Result<(), Fa
     put_verdict(out, verdict, length)
 }
 
+// How many bytes the first line of a text has.
+fn line_length(text: &[u8]) -> usize
+    requires { 0 < length text.now }
+    ensures some { 0 < result }
+    ensures within { result ≤ length text.now }
+{
+    match text.iter().position(|byte| *byte == b'\n') {
+        Some(place) => place + 1,
+        None => text.len(),
+    }
+}
+
+// The line that begins at a place of a text.
+fn line_at(text: &[u8], start: usize) -> &[u8]
+    requires { start < length text.now }
+    ensures line { result.now ≡ take (length result.now) (drop start text.now) }
+    ensures some { 0 < length result.now }
+    ensures within { start + length result.now ≤ length text.now }
+{
+    let rest = &text[start..];
+    &rest[..line_length(rest)]
+}
+
+// Puts a text, line by line.
+fn put_lines<S: Sink>(out: &mut S, text: &[u8]) -> Result<(), Failed>
+    ensures puts { Puts (S.taken out.old) (S.taken out.new) result text.now }
+    ensures later { S.faults out.old ≤ S.faults out.new }
+    ensures failed { OnErr result (Rose (S.faults out.old) (S.faults out.new)) }
+{
+    let mut start = 0;
+    while start < text.len() {
+        let line = line_at(text, start);
+        put_all(out, line)?;
+        start += line.len();
+    }
+    Ok(())
+}
+
 /// Writes a report. Everything that it says is known by now, and no memory is taken.
 #[tactic(auto, unfolding(crate::specs::Report::text_of))]
 pub fn put_report<S: Sink>(out: &mut S, report: &Report) -> Result<(), Failed>
@@ -74,6 +114,7 @@ pub fn put_report<S: Sink>(out: &mut S, report: &Report) -> Result<(), Failed>
     match report {
         Report::Usage => put_all(out, usage_line().as_bytes()),
         Report::Refused(line) => put_all(out, line.as_slice()),
+        Report::Listed(text) => put_lines(out, text.as_slice()),
         Report::Ran(ran) => put_trace(out, &ran.spm, ran.verdict),
     }
 }
@@ -96,6 +137,7 @@ impl Report {
         match self {
             Report::Usage => 2,
             Report::Refused(_) => 1,
+            Report::Listed(_) => 0,
             Report::Ran(ran) => verdict_status(ran.verdict),
         }
     }

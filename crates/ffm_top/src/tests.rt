@@ -82,7 +82,7 @@ static WORKED: [Worked; 15] = [
         system: r#"{"isolation_level":1,"manifests":[],"clients":["A","A"]}"#,
         scenario: "{}",
         status: 1,
-        text: "refused 4 BadValue system\n",
+        text: "refused 5 DuplicatePartition system /clients/1\n",
     },
     Worked {
         system: r#"{"isolation_level":1,"manifests":["long"]}"#,

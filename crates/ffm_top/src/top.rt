@@ -5,10 +5,10 @@ ghost use Rattle.outside_io.specs.Count.{Rose};
 ghost use Rattle.outside_io.specs.Told.{Puts, Takes};
 ghost use Rattle.ffm_model.specs.Reading.{FailedAmong};
 ghost use Rattle.ffm_top.specs.Answers.{IsStatus, IsRunStatus, WritesDue, WritesPart, FailedAsked};
-ghost use Rattle.ffm_top.specs.Due.{Due, DueBy, WorkDue, asked, IsValid};
+ghost use Rattle.ffm_top.specs.Due.{Due, DueBy, ListingDue, RunDue, WorkDue, asked, IsValid};
 ghost use Rattle.ffm_top.specs.Lines.{refusal_line, usage_line};
 ghost use Rattle.ffm_top.specs.Report.{text_of, status_of};
-ghost use Rattle.ffm_top.specs.View.{work as work_seen, IsWork};
+ghost use Rattle.ffm_top.specs.View.{work as work_seen, IsRun, IsWork};
 ghost use Rattle.ffm_top.specs.Words.{order, order_of};
 ghost use Rattle.ffm_top.specs.Work.{work_of};
 
@@ -16,10 +16,11 @@ use crate::lines::refusal_line;
 use crate::report::{Report, put_report};
 use crate::run::run;
 use crate::words::{Command, command_of};
-use crate::work::{Work, work_of};
-use ffm_model::{Gate, PartsError, Refusal};
+use crate::work::{RunWork, Work, work_of};
+use ffm_model::{Gate, PartsError, Refusal, System};
 use outside_io::{Failed, Files, Sink};
 use std::alloc::Global;
+use system_listing::listing;
 
 /// Why there is nothing to write.
 #[derive(Clone, Copy, Debug, PartialEq, Eq)]
@@ -50,15 +51,28 @@ fn refused(alloc: Global, refusal: &Refusal) -> Result<Report, Halt>
     }
 }
 
-// The report of work that was asked for.
-#[tactic(auto, using(crate::proofs::Reports::run_due))]
-fn done(alloc: Global, work: Work) -> Result<Report, Halt>
-    requires { IsWork work }
-    ensures due { IfOk result (λ report. WorkDue (work_seen work) (text_of report) (status_of report)) }
+// The report of a system.
+#[tactic(auto, unfolding(crate::specs::Report::text_of))]
+fn listed(alloc: Global, system: &System) -> Result<Report, Halt>
+    ensures due { IfOk result (λ report. ListingDue system.now (text_of report) (status_of report)) }
     ensures status { IfOk result (λ report. IsRunStatus (status_of report)) }
     ensures memory { IsErrOf result Halt.Files → ⊥ }
 {
-    let Work {
+    match listing(alloc, system) {
+        Ok(text) => Ok(Report::Listed(text)),
+        Err(_) => Err(Halt::Memory),
+    }
+}
+
+// The report of a run.
+#[tactic(auto, using(crate::proofs::Reports::run_due))]
+fn ran(alloc: Global, work: RunWork) -> Result<Report, Halt>
+    requires { IsRun work }
+    ensures due { IfOk result (λ report. RunDue work.system work.scenario work.scripts (text_of report) (status_of report)) }
+    ensures status { IfOk result (λ report. IsRunStatus (status_of report)) }
+    ensures memory { IsErrOf result Halt.Files → ⊥ }
+{
+    let RunWork {
         system,
         scenario,
         scripts,
@@ -66,6 +80,19 @@ fn done(alloc: Global, work: Work) -> Result<Report, Halt>
     match run(alloc, system, &scenario, &scripts) {
         Ok(ran) => Ok(Report::Ran(ran)),
         Err(_) => Err(Halt::Memory),
+    }
+}
+
+// The report of work that was asked for.
+fn done(alloc: Global, work: Work) -> Result<Report, Halt>
+    requires { IsWork work }
+    ensures due { IfOk result (λ report. WorkDue (work_seen work) (text_of report) (status_of report)) }
+    ensures status { IfOk result (λ report. IsRunStatus (status_of report)) }
+    ensures memory { IsErrOf result Halt.Files → ⊥ }
+{
+    match work {
+        Work::Listing(system) => listed(alloc, &system),
+        Work::Run(run) => ran(alloc, run),
     }
 }
 
@@ -118,7 +145,7 @@ fn report_of<F: Files>(alloc: Global, words: &Vec<String>, files: &mut F) -> Res
 /// Does what the words ask for over these files, writes the text that is due, and answers the
 /// status to end with.
 ///
-/// 0, 4 and 5: a run that is quiet, stalled, full. 1: a file is refused, by the line written. 2: the
+/// 0: a system is listed, or a run is quiet. 4 and 5: a run is stalled, full. 1: a file is refused, by the line written. 2: the
 /// words are no command, by the usage line. 7: a file that is asked for can't be read, and nothing
 /// is written. 8: the text can't be written whole. 9: no memory was found, and nothing is written.
 pub fn ffm<R, F: Files, S: Sink, G: Gate>(
@@ -131,9 +158,9 @@ pub fn ffm<R, F: Files, S: Sink, G: Gate>(
 ) -> u8
     ensures status { IsStatus result }
 
-    // A status below 7 comes with a text that is due with it, written whole: for a run the trace of
-    // a run of the FF-M machine in which each actor's events are its script's calls with the
-    // machine's answers, in the turns of the schedule.
+    // A status below 7 comes with a text that is due with it, written whole: for `compile` the
+    // listing of the system, and for `run` the trace of a run of the FF-M machine in which each
+    // actor's events are its script's calls with the machine's answers, in the turns of the schedule.
     ensures due { result < 7 → IfSome (F.held files.old) (λ of.
         WritesDue (map string_bytes words.now.items) of (S.taken out.old) (S.taken out.new) result) }
 
@@ -164,6 +191,7 @@ pub fn ffm<R, F: Files, S: Sink, G: Gate>(
     ensures files_later { F.faults files.old ≤ F.faults files.new }
     ensures sink_later { S.faults out.old ≤ S.faults out.new }
 {
+    // Only a run with threads needs these.
     let _ = rt;
     let _ = gate;
     match report_of(alloc, words, files) {

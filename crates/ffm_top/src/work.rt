@@ -8,7 +8,7 @@ ghost use Rattle.ffm_model.specs.Reading.{Gives, Reads, file_at};
 ghost use Rattle.ffm_model.specs.Scenarios.{IsScenarioOf};
 ghost use Rattle.ffm_model.specs.ScriptRuns.{CallsBuilt, only_part};
 ghost use Rattle.ffm_top.specs.Words.{order};
-ghost use Rattle.ffm_top.specs.Work.{empty_script, script_of_actor, scripts_of, system_in, system_at, scenario_at, run_in, work_of};
+ghost use Rattle.ffm_top.specs.Work.{empty_script, script_of_actor, scripts_of, system_in, system_at, scenario_at, run_in, list_in, run_at, work_of};
 ghost use Rattle.ffm_top.specs.View.{work, IsWork};
 
 use crate::words::Command;
@@ -22,15 +22,20 @@ use script_asm::assemble;
 use std::alloc::Global;
 use system_json::{read_scenario, read_system};
 
-// The most lines of a script.
-const MAX_SCRIPT_LINES: usize = 4_096;
-
-/// What is to be done: the run of a scenario's scripts, one for each actor, over a system.
+/// A run of a scenario's scripts, one for each actor, over a system.
 #[derive(Drop)]
-pub struct Work {
+pub struct RunWork {
     pub system: System,
     pub scenario: Scenario,
     pub scripts: List<Script>,
+}
+
+/// What is to be done.
+#[derive(Drop)]
+pub enum Work {
+    /// To list a system.
+    Listing(System),
+    Run(RunWork),
 }
 
 // A refusal of a whole file.
@@ -122,18 +127,8 @@ fn empty_scripts(alloc: Global, count: u32) -> Result<Vec<Script>, Memory>
     Ok(scripts)
 }
 
-// A script's number in its file. It fits 32 bits where there is memory for so many scripts.
-fn number_at(place: usize) -> Result<u32, ReadError>
-    ensures number { IfOk result (λ number. number ≡ place) }
-    ensures memory { IfErr result (λ e. e ≡ ReadError.Memory) }
-{
-    match u32::try_from(place) {
-        Ok(number) => Ok(number),
-        Err(_) => Err(ReadError::Memory),
-    }
-}
-
 // The script of one of the actors.
+#[tactic(auto, using(ffm_model::proofs::ActorLemmas::actor_count_le))]
 fn script_of_actor(
     alloc: Global,
     system: &System,
@@ -142,17 +137,14 @@ fn script_of_actor(
     actor: ActorId,
 ) -> Result<Script, ReadError>
     requires scenario { IsScenarioOf system.now scenario.now }
+    requires place { place < length scenario.now.order }
     requires actor { actor.0 < actor_count system.now }
     ensures reads { Reads (λ script. script) result (script_of_actor system.now scenario.now place actor) }
     ensures built { IfOk result (λ script. CallsBuilt (only_part script)) }
 {
-    let number = number_at(place)?;
     let kind = system.actor_kind(actor);
     let lines = &scenario.lines.as_slice()[actor.0 as usize];
-    if lines.len() > MAX_SCRIPT_LINES {
-        return Err(ReadError::Memory);
-    }
-    assemble(alloc, lines, kind, number)
+    assemble(alloc, lines, kind, place as u32)
 }
 
 // The script of each actor.
@@ -192,15 +184,45 @@ fn run_in<F: Files>(
 {
     let scenario = scenario_at(alloc, files, &system, name)?;
     let scripts = scripts_of(alloc, &system, &scenario)?;
-    Ok(Work {
+    Ok(Work::Run(RunWork {
         system,
         scenario,
         scripts,
-    })
+    }))
+}
+
+// The listing of a system, from its file.
+#[tactic(auto, unfolding(crate::specs::Work::list_in), using(ffm_model::proofs::ReadingLemmas::after_ok, ffm_model::proofs::ReadingLemmas::after_err))]
+fn list_in<F: Files>(alloc: Global, files: &mut F, name: &str) -> Result<Work, PartsError>
+    ensures gives { IfSome (F.held files.old) (λ of. Gives work (F.last_failed files.new) result (list_in of name.now)) }
+    ensures keeps { F.held files.new ≡ F.held files.old }
+    ensures later { F.faults files.old ≤ F.faults files.new }
+    ensures failed { IsErrOf result PartsError.ReadFault → Rose (F.faults files.old) (F.faults files.new) }
+    ensures kept { IfOk result IsWork }
+{
+    let system = system_at(alloc, files, name)?;
+    Ok(Work::Listing(system))
+}
+
+// The scenario's run of a system, from their files.
+#[tactic(auto, unfolding(crate::specs::Work::run_at), using(ffm_model::proofs::ReadingLemmas::after_ok, ffm_model::proofs::ReadingLemmas::after_err))]
+fn run_at<F: Files>(
+    alloc: Global,
+    files: &mut F,
+    system: &str,
+    scenario: &str,
+) -> Result<Work, PartsError>
+    ensures gives { IfSome (F.held files.old) (λ of. Gives work (F.last_failed files.new) result (run_at of system.now scenario.now)) }
+    ensures keeps { F.held files.new ≡ F.held files.old }
+    ensures later { F.faults files.old ≤ F.faults files.new }
+    ensures failed { IsErrOf result PartsError.ReadFault → Rose (F.faults files.old) (F.faults files.new) }
+    ensures kept { IfOk result IsWork }
+{
+    let system = system_at(alloc, files, system)?;
+    run_in(alloc, files, system, scenario)
 }
 
 /// The work of a command.
-#[tactic(auto, unfolding(crate::specs::Work::work_of), using(ffm_model::proofs::ReadingLemmas::after_ok, ffm_model::proofs::ReadingLemmas::after_err))]
 pub fn work_of<F: Files>(
     alloc: Global,
     command: Command<'_>,
@@ -212,6 +234,8 @@ pub fn work_of<F: Files>(
     ensures failed { IsErrOf result PartsError.ReadFault → Rose (F.faults files.old) (F.faults files.new) }
     ensures kept { IfOk result IsWork }
 {
-    let system = system_at(alloc, files, command.system)?;
-    run_in(alloc, files, system, command.scenario)
+    match command {
+        Command::Compile { system } => list_in(alloc, files, system),
+        Command::Run { system, scenario } => run_at(alloc, files, system, scenario),
+    }
 }

@@ -1,8 +1,17 @@
 //! Compiles what a system file says into a system.
 #![tactic(auto)]
 
-mod layout;
+mod budgets;
+mod compiler;
+mod dependencies;
+mod limits;
 mod names;
+mod pairs;
+mod refusals;
+mod regions;
 mod systems;
 
-pub use systems::compile;
+pub use compiler::compile;
+
+#[cfg(test)]
+mod tests;

@@ -1,40 +1,164 @@
-//! From the parts of a system file to a system.
+//! A system out of what a system file says.
+ghost use Rattle.std.specs.Prelude.{◌≡◌, ℕ, ◌+◌, ◌++◌, ◌<◌, ◌≤◌, [], length, map, All, IfOk, OnOk};
+ghost use Rattle.std.specs.List.{flat_map, enumerate_from};
+ghost use Rattle.ffm_model.specs.Compiled.{partition_of, service_of, services_of_manifest, source_of, sources_of_manifest, system_parts};
+ghost use Rattle.ffm_model.specs.Layout.{domain_at, regions_of};
+ghost use Rattle.ffm_model.specs.Parts.{parts_of_system};
+ghost use Rattle.ffm_model.specs.Permissions.{budgets_of};
+ghost use Rattle.ffm_model.specs.Rules.{broken};
 
-ghost use Rattle.std.specs.Prelude.{◌≡◌, [], ◌∷◌, ◌&&◌, not, true, Some, IfOk};
-ghost use Rattle.std.specs.Prelude.{option_and_then};
-ghost use Rattle.std.specs.List.{list_any};
-ghost use Rattle.std.specs.Str.{bytes_eq};
-ghost use Rattle.ffm_model.specs.Parts.{system_from};
-ghost use Rattle.ffm_model.specs.Reading.{Reads};
-ghost use Rattle.manifest_compile.specs.FirstSystems.{compiled, first_parts, is_first_file, is_first_manifest, no_partition, one_partition, parts_by};
-
-use crate::layout::{budgets_of, non_secure_of, partition_of, ram_of, services_of};
-use crate::names::{are_new, have_own_names, is_among};
 use ffm_model::{
-    BAD_VALUE, List, MAX_REGION_BYTES, Manifest, Name, Parts, Place, ReadError, Refusal, Root,
-    System,
+    Budget, IrqItem, List, Manifest, Name, Partition, Parts, Region, RotType, Service, ServiceItem,
+    Source, System,
 };
+use signal_alloc::{SignalMap, signal_of};
 use std::alloc::{AllocError, Global};
 
-fn is_first_manifest(manifest: &Manifest) -> bool
-    ensures { result ≡ is_first_manifest manifest.now }
+fn domain_at(level: u32, rot: RotType, id: u32) -> u32
+    ensures { result ≡ domain_at level rot id }
 {
-    manifest.mmio.is_empty()
-        && manifest.dependencies.is_empty()
-        && manifest.irqs.is_empty()
-        && manifest.services.len() <= 28
-        && have_own_names(manifest.services.as_slice())
-        && u64::from(manifest.stack_size) + u64::from(manifest.heap_size)
-            <= u64::from(MAX_REGION_BYTES)
+    match level {
+        1 => 1,
+        2 => match rot {
+            RotType::PsaRot => 1,
+            RotType::ApplicationRot => 2,
+        },
+        _ => id,
+    }
 }
 
-fn is_first_file(parts: &Parts) -> bool
-    ensures { result ≡ is_first_file parts.now }
+// The partition with this place. The regions begin with the RAM of the partitions, in their order.
+fn partition_of(level: u32, place: u32, manifest: &Manifest) -> Result<Partition, AllocError>
+    requires { place < 256 }
+    ensures { IfOk result (λ p. p ≡ partition_of level (place, manifest.now)) }
 {
-    parts.regions.is_empty()
-        && parts.connections.is_empty()
-        && are_new(parts.clients.as_slice())
-        && parts.non_secure_ram <= MAX_REGION_BYTES
+    let name = manifest.name.clone()?;
+    Ok(Partition {
+        name,
+        rot: manifest.rot,
+        priority: manifest.priority,
+        domain: domain_at(level, manifest.rot, place + 1),
+        ram: place,
+    })
+}
+
+fn partitions_of(
+    alloc: Global,
+    level: u32,
+    manifests: &[Manifest],
+) -> Result<List<Partition>, AllocError>
+    requires { length manifests.now ≤ 256 }
+    ensures { IfOk result (λ partitions. partitions ≡ map (partition_of level) (enumerate_from 0 manifests.now)) }
+{
+    let mut partitions = Vec::new(alloc);
+    for (k, manifest) in manifests.iter().enumerate() {
+        partitions.push(partition_of(level, k as u32, manifest)?)?;
+    }
+    Ok(List::of(partitions))
+}
+
+fn signals_of(manifest: &Manifest) -> SignalMap
+    requires { length manifest.now.services + length manifest.now.irqs ≤ 28 }
+    ensures services { result.services ≡ length manifest.now.services }
+    ensures irqs { result.irqs ≡ length manifest.now.irqs }
+{
+    SignalMap {
+        services: manifest.services.len() as u32,
+        irqs: manifest.irqs.len() as u32,
+    }
+}
+
+fn service_of(
+    owner: u32,
+    signals: SignalMap,
+    place: u32,
+    item: &ServiceItem,
+) -> Result<Service, AllocError>
+    requires { place < signals.services + signals.irqs }
+    ensures { IfOk result (λ v. v ≡ service_of owner (place, item.now)) }
+{
+    let name = item.name.clone()?;
+    Ok(Service {
+        name,
+        sid: item.sid,
+        owner,
+        nonsecure: item.nonsecure,
+        version: item.version,
+        policy: item.policy,
+        signal: signal_of(signals, place),
+    })
+}
+
+// Adds the services of one partition.
+fn add_services(
+    services: &mut Vec<Service>,
+    owner: u32,
+    manifest: &Manifest,
+) -> Result<(), AllocError>
+    requires { length manifest.now.services + length manifest.now.irqs ≤ 28 }
+    ensures { OnOk result (services.new.items ≡ services.old.items ++ services_of_manifest (owner, manifest.now)) }
+{
+    let signals = signals_of(manifest);
+    for (place, item) in manifest.services.as_slice().iter().enumerate() {
+        services.push(service_of(owner, signals, place as u32, item)?)?;
+    }
+    Ok(())
+}
+
+fn services_of(alloc: Global, manifests: &[Manifest]) -> Result<List<Service>, AllocError>
+    requires few { length manifests.now ≤ 256 }
+    requires signals { All (λ m. length m.services + length m.irqs ≤ 28) manifests.now }
+    ensures { IfOk result (λ services. services ≡ flat_map services_of_manifest (enumerate_from 0 manifests.now)) }
+{
+    let mut services = Vec::new(alloc);
+    for (k, manifest) in manifests.iter().enumerate() {
+        add_services(&mut services, k as u32, manifest)?;
+    }
+    Ok(List::of(services))
+}
+
+fn source_of(
+    owner: u32,
+    signals: SignalMap,
+    place: u32,
+    item: &IrqItem,
+) -> Result<Source, AllocError>
+    requires { place < signals.services + signals.irqs }
+    ensures { IfOk result (λ s. s ≡ source_of owner (place, item.now)) }
+{
+    let name = item.source.clone()?;
+    let signal_name = item.signal.clone()?;
+    Ok(Source {
+        name,
+        signal_name,
+        owner,
+        signal: signal_of(signals, place),
+    })
+}
+
+// Adds the interrupts of one partition.
+fn add_sources(sources: &mut Vec<Source>, owner: u32, manifest: &Manifest) -> Result<(), AllocError>
+    requires { length manifest.now.services + length manifest.now.irqs ≤ 28 }
+    ensures { OnOk result (sources.new.items ≡ sources.old.items ++ sources_of_manifest (owner, manifest.now)) }
+{
+    let signals = signals_of(manifest);
+    for (place, item) in manifest.irqs.as_slice().iter().enumerate() {
+        let place = signals.services + place as u32;
+        sources.push(source_of(owner, signals, place, item)?)?;
+    }
+    Ok(())
+}
+
+fn sources_of(alloc: Global, manifests: &[Manifest]) -> Result<List<Source>, AllocError>
+    requires few { length manifests.now ≤ 256 }
+    requires signals { All (λ m. length m.services + length m.irqs ≤ 28) manifests.now }
+    ensures { IfOk result (λ sources. sources ≡ flat_map sources_of_manifest (enumerate_from 0 manifests.now)) }
+{
+    let mut sources = Vec::new(alloc);
+    for (k, manifest) in manifests.iter().enumerate() {
+        add_sources(&mut sources, k as u32, manifest)?;
+    }
+    Ok(List::of(sources))
 }
 
 fn names_of(alloc: Global, names: &[Name]) -> Result<List<Name>, AllocError>
@@ -47,100 +171,30 @@ fn names_of(alloc: Global, names: &[Name]) -> Result<List<Name>, AllocError>
     Ok(List::of(copies))
 }
 
-// A system without partitions.
-fn without_partition(alloc: Global, parts: &Parts) -> Result<Option<System>, AllocError>
-    requires { is_first_file parts.now ≡ true }
-    ensures { IfOk result (λ system. system ≡ system_from (no_partition parts.now)) }
-{
-    let clients = names_of(alloc, parts.clients.as_slice())?;
-    let mut regions = Vec::new(alloc);
-    regions.push(non_secure_of(parts.non_secure_ram))?;
-    Ok(System::new(
-        parts.level,
-        List::of(Vec::new(alloc)),
-        List::of(Vec::new(alloc)),
-        List::of(Vec::new(alloc)),
-        List::of(regions),
-        clients,
-        List::of(Vec::new(alloc)),
-    ))
-}
-
-// A system of one partition.
-fn with_partition(
+/// The system of parts that break no rule, with its regions and budgets.
+pub fn system_of(
     alloc: Global,
     parts: &Parts,
-    manifest: &Manifest,
-) -> Result<Option<System>, AllocError>
-    requires file { is_first_file parts.now ≡ true }
-    requires manifest { is_first_manifest manifest.now ≡ true }
-    ensures { IfOk result (λ system. system ≡ system_from (one_partition parts.now manifest.now)) }
+    regions: List<Region>,
+    budgets: List<Budget>,
+) -> Result<System, AllocError>
+    requires none { broken parts.now ≡ [] }
+    requires regions { regions ≡ regions_of parts.now }
+    requires budgets { budgets ≡ budgets_of parts.now }
+    ensures { IfOk result (λ s. parts_of_system s ≡ system_parts parts.now) }
 {
-    let items = manifest.services.as_slice();
+    let manifests = parts.manifests.as_slice();
+    let partitions = partitions_of(alloc, parts.level, manifests)?;
+    let services = services_of(alloc, manifests)?;
+    let sources = sources_of(alloc, manifests)?;
     let clients = names_of(alloc, parts.clients.as_slice())?;
-    let mut partitions = Vec::new(alloc);
-    partitions.push(partition_of(parts.level, manifest)?)?;
-    let services = services_of(alloc, items)?;
-    let mut regions = Vec::new(alloc);
-    regions.push(ram_of(parts.level, manifest))?;
-    regions.push(non_secure_of(parts.non_secure_ram))?;
-    let budgets = budgets_of(alloc, parts.clients.as_slice(), items)?;
-    Ok(System::new(
-        parts.level,
-        List::of(partitions),
-        List::of(services),
-        List::of(Vec::new(alloc)),
-        List::of(regions),
+    Ok(System {
+        level: parts.level,
+        partitions,
+        services,
+        sources,
+        regions,
         clients,
-        List::of(budgets),
-    ))
-}
-
-// The system of the first form, where the parts have it and fit each other.
-fn first_system(alloc: Global, parts: &Parts) -> Result<Option<System>, AllocError>
-    ensures { IfOk result (λ system. system ≡ option_and_then system_from (first_parts parts.now)) }
-{
-    if !is_first_file(parts) {
-        return Ok(None);
-    }
-    match parts.manifests.as_slice() {
-        [] => without_partition(alloc, parts),
-        [manifest] => {
-            if is_first_manifest(manifest) && !is_among(&manifest.name, parts.clients.as_slice()) {
-                with_partition(alloc, parts, manifest)
-            } else {
-                Ok(None)
-            }
-        }
-        [_, _, ..] => Ok(None),
-    }
-}
-
-fn refused(alloc: Global) -> ReadError
-    ensures { result ≡ ReadError.Refused (record { code = BAD_VALUE; place = record { root = Root.System; steps = [] }; cycle = [] }) }
-{
-    ReadError::Refused(Refusal {
-        code: BAD_VALUE,
-        place: Place {
-            root: Root::System,
-            steps: List::of(Vec::new(alloc)),
-        },
-        cycle: List::of(Vec::new(alloc)),
+        budgets,
     })
-}
-
-/// The system that the parts of a system file make.
-///
-/// So far it takes systems of at most one partition, without dependencies, MMIO
-/// regions, interrupts, named regions and declared connections. Refused, with the code for a bad
-/// value at the file, exactly where the parts are of another form or don't fit each other. Memory
-/// where no memory was found.
-#[tactic(auto, unfolding(crate::specs::FirstSystems::compiled))]
-pub fn compile(alloc: Global, parts: &Parts) -> Result<System, ReadError>
-    ensures { Reads (λ s. s) result (compiled parts.now) }
-{
-    match first_system(alloc, parts)? {
-        Some(system) => Ok(system),
-        None => Err(refused(alloc)),
-    }
 }

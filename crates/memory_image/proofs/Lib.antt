@@ -4,3 +4,4 @@ pub mod Opened
 pub mod Systems
 pub mod Copied
 pub mod Numbers
+pub mod Indexed

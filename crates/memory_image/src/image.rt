@@ -4,7 +4,8 @@ ghost use Rattle.ffm_model.specs.Accesses.{is_access_size};
 ghost use Rattle.ffm_model.specs.Memory.{bytes_at, write_bytes, copy_bytes, number_of, load_number, store_number, words_stored, opening_memory};
 ghost use Rattle.memory_image.specs.Pieces.{byte_at, regions_of, ranges_of, is_inside, fit_an_image, open_within, zero_piece, IsPlaceOf};
 
-use crate::pieces::{bytes_among, copy_among, copy_pieces, piece_with, store_among, zero_pieces};
+use crate::index::{Start, index_of, piece_with};
+use crate::pieces::{bytes_among, copy_among, copy_pieces, store_among, zero_pieces};
 use ffm_model::{Bytes, List, Memory, Region};
 use std::alloc::Global;
 use std::marker::Model;
@@ -22,32 +23,36 @@ fn number_of(bytes: &[u8]) -> u32
 }
 
 /// The bytes of each region. No two regions share a byte, each ends by 2^32, and all together
-/// have at most 16 MiB. Contracts see the pieces, one for each region in the regions' order.
+/// have at most 16 MiB. They are fewer than 2^31. Contracts see the pieces, one for each region in
+/// the regions' order.
 #[derive(Drop)]
 pub struct Image {
     pieces: Vec<Bytes>,
+    starts: Vec<Start>,
 }
 
 impl Model for Image {
-    ghost use Rattle.std.specs.Prelude.{◌≡◌, List, true};
+    ghost use Rattle.std.specs.Prelude.{List};
     ghost use Rattle.ffm_model.specs.declared.scenario.Bytes.{Bytes};
-    ghost use Rattle.memory_image.specs.Pieces.{regions_of, fit_an_image};
+    ghost use Rattle.memory_image.specs.Index.{IsImage};
 
     ghost Value = { List Bytes };
 
     ghost view = { λ m. m.pieces.items };
 
-    ghost invariant = { λ m. fit_an_image (regions_of m.pieces.items) ≡ true };
+    ghost invariant = { λ m. IsImage m.pieces.items m.starts.items };
 }
 
 impl Image {
     // An image of zeros.
     fn of_zeros(alloc: Global, regions: &[Region]) -> Result<Image, Memory>
-        requires { fit_an_image (ranges_of regions.now) ≡ true }
+        requires fit { fit_an_image (ranges_of regions.now) ≡ true }
+        requires few { length regions.now < 2 ^ 31 }
         ensures { IfOk result (λ image. image ≡ map zero_piece regions.now) }
     {
         let pieces = zero_pieces(alloc, regions)?;
-        Ok(Image { pieces })
+        let starts = index_of(alloc, pieces.as_slice())?;
+        Ok(Image { pieces, starts })
     }
 
     /// Zeros in each region, and then the opening bytes, piece by piece in order, so that a later
@@ -58,6 +63,7 @@ impl Image {
         opening: &List<Bytes>,
     ) -> Result<Image, Memory>
         requires regions { fit_an_image (ranges_of regions.now) ≡ true }
+        requires few { length regions.now < 2 ^ 31 }
         requires opening { open_within regions.now opening.now ≡ true }
         ensures regions { IfOk result (λ image. regions_of image ≡ ranges_of regions.now) }
         ensures bytes { IfOk result (λ image. byte_at image ≡ opening_memory opening.now) }
@@ -74,7 +80,8 @@ impl Image {
         ensures { IfOk result (λ image. image ≡ self.now) }
     {
         let pieces = copy_pieces(alloc, self.pieces.as_slice())?;
-        Ok(Image { pieces })
+        let starts = self.starts.as_slice().to_vec(alloc)?;
+        Ok(Image { pieces, starts })
     }
 
     /// What holds of each image, for callers that compute with its ranges: no two regions share a
@@ -87,12 +94,12 @@ impl Image {
 
     /// The number of the region that has an address, and the address's offset in it. None where
     /// no region has the address.
+    #[tactic(auto, using(crate::proofs::Stored::stay_apart))]
     pub fn locate(&self, address: u32) -> Option<(u32, u32)>
-        requires { length self.now < 2 ^ 31 }
         ensures exact { is_some result ≡ is_inside address 1 (regions_of self.now) }
         ensures place { IfSome result (λ place. IsPlaceOf address place (regions_of self.now)) }
     {
-        let place = piece_with(self.pieces.as_slice(), address, 1)?;
+        let place = piece_with(self.pieces.as_slice(), self.starts.as_slice(), address, 1)?;
         Some((place as u32, address - self.pieces[place].address))
     }
 
@@ -141,8 +148,8 @@ impl Image {
         ensures regions { regions_of self.new ≡ regions_of self.old }
     {
         let len = len as usize;
-        let source = piece_with(self.pieces.as_slice(), from, len);
-        let target = piece_with(self.pieces.as_slice(), to, len);
+        let source = piece_with(self.pieces.as_slice(), self.starts.as_slice(), from, len);
+        let target = piece_with(self.pieces.as_slice(), self.starts.as_slice(), to, len);
         // Only an empty range lies in no piece.
         if let (Some(source), Some(target)) = (source, target) {
             copy_among(self.pieces.as_mut_slice(), source, target, from, to, len);
@@ -155,7 +162,7 @@ impl Image {
         requires { is_inside address len (regions_of self.now) ≡ true }
         ensures { result.now ≡ bytes_at (byte_at self.now) address len }
     {
-        match piece_with(self.pieces.as_slice(), address, len) {
+        match piece_with(self.pieces.as_slice(), self.starts.as_slice(), address, len) {
             Some(place) => bytes_among(self.pieces.as_slice(), place, address, len),
             // Only an empty range lies in no piece.
             None => &[],
@@ -169,8 +176,14 @@ impl Image {
         ensures stored { byte_at self.new ≡ write_bytes (byte_at self.old) address bytes.now }
         ensures regions { regions_of self.new ≡ regions_of self.old }
     {
+        let place = piece_with(
+            self.pieces.as_slice(),
+            self.starts.as_slice(),
+            address,
+            bytes.len(),
+        );
         // Only an empty range lies in no piece.
-        if let Some(place) = piece_with(self.pieces.as_slice(), address, bytes.len()) {
+        if let Some(place) = place {
             store_among(self.pieces.as_mut_slice(), place, address, bytes);
         }
     }

@@ -2,6 +2,7 @@
 #![tactic(auto)]
 
 mod image;
+mod index;
 mod pieces;
 mod ranges;
 

@@ -1,9 +1,8 @@
 //! Work on the pieces of an image, one for each region.
-ghost use Rattle.std.specs.Prelude.{◌≡◌, ◌≢◌, ℕ, ◌<◌, ◌≤◌, ◌+◌, ◌-◌, length, slice_index, true, position, get_or, map, take, drop, is_some, IfOk, IfSome};
-ghost use Rattle.std.specs.List.{list_any};
+ghost use Rattle.std.specs.Prelude.{◌≡◌, ◌≢◌, ℕ, ◌<◌, ◌≤◌, ◌+◌, ◌-◌, length, slice_index, true, get_or, map, take, drop, IfOk};
 ghost use Rattle.ffm_model.specs.Memory.{write_bytes, bytes_at, copy_bytes};
 ghost use Rattle.ffm_model.specs.WellFormed.{each_pair};
-ghost use Rattle.memory_image.specs.Pieces.{byte_at, range_of, has_range, share_no_byte, no_piece, zero_piece, IsPut, HasRangeAt, regions_of};
+ghost use Rattle.memory_image.specs.Pieces.{byte_at, range_of, has_range, share_no_byte, no_piece, zero_piece, IsPut, regions_of};
 
 use ffm_model::{Bytes, List, Memory, Region};
 use std::alloc::Global;
@@ -37,7 +36,8 @@ fn put_bytes(content: &mut [u8], place: usize, bytes: &[u8])
     content[place..place + bytes.len()].copy_from_slice(bytes);
 }
 
-fn has_range(piece: &Bytes, address: u32, len: usize) -> bool
+/// Whether a piece has the whole range.
+pub fn has_range(piece: &Bytes, address: u32, len: usize) -> bool
     ensures { result ≡ has_range address len (range_of piece.now) }
 {
     if address < piece.address {
@@ -45,20 +45,6 @@ fn has_range(piece: &Bytes, address: u32, len: usize) -> bool
     }
     let offset = (address - piece.address) as usize;
     offset <= piece.content.len() && len <= piece.content.len() - offset
-}
-
-fn place_with(pieces: &[Bytes], address: u32, len: usize) -> Option<usize>
-    ensures { result ≡ position (λ p. has_range address len (range_of p)) pieces.now }
-{
-    pieces.iter().position(|p| has_range(p, address, len))
-}
-
-/// The place of the first piece that has the whole range. None exactly where no piece has it.
-pub fn piece_with(pieces: &[Bytes], address: u32, len: usize) -> Option<usize>
-    ensures exact { is_some result ≡ list_any (has_range address len) (regions_of pieces.now) }
-    ensures found { IfSome result (λ place. HasRangeAt pieces.now place address len) }
-{
-    place_with(pieces, address, len)
 }
 
 fn put_in(piece: &mut Bytes, address: u32, bytes: &[u8])

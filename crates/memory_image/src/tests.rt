@@ -30,7 +30,8 @@ fn partition(alloc: Global, domain: u32, ram: u32) -> Partition {
     }
 }
 
-// Two partitions whose RAM regions are neighbours, MMIO of the first one, and a client.
+// Two partitions whose RAM regions are neighbours, MMIO of the first one, a client, and a region
+// without a byte.
 fn system_with(alloc: Global, spy_domain: u32) -> Result<System, Fail> {
     let partitions = vec![in alloc; partition(alloc, 0, 0), partition(alloc, spy_domain, 1)]?;
     let regions = vec![in alloc;
@@ -48,6 +49,14 @@ fn system_with(alloc: Global, spy_domain: u32) -> Result<System, Fail> {
         region(
             0xffff_fff0,
             0x10,
+            Class::Mmio {
+                owner: 0,
+                writable: true
+            }
+        ),
+        region(
+            0x3000_0400,
+            0,
             Class::Mmio {
                 owner: 0,
                 writable: true
@@ -138,6 +147,7 @@ fn image_of(rt: &impl Abort, alloc: Global, system: &System) -> Result<Image, Fa
         piece(alloc, 0x0000_0000, &[])?,
     ]?;
     assert!(rt; open_within(system.regions.as_slice(), opening.as_slice()));
+    assert!(rt; system.regions.len() < 2147483648);
     Ok(Image::new(alloc, &system.regions, &List::of(opening))?)
 }
 
@@ -193,7 +203,6 @@ const PLACES: [PlaceRow; 7] = [
 fn addresses_are_located(rt: HostRuntime) -> Result<(), Fail> {
     let system = system_with(rt.alloc(), 1)?;
     let image = image_of(&rt, rt.alloc(), &system)?;
-    assert!(rt; system.regions.len() < 2147483648);
     for PlaceRow(address, place) in &PLACES {
         assert_eq!(rt; image.locate(*address), *place);
     }

@@ -149,6 +149,9 @@ fn manager(alloc: Global) -> Result<Spm, Fail>
     ensures { IfOk result (λ m. m.history ≡ []) }
 {
     let system = system(alloc)?;
+    if system.regions.len() >= 2147483648 {
+        return Err(Fail::from("too many regions"));
+    }
     let image = Image::new(alloc, &system.regions, &List::of(Vec::new(alloc)))?;
     Ok(Spm::new(alloc, system, image, 10)?)
 }

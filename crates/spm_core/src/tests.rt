@@ -101,6 +101,9 @@ fn manager(alloc: Global, limit: u32) -> Result<Spm, Fail>
     requires limited { limit ≤ MAX_ENTRIES }
 {
     let system = system(alloc)?;
+    if system.regions.len() >= 2147483648 {
+        return Err(Fail::from("too many regions"));
+    }
     let image = Image::new(alloc, &system.regions, &List::of(Vec::new(alloc)))?;
     Ok(Spm::new(alloc, system, image, limit)?)
 }

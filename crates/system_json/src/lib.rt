@@ -8,7 +8,7 @@ mod scenario;
 mod system;
 mod text_bytes;
 
-pub use manifests::{MAX_FILE_BYTES, read_system};
+pub use manifests::read_system;
 pub use scenario::read_scenario;
 
 #[cfg(test)]

@@ -14,16 +14,13 @@ ghost use Rattle.system_json.specs.Refused.{IsReadRefusal};
 
 use crate::system::{level, parts_with};
 use ffm_model::{
-    BAD_VALUE, FILE_TOO_LONG, JSON, Key, List, MISSING_ATTRIBUTE, Manifest, Parts, PartsError,
-    PathStep, Place, ReadError, Refusal, Root, WRONG_TYPE,
+    BAD_VALUE, FILE_TOO_LONG, JSON, Key, List, MAX_FILE_BYTES, MISSING_ATTRIBUTE, Manifest, Parts,
+    PartsError, PathStep, Place, ReadError, Refusal, Root, WRONG_TYPE,
 };
 use manifest_json::{ManifestReader, PartError, Reader, placed, read_tree};
 use outside_io::{FileError, Files};
 use serde_json::Value;
 use std::alloc::{AllocError, Global};
-
-/// The most bytes of a system, manifest or scenario file: 1 MiB.
-pub const MAX_FILE_BYTES: u32 = 1_048_576;
 
 const MAX_MANIFESTS: usize = 256;
 

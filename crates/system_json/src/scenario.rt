@@ -1,8 +1,9 @@
 //! What a scenario file says.
-ghost use Rattle.std.specs.Prelude.{◌≡◌, ◌+◌, ◌<◌, IfOk, IfSome, [], length, map, fold, replicate, position, slice_set};
+ghost use Rattle.std.specs.Prelude.{◌≡◌, ◌+◌, ◌<◌, ◌≤◌, IfOk, IfSome, [], length, map, fold, replicate, position, slice_set};
 ghost use Rattle.std.specs.List.{list_any, AllByRecursion};
 ghost use Rattle.std.specs.Str.{bytes_eq};
 ghost use Rattle.serde_json.specs.View.{view};
+ghost use Rattle.ffm_model.specs.declared.constants.TheConstants.{MAX_SCRIPT_LINES};
 ghost use Rattle.ffm_model.specs.Actors.{actor_count};
 ghost use Rattle.ffm_model.specs.Reading.{Reads};
 ghost use Rattle.ffm_model.specs.Scenarios.{actor_named, has_script, line_of, new_actor_of, script_of, turn_of, lines_by_actor, scenario_of, scenario_in, IsScenarioOf};
@@ -12,8 +13,8 @@ ghost use Rattle.manifest_json.specs.Gives.{Gives};
 use crate::lists::{ListUpTo, WholeReader};
 use crate::text_bytes::BytesReader;
 use ffm_model::{
-    ActorId, BAD_VALUE, Key, Lines, List, Name, Partition, Place, ReadError, Root, Scenario,
-    ScriptItem, System, UNKNOWN_ACTOR, WRONG_TYPE,
+    ActorId, BAD_VALUE, Key, Lines, List, MAX_ENTRIES, MAX_SCRIPT_LINES, Name, Partition, Place,
+    ReadError, Root, Scenario, ScriptItem, System, UNKNOWN_ACTOR, WRONG_TYPE,
 };
 use manifest_json::{
     ListAfter, ListOf, NameReader, NumberReader, PartError, Reader, ReaderAfter, object, optional,
@@ -21,10 +22,6 @@ use manifest_json::{
 };
 use serde_json::Value;
 use std::alloc::{AllocError, Global};
-
-const MAX_LINES: usize = 4096;
-
-const MAX_EVENTS: u32 = 262_144;
 
 const DEFAULT_EVENTS: u32 = 4096;
 
@@ -122,7 +119,7 @@ impl ReaderAfter for ScriptReader<'_> {
 
     ghost gives = { λ r. script_of r.system.now };
 
-    ghost keeps = { λ r script. script.actor.0 < actor_count r.system.now };
+    ghost keeps = { λ r script. (script.actor.0 < actor_count r.system.now) × (length script.lines ≤ MAX_SCRIPT_LINES) };
 
     #[tactic(auto, unfolding(ffm_model::specs::Scenarios::script_of))]
     fn read_after(
@@ -139,7 +136,7 @@ impl ReaderAfter for ScriptReader<'_> {
         let actor = required(alloc, &actors, tree, Key::Actor)?;
         let lines = ListUpTo {
             reader: ListOf(LineReader),
-            most: MAX_LINES,
+            most: MAX_SCRIPT_LINES as usize,
         };
         let lines = required(alloc, &lines, tree, Key::Lines)?;
         Ok(ScriptItem { actor, lines })
@@ -215,7 +212,7 @@ fn scenario(alloc: Global, system: &System, tree: &Value) -> Result<Scenario, Pa
     object(alloc, tree)?;
     let limits = WholeReader {
         least: 1,
-        most: MAX_EVENTS,
+        most: MAX_ENTRIES,
     };
     let limit = optional(alloc, &limits, DEFAULT_EVENTS, tree, Key::EventLimit)?;
     let none = List::of(Vec::new(alloc));

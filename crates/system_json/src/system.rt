@@ -8,15 +8,15 @@ ghost use Rattle.ffm_model.specs.SystemAttributes.{region_of, connection_of, lev
 ghost use Rattle.manifest_json.specs.Gives.{Gives};
 
 use crate::lists::{ListUpTo, WholeReader};
-use ffm_model::{BAD_VALUE, ConnectionItem, Key, List, Manifest, Parts, PathStep, RegionItem};
+use ffm_model::{
+    BAD_VALUE, ConnectionItem, Key, List, MAX_CLIENTS, Manifest, Parts, PathStep, RegionItem,
+};
 use manifest_json::{
     ListOf, NameReader, NumberReader, PartError, Reader, object, optional, optional_list,
     refused_at, required,
 };
 use serde_json::Value;
 use std::alloc::Global;
-
-const MAX_CLIENTS: usize = 16;
 
 const MAX_COUNT: u32 = 256;
 
@@ -104,7 +104,7 @@ pub(crate) fn parts_with(
     let non_secure_ram = optional(alloc, &NumberReader, default, tree, Key::NonSecureRam)?;
     let names = ListUpTo {
         reader: ListOf(NameReader),
-        most: MAX_CLIENTS,
+        most: MAX_CLIENTS as usize,
     };
     let none = List::of(Vec::new(alloc));
     let clients = optional(alloc, &names, none, tree, Key::Clients)?;

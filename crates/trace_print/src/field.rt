@@ -68,6 +68,15 @@ fn append_hexadecimal(line: &mut Line, n: u32)
     append_digits(line, 8, n);
 }
 
+/// `0x` and eight lower-case digits, as traces and listings show an address.
+pub fn hexadecimal(n: u32) -> Line
+    ensures { result.items ≡ hexadecimal_word n }
+{
+    let mut word = Line::new();
+    append_hexadecimal(&mut word, n);
+    word
+}
+
 /// Appends an unsigned number.
 pub fn append_unsigned(line: &mut Line, n: u32)
     requires { array_vec_len line.old + 10 ≤ LINE_CAPACITY }

@@ -6,5 +6,5 @@ mod line;
 #[cfg(test)]
 mod tests;
 
-pub use field::{LINE_CAPACITY, Line};
+pub use field::{LINE_CAPACITY, Line, hexadecimal};
 pub use line::{LONGEST_LINE, print, print_verdict};

@@ -5,5 +5,5 @@ use Rattle.ffm_model.specs.Memory.{lies_in}
 use Rattle.ffm_top.proofs.Tested.{list_all-each}
 use Rattle.ffm_top.proofs.run.run.Goals as goal
 
-pub new-requires-clause-opening : goal.new-requires-clause-opening
-new-requires-clause-opening c = list_all-each (λ b. list_any (lies_in b.address (length b.content)) c.args.system.regions) c.args.scenario.now.memory c.requires.scenario.memory
+pub opening_image-requires : goal.opening_image-requires
+opening_image-requires c = list_all-each (λ b. list_any (lies_in b.address (length b.content)) c.args.system.regions) c.args.scenario.now.memory c.requires.scenario.memory

@@ -1,0 +1,128 @@
+-- Where no rule is broken, the parts fit each other and make a system.
+use Rattle.std.proofs.Common.{ℕ, ◌≡◌, ◌*◌, ◌^◌, ◌≤◌, true, List, [], ◌∷◌, ◌++◌, length, Option, Some, None, Ok, Err, IsOkAnd, refl, ap, ap₂, sym, arith, nat_lt, le-leb, lt-ltb, ltb-false}
+use Rattle.ffm_model.specs.declared.place.Refusal.{Refusal}
+use Rattle.ffm_model.specs.declared.system.System.{System}
+use Rattle.ffm_model.specs.declared.system.Partition.{Partition}
+use Rattle.ffm_model.specs.declared.system.Service.{Service}
+use Rattle.ffm_model.specs.declared.system.Source.{Source}
+use Rattle.ffm_model.specs.declared.system.Region.{Region}
+use Rattle.ffm_model.specs.declared.system.Budget.{Budget}
+use Rattle.ffm_model.specs.PartsItems.{PartsRecord, IsParts}
+use Rattle.ffm_model.specs.Parts.{SystemParts, are_numbered, do_fit, system_from, parts_of_system}
+use Rattle.ffm_model.specs.WellFormed.{is_well_formed}
+use Rattle.ffm_model.specs.Compiled.{system_parts, partitions_of, services_of, sources_of, compiled, compiled_by}
+use Rattle.ffm_model.specs.Layout.{regions_of}
+use Rattle.ffm_model.specs.Permissions.{budgets_of}
+use Rattle.ffm_model.specs.Reading.{refused}
+use Rattle.ffm_model.proofs.PartsLemmas.{system_of_parts}
+use Rattle.ffm_model.specs.Rules.{broken, duplicate_partitions, duplicate_sids, unknown_dependencies, self_dependencies, dependency_cycle, too_many_signals, unknown_regions, overlapping_regions, too_many_partitions, too_many_connections, budgets_without_permission, duplicate_sources, memory_too_large}
+use Rattle.admitted_systems.proofs.Lists.{append_nil, only_if_nil, four, six}
+use Rattle.admitted_systems.proofs.Partitions.{length_partitions, partitions_do_fit}
+use Rattle.admitted_systems.proofs.Regions.{regions_do_fit}
+use Rattle.admitted_systems.proofs.Signals.{signals_do_fit}
+use Rattle.admitted_systems.proofs.Services.{sids_differ, few_services}
+use Rattle.admitted_systems.proofs.Budgets.{budgets_do_fit}
+
+-- the rules on which the parts' fitting rests
+record Kept (p : PartsRecord) : Type 0 where
+  sids : duplicate_sids p ≡ []
+  others : self_dependencies p ≡ []
+  signals : too_many_signals p ≡ []
+  apart : overlapping_regions p ≡ []
+  partitions : too_many_partitions p ≡ []
+  connections : too_many_connections p ≡ []
+  memory : memory_too_large p ≡ []
+
+after : {A : Type 0} (xs ys : List A) → xs ++ ys ≡ [] → ys ≡ []
+after xs ys e = (append_nil xs ys e).1
+
+before : {A : Type 0} (xs ys : List A) → xs ++ ys ≡ [] → xs ≡ []
+before xs ys e = (append_nil xs ys e).0
+
+kept : (p : PartsRecord) → broken p ≡ [] → Kept p
+kept p e =
+    let from_sids = after _ _ (after (duplicate_partitions p) _ e) in
+    let from_unknown = after (duplicate_sids p) _ from_sids in
+    let from_self = after (unknown_dependencies p) _ from_unknown in
+    let from_cycle = after (self_dependencies p) _ from_self in
+    let from_signals = after (dependency_cycle p) _ from_cycle in
+    let from_regions = after (too_many_signals p) _ from_signals in
+    let from_overlaps = after (unknown_regions p) _ from_regions in
+    let from_partitions = after (overlapping_regions p) _ from_overlaps in
+    let from_connections = after (too_many_partitions p) _ from_partitions in
+    let from_permissions = after (too_many_connections p) _ from_connections in
+    let from_sources = after (budgets_without_permission p) _ from_permissions in
+    record {
+      sids = before (duplicate_sids p) _ from_sids;
+      others = before (self_dependencies p) _ from_self;
+      signals = before (too_many_signals p) _ from_signals;
+      apart = before (overlapping_regions p) _ from_overlaps;
+      partitions = before (too_many_partitions p) _ from_partitions;
+      connections = before (too_many_connections p) _ from_connections;
+      memory = after (duplicate_sources p) (memory_too_large p) from_sources;
+    }
+
+few_partitions : (p : PartsRecord) → too_many_partitions p ≡ [] → length p.manifests ≤ 32
+few_partitions p rule = ltb-false _ _ (only_if_nil _ _ rule)
+
+pub parts_fit : (p : PartsRecord) → IsParts p → broken p ≡ [] → do_fit (system_parts p) ≡ true
+unfolding is_well_formed
+parts_fit p parts none =
+    let rules : Kept p = kept p none in
+    let few : length p.manifests ≤ 32 = few_partitions p rules.partitions in
+    let counted : length (partitions_of p) ≡ length p.manifests = sym (length_partitions p) in
+    six _ _ _ _ _ _
+    (four _ _ _ _ (le-leb _ _ parts.level) (le-leb _ _ parts.level_end) (le-leb (length (partitions_of p)) 32 (omega arith)) (le-leb _ _ parts.client_count))
+    (partitions_do_fit p parts rules.memory)
+    (regions_do_fit p (length (partitions_of p)) counted parts few rules.apart rules.memory)
+    (signals_do_fit p (length (partitions_of p)) counted rules.signals)
+    (sids_differ p rules.sids)
+    (budgets_do_fit p (length (partitions_of p)) counted rules.others rules.connections)
+
+pub parts_are_numbered : (p : PartsRecord) → IsParts p → broken p ≡ [] → are_numbered (system_parts p) ≡ true
+parts_are_numbered p parts none =
+    let rules : Kept p = kept p none in
+    let few : length p.manifests ≤ 32 = few_partitions p rules.partitions in
+    let services : length (services_of p) ≤ 28 * length p.manifests = few_services p rules.signals in
+    lt-ltb (length (services_of p)) (2 ^ 31) (omega arith)
+
+-- the same of lists that are the parts' fields
+pub lists_fit : (p : PartsRecord) (level : ℕ) (partitions : List Partition) (services : List Service) (sources : List Source) (regions : List Region) (clients : List (List ℕ)) (budgets : List Budget)
+    → IsParts p → broken p ≡ []
+    → level ≡ p.level → partitions ≡ partitions_of p → services ≡ services_of p → sources ≡ sources_of p → regions ≡ regions_of p → clients ≡ p.clients → budgets ≡ budgets_of p
+    → is_well_formed level partitions services sources regions clients budgets ≡ true
+lists_fit p level partitions services sources regions clients budgets parts none a b c d e f g = rw (a, b, c, d, e, f, g) (parts_fit p parts none)
+
+pub services_are_numbered : (p : PartsRecord) (services : List Service) → IsParts p → broken p ≡ [] → services ≡ services_of p → nat_lt (length services) (2 ^ 31) ≡ true
+services_are_numbered p services parts none e = rw e (parts_are_numbered p parts none)
+
+-- ---- the system
+
+-- the system of parts that fit
+system_with : (p : SystemParts) → are_numbered p ≡ true → do_fit p ≡ true → System
+system_with p numbered fit = record {
+  level = p.level;
+  partitions = p.partitions;
+  services = p.services;
+  sources = p.sources;
+  regions = p.regions;
+  clients = p.clients;
+  budgets = p.budgets;
+  services_counted = numbered;
+  well_formed = fit;
+}
+
+-- a system of these parts is what the system file gives
+pub compiled_is : (p : PartsRecord) (s : System) → broken p ≡ [] → parts_of_system s ≡ system_parts p → compiled p ≡ Ok s
+unfolding compiled
+compiled_is p s none same = ap₂ compiled_by none (system_of_parts s (system_parts p) same)
+
+pub compiles : (p : PartsRecord) → IsParts p → broken p ≡ [] → IsOkAnd (compiled p) (λ s. parts_of_system s ≡ system_parts p)
+unfolding system_with
+compiles p parts none =
+    rw (compiled_is p (system_with (system_parts p) (parts_are_numbered p parts none) (parts_fit p parts none)) none refl) refl
+
+-- else it gives the first refusal
+pub refuses : (p : PartsRecord) (r : Refusal) (rs : List Refusal) → broken p ≡ r ∷ rs → compiled p ≡ Err (refused r)
+unfolding compiled
+refuses p r rs e = ap (λ (rules : List Refusal). compiled_by rules (system_from (system_parts p))) e

@@ -1,0 +1,9 @@
+pub mod Lists
+pub mod Numbered
+pub mod Located
+pub mod Signals
+pub mod Regions
+pub mod Partitions
+pub mod Services
+pub mod Budgets
+pub mod Fit

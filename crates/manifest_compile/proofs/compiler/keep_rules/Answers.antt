@@ -1,0 +1,14 @@
+use Rattle.manifest_compile.proofs.KeepsLemmas.{regions_refused, partitions_refused}
+use Rattle.manifest_compile.proofs.compiler.keep_rules.Goals as goal
+
+pub returns-in_err-regions-clause-keeps : goal.returns-in_err-regions-clause-keeps
+returns-in_err-regions-clause-keeps c =
+    regions_refused c.args.parts.now c.regions.result c.from_residual-in_err-regions.result c.in_err-regions.field-0.0 c.in_err-regions.was c.from_residual-in_err-regions.ensures.1 c.regions.ensures.keeps
+    c.in_ok-partitions_differ.ensures c.in_ok-services_differ.ensures c.in_ok-sids_differ.ensures c.in_ok-dependencies_are_known.ensures c.in_ok-dependencies_are_others.ensures
+    c.in_ok-dependencies_end.ensures c.in_ok-signals_are_few.ensures
+
+pub returns-in_err-partitions_are_few-clause-keeps : goal.returns-in_err-partitions_are_few-clause-keeps
+returns-in_err-partitions_are_few-clause-keeps c =
+    partitions_refused c.args.parts.now c.partitions_are_few.result c.from_residual-in_err-partitions_are_few.result c.in_err-partitions_are_few.field-0.0 c.in_err-partitions_are_few.was c.from_residual-in_err-partitions_are_few.ensures.1 c.partitions_are_few.ensures
+    c.in_ok-partitions_differ.ensures c.in_ok-services_differ.ensures c.in_ok-sids_differ.ensures c.in_ok-dependencies_are_known.ensures c.in_ok-dependencies_are_others.ensures
+    c.in_ok-dependencies_end.ensures c.in_ok-signals_are_few.ensures c.in_ok-regions.ensures.keeps

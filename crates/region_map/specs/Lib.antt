@@ -1,0 +1,5 @@
+pub mod Directories
+pub mod Layouts
+pub mod Overlaps
+pub mod Placements
+pub mod Sizes

@@ -1,0 +1,10 @@
+//! The text that lists a system.
+#![tactic(auto)]
+
+mod lines;
+mod words;
+
+pub use lines::listing;
+
+#[cfg(test)]
+mod tests;
