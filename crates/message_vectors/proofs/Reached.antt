@@ -1,0 +1,175 @@
+-- Which bytes copies, lengths and descriptors read and change.
+use Rattle.std.proofs.Common.{ℕ, zero, suc, ◌≡◌, ◌≤◌, ◌+◌, ◌/◌, Bool, true, false, ◌&&◌, ◌||◌, List, [], ◌∷◌, length, arith, ◌∙◌, ap, sym, refl, inl, inr, ◌*◌, ◌++◌, take}
+use Rattle.std.specs.Prelude.{nat_le, nat_lt, ◌==◌, min, replicate, if◌then◌else◌, Option, Some, None}
+use Rattle.std.specs.List.{list_any, list_all}
+use Rattle.std.proofs.lemmas.Bool.Decides.{nat_tests}
+use Rattle.ffm_model.specs.declared.system.System.{System}
+use Rattle.ffm_model.specs.declared.system.Region.{Region}
+use Rattle.ffm_model.specs.declared.constants.TheConstants.{PSA_MAX_IOVEC}
+use Rattle.ffm_model.specs.declared.objects.Span.{Span}
+use Rattle.ffm_model.specs.declared.objects.Vectors.{Vectors}
+use Rattle.ffm_model.specs.Memory.{ByteMap, write_bytes, store_number, low_bytes, copy_bytes, bytes_at, span_at, spans_at, vectors_read, vectors_of, valid_buffer, lies_in, is_ram_of, lengths_written, no_span, number_of, load_number}
+use Rattle.ffm_model.specs.Reach.{covers, span_has, length_word_has}
+use Rattle.ffm_model.specs.ServiceCalls.{rest_of}
+use Rattle.message_vectors.specs.Bytes.{range_has, ram_has, AgreeWhere, TellsNothingAt}
+
+pub length-bytes_at : (m : ByteMap) (a n : ℕ) → length (bytes_at m a n) ≡ n
+length-bytes_at m a zero = refl
+length-bytes_at m a (suc n) = ap suc (length-bytes_at m (a + 1) n)
+
+length-low_bytes : (n v : ℕ) → length (low_bytes n v) ≡ n
+length-low_bytes zero v = refl
+length-low_bytes (suc n) v = ap suc (length-low_bytes n (v / 256))
+
+-- outside of the bytes that are put, memory stays
+write_bytes-outside : (m : ByteMap) (a : ℕ) (bs : List ℕ) (n x : ℕ) → length bs ≡ n → range_has x a n ≡ false → write_bytes m a bs x ≡ m x
+write_bytes-outside m a bs n x long out = grind (arith, nat_tests)
+
+-- where the same bytes are put
+write_bytes-tells : (one other : ByteMap) (a : ℕ) (bs : List ℕ) (x : ℕ) → TellsNothingAt x one other (write_bytes one a bs) (write_bytes other a bs)
+write_bytes-tells one other a bs x = by_test (range_has x a (length bs)) refl where
+  by_test : (b : Bool) → range_has x a (length bs) ≡ b → TellsNothingAt x one other (write_bytes one a bs) (write_bytes other a bs)
+  by_test true inside = inl (rw inside refl)
+  by_test false outside = inr (write_bytes-outside one a bs _ x refl outside, write_bytes-outside other a bs _ x refl outside)
+
+-- a copy changes its target alone
+pub copy_bytes-outside : (m : ByteMap) (from to len x : ℕ) → range_has x to len ≡ false → copy_bytes m from to len x ≡ m x
+copy_bytes-outside m from to len x out = write_bytes-outside m to (bytes_at m from len) len x (length-bytes_at m from len) out
+
+-- bytes of memories that agree there
+pub bytes_at-same : (one other : ByteMap) (a len : ℕ) → AgreeWhere (λ x. range_has x a len) one other → bytes_at one a len ≡ bytes_at other a len
+bytes_at-same one other a zero same = refl
+bytes_at-same one other a (suc len) same =
+    let here : one a ≡ other a = same a (grind (arith, nat_tests)) in
+    let rest : bytes_at one (a + 1) len ≡ bytes_at other (a + 1) len = bytes_at-same one other (a + 1) len (λ x h. same x (grind (arith, nat_tests))) in
+    rw (here, rest) refl
+
+-- a copy reads its source alone
+pub copy_bytes-tells : (one other : ByteMap) (from to len x : ℕ) → AgreeWhere (λ y. range_has y from len) one other
+    → TellsNothingAt x one other (copy_bytes one from to len) (copy_bytes other from to len)
+copy_bytes-tells one other from to len x same = rw (bytes_at-same one other from len same) (write_bytes-tells one other to (bytes_at other from len) x)
+
+or_false : (a b : Bool) {P : Type 0} → (a || b) ≡ false → (a ≡ false → b ≡ false → P) → P
+or_false true b h more = cc
+or_false false b h more = more refl h
+
+-- a reply changes length words alone
+pub lengths_written-outside : (m : ByteMap) (at x : ℕ) (vs : List Span) → length_word_has x at (length vs) ≡ false → lengths_written m at vs x ≡ m x
+lengths_written-outside m at x [] out = refl
+lengths_written-outside m at x (v ∷ vs) out =
+    or_false (nat_le (at + 4) x && nat_lt x (at + 8)) (length_word_has x (at + 8) (length vs)) out
+    (λ here rest. lengths_written-outside (store_number m (at + 4) 4 v.moved) (at + 8) x vs rest
+    ∙ write_bytes-outside m (at + 4) (low_bytes 4 v.moved) 4 x (length-low_bytes 4 v.moved) (grind (arith, nat_tests)))
+
+tells-then : (x : ℕ) (one other one_next other_next one_after other_after : ByteMap) → TellsNothingAt x one other one_next other_next
+    → TellsNothingAt x one_next other_next one_after other_after → TellsNothingAt x one other one_after other_after
+tells-then x one other one_next other_next one_after other_after first (inl same) = inl same
+tells-then x one other one_next other_next one_after other_after (inl same) (inr kept) = inl (kept.0 ∙ same ∙ sym kept.1)
+tells-then x one other one_next other_next one_after other_after (inr before) (inr kept) = inr (kept.0 ∙ before.0, kept.1 ∙ before.1)
+
+-- and reads none
+pub lengths_written-tells : (one other : ByteMap) (at x : ℕ) (vs : List Span) → TellsNothingAt x one other (lengths_written one at vs) (lengths_written other at vs)
+lengths_written-tells one other at x [] = inr (refl, refl)
+lengths_written-tells one other at x (v ∷ vs) =
+    tells-then x one other (store_number one (at + 4) 4 v.moved) (store_number other (at + 4) 4 v.moved)
+    (lengths_written (store_number one (at + 4) 4 v.moved) (at + 8) vs) (lengths_written (store_number other (at + 4) 4 v.moved) (at + 8) vs)
+    (write_bytes-tells one other (at + 4) (low_bytes 4 v.moved) x)
+    (lengths_written-tells (store_number one (at + 4) 4 v.moved) (store_number other (at + 4) 4 v.moved) (at + 8) x vs)
+
+-- an address of a range that lies in a region is the region's
+lies-covers : (base len x : ℕ) (r : Region) → range_has x base len ≡ true → lies_in base len r ≡ true → covers r x ≡ true
+lies-covers base len x r inside lies = grind (arith, nat_tests)
+
+and_right_more : (a b c : Bool) → (b ≡ true → c ≡ true) → (a && b) ≡ true → (a && c) ≡ true
+and_right_more true b c more h = more h
+and_right_more false b c more h = h
+
+any_more : (a b c d : Bool) → (a ≡ true → b ≡ true) → (c ≡ true → d ≡ true) → (a || c) ≡ true → (b || d) ≡ true
+any_more true true c d first rest h = refl
+any_more true false c d first rest h = absurd (let no : false ≡ true = first refl in cc)
+any_more false true c d first rest h = refl
+any_more false false c d first rest h = rest h
+
+ram-covers : (s : System) (a base len x : ℕ) (rs : List Region) → range_has x base len ≡ true
+    → list_any (λ r. is_ram_of s a r.class && lies_in base len r) rs ≡ true → list_any (λ r. is_ram_of s a r.class && covers r x) rs ≡ true
+ram-covers s a base len x [] inside h = h
+ram-covers s a base len x (r ∷ rs) inside h =
+    any_more (is_ram_of s a r.class && lies_in base len r) (is_ram_of s a r.class && covers r x) _ _
+    (and_right_more (is_ram_of s a r.class) (lies_in base len r) (covers r x) (lies-covers base len x r inside)) (ram-covers s a base len x rs inside) h
+
+-- each byte of a valid buffer lies in the actor's RAM
+pub buffer-ram : (s : System) (a base len x : ℕ) → valid_buffer s a base len ≡ true → range_has x base len ≡ true → ram_has s a x ≡ true
+buffer-ram s a base len x valid inside = ram-covers s a base len x s.regions inside (second (len == 0) _ valid some) where
+  some : (len == 0) ≡ false
+  some = grind (arith, nat_tests)
+
+  second : (b c : Bool) → (b || c) ≡ true → b ≡ false → c ≡ true
+  second true c h none = cc
+  second false c h none = h
+
+-- the next bytes of a vector lie in it
+pub rest-vector : (v : Span) (n x : ℕ) → v.moved + n ≤ v.len → range_has x (v.base + v.moved) n ≡ true → span_has x v ≡ true
+rest-vector v n x within inside = grind (arith, nat_tests)
+
+span_at-same : (one other : ByteMap) (a : ℕ) → AgreeWhere (λ x. range_has x a 8) one other → span_at one a ≡ span_at other a
+span_at-same one other a same = both (load_number one a 4) (load_number other a 4) _ _ base len where
+  span : ℕ → ℕ → Span
+  span b l = record { base = b; len = l; moved = 0 }
+
+  base : load_number one a 4 ≡ load_number other a 4
+  base = ap number_of (bytes_at-same one other a 4 (λ x h. same x (grind (arith, nat_tests))))
+
+  len : load_number one (a + 4) 4 ≡ load_number other (a + 4) 4
+  len = ap number_of (bytes_at-same one other (a + 4) 4 (λ x h. same x (grind (arith, nat_tests))))
+
+  both : (b c l n : ℕ) → b ≡ c → l ≡ n → span b l ≡ span c n
+  both b c l n base len = ap (λ x. span x l) base ∙ ap (span c) len
+
+spans_at-same : (one other : ByteMap) (a n : ℕ) → AgreeWhere (λ x. range_has x a (8 * n)) one other → spans_at one a n ≡ spans_at other a n
+spans_at-same one other a zero same = refl
+spans_at-same one other a (suc n) same =
+    let here : span_at one a ≡ span_at other a = span_at-same one other a (λ x h. same x (grind (arith, nat_tests))) in
+    let rest : spans_at one (a + 8) n ≡ spans_at other (a + 8) n = spans_at-same one other (a + 8) n (λ x h. same x (grind (arith, nat_tests))) in
+    rw (here, rest) refl
+
+vectors_read-same : (one other : ByteMap) (a n : ℕ) → AgreeWhere (λ x. range_has x a (8 * n)) one other → vectors_read one a n ≡ vectors_read other a n
+vectors_read-same one other a n same =
+    ap (λ spans. take 4 (spans ++ replicate 4 no_span)) (spans_at-same one other a (min n 4) (λ x h. same x (grind (arith, nat_tests))))
+
+none_given : (few valid all : Bool) (one : Option Vectors) → valid ≡ false → if few && valid && all then one else None ≡ None
+none_given true true all one h = cc
+none_given true false all one h = refl
+none_given false valid all one h = refl
+
+-- the vectors of a call are read in the actor's RAM
+pub vectors_of-same : (s : System) (one other : ByteMap) (a in_vec in_len out_vec out_len : ℕ) → AgreeWhere (ram_has s a) one other
+    → vectors_of s one a in_vec in_len out_vec out_len ≡ vectors_of s other a in_vec in_len out_vec out_len
+vectors_of-same s one other a in_vec in_len out_vec out_len same = by_tests _ _ refl refl where
+  vectors_with : List Span → List Span → Option Vectors
+  vectors_with inputs outputs =
+      if nat_le (in_len + out_len) PSA_MAX_IOVEC
+      && (valid_buffer s a in_vec (8 * in_len) && valid_buffer s a out_vec (8 * out_len))
+      && (list_all (λ v. valid_buffer s a v.base v.len) inputs && list_all (λ v. valid_buffer s a v.base v.len) outputs)
+      then Some (record { input = inputs; output = outputs; out_vec = out_vec; out_len = out_len })
+      else None
+
+  none : (m : ByteMap) → (valid_buffer s a in_vec (8 * in_len) && valid_buffer s a out_vec (8 * out_len)) ≡ false → vectors_of s m a in_vec in_len out_vec out_len ≡ None
+  none m invalid = none_given (nat_le (in_len + out_len) PSA_MAX_IOVEC) _ _ _ invalid
+
+  by_tests : (b c : Bool) → valid_buffer s a in_vec (8 * in_len) ≡ b → valid_buffer s a out_vec (8 * out_len) ≡ c
+      → vectors_of s one a in_vec in_len out_vec out_len ≡ vectors_of s other a in_vec in_len out_vec out_len
+  by_tests false c first second = none one (rw first refl) ∙ sym (none other (rw first refl))
+  by_tests true false first second = none one (rw (first, second) refl) ∙ sym (none other (rw (first, second) refl))
+  by_tests true true first second =
+      let inputs : vectors_read one in_vec in_len ≡ vectors_read other in_vec in_len =
+      vectors_read-same one other in_vec in_len (λ x inside. same x (buffer-ram s a in_vec (8 * in_len) x first inside)) in
+      let outputs : vectors_read one out_vec out_len ≡ vectors_read other out_vec out_len =
+      vectors_read-same one other out_vec out_len (λ x inside. same x (buffer-ram s a out_vec (8 * out_len) x second inside)) in
+      ap (λ vs. vectors_with vs (vectors_read one out_vec out_len)) inputs ∙ ap (λ vs. vectors_with (vectors_read other in_vec in_len) vs) outputs
+
+-- fewer bytes at the same address
+pub range-part : (x base len n : ℕ) → n ≤ len → range_has x base len ≡ false → range_has x base n ≡ false
+range-part x base len n fewer out = grind (arith, nat_tests)
+
+pub rest-outside : (v : Span) (at n x : ℕ) → at ≡ v.base + v.moved → n ≤ rest_of v → v.moved ≤ v.len → span_has x v ≡ false → range_has x at n ≡ false
+rest-outside v at n x is fits moved out = grind (arith, nat_tests)

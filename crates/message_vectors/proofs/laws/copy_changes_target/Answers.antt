@@ -1,0 +1,5 @@
+use Rattle.message_vectors.proofs.Reached.{copy_bytes-outside}
+use Rattle.message_vectors.proofs.laws.copy_changes_target.Goals as goal
+
+pub returns : goal.returns
+returns c = copy_bytes-outside

@@ -1,0 +1,22 @@
+use Rattle.std.proofs.Common.{◌≡◌, arith, rules, ap, ◌∙◌, sym, true}
+use Rattle.std.specs.Prelude.{nat_le}
+use Rattle.std.proofs.lemmas.Bool.Decides.{nat_tests}
+use Rattle.ffm_model.specs.ServiceCalls.{rest_of}
+use Rattle.ffm_model.specs.Memory.{no_span}
+use Rattle.message_vectors.specs.Vectors.{output_of}
+use Rattle.message_vectors.proofs.Moved.{rest_inside}
+use Rattle.message_vectors.proofs.Reached.{copy_bytes-outside, rest-outside}
+use Rattle.message_vectors.proofs.moves.write.Goals as goal
+
+pub copy-requires-clause-to : goal.copy-requires-clause-to
+copy-requires-clause-to c =
+    let fits : nat_le c.args.len (rest_of (output_of c.args.vectors.now c.args.index)) ≡ true = sym c.in_ok-advance.ensures.exact in
+    rest_inside _ (output_of c.args.vectors.now c.args.index) _ _ c.next_byte-to.ensures (grind (arith, nat_tests)) (c.requires.within.moved.outputs c.args.index no_span (search rules))
+    (c.requires.within.outputs c.args.index no_span (search rules))
+
+pub returns-then-len-gt0-clause-changed : goal.returns-then-len-gt0-clause-changed
+returns-then-len-gt0-clause-changed c = λ x out.
+    let fits : nat_le c.args.len (rest_of (output_of c.args.vectors.now c.args.index)) ≡ true = sym c.in_ok-advance.ensures.exact in
+    ap (λ m. m x) c.copy.ensures.copied
+    ∙ copy_bytes-outside _ _ _ _ x
+    (rest-outside (output_of c.args.vectors.now c.args.index) _ _ x c.next_byte-to.ensures (grind (arith, nat_tests)) (c.requires.within.moved.outputs c.args.index no_span (search rules)) out)

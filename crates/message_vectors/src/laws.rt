@@ -1,0 +1,46 @@
+//! Which bytes the calls on vectors read and change, as laws over the definitions.
+ghost use Rattle.std.specs.Prelude.{◌≡◌, ℕ, ◌+◌, ◌≤◌, length, true, false, List};
+ghost use Rattle.ffm_model.specs.declared.objects.Span.{Span as SpanSeen};
+ghost use Rattle.ffm_model.specs.declared.system.System.{System as SystemSeen};
+ghost use Rattle.ffm_model.specs.Memory.{ByteMap, valid_buffer, vectors_of, copy_bytes, lengths_written};
+ghost use Rattle.ffm_model.specs.Reach.{span_has, length_word_has};
+ghost use Rattle.message_vectors.specs.Bytes.{range_has, ram_has, AgreeWhere, TellsNothingAt};
+
+/// Each byte of a buffer that an actor may hand to a call lies in RAM of its domain.
+pub fn buffers_lie_in_ram()
+    ensures { (s : SystemSeen) → (a base len x : ℕ) → valid_buffer s a base len ≡ true → range_has x base len ≡ true → ram_has s a x ≡ true }
+{}
+
+/// The next bytes of a vector, no more than what is left of it, lie in it.
+pub fn moved_bytes_lie_in_vector()
+    ensures { (v : SpanSeen) → (n x : ℕ) → v.moved + n ≤ v.len → range_has x (v.base + v.moved) n ≡ true → span_has x v ≡ true }
+{}
+
+/// A copy changes no byte outside of the range that it copies to.
+pub fn copy_changes_target()
+    ensures { (m : ByteMap) → (from to len x : ℕ) → range_has x to len ≡ false → copy_bytes m from to len x ≡ m x }
+{}
+
+/// A copy tells nothing of bytes outside of the range that it copies from: where two memories agree
+/// in that range, each byte is the same in both afterwards or wasn't changed in either.
+pub fn copy_tells_source()
+    ensures { (one other : ByteMap) → (from to len x : ℕ) → AgreeWhere (λ y. range_has y from len) one other →
+        TellsNothingAt x one other (copy_bytes one from to len) (copy_bytes other from to len) }
+{}
+
+/// The lengths that a reply writes change no byte outside of the length words of the descriptors.
+pub fn lengths_change_length_words()
+    ensures { (m : ByteMap) → (at x : ℕ) → (vs : List SpanSeen) → length_word_has x at (length vs) ≡ false → lengths_written m at vs x ≡ m x }
+{}
+
+/// The lengths that a reply writes tell nothing of memory.
+pub fn lengths_tell_nothing()
+    ensures { (one other : ByteMap) → (at x : ℕ) → (vs : List SpanSeen) →
+        TellsNothingAt x one other (lengths_written one at vs) (lengths_written other at vs) }
+{}
+
+/// The vectors of a call tell nothing of bytes outside of the RAM of the actor's domain.
+pub fn vectors_tell_ram()
+    ensures { (s : SystemSeen) → (one other : ByteMap) → (a in_vec in_len out_vec out_len : ℕ) → AgreeWhere (ram_has s a) one other →
+        vectors_of s one a in_vec in_len out_vec out_len ≡ vectors_of s other a in_vec in_len out_vec out_len }
+{}
