@@ -1,0 +1,196 @@
+-- A handle that is told is new: through each call of a pool, and each handle that an event shows.
+use Rattle.std.proofs.Common.{ℕ, ◌≡◌, ◌≢◌, ◌<◌, ◌≤◌, ◌+◌, ◌*◌, Bool, true, false, cond, not, ◌&&◌, ◌||◌, List, [], ◌∷◌, ◌++◌, length, map, get_or, arith, ◌∙◌, ap, sym, refl, subst}
+use Rattle.std.specs.Prelude.{pos, find, Some, slice_set, int_le, All}
+use Rattle.std.specs.List.{list_any}
+use Rattle.std.specs.Ordering.{int_eq}
+use Rattle.std.proofs.lemmas.Bool.Decides.{Decides-int_eq}
+use Rattle.std.proofs.lemmas.Grind.{common_steps}
+use Rattle.std.proofs.lemmas.List.Elements.{All-nil, All-cons, All-head, All-tail, All-push, All-filter, All-weaker}
+use Rattle.ffm_model.specs.declared.machine.Handle.{Handle}
+use Rattle.ffm_model.specs.State.{State, handle_eq, fresh}
+use Rattle.object_pools.specs.declared.slot.Slot.{Slot}
+use Rattle.object_pools.specs.declared.slot.Held.{Held}
+use Rattle.object_pools.specs.Pool.{Places, IsKept, IsNamed, has_slot, item_at, item_put, empty, taken, with_item, without, free_slot, is_at}
+use Rattle.object_pools.proofs.Pigeons.{index-below}
+use Rattle.handle_table.specs.declared.handles.Family.{Family}
+use Rattle.handle_table.specs.declared.handles.Family.TheVariants.{Connection, Message}
+use Rattle.handle_table.specs.Handles.{base_of, handle_at, handle_number, is_given, IsNameable, GivesFresh, StaysFresh}
+use Rattle.handle_table.proofs.NameLemmas.{free-parts}
+use Rattle.handle_table.proofs.SlotLemmas.{held-of, slot-is, named-at, nameable-at}
+
+any-push : {X : Type 0} (q : X → Bool) (xs : List X) (x : X) → list_any q xs ≡ false → q x ≡ false → list_any q (xs ++ x ∷ []) ≡ false
+any-push q [] x e f = off (q x) f where
+  off : (b : Bool) → b ≡ false → (b || false) ≡ false
+  off true g = cc
+  off false g = refl
+any-push q (y ∷ ys) x e f =
+    let go : (b : Bool) → (b || list_any q ys) ≡ false → (b || list_any q (ys ++ x ∷ [])) ≡ false =
+    elim [ true ↦ λ g. cc | false ↦ λ g. any-push q ys x g f ] in
+    go (q y) e
+
+-- ---- two slots with one handle are one
+
+same_number : (f g : Family) (a b : Slot) → a.index < 256 → b.index < 256 → a.generation * 1024 + a.index + base_of f ≡ b.generation * 1024 + b.index + base_of g
+    → (base_of f ≡ base_of g) × (a.index ≡ b.index) × (a.generation ≡ b.generation)
+same_number Connection Connection a b small below e = (refl, omega arith, omega arith)
+same_number Connection Message a b small below e = absurd (omega arith)
+same_number Message Connection a b small below e = absurd (omega arith)
+same_number Message Message a b small below e = (refl, omega arith, omega arith)
+
+pub apart : (f g : Family) (a b : Slot) → a.index < 256 → b.index < 256 → ((base_of f ≡ base_of g) × (a.index ≡ b.index) × (a.generation ≡ b.generation) → ⊥)
+    → handle_eq (handle_at f a) (handle_at g b) ≡ false
+apart f g a b small below differ =
+    let go : (x : Bool) → int_eq (handle_at f a).0 (handle_at g b).0 ≡ x → x ≡ false =
+    elim [
+      | true ↦ λ e.
+          let same : (handle_at f a).0 ≡ (handle_at g b).0 = (Decides-int_eq (handle_at f a).0 (handle_at g b).0).0 e in
+          let number : a.generation * 1024 + a.index + base_of f ≡ b.generation * 1024 + b.index + base_of g = cc in
+          absurd (differ (same_number f g a b small below number))
+      | false ↦ λ e. refl
+    ] in
+    go _ refl
+
+pub one-slot-one-handle : (f : Family) (a b : Slot) → IsNameable a → IsNameable b → handle_at f a ≡ handle_at f b → a ≡ b
+one-slot-one-handle f a b m n e =
+    let number : a.generation * 1024 + a.index + base_of f ≡ b.generation * 1024 + b.index + base_of f = same (ap (λ (h : Handle). h.0) e) in
+    let parts = same_number f f a b m.index n.index number in
+    λ j. record { index = parts.1 j; generation = parts.2 j } where
+      same : {x y : ℕ} → pos x ≡ pos y → x ≡ y
+      same e = cc
+
+other_index : (generations : List ℕ) (i g x : ℕ) → x ≢ i → get_or (slice_set generations i g) x 0 ≡ get_or generations x 0
+other_index generations i g x n = grind (arith, common_steps)
+
+grown : (generations : List ℕ) (i g x k : ℕ) → g ≡ get_or generations i 0 + 1 → get_or (slice_set generations i g) x 0 < k → get_or generations x 0 < k
+grown generations i g x k e h = grind (arith, common_steps)
+
+module _ {T : Type 0} (f : Family) (told : T → Bool) where
+  abbrev pub IsUntold : List Handle → Held T → Type 0
+  IsUntold given h = told h.item ≡ false → is_given given (handle_at f h.slot) ≡ false
+
+  pub GivesFresh-new : (size : ℕ) → GivesFresh f told (empty size) []
+  GivesFresh-new size = record { future = λ s below later. refl; untold = All-nil (IsUntold []) }
+
+  pub GivesFresh-take : (p : Places T) (given : List Handle) (s : Slot) (x : T) → IsKept 256 p → GivesFresh f told p given → free_slot p ≡ Some s → GivesFresh f told (taken p s x) given
+  GivesFresh-take p given s x k v free =
+      let parts = free-parts p s free in
+      let inside : s.index < length p.generations = index-below (λ i. not (list_any (is_at i) p.held)) (length p.generations) s.index parts.0 in
+      record {
+        future = λ a below later. v.future a below (grown p.generations s.index s.generation a.index a.generation parts.1 later);
+        untold = All-push (IsUntold given) p.held (record { slot = s; item = x }) v.untold (λ e. v.future s (omega (arith, k.size)) (omega (arith, parts.1)));
+      }
+
+  pub GivesFresh-out : (p : Places T) (given : List Handle) (s : Slot) → GivesFresh f told p given → GivesFresh f told (without p s) given
+  GivesFresh-out p given s v = record { future = v.future; untold = All-filter (λ h. not (has_slot s h)) (IsUntold given) p.held v.untold }
+
+  untold-put : (given : List Handle) (s : Slot) (y : T) → (told y ≡ false → is_given given (handle_at f s) ≡ false) → (held : List (Held T)) → All (IsUntold given) held → All (IsUntold given) (map (item_put s y) held)
+  untold-put given s y here [] a = All-nil (IsUntold given)
+  untold-put given s y here (h ∷ hs) a =
+      let go : (b : Bool) → has_slot s h ≡ b → IsUntold given (cond b (record h { item = y }) h) =
+      elim [
+        | true ↦ λ e. subst (λ (t : Slot). told y ≡ false → is_given given (handle_at f t) ≡ false) (sym (slot-is s h e)) here
+        | false ↦ λ e. All-head (IsUntold given) h hs a
+      ] in
+      All-cons (IsUntold given) (item_put s y h) (map (item_put s y) hs) (go (has_slot s h) refl) (untold-put given s y here hs (All-tail (IsUntold given) h hs a))
+
+  untold-found : (given : List Handle) (s : Slot) (h : Held T) (held : List (Held T)) → All (IsUntold given) held → find (has_slot s) held ≡ Some h → IsUntold given h
+  untold-found given s h [] a e = cc
+  untold-found given s h (x ∷ xs) a e =
+      let go : (b : Bool) → cond b (Some x) (find (has_slot s) xs) ≡ Some h → IsUntold given h =
+      elim [
+        | true ↦ λ g. let it : x ≡ h = cc in subst (IsUntold given) it (All-head (IsUntold given) x xs a)
+        | false ↦ λ g. untold-found given s h xs (All-tail (IsUntold given) x xs a) g
+      ] in
+      go (has_slot s x) e
+
+  -- a live slot that wasn't told
+  pub untold-at : (p : Places T) (given : List Handle) (s : Slot) (x : T) → GivesFresh f told p given → item_at p s ≡ Some x → told x ≡ false → is_given given (handle_at f s) ≡ false
+  untold-at p given s x v live e =
+      let it = held-of p s x live in
+      subst (λ (t : Slot). is_given given (handle_at f t) ≡ false) it.3 (untold-found given s it.0 p.held v.untold it.1 (ap told it.2 ∙ e))
+
+  -- a change of an item that takes no telling back
+  pub GivesFresh-put : (p : Places T) (given : List Handle) (s : Slot) (x y : T) → GivesFresh f told p given → item_at p s ≡ Some x → (told y ≡ false → told x ≡ false) → GivesFresh f told (with_item p s y) given
+  GivesFresh-put p given s x y v live kept =
+      record { future = v.future; untold = untold-put given s y (λ e. untold-at p given s x v live (kept e)) p.held v.untold }
+
+  untold-more : (given : List Handle) (h : Handle) (held : List (Held T)) → All (λ x. told x.item ≡ false → handle_eq (handle_at f x.slot) h ≡ false) held → All (IsUntold given) held
+      → All (IsUntold (given ++ h ∷ [])) held
+  untold-more given h [] others a = All-nil (IsUntold (given ++ h ∷ []))
+  untold-more given h (x ∷ xs) others a =
+      All-cons (IsUntold (given ++ h ∷ [])) x xs
+      (λ e. any-push (handle_eq (handle_at f x.slot)) given h (All-head (IsUntold given) x xs a e) (All-head (λ y. told y.item ≡ false → handle_eq (handle_at f y.slot) h ≡ false) x xs others e))
+      (untold-more given h xs (All-tail (λ y. told y.item ≡ false → handle_eq (handle_at f y.slot) h ≡ false) x xs others) (All-tail (IsUntold given) x xs a))
+
+  -- a handle of the other family is shown
+  pub GivesFresh-other : (p : Places T) (given : List Handle) (g : Family) (s : Slot) → (base_of f ≡ base_of g → ⊥) → s.index < 256 → IsKept 256 p → GivesFresh f told p given
+      → GivesFresh f told p (given ++ handle_at g s ∷ [])
+  GivesFresh-other p given g s differ small k v = record {
+    future = λ a below later. any-push (handle_eq (handle_at f a)) given (handle_at g s) (v.future a below later) (apart f g a s below small (λ e. differ e.0));
+    untold = untold-more given (handle_at g s) p.held
+        (All-weaker (λ h. IsNamed p.generations h.slot) (λ h. told h.item ≡ false → handle_eq (handle_at f h.slot) (handle_at g s) ≡ false)
+        (λ h n e. apart f g h.slot s (omega (arith, n.below, k.size)) small (λ d. differ d.0)) p.held k.named)
+        v.untold;
+  }
+
+  not_same : (s : Slot) (h : Held T) → has_slot s h ≡ false → (h.slot.index ≡ s.index) × (h.slot.generation ≡ s.generation) → ⊥
+  not_same s h e k = grind (arith, k.0, k.1)
+
+  told-put : (given : List Handle) (s : Slot) (y : T) (generations : List ℕ) → told y ≡ true → s.index < 256 → length generations ≤ 256 → (held : List (Held T))
+      → All (λ h. IsNamed generations h.slot) held → All (IsUntold given) held → All (IsUntold (given ++ handle_at f s ∷ [])) (map (item_put s y) held)
+  told-put given s y generations now small size [] named a = All-nil (IsUntold (given ++ handle_at f s ∷ []))
+  told-put given s y generations now small size (h ∷ hs) named a =
+      let name : IsNamed generations h.slot = All-head (λ (x : Held T). IsNamed generations x.slot) h hs named in
+      let go : (b : Bool) → has_slot s h ≡ b → IsUntold (given ++ handle_at f s ∷ []) (cond b (record h { item = y }) h) =
+      elim [
+        | true ↦ λ e untold. cc (now, untold)
+        | false ↦ λ e untold.
+            any-push (handle_eq (handle_at f h.slot)) given (handle_at f s) (All-head (IsUntold given) h hs a untold)
+            (apart f f h.slot s (omega (arith, name.below)) small (λ d. not_same s h e (d.1, d.2)))
+      ] in
+      All-cons (IsUntold (given ++ handle_at f s ∷ [])) (item_put s y h) (map (item_put s y) hs) (go (has_slot s h) refl)
+      (told-put given s y generations now small size hs (All-tail (λ (x : Held T). IsNamed generations x.slot) h hs named) (All-tail (IsUntold given) h hs a))
+
+  later_slot : (generations : List ℕ) (a s : Slot) → s.generation ≡ get_or generations s.index 0 → get_or generations a.index 0 < a.generation → (a.index ≡ s.index) × (a.generation ≡ s.generation) → ⊥
+  later_slot generations a s latest later k =
+      let e : get_or generations a.index 0 ≡ get_or generations s.index 0 = ap (λ i. get_or generations i 0) k.0 in
+      omega (arith, k.1, e)
+
+  -- the handle of a live slot is shown
+  pub GivesFresh-tell : (p : Places T) (given : List Handle) (s : Slot) (x y : T) → IsKept 256 p → GivesFresh f told p given → item_at p s ≡ Some x → told y ≡ true
+      → GivesFresh f told (with_item p s y) (given ++ handle_at f s ∷ [])
+  GivesFresh-tell p given s x y k v live now =
+      let name : IsNamed p.generations s = named-at p s x 256 k live in
+      let small : s.index < 256 = omega (arith, name.below, k.size) in
+      record {
+        future = λ a below later.
+            any-push (handle_eq (handle_at f a)) given (handle_at f s) (v.future a below later)
+            (apart f f a s below small (λ d. later_slot p.generations a s name.latest later (d.1, d.2)));
+        untold = told-put given s y p.generations now small k.size p.held k.named v.untold;
+      }
+
+  number_fits : (n : ℕ) → 1 ≤ n → n < 1073741824 → (int_le (pos 1) (pos n) && int_le (pos n) (pos 0x3fffffff)) ≡ true
+  number_fits n low high = grind arith
+
+  -- the handle of a live slot that wasn't told is fresh in a state with these handles of the past
+  pub fresh-at : (p : Places T) (st : State) (s : Slot) (x : T) → IsKept 256 p → GivesFresh f told p st.handles_given → item_at p s ≡ Some x → told x ≡ false → fresh st (handle_at f s) ≡ true
+  fresh-at p st s x k v live e =
+      let n : IsNameable s = nameable-at p s x k live in
+      let new : is_given st.handles_given (handle_at f s) ≡ false = untold-at p st.handles_given s x v live e in
+      let bound : base_of f ≤ 512 = base_le f in
+      let range : (int_le (pos 1) (pos (handle_number f s)) && int_le (pos (handle_number f s)) (pos 0x3fffffff)) ≡ true =
+      number_fits (handle_number f s) (omega (arith, n.first)) (omega (arith, n.last, n.index)) in
+      ap (λ b. b && not (is_given st.handles_given (handle_at f s))) range ∙ ap not new where
+        base_le : (g : Family) → base_of g ≤ 512
+        base_le Connection = omega arith
+        base_le Message = omega arith
+
+  pub stays-fresh : (p : Places T) (given : List Handle) → IsKept 256 p → GivesFresh f told p given → StaysFresh f told p given
+  stays-fresh p given k v = record {
+    new = λ st s x same live e. fresh-at p st s x k (subst (λ (hs : List Handle). GivesFresh f told p hs) (sym same) v) live e;
+    after_take = λ s x free. GivesFresh-take p given s x k v free;
+    after_put_back = λ s. GivesFresh-out p given s v;
+    after_telling = λ s x y live now. GivesFresh-tell p given s x y k v live now;
+    after_change = λ s x y live kept. GivesFresh-put p given s x y v live kept;
+    after_other = λ g s apart_base small. GivesFresh-other p given g s (λ e. apart_base (sym e)) small k v;
+  }

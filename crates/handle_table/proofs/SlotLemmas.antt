@@ -1,0 +1,102 @@
+-- Slots of a pool: each is of one live item, and can be named by a handle.
+use Rattle.std.proofs.Common.{ℕ, zero, suc, ◌≡◌, ◌≤◌, ◌+◌, ◌==◌, Bool, true, false, cond, ◌&&◌, List, [], ◌∷◌, arith, ◌∙◌, ap, refl, subst}
+use Rattle.std.specs.Prelude.{count_by, find, Option, Some, None, All, slice_get}
+use Rattle.std.specs.Option.{option_map}
+use Rattle.std.proofs.lemmas.List.Elements.{All-head, All-tail, All-weaker}
+use Rattle.object_pools.specs.declared.slot.Slot.{Slot}
+use Rattle.object_pools.specs.declared.slot.Held.{Held}
+use Rattle.object_pools.specs.Pool.{Places, IsKept, IsNamed, has_slot, is_at, item_at}
+use Rattle.object_pools.proofs.Counts.{bit, bit-le, count-cons}
+use Rattle.handle_table.specs.Handles.{IsNameable}
+use Rattle.handle_table.proofs.Twins.{find-passes, count-le}
+
+and_le : (b c : Bool) → bit (b && c) ≤ bit b
+and_le true c = bit-le c
+and_le false c = omega arith
+
+pub both : (a b : Bool) → (a && b) ≡ true → (a ≡ true) × (b ≡ true)
+both true b e = (refl, e)
+both false b e = cc
+
+pub has_own : (s : Slot) → ((s.index == s.index) && (s.generation == s.generation)) ≡ true
+has_own s = grind arith
+
+count-nth : {X : Type 0} (p : X → Bool) (xs : List X) (n : ℕ) (x : X) → slice_get xs n ≡ Some x → bit (p x) ≤ count_by p xs
+count-nth p [] n x e = cc
+count-nth p (y ∷ ys) zero x e = let it : y ≡ x = cc in omega (arith, count-cons p y ys, ap (λ z. bit (p z)) it)
+count-nth p (y ∷ ys) (suc n) x e = omega (arith, count-cons p y ys, count-nth p ys n x e)
+
+find-nth : {X : Type 0} (p : X → Bool) (xs : List X) (n : ℕ) (x : X) → slice_get xs n ≡ Some x → p x ≡ true → count_by p xs ≤ 1 → find p xs ≡ Some x
+find-nth p [] n x e passes one = cc
+find-nth p (y ∷ ys) zero x e passes one = let it : y ≡ x = cc in ap (λ b. cond b (Some y) (find p ys)) (ap p it ∙ passes) ∙ e
+find-nth p (y ∷ ys) (suc n) x e passes one =
+    let few : bit (p y) + count_by p ys ≤ 1 = omega (arith, count-cons p y ys) in
+    let go : (b : Bool) → bit b + count_by p ys ≤ 1 → cond b (Some y) (find p ys) ≡ Some x =
+    elim [
+      | true ↦ λ k. absurd (omega (arith, count-nth p ys n x e, ap bit passes))
+      | false ↦ λ k. find-nth p ys n x e passes (omega arith)
+    ] in
+    go (p y) few
+
+module _ {T : Type 0} where
+  pub one_slot : (capacity : ℕ) (p : Places T) (s : Slot) → IsKept capacity p → count_by (has_slot s) p.held ≤ 1
+  one_slot capacity p s k =
+      omega (arith, k.once s.index, count-le (has_slot s) (is_at s.index) (λ h. and_le (h.slot.index == s.index) (h.slot.generation == s.generation)) p.held)
+
+  pub slot-is : (s : Slot) (h : Held T) → has_slot s h ≡ true → h.slot ≡ s
+  slot-is s h e =
+      let parts = both (h.slot.index == s.index) (h.slot.generation == s.generation) e in
+      λ j. record { index = equal h.slot.index s.index parts.0 j; generation = equal h.slot.generation s.generation parts.1 j } where
+        equal : (k m : ℕ) → (k == m) ≡ true → k ≡ m
+        equal k m f = grind arith
+
+  -- the live item of a slot, with its slot
+  pub held-of : (p : Places T) (s : Slot) (c : T) → item_at p s ≡ Some c → (h : Held T) × (find (has_slot s) p.held ≡ Some h) × (h.item ≡ c) × (h.slot ≡ s)
+  held-of p s c =
+      let go : (o : Option (Held T)) → find (has_slot s) p.held ≡ o → option_map (λ (h : Held T). h.item) o ≡ Some c
+      → (h : Held T) × (find (has_slot s) p.held ≡ Some h) × (h.item ≡ c) × (h.slot ≡ s) =
+      elim [ None ↦ λ f e. cc | Some h ↦ λ f e. (h, f, cc, slot-is s h (find-passes (has_slot s) p.held h f)) ] in
+      go (find (has_slot s) p.held) refl
+
+  -- the live item at a place of the order is live under its slot
+  pub live-nth : (capacity : ℕ) (p : Places T) (n : ℕ) (h : Held T) → IsKept capacity p → slice_get p.held n ≡ Some h → item_at p h.slot ≡ Some h.item
+  live-nth capacity p n h k e =
+      ap (option_map (λ (x : Held T). x.item)) (find-nth (has_slot h.slot) p.held n h e (has_own h.slot) (one_slot capacity p h.slot k))
+
+  -- each live slot can be named by a handle
+  pub nameable : (p : Places T) → IsKept 256 p → All (λ h. IsNameable h.slot) p.held
+  nameable p k =
+      All-weaker (λ h. IsNamed p.generations h.slot) (λ h. IsNameable h.slot)
+      (λ h n. record { index = omega (arith, n.below, k.size); first = n.used; last = omega (arith, n.latest, k.given h.slot.index, k.takes_left) }) p.held k.named
+
+  named-found : (s : Slot) (h : Held T) (held : List (Held T)) → All (λ x. IsNameable x.slot) held → find (has_slot s) held ≡ Some h → IsNameable h.slot
+  named-found s h [] a f = cc
+  named-found s h (x ∷ xs) a f =
+      let go : (b : Bool) → cond b (Some x) (find (has_slot s) xs) ≡ Some h → IsNameable h.slot =
+      elim [
+        | true ↦ λ g. let it : x ≡ h = cc in subst (λ (y : Held T). IsNameable y.slot) it (All-head (λ (y : Held T). IsNameable y.slot) x xs a)
+        | false ↦ λ g. named-found s h xs (All-tail (λ (y : Held T). IsNameable y.slot) x xs a) g
+      ] in
+      go (has_slot s x) f
+
+  -- a live slot can be named by a handle
+  pub nameable-at : (p : Places T) (s : Slot) (c : T) → IsKept 256 p → item_at p s ≡ Some c → IsNameable s
+  nameable-at p s c k live =
+      let it = held-of p s c live in
+      subst IsNameable it.3 (named-found s it.0 p.held (nameable p k) it.1)
+
+  -- a live slot has the last generation of its index
+  named-among : (generations : List ℕ) (s : Slot) (h : Held T) (held : List (Held T)) → All (λ x. IsNamed generations x.slot) held → find (has_slot s) held ≡ Some h → IsNamed generations h.slot
+  named-among generations s h [] a f = cc
+  named-among generations s h (x ∷ xs) a f =
+      let go : (b : Bool) → cond b (Some x) (find (has_slot s) xs) ≡ Some h → IsNamed generations h.slot =
+      elim [
+        | true ↦ λ g. let it : x ≡ h = cc in subst (λ (y : Held T). IsNamed generations y.slot) it (All-head (λ (y : Held T). IsNamed generations y.slot) x xs a)
+        | false ↦ λ g. named-among generations s h xs (All-tail (λ (y : Held T). IsNamed generations y.slot) x xs a) g
+      ] in
+      go (has_slot s x) f
+
+  pub named-at : (p : Places T) (s : Slot) (c : T) (capacity : ℕ) → IsKept capacity p → item_at p s ≡ Some c → IsNamed p.generations s
+  named-at p s c capacity k live =
+      let it = held-of p s c live in
+      subst (IsNamed p.generations) it.3 (named-among p.generations s it.0 p.held k.named it.1)

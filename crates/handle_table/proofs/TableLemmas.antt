@@ -1,0 +1,265 @@
+-- What a table of connections keeps, and what its calls do to the state's list.
+use Rattle.std.proofs.Common.{ℕ, ◌≡◌, ◌<◌, ◌≤◌, ◌+◌, ◌==◌, Bool, true, false, cond, not, ◌&&◌, List, [], ◌∷◌, ◌++◌, take, arith, ◌∙◌, ap, sym, refl, subst}
+use Rattle.std.specs.Prelude.{ℤ, count_by, find, Option, Some, None, map, filter, if◌then◌else◌, All, IfSome, IsTrue, option_and_then, slice_get}
+use Rattle.std.specs.Option.{option_map}
+use Rattle.std.proofs.lemmas.Bool.Decides.{Decides-int_eq}
+use Rattle.std.proofs.lemmas.List.Elements.{All-nil, All-cons, All-head, All-tail, All-push, All-filter, All-weaker, All-map}
+use Rattle.std.proofs.lemmas.List.Sums.{count_by_more_yes, count_by_more_no}
+use Rattle.std.proofs.lemmas.Option.{slice_get-map, slice_get_within, get_or_from_slice_get}
+use Rattle.ffm_model.specs.declared.machine.Handle.{Handle}
+use Rattle.ffm_model.specs.declared.objects.OpenConnection.{OpenConnection}
+use Rattle.ffm_model.specs.State.{has_handle}
+use Rattle.object_pools.specs.declared.slot.Slot.{Slot}
+use Rattle.object_pools.specs.declared.slot.Held.{Held}
+use Rattle.object_pools.specs.Pool.{Places, IsKept, has_slot, item_at, item_put, taken, with_item, without}
+use Rattle.object_pools.proofs.Counts.{bit, bit-le, count-cons}
+use Rattle.handle_table.specs.declared.handles.Family.TheVariants.{Connection}
+use Rattle.handle_table.specs.Handles.{handle_at, IsNameable}
+use Rattle.handle_table.specs.Table.{connections, spm_of, Rises, IsTable, with_started}
+use Rattle.handle_table.proofs.SlotLemmas.{both, has_own, one_slot, slot-is, held-of, nameable}
+use Rattle.handle_table.proofs.Twins.{count-map, twin-put, twin-out, twin-find, find-all_fail, find-first, find-more}
+
+-- ---- serial numbers
+
+pub rises-bounds : (low made : ℕ) (cs : List OpenConnection) → Rises low cs made → low ≤ made
+rises-bounds low made [] r = r
+rises-bounds low made (c ∷ cs) r = omega (arith, r.0, rises-bounds (c.serial + 1) made cs r.1)
+
+pub rises-weaker : (low least made : ℕ) (cs : List OpenConnection) → least ≤ low → Rises low cs made → Rises least cs made
+rises-weaker low least made [] le r = omega arith
+rises-weaker low least made (c ∷ cs) le r = (omega (arith, r.0), r.1)
+
+pub rises-above : (low made : ℕ) (cs : List OpenConnection) → Rises low cs made → All (λ c. low ≤ c.serial) cs
+rises-above low made [] r = All-nil (λ c. low ≤ c.serial)
+rises-above low made (c ∷ cs) r =
+    All-cons (λ d. low ≤ d.serial) c cs r.0
+    (All-weaker (λ d. c.serial + 1 ≤ d.serial) (λ d. low ≤ d.serial) (λ d h. omega (arith, r.0)) cs (rises-above (c.serial + 1) made cs r.1))
+
+pub rises-push : (low made : ℕ) (cs : List OpenConnection) (c : OpenConnection) → Rises low cs made → c.serial ≡ made → Rises low (cs ++ c ∷ []) (made + 1)
+rises-push low made [] c r e = (omega arith, omega arith)
+rises-push low made (d ∷ ds) c r e = (r.0, rises-push (d.serial + 1) made ds c r.1 e)
+
+pub rises-map : (low made : ℕ) (f : OpenConnection → OpenConnection) → ((c : OpenConnection) → (f c).serial ≡ c.serial) → (cs : List OpenConnection) → Rises low cs made → Rises low (map f cs) made
+rises-map low made f same [] r = r
+rises-map low made f same (c ∷ cs) r =
+    (omega (arith, same c, r.0), subst (λ n. Rises (n + 1) (map f cs) made) (sym (same c)) (rises-map (c.serial + 1) made f same cs r.1))
+
+pub rises-filter : (low made : ℕ) (q : OpenConnection → Bool) (cs : List OpenConnection) → Rises low cs made → Rises low (filter q cs) made
+rises-filter low made q [] r = r
+rises-filter low made q (c ∷ cs) r =
+    let rest : Rises (c.serial + 1) (filter q cs) made = rises-filter (c.serial + 1) made q cs r.1 in
+    let go : (b : Bool) → Rises low (cond b (c ∷ filter q cs) (filter q cs)) made =
+    elim [ true ↦ (r.0, rest) | false ↦ rises-weaker (c.serial + 1) low made (filter q cs) (omega (arith, r.0)) rest ] in
+    go (q c)
+
+at_bit : (k n : ℕ) → bit (k == n) ≤ 1
+at_bit k n = bit-le (k == n)
+
+above_none : (n low made : ℕ) (cs : List OpenConnection) → n < low → Rises low cs made → count_by (λ c. c.serial == n) cs ≡ 0
+above_none n low made [] above r = refl
+above_none n low made (c ∷ cs) above r =
+    let rest : count_by (λ d. d.serial == n) cs ≡ 0 = above_none n (c.serial + 1) made cs (omega (arith, r.0)) r.1 in
+    omega (arith, count-cons (λ d. d.serial == n) c cs, later c.serial n (omega (arith, r.0))) where
+      later : (k m : ℕ) → m < k → bit (k == m) ≡ 0
+      later k m h = grind arith
+
+pub one_serial : (n low made : ℕ) (cs : List OpenConnection) → Rises low cs made → count_by (λ c. c.serial == n) cs ≤ 1
+one_serial n low made [] r = omega arith
+one_serial n low made (c ∷ cs) r =
+    let go : (b : Bool) → (c.serial == n) ≡ b → bit b + count_by (λ d. d.serial == n) cs ≤ 1 =
+    elim [
+      | true ↦ λ e. let same : c.serial ≡ n = equal c.serial n e in omega (arith, above_none n (c.serial + 1) made cs (omega arith) r.1)
+      | false ↦ λ e. omega (arith, one_serial n (c.serial + 1) made cs r.1)
+    ] in
+    omega (arith, count-cons (λ d. d.serial == n) c cs, go (c.serial == n) refl) where
+      equal : (k m : ℕ) → (k == m) ≡ true → k ≡ m
+      equal k m e = grind arith
+
+-- what is found from the front has the least serial number
+pub found-least : (r : OpenConnection → Bool) (low made : ℕ) (cs : List OpenConnection) (c : OpenConnection) → Rises low cs made → find r cs ≡ Some c → All (λ d. IsTrue (r d) → c.serial ≤ d.serial) cs
+found-least r low made [] c s f = cc
+found-least r low made (x ∷ xs) c s f =
+    let go : (b : Bool) → r x ≡ b → cond b (Some x) (find r xs) ≡ Some c → All (λ d. IsTrue (r d) → c.serial ≤ d.serial) (x ∷ xs) =
+    elim [
+      | true ↦ λ e g.
+          let it : x ≡ c = cc in
+          subst (λ y. All (λ d. IsTrue (r d) → y.serial ≤ d.serial) (x ∷ xs)) it
+          (All-cons (λ d. IsTrue (r d) → x.serial ≤ d.serial) x xs (λ t. omega arith)
+          (All-weaker (λ d. x.serial + 1 ≤ d.serial) (λ d. IsTrue (r d) → x.serial ≤ d.serial) (λ d h t. omega arith) xs (rises-above (x.serial + 1) made xs s.1)))
+      | false ↦ λ e g. All-cons (λ d. IsTrue (r d) → c.serial ≤ d.serial) x xs (λ t. cc (t, e)) (found-least r (x.serial + 1) made xs c s.1 g)
+    ] in
+    go (r x) refl f
+
+-- ---- a connection is changed
+
+put-serial : (n : ℕ) (g : OpenConnection → OpenConnection) → ((d : OpenConnection) → (g d).serial ≡ d.serial) → (d : OpenConnection) → (if d.serial == n then g d else d).serial ≡ d.serial
+put-serial n g same d =
+    let go : (b : Bool) → (cond b (g d) d).serial ≡ d.serial = elim [ true ↦ same d | false ↦ refl ] in
+    go (d.serial == n)
+
+pub connections-put : (capacity : ℕ) (p : Places OpenConnection) (s : Slot) (c : OpenConnection) (g : OpenConnection → OpenConnection) → IsKept capacity p → IsTable p → item_at p s ≡ Some c
+    → connections (with_item p s (g c)) ≡ map (λ d. if d.serial == c.serial then g d else d) (connections p)
+connections-put capacity p s c g k t live =
+    let it = held-of p s c live in
+    let h : Held OpenConnection = it.0 in
+    twin-put (λ (x : Held OpenConnection). x.item) (has_slot s) (λ d. d.serial == c.serial) (λ x. record x { item = g c }) g it.0
+    (ap g (sym it.2)) (ap (λ (d : OpenConnection). d.serial == c.serial) it.2 ∙ same_itself c.serial) p.held it.1 (one_slot capacity p s k)
+    (omega (arith, one_serial c.serial 0 p.takes (connections p) t.rising, count-map (λ (x : Held OpenConnection). x.item) (λ d. d.serial == c.serial) p.held)) where
+      same_itself : (n : ℕ) → (n == n) ≡ true
+      same_itself n = grind arith
+
+pub spm-put : (capacity : ℕ) (p : Places OpenConnection) (s : Slot) (c : OpenConnection) (g : OpenConnection → OpenConnection) → IsKept capacity p → IsTable p → item_at p s ≡ Some c
+    → spm_of (with_item p s (g c)) ≡ record (spm_of p) { connections = map (λ d. if d.serial == c.serial then g d else d) (connections p) }
+spm-put capacity p s c g k t live = λ j. record (spm_of p) { connections = connections-put capacity p s c g k t live j }
+
+abbrev pub IsTold : Held OpenConnection → Type 0
+IsTold h = IfSome h.item.handle (λ k. k ≡ handle_at Connection h.slot)
+
+told-put : (s : Slot) (c : OpenConnection) → IfSome c.handle (λ k. k ≡ handle_at Connection s) → (held : List (Held OpenConnection)) → All IsTold held → All IsTold (map (item_put s c) held)
+told-put s c fits [] a = All-nil IsTold
+told-put s c fits (h ∷ hs) a =
+    let go : (b : Bool) → has_slot s h ≡ b → IsTold (cond b (record h { item = c }) h) =
+    elim [
+      | true ↦ λ e. subst (λ (t : Slot). IfSome c.handle (λ k. k ≡ handle_at Connection t)) (sym (slot-is s h e)) fits
+      | false ↦ λ e. All-head IsTold h hs a
+    ] in
+    All-cons IsTold (item_put s c h) (map (item_put s c) hs) (go (has_slot s h) refl) (told-put s c fits hs (All-tail IsTold h hs a))
+
+told-found : (s : Slot) (h : Held OpenConnection) (held : List (Held OpenConnection)) → All IsTold held → find (has_slot s) held ≡ Some h → IsTold h
+told-found s h [] a f = cc
+told-found s h (x ∷ xs) a f =
+    let go : (b : Bool) → cond b (Some x) (find (has_slot s) xs) ≡ Some h → IsTold h =
+    elim [
+      | true ↦ λ g. let it : x ≡ h = cc in subst IsTold it (All-head IsTold x xs a)
+      | false ↦ λ g. told-found s h xs (All-tail IsTold x xs a) g
+    ] in
+    go (has_slot s x) f
+
+-- the handle that a live connection's client was told is that of its slot
+pub told-at : (p : Places OpenConnection) (s : Slot) (c : OpenConnection) → IsTable p → item_at p s ≡ Some c → IfSome c.handle (λ k. k ≡ handle_at Connection s)
+told-at p s c t live =
+    let it = held-of p s c live in
+    let told : IfSome (it.0).item.handle (λ k. k ≡ handle_at Connection (it.0).slot) = told-found s it.0 p.held t.told it.1 in
+    subst (λ (d : OpenConnection). IfSome d.handle (λ k. k ≡ handle_at Connection s)) it.2 (subst (λ (u : Slot). IfSome (it.0).item.handle (λ k. k ≡ handle_at Connection u)) it.3 told)
+
+pub IsTable-put : (capacity : ℕ) (p : Places OpenConnection) (s : Slot) (c : OpenConnection) (g : OpenConnection → OpenConnection) → ((d : OpenConnection) → (g d).serial ≡ d.serial)
+    → IsKept capacity p → IsTable p → item_at p s ≡ Some c → IfSome (g c).handle (λ k. k ≡ handle_at Connection s) → IsTable (with_item p s (g c))
+IsTable-put capacity p s c g same k t live fits = record {
+  rising = subst (λ (cs : List OpenConnection). Rises 0 cs p.takes) (sym (connections-put capacity p s c g k t live))
+      (rises-map 0 p.takes (λ d. if d.serial == c.serial then g d else d) (put-serial c.serial g same) (connections p) t.rising);
+  told = told-put s (g c) fits p.held t.told;
+}
+
+-- ---- a connection is started
+
+map-push : {X Y : Type 0} (v : X → Y) (xs : List X) (x : X) → map v (xs ++ x ∷ []) ≡ map v xs ++ v x ∷ []
+map-push v [] x = refl
+map-push {Y = Y} v (y ∷ ys) x = ap (λ (zs : List Y). v y ∷ zs) (map-push v ys x)
+
+pub IsTable-start : (p : Places OpenConnection) (s : Slot) (c : OpenConnection) → IsTable p → c.serial ≡ p.takes → c.handle ≡ None → IsTable (taken p s c)
+IsTable-start p s c t serial none = record {
+  rising = subst (λ (cs : List OpenConnection). Rises 0 cs (p.takes + 1)) (sym (map-push (λ (h : Held OpenConnection). h.item) p.held (record { slot = s; item = c })))
+      (rises-push 0 p.takes (connections p) c t.rising serial);
+  told = All-push IsTold p.held (record { slot = s; item = c }) t.told (subst (λ (o : Option Handle). IfSome o (λ k. k ≡ handle_at Connection s)) (sym none) tt);
+}
+
+pub spm-start : (p : Places OpenConnection) (s : Slot) (c : OpenConnection) → spm_of (taken p s c) ≡ with_started (spm_of p) c
+spm-start p s c = λ j. record (spm_of p) { connections = map-push (λ (h : Held OpenConnection). h.item) p.held (record { slot = s; item = c }) j; connections_made = p.takes + 1 }
+
+-- ---- a connection is freed
+
+pub connections-out : (capacity : ℕ) (p : Places OpenConnection) (s : Slot) (c : OpenConnection) → IsKept capacity p → IsTable p → item_at p s ≡ Some c
+    → connections (without p s) ≡ filter (λ d. not (d.serial == c.serial)) (connections p)
+connections-out capacity p s c k t live =
+    let it = held-of p s c live in
+    twin-out (λ (x : Held OpenConnection). x.item) (has_slot s) (λ d. d.serial == c.serial) it.0
+    (ap (λ (d : OpenConnection). d.serial == c.serial) it.2 ∙ same_itself c.serial) p.held it.1 (one_slot capacity p s k)
+    (omega (arith, one_serial c.serial 0 p.takes (connections p) t.rising, count-map (λ (x : Held OpenConnection). x.item) (λ d. d.serial == c.serial) p.held)) where
+      same_itself : (n : ℕ) → (n == n) ≡ true
+      same_itself n = grind arith
+
+pub spm-out : (capacity : ℕ) (p : Places OpenConnection) (s : Slot) (c : OpenConnection) → IsKept capacity p → IsTable p → item_at p s ≡ Some c
+    → spm_of (without p s) ≡ record (spm_of p) { connections = filter (λ d. not (d.serial == c.serial)) (connections p) }
+spm-out capacity p s c k t live = λ j. record (spm_of p) { connections = connections-out capacity p s c k t live j }
+
+pub IsTable-out : (capacity : ℕ) (p : Places OpenConnection) (s : Slot) (c : OpenConnection) → IsKept capacity p → IsTable p → item_at p s ≡ Some c → IsTable (without p s)
+IsTable-out capacity p s c k t live = record {
+  rising = subst (λ (cs : List OpenConnection). Rises 0 cs p.takes) (sym (connections-out capacity p s c k t live))
+      (rises-filter 0 p.takes (λ d. not (d.serial == c.serial)) (connections p) t.rising);
+  told = All-filter (λ h. not (has_slot s h)) IsTold p.held t.told;
+}
+
+-- ---- a connection is found
+
+handle-is : (o : Option Handle) (k : Handle) → has_handle o k ≡ true → o ≡ Some k
+handle-is None k e = cc
+handle-is (Some h) k e = let same : h.0 ≡ k.0 = (Decides-int_eq h.0 k.0).0 e in ap (λ (n : ℤ). Some (record { 0 = n })) same
+
+-- what shows a handle to its client has the slot that the handle names
+pub shows-slot : (h : Held OpenConnection) (owner : ℕ) (k : Handle) → IsTold h → ((h.item.client.0 == owner) && has_handle h.item.handle k) ≡ true → handle_at Connection h.slot ≡ k
+shows-slot h owner k told e =
+    let shown : h.item.handle ≡ Some k = handle-is h.item.handle k (both (h.item.client.0 == owner) (has_handle h.item.handle k) e).1 in
+    sym (subst (λ (o : Option Handle). IfSome o (λ j. j ≡ handle_at Connection h.slot)) shown told)
+
+all-with : (Q : Held OpenConnection → Type 0) (held : List (Held OpenConnection)) → ((h : Held OpenConnection) → IsTold h → IsNameable h.slot → Q h) → All IsTold held → All (λ h. IsNameable h.slot) held → All Q held
+all-with Q [] each told named = All-nil Q
+all-with Q (h ∷ hs) each told named =
+    All-cons Q h hs (each h (All-head IsTold h hs told) (All-head (λ x. IsNameable x.slot) h hs named))
+    (all-with Q hs each (All-tail IsTold h hs told) (All-tail (λ x. IsNameable x.slot) h hs named))
+
+abbrev pub is_shown : ℕ → Handle → OpenConnection → Bool
+is_shown owner k c = (c.client.0 == owner) && has_handle c.handle k
+
+-- a handle names one slot
+abbrev pub Names : Option Slot → Handle → Type 0
+Names o k = (s : Slot) → IsNameable s → handle_at Connection s ≡ k → o ≡ Some s
+
+pub found-none : (p : Places OpenConnection) (owner : ℕ) (k : Handle) → IsKept 256 p → IsTable p → Names None k → find (is_shown owner k) (connections p) ≡ None
+found-none p owner k kept t names =
+    find-all_fail (is_shown owner k) (connections p) (All-seen p.held (all-with (λ h. is_shown owner k h.item ≡ true → ⊥) p.held
+    (λ h told n e. no_slot h.slot (names h.slot n (shows-slot h owner k told e))) t.told (nameable p kept))) where
+      no_slot : (s : Slot) → None ≡ Some s → ⊥
+      no_slot s e = cc
+
+      All-seen : (held : List (Held OpenConnection)) → All (λ h. is_shown owner k h.item ≡ true → ⊥) held → All (λ c. is_shown owner k c ≡ true → ⊥) (map (λ (h : Held OpenConnection). h.item) held)
+      All-seen held a = All-map (λ c. is_shown owner k c ≡ true → ⊥) (λ (h : Held OpenConnection). h.item) held a
+
+pub found-at : (p : Places OpenConnection) (owner : ℕ) (k : Handle) (s : Slot) → IsKept 256 p → IsTable p → Names (Some s) k
+    → find (is_shown owner k) (connections p) ≡ option_and_then (λ c. cond (is_shown owner k c) (Some c) None) (item_at p s)
+found-at p owner k s kept t names =
+    twin-find (λ (h : Held OpenConnection). h.item) (has_slot s) (is_shown owner k) p.held
+    (all-with (λ h. is_shown owner k h.item ≡ true → has_slot s h ≡ true) p.held (λ h told n e. own h (names h.slot n (shows-slot h owner k told e))) t.told (nameable p kept))
+    (one_slot 256 p s kept)
+    ∙ seen (find (has_slot s) p.held) where
+      own : (h : Held OpenConnection) → Some s ≡ Some h.slot → has_slot s h ≡ true
+      own h e = let it : s ≡ h.slot = cc in ap (λ (u : Slot). (h.slot.index == u.index) && (h.slot.generation == u.generation)) it ∙ has_own h.slot
+
+      seen : (o : Option (Held OpenConnection)) → option_and_then (λ h. cond (is_shown owner k h.item) (Some h.item) None) o
+          ≡ option_and_then (λ c. cond (is_shown owner k c) (Some c) None) (option_map (λ (h : Held OpenConnection). h.item) o)
+      seen None = refl
+      seen (Some h) = refl
+
+-- ---- the connections one after another
+
+seen-nth : (p : Places OpenConnection) (n : ℕ) (h : Held OpenConnection) → slice_get p.held n ≡ Some h → slice_get (connections p) n ≡ Some h.item
+seen-nth p n h e = slice_get-map (λ (x : Held OpenConnection). x.item) p.held n ∙ ap (option_map (λ (x : Held OpenConnection). x.item)) e
+
+pub counted-yes : (r : OpenConnection → Bool) (p : Places OpenConnection) (n : ℕ) (h : Held OpenConnection) → slice_get p.held n ≡ Some h → r h.item ≡ true
+    → count_by r (take (n + 1) (connections p)) ≡ count_by r (take n (connections p)) + 1
+counted-yes r p n h e passes =
+    let here : slice_get (connections p) n ≡ Some h.item = seen-nth p n h e in
+    count_by_more_yes r (connections p) n h.item (slice_get_within (connections p) n h.item here) (ap r (get_or_from_slice_get (connections p) n h.item h.item here) ∙ passes)
+
+pub counted-no : (r : OpenConnection → Bool) (p : Places OpenConnection) (n : ℕ) (h : Held OpenConnection) → slice_get p.held n ≡ Some h → r h.item ≡ false
+    → count_by r (take (n + 1) (connections p)) ≡ count_by r (take n (connections p))
+counted-no r p n h e fails =
+    let here : slice_get (connections p) n ≡ Some h.item = seen-nth p n h e in
+    count_by_more_no r (connections p) n h.item (slice_get_within (connections p) n h.item here) (ap r (get_or_from_slice_get (connections p) n h.item h.item here) ∙ fails)
+
+pub first-found : (r : OpenConnection → Bool) (p : Places OpenConnection) (n : ℕ) (h : Held OpenConnection) → find r (take n (connections p)) ≡ None → slice_get p.held n ≡ Some h → r h.item ≡ true
+    → find r (connections p) ≡ Some h.item
+first-found r p n h none e passes = find-first r (connections p) n h.item none (seen-nth p n h e) passes
+
+pub none-found : (r : OpenConnection → Bool) (p : Places OpenConnection) (n : ℕ) (h : Held OpenConnection) → find r (take n (connections p)) ≡ None → slice_get p.held n ≡ Some h → r h.item ≡ false
+    → find r (take (n + 1) (connections p)) ≡ None
+none-found r p n h none e fails = find-more r (connections p) n h.item none (seen-nth p n h e) fails

@@ -1,0 +1,6 @@
+pub mod Counts
+pub mod Orders
+pub mod Stores
+pub mod Pigeons
+pub mod Updates
+pub mod Lent

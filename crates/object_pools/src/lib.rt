@@ -1,0 +1,12 @@
+//! Pools of a fixed size, whose live items have slots. No call takes memory.
+#![tactic(auto)]
+
+mod cells;
+mod pool;
+mod slot;
+
+pub use pool::Pool;
+pub use slot::{Held, Slot};
+
+#[cfg(test)]
+mod tests;
