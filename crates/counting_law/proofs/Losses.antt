@@ -1,0 +1,133 @@
+-- What a panic leaves of each connection and which disconnections it sends, case by case: whether the service is the partition's, whether the client is, and the phase.
+use Rattle.std.proofs.Common.{ℕ, ◌≡◌, ◌==◌, Bool, true, false, not, ◌&&◌, List, [], ◌∷◌, ◌++◌, ◌∙◌, ap, refl}
+use Rattle.std.specs.Prelude.{Option, Some, None, option_and_then, filter, slice_set, if◌then◌else◌}
+use Rattle.std.specs.List.{filter_map, cons_option}
+use Rattle.std.specs.Option.{option_map}
+use Rattle.ffm_model.specs.declared.constants.TheConstants.{PSA_IPC_DISCONNECT}
+use Rattle.ffm_model.specs.declared.system.System.{System}
+use Rattle.ffm_model.specs.declared.objects.OpenConnection.{OpenConnection}
+use Rattle.ffm_model.specs.declared.objects.PendingMessage.{PendingMessage}
+use Rattle.ffm_model.specs.declared.objects.ConnPhase.{ConnPhase}
+use Rattle.ffm_model.specs.declared.objects.ConnPhase.TheVariants.{Opening, Idle, Busy, Error, Closing, Dead}
+use Rattle.ffm_model.specs.declared.objects.ActorPhase.TheVariants.{Panicked}
+use Rattle.ffm_model.specs.Actors.{is_service_of}
+use Rattle.ffm_model.specs.Memory.{no_vectors}
+use Rattle.ffm_model.specs.State.{SpmState}
+use Rattle.ffm_model.specs.Panic.{is_dead, lost, without_service, without_client, disconnection, clients_answered, panic_effect}
+
+-- whether the connection outlives the panic of its service
+abbrev pub survives : ConnPhase → Bool
+survives Opening = false
+survives Closing = false
+survives _ = true
+
+-- what is left of a connection in this phase; o: to a service of the partition, k: the partition's own
+abbrev pub left_as : Bool → Bool → ConnPhase → OpenConnection → List OpenConnection
+left_as o k ph c =
+    if o
+    then (if survives ph && not k then record c { phase = Dead } ∷ [] else [])
+    else (if k then (if is_dead ph then [] else record c { phase = Closing } ∷ []) else record c { phase = ph } ∷ [])
+
+abbrev pub all_left : System → ℕ → List OpenConnection → List OpenConnection
+all_left s p [] = []
+all_left s p (c ∷ cs) = left_as (is_service_of s p c.service) (c.client.0 == p) c.phase c ++ all_left s p cs
+
+-- the disconnection of one of the partition's own
+abbrev pub goodbye : OpenConnection → PendingMessage
+goodbye c = record { service = c.service; client = c.client; connection = c.serial; kind = PSA_IPC_DISCONNECT; vectors = no_vectors; handle = None }
+
+abbrev pub goodbye_as : Bool → Bool → ConnPhase → OpenConnection → List PendingMessage
+goodbye_as o k ph c = if o then [] else (if k then (if is_dead ph then [] else goodbye c ∷ []) else [])
+
+abbrev pub goodbyes : System → ℕ → List OpenConnection → List PendingMessage
+goodbyes s p [] = []
+goodbyes s p (c ∷ cs) = goodbye_as (is_service_of s p c.service) (c.client.0 == p) c.phase c ++ goodbyes s p cs
+
+-- the loss of the service, in these cases
+abbrev served : Bool → ConnPhase → OpenConnection → Option OpenConnection
+served o ph c = if o then option_map (λ f. record c { phase = f }) (lost ph) else Some (record c { phase = ph })
+
+abbrev left_in : Bool → OpenConnection → Option OpenConnection
+left_in k d = if k then (if is_dead d.phase then None else Some (record d { phase = Closing })) else Some d
+
+abbrev goodbye_in : Bool → OpenConnection → Option PendingMessage
+goodbye_in k d = if k && not (is_dead d.phase) then Some (goodbye d) else None
+
+left-cases : (c : OpenConnection) (xs : List OpenConnection) (o k : Bool) (ph : ConnPhase) → cons_option (option_and_then (left_in k) (served o ph c)) xs ≡ left_as o k ph c ++ xs
+left-cases c xs true true Opening = refl
+left-cases c xs true true Idle = refl
+left-cases c xs true true Busy = refl
+left-cases c xs true true Error = refl
+left-cases c xs true true Closing = refl
+left-cases c xs true true Dead = refl
+left-cases c xs true false Opening = refl
+left-cases c xs true false Idle = refl
+left-cases c xs true false Busy = refl
+left-cases c xs true false Error = refl
+left-cases c xs true false Closing = refl
+left-cases c xs true false Dead = refl
+left-cases c xs false true Opening = refl
+left-cases c xs false true Idle = refl
+left-cases c xs false true Busy = refl
+left-cases c xs false true Error = refl
+left-cases c xs false true Closing = refl
+left-cases c xs false true Dead = refl
+left-cases c xs false false ph = refl
+
+goodbye-cases : (c : OpenConnection) (xs : List PendingMessage) (o k : Bool) (ph : ConnPhase) → cons_option (option_and_then (goodbye_in k) (served o ph c)) xs ≡ goodbye_as o k ph c ++ xs
+goodbye-cases c xs true true Opening = refl
+goodbye-cases c xs true true Idle = refl
+goodbye-cases c xs true true Busy = refl
+goodbye-cases c xs true true Error = refl
+goodbye-cases c xs true true Closing = refl
+goodbye-cases c xs true true Dead = refl
+goodbye-cases c xs true false Opening = refl
+goodbye-cases c xs true false Idle = refl
+goodbye-cases c xs true false Busy = refl
+goodbye-cases c xs true false Error = refl
+goodbye-cases c xs true false Closing = refl
+goodbye-cases c xs true false Dead = refl
+goodbye-cases c xs false true Opening = refl
+goodbye-cases c xs false true Idle = refl
+goodbye-cases c xs false true Busy = refl
+goodbye-cases c xs false true Error = refl
+goodbye-cases c xs false true Closing = refl
+goodbye-cases c xs false true Dead = refl
+goodbye-cases c xs false false ph = refl
+
+left-one : (p : ℕ) (c : OpenConnection) (o : Bool) (l : Option ConnPhase)
+    → option_and_then (without_client p) (if o then option_map (λ f. record c { phase = f }) l else Some c) ≡ option_and_then (left_in (c.client.0 == p)) (if o then option_map (λ f. record c { phase = f }) l else Some c)
+left-one p c true None = refl
+left-one p c true (Some f) = refl
+left-one p c false l = refl
+
+goodbye-one : (p : ℕ) (c : OpenConnection) (o : Bool) (l : Option ConnPhase)
+    → option_and_then (disconnection p) (if o then option_map (λ f. record c { phase = f }) l else Some c) ≡ option_and_then (goodbye_in (c.client.0 == p)) (if o then option_map (λ f. record c { phase = f }) l else Some c)
+goodbye-one p c true None = refl
+goodbye-one p c true (Some f) = refl
+goodbye-one p c false l = refl
+
+all_left-is : (s : System) (p : ℕ) (cs : List OpenConnection) → filter_map (λ c. option_and_then (without_client p) (without_service s p c)) cs ≡ all_left s p cs
+all_left-is s p [] = refl
+all_left-is s p (c ∷ cs) =
+    ap (λ xs. cons_option (option_and_then (without_client p) (without_service s p c)) xs) (all_left-is s p cs)
+    ∙ ap (λ o. cons_option o (all_left s p cs)) (left-one p c (is_service_of s p c.service) (lost c.phase))
+    ∙ left-cases c (all_left s p cs) (is_service_of s p c.service) (c.client.0 == p) c.phase
+
+goodbyes-is : (s : System) (p : ℕ) (cs : List OpenConnection) → filter_map (λ c. option_and_then (disconnection p) (without_service s p c)) cs ≡ goodbyes s p cs
+goodbyes-is s p [] = refl
+goodbyes-is s p (c ∷ cs) =
+    ap (λ xs. cons_option (option_and_then (disconnection p) (without_service s p c)) xs) (goodbyes-is s p cs)
+    ∙ ap (λ o. cons_option o (goodbyes s p cs)) (goodbye-one p c (is_service_of s p c.service) (lost c.phase))
+    ∙ goodbye-cases c (goodbyes s p cs) (is_service_of s p c.service) (c.client.0 == p) c.phase
+
+-- the effect of a panic in these words
+abbrev pub after_panic : System → SpmState → ℕ → SpmState
+after_panic s b p = record b {
+  phases = clients_answered s p b.connections (slice_set b.phases p Panicked);
+  connections = all_left s p b.connections;
+  messages = filter (λ m. not (is_service_of s p m.service)) b.messages ++ goodbyes s p b.connections;
+}
+
+pub after_panic-is : (s : System) (b : SpmState) (p : ℕ) → panic_effect s b p ≡ after_panic s b p
+after_panic-is s b p = rw (all_left-is s p b.connections, goodbyes-is s p b.connections) refl

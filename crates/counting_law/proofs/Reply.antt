@@ -1,0 +1,388 @@
+-- Reply keeps the balance.
+use Rattle.std.proofs.Common.{ℕ, zero, suc, ◌≡◌, ◌<◌, ◌≤◌, ◌+◌, ◌==◌, Bool, true, false, cond, not, ◌&&◌, ◌||◌, List, length, get_or, arith, ◌∙◌, ap, sym, refl, subst}
+use Rattle.std.specs.Prelude.{ℤ, pos, count_by, find, Some, map, filter, slice_set, is_none, negsuc, if◌then◌else◌}
+use Rattle.ffm_model.specs.declared.system.System.{System}
+use Rattle.ffm_model.specs.declared.machine.Handle.{Handle}
+use Rattle.ffm_model.specs.declared.objects.OpenConnection.{OpenConnection}
+use Rattle.ffm_model.specs.declared.objects.PendingMessage.{PendingMessage}
+use Rattle.ffm_model.specs.declared.objects.ConnPhase.{ConnPhase}
+use Rattle.ffm_model.specs.declared.objects.ConnPhase.TheVariants.{Opening, Idle, Busy, Error, Closing, Dead}
+use Rattle.ffm_model.specs.declared.objects.ActorPhase.{ActorPhase}
+use Rattle.ffm_model.specs.declared.objects.ActorPhase.TheVariants.{Running, Blocked, Waiting, Ready, Connected, Ended, Panicked}
+use Rattle.ffm_model.specs.declared.machine.Outcome.{Outcome}
+use Rattle.ffm_model.specs.Signals.{is_blocked}
+use Rattle.ffm_model.specs.Panic.{is_dead}
+use Rattle.ffm_model.specs.declared.machine.ActorId.{ActorId}
+use Rattle.std.specs.Prelude.{int_lt}
+use Rattle.std.specs.Ordering.{int_eq}
+use Rattle.ffm_model.specs.declared.machine.Outcome.TheVariants.{Done, Value}
+use Rattle.ffm_model.specs.Actors.{is_service_of}
+use Rattle.counting_law.specs.Objects.{same}
+use Rattle.ffm_model.specs.State.{SpmState, message_held, phase_of, has_handle, phase_put, without_message, with_connection_phase, with_phase}
+use Rattle.ffm_model.specs.declared.constants.TheConstants.{PSA_IPC_CALL, PSA_IPC_CONNECT, PSA_ERROR_PROGRAMMER_ERROR}
+use Rattle.ffm_model.specs.ClientCalls.{is_busy}
+use Rattle.ffm_model.specs.ServiceCalls.{connect_answered, close_answered}
+use Rattle.counting_law.proofs.Balance.{Balanced}
+use Rattle.counting_law.specs.Objects.{PhaseFits, Mark, phase_for, is_joining, is_opening, is_awaited, is_asking, is_accepted, awaited_of, asking_of, accepted_as, wrongly_shown, message_marked, connection_marked}
+use Rattle.counting_law.proofs.Counts.{bit, count-found, find-passes, count-out, count-le, find-narrow, some-found}
+use Rattle.counting_law.proofs.Parts.{is_there, found-serial, off_left, off_right, on_left, flipped, is_itself, left_true, right_true, equal_from, off_from, set_same, asking-blocked, rising-map, unique, and_on, both-le-left}
+use Rattle.counting_law.proofs.Updates.{serial-phase_put, put, out, moved-keeps, removed-keeps}
+
+-- the connection that a message belongs to; u is a test that the phase for its kind passes
+pub record Partner (b : SpmState) (m : PendingMessage) (u : ConnPhase → Bool) (c : OpenConnection) : Type 0 where
+  pub here : find (λ d. d.serial == c.serial) b.connections ≡ Some c
+  pub serial : c.serial ≡ m.connection
+  pub client : c.client.0 ≡ m.client.0
+  pub service : c.service ≡ m.service
+  pub passes : u c.phase ≡ true
+  pub awaited : is_awaited c.phase ≡ true
+
+-- the very fields of a message, with the test of the phase
+abbrev pub mark_of : PendingMessage → (ConnPhase → Bool) → Mark
+mark_of m u n a v ph = (n == m.connection) && ((a == m.client.0) && ((v == m.service) && u ph))
+
+own_mark : (m : PendingMessage) (u : ConnPhase → Bool) → u (phase_for m.kind) ≡ true → message_marked (mark_of m u) m ≡ true
+own_mark m u e = and_on _ _ (is_itself m.connection) (and_on _ _ (is_itself m.client.0) (and_on _ _ (is_itself m.service) e))
+
+pub partner : (s : System) (limit : Handle → ℕ) (b : SpmState) (q : PendingMessage → Bool) (m : PendingMessage) (u : ConnPhase → Bool) → Balanced s limit b → find q b.messages ≡ Some m
+    → u (phase_for m.kind) ≡ true → (c : OpenConnection) × Partner b m u c
+partner s limit b q m u h found e =
+    let t : Mark = mark_of m u in
+    let some : 1 ≤ count_by (connection_marked t) b.connections =
+    omega (arith, h.paired t, count-found q (message_marked t) b.messages m found, ap bit (own_mark m u e)) in
+    let it = some-found (connection_marked t) b.connections some in
+    let c : OpenConnection = it.0 in
+    let all : connection_marked t c ≡ true = find-passes (connection_marked t) b.connections c it.1 in
+    let marked : t c.serial c.client.0 c.service c.phase ≡ true = right_true _ _ all in
+    let inner : ((c.client.0 == m.client.0) && ((c.service == m.service) && u c.phase)) ≡ true = right_true _ _ marked in
+    let last : ((c.service == m.service) && u c.phase) ≡ true = right_true _ _ inner in (
+      c,
+      record {
+        here = found-serial 0 b.connections_made _ b.connections c h.rising it.1;
+        serial = equal_from _ _ (left_true _ _ marked);
+        client = equal_from _ _ (left_true _ _ inner);
+        service = equal_from _ _ (left_true _ _ last);
+        passes = right_true _ _ last;
+        awaited = left_true _ _ all;
+      },
+    )
+
+-- the counts over the messages, where the one with the handle goes
+pub message-out : (s : System) (limit : Handle → ℕ) (b : SpmState) (p : ℕ) (h : Handle) (m : PendingMessage) → Balanced s limit b
+    → find (λ n. is_service_of s p n.service && has_handle n.handle h) b.messages ≡ Some m → (q : PendingMessage → Bool)
+    → count_by q (filter (λ n. not (has_handle n.handle h)) b.messages) + bit (q m) ≡ count_by q b.messages
+message-out s limit b p h m balanced found q =
+    let few : count_by (λ n. has_handle n.handle h) b.messages ≤ 1 = omega (arith, balanced.handles h, balanced.single h) in
+    count-out (λ n. has_handle n.handle h) q q (λ y e. refl) b.messages m few
+    (find-narrow (λ n. is_service_of s p n.service && has_handle n.handle h) (λ n. has_handle n.handle h) (λ y e. right_true _ _ e) b.messages m few found)
+
+asking_awaited : (p : ConnPhase) → bit (is_asking p) ≤ bit (is_awaited p)
+asking_awaited Opening = omega arith
+asking_awaited Busy = omega arith
+asking_awaited Closing = omega arith
+asking_awaited Idle = omega arith
+asking_awaited Error = omega arith
+asking_awaited Dead = omega arith
+
+pub asking_le : (a : ℕ) (c : OpenConnection) → bit (asking_of a c) ≤ bit (awaited_of a c)
+asking_le a c =
+    let go : (b : Bool) → bit (b && is_asking c.phase) ≤ bit (b && is_awaited c.phase) = elim [ true ↦ asking_awaited c.phase | false ↦ omega arith ] in
+    go (c.client.0 == a)
+
+-- the client of an asking connection is Blocked, and is_service_of no other awaited one
+pub client-blocked : (s : System) (limit : Handle → ℕ) (b : SpmState) (c : OpenConnection) → Balanced s limit b → find (λ d. d.serial == c.serial) b.connections ≡ Some c → is_asking c.phase ≡ true
+    → phase_of b c.client.0 ≡ Blocked
+client-blocked s limit b c h here asks =
+    let a : ℕ = c.client.0 in
+    asking-blocked (phase_of b a) _ _ (λ n. count_by (accepted_as a n) b.connections) (h.fitting a)
+    (omega (arith, count-found (λ d. d.serial == c.serial) (asking_of a) b.connections c here, on_left (a == a) (is_asking c.phase) (is_itself a), ap bit asks))
+    (count-le (asking_of a) (awaited_of a) (asking_le a) b.connections)
+
+pub blocked-one : (p : ActorPhase) (n k : ℕ) (j : ℕ → ℕ) → p ≡ Blocked → PhaseFits p n k j → n ≡ 1
+blocked-one p n k j e h = subst (λ (q : ActorPhase). PhaseFits q n k j) e h
+
+pub opening_is : (p : ConnPhase) → is_opening p ≡ true → p ≡ Opening
+opening_is Opening e = refl
+opening_is Idle e = cc
+opening_is Busy e = cc
+opening_is Error e = cc
+opening_is Closing e = cc
+opening_is Dead e = cc
+
+pub busy_is : (p : ConnPhase) → is_busy p ≡ true → p ≡ Busy
+busy_is Busy e = refl
+busy_is Idle e = cc
+busy_is Opening e = cc
+busy_is Error e = cc
+busy_is Closing e = cc
+busy_is Dead e = cc
+
+-- a connection is shown rightly
+pub rightly : (s : System) (limit : Handle → ℕ) (b : SpmState) (c : OpenConnection) → Balanced s limit b → find (λ d. d.serial == c.serial) b.connections ≡ Some c → wrongly_shown b.phases c ≡ false
+rightly s limit b c h here = off_from _ (omega (arith, h.shown, count-found (λ d. d.serial == c.serial) (wrongly_shown b.phases) b.connections c here))
+
+pub both_same : (x y : Bool) → not (same x y) ≡ false → x ≡ y
+both_same true true e = refl
+both_same true false e = cc
+both_same false true e = cc
+both_same false false e = refl
+
+-- what a message counts is what its connection counts
+same_marks : (t : Mark) (m : PendingMessage) (c : OpenConnection) → c.serial ≡ m.connection → c.client.0 ≡ m.client.0 → c.service ≡ m.service → c.phase ≡ phase_for m.kind → is_awaited c.phase ≡ true
+    → bit (connection_marked t c) ≡ bit (message_marked t m)
+same_marks t m c n a v ph awaited =
+    let e : t c.serial c.client.0 c.service c.phase ≡ t m.connection m.client.0 m.service (phase_for m.kind) = cc in
+    on_left (is_awaited c.phase) (t c.serial c.client.0 c.service c.phase) awaited ∙ ap bit e
+
+-- Connect answered with 0
+accept-own : (s : System) (limit : Handle → ℕ) (b : SpmState) (p : ℕ) (h : Handle) (m : PendingMessage) (c : OpenConnection) → Balanced s limit b
+    → find (λ n. is_service_of s p n.service && has_handle n.handle h) b.messages ≡ Some m → m.kind ≡ negsuc 0 → Partner b m is_opening c
+    → Balanced s limit (record b { connections = map (phase_put c.serial Idle) b.connections; messages = filter (λ n. not (has_handle n.handle h)) b.messages; phases = slice_set b.phases c.client.0 (Connected c.serial) })
+accept-own s limit b p h m c balanced found kind it =
+    let a : ℕ = c.client.0 in
+    let opening : c.phase ≡ Opening = opening_is c.phase it.passes in
+    let blocked : phase_of b a ≡ Blocked = client-blocked s limit b c balanced it.here (ap is_asking opening) in
+    let inside : a < length b.phases = is_there b.phases a (λ ended. cc) in
+    let one : count_by (awaited_of a) b.connections ≡ 1 = blocked-one (phase_of b a) _ _ (λ n. count_by (accepted_as a n) b.connections) blocked (balanced.fitting a) in
+    let after : List OpenConnection = map (phase_put c.serial Idle) b.connections in
+    let none : is_none c.handle ≡ true =
+    both_same (is_none c.handle) true (ap (λ ph. not (same (is_none c.handle) (is_opening ph || is_joining (get_or b.phases a Ended) c.serial))) (sym opening) ∙ rightly s limit b c balanced it.here) in
+    moved-keeps s limit b c Idle (Connected c.serial) (filter (λ n. not (has_handle n.handle h)) b.messages)
+    (record {
+      balanced = balanced;
+      here = it.here;
+      client = inside;
+      joined = λ k. ap (λ ph. is_joining ph k) blocked;
+      joins = λ k e. flipped k c.serial e;
+      handles = λ k. omega (arith, message-out s limit b p h m balanced found (λ n. has_handle n.handle k));
+    })
+    (λ t. omega (arith, message-out s limit b p h m balanced found (message_marked t), same_marks t m c it.serial it.client it.service (opening ∙ sym (ap phase_for kind)) it.awaited)) (
+      omega (arith, one, put b c Idle balanced.rising it.here (awaited_of a), on_left (a == a) (is_awaited c.phase) (is_itself a), ap bit it.awaited, off_right (a == a) false refl),
+      omega (
+        arith,
+        put b c Idle balanced.rising it.here (accepted_as a c.serial),
+        on_left (c.serial == c.serial) ((a == a) && true) (is_itself c.serial),
+        on_left (a == a) true (is_itself a),
+        off_right (c.serial == c.serial) ((a == a) && is_accepted c.phase) (off_from _ (off_right (a == a) (is_accepted c.phase) (ap is_accepted opening))),
+        count-le (accepted_as a c.serial) (λ d. d.serial == c.serial) (λ d. both-le-left (d.serial == c.serial) ((d.client.0 == a) && is_accepted d.phase)) after,
+        unique 0 b.connections_made c.serial after (rising-map 0 b.connections_made (phase_put c.serial Idle) (serial-phase_put c.serial Idle) b.connections balanced.rising),
+      ),
+    )
+    (ap (λ k. same k (false || (c.serial == c.serial))) none ∙ is_itself c.serial)
+
+-- Connect answered with another status
+refuse-own : (s : System) (limit : Handle → ℕ) (b : SpmState) (p : ℕ) (h : Handle) (m : PendingMessage) (c : OpenConnection) (status : ℤ) → Balanced s limit b
+    → find (λ n. is_service_of s p n.service && has_handle n.handle h) b.messages ≡ Some m → m.kind ≡ negsuc 0 → Partner b m is_opening c
+    → Balanced s limit (record b { connections = filter (λ d. not (d.serial == c.serial)) b.connections; messages = filter (λ n. not (has_handle n.handle h)) b.messages; phases = slice_set b.phases c.client.0 (Ready (Value status)) })
+refuse-own s limit b p h m c status balanced found kind it =
+    let a : ℕ = c.client.0 in
+    let opening : c.phase ≡ Opening = opening_is c.phase it.passes in
+    let blocked : phase_of b a ≡ Blocked = client-blocked s limit b c balanced it.here (ap is_asking opening) in
+    let inside : a < length b.phases = is_there b.phases a (λ ended. cc) in
+    let one : count_by (awaited_of a) b.connections ≡ 1 = blocked-one (phase_of b a) _ _ (λ n. count_by (accepted_as a n) b.connections) blocked (balanced.fitting a) in
+    removed-keeps s limit b c (Ready (Value status)) (filter (λ n. not (has_handle n.handle h)) b.messages)
+    (record {
+      balanced = balanced;
+      here = it.here;
+      client = inside;
+      joined = λ k. ap (λ ph. is_joining ph k) blocked;
+      joins = λ k e. refl;
+      handles = λ k. omega (arith, message-out s limit b p h m balanced found (λ n. has_handle n.handle k));
+    })
+    (λ t. omega (arith, message-out s limit b p h m balanced found (message_marked t), same_marks t m c it.serial it.client it.service (opening ∙ sym (ap phase_for kind)) it.awaited))
+    (omega (arith, one, out b c balanced.rising it.here (awaited_of a), on_left (a == a) (is_awaited c.phase) (is_itself a), ap bit it.awaited))
+
+-- a request answered
+request-own : (s : System) (limit : Handle → ℕ) (b : SpmState) (p : ℕ) (h : Handle) (m : PendingMessage) (c : OpenConnection) (ph : ConnPhase) (o : Outcome) (k : ℕ) → Balanced s limit b
+    → find (λ n. is_service_of s p n.service && has_handle n.handle h) b.messages ≡ Some m → m.kind ≡ pos k → Partner b m is_busy c → is_awaited ph ≡ false → is_opening ph ≡ false
+    → Balanced s limit (record b { connections = map (phase_put c.serial ph) b.connections; messages = filter (λ n. not (has_handle n.handle h)) b.messages; phases = slice_set b.phases c.client.0 (Ready o) })
+request-own s limit b p h m c ph o k balanced found kind it settled shut =
+    let a : ℕ = c.client.0 in
+    let busy : c.phase ≡ Busy = busy_is c.phase it.passes in
+    let blocked : phase_of b a ≡ Blocked = client-blocked s limit b c balanced it.here (ap is_asking busy) in
+    let inside : a < length b.phases = is_there b.phases a (λ ended. cc) in
+    let one : count_by (awaited_of a) b.connections ≡ 1 = blocked-one (phase_of b a) _ _ (λ n. count_by (accepted_as a n) b.connections) blocked (balanced.fitting a) in
+    let none : is_none c.handle ≡ false =
+    both_same (is_none c.handle) false (ap (λ x. not (same (is_none c.handle) x)) (sym (ap (λ y. is_opening y || is_joining (get_or b.phases a Ended) c.serial) busy ∙ ap (λ y. is_joining y c.serial) blocked)) ∙ rightly s limit b c balanced it.here) in
+    moved-keeps s limit b c ph (Ready o) (filter (λ n. not (has_handle n.handle h)) b.messages)
+    (record {
+      balanced = balanced;
+      here = it.here;
+      client = inside;
+      joined = λ n. ap (λ y. is_joining y n) blocked;
+      joins = λ n e. refl;
+      handles = λ n. omega (arith, message-out s limit b p h m balanced found (λ x. has_handle x.handle n));
+    })
+    (λ t. omega (
+      arith,
+      message-out s limit b p h m balanced found (message_marked t),
+      same_marks t m c it.serial it.client it.service (busy ∙ sym (ap phase_for kind)) it.awaited,
+      off_left (is_awaited ph) (t c.serial c.client.0 c.service ph) settled,
+    ))
+    (omega (arith, one, put b c ph balanced.rising it.here (awaited_of a), on_left (a == a) (is_awaited c.phase) (is_itself a), ap bit it.awaited, off_right (a == a) (is_awaited ph) settled))
+    (ap (λ x. same x (is_opening ph || false)) none ∙ ap (λ x. same false (x || false)) shut)
+
+-- an awaited client is Blocked or Panicked
+pub awaited_client : (p : ActorPhase) (n k : ℕ) (j : ℕ → ℕ) (P : Type 0) → PhaseFits p n k j → 1 ≤ n → (p ≡ Blocked → P) → (p ≡ Panicked → P) → P
+awaited_client Running n k j P h one b q = absurd (omega (arith, h))
+awaited_client Blocked n k j P h one b q = b refl
+awaited_client (Waiting mask) n k j P h one b q = absurd (omega (arith, h))
+awaited_client (Ready o) n k j P h one b q = absurd (omega (arith, h))
+awaited_client (Connected c) n k j P h one b q = absurd (omega (arith, h.0))
+awaited_client Ended n k j P h one b q = absurd (omega (arith, h))
+awaited_client Panicked n k j P h one b q = q refl
+
+pub panicked-none : (p : ActorPhase) (n k : ℕ) (j : ℕ → ℕ) → p ≡ Panicked → PhaseFits p n k j → k ≡ 0
+panicked-none p n k j e h = subst (λ (q : ActorPhase). PhaseFits q n k j) e h
+
+abbrev pub is_closing : ConnPhase → Bool
+is_closing Closing = true
+is_closing Opening = false
+is_closing Idle = false
+is_closing Busy = false
+is_closing Error = false
+is_closing Dead = false
+
+pub closing_is : (p : ConnPhase) → is_closing p ≡ true → p ≡ Closing
+closing_is Closing e = refl
+closing_is Idle e = cc
+closing_is Opening e = cc
+closing_is Error e = cc
+closing_is Busy e = cc
+closing_is Dead e = cc
+
+-- Close answered
+closed-own : (s : System) (limit : Handle → ℕ) (b : SpmState) (p : ℕ) (h : Handle) (m : PendingMessage) (c : OpenConnection) → Balanced s limit b
+    → find (λ n. is_service_of s p n.service && has_handle n.handle h) b.messages ≡ Some m → m.kind ≡ negsuc 1 → Partner b m is_closing c
+    → Balanced s limit (close_answered (without_message b h) (record m { connection = c.serial; client = c.client }))
+closed-own s limit b p h m c balanced found kind it =
+    let a : ℕ = c.client.0 in
+    let closing : c.phase ≡ Closing = closing_is c.phase it.passes in
+    let left : List OpenConnection = filter (λ d. not (d.serial == c.serial)) b.connections in
+    let rest : List PendingMessage = filter (λ n. not (has_handle n.handle h)) b.messages in
+    let some : 1 ≤ count_by (awaited_of a) b.connections =
+    omega (arith, count-found (λ d. d.serial == c.serial) (awaited_of a) b.connections c it.here, on_left (a == a) (is_awaited c.phase) (is_itself a), ap bit it.awaited) in
+    let fewer : (k : Handle) → count_by (λ x. has_handle x.handle k) rest ≤ count_by (λ x. has_handle x.handle k) b.messages = λ k. omega (arith, message-out s limit b p h m balanced found (λ n. has_handle n.handle k)) in
+    let marks : (t : Mark) → count_by (message_marked t) rest + bit (connection_marked t c) ≡ count_by (message_marked t) b.messages =
+    λ t. omega (arith, message-out s limit b p h m balanced found (message_marked t), same_marks t m c it.serial it.client it.service (closing ∙ sym (ap phase_for kind)) it.awaited) in
+    awaited_client (phase_of b a) _ _ (λ n. count_by (accepted_as a n) b.connections) _ (balanced.fitting a) some
+    (λ blocked.
+    let inside : a < length b.phases = is_there b.phases a (λ ended. cc) in
+    let one : count_by (awaited_of a) b.connections ≡ 1 = blocked-one (phase_of b a) _ _ (λ n. count_by (accepted_as a n) b.connections) blocked (balanced.fitting a) in
+    subst (λ (x : ActorPhase). Balanced s limit (cond {A = SpmState} (is_blocked x) (record b { connections = left; messages = rest; phases = slice_set b.phases a (Ready Done) }) (record b { connections = left; messages = rest }))) (sym blocked)
+    (removed-keeps s limit b c (Ready Done) rest
+    (record { balanced = balanced; here = it.here; client = inside; joined = λ k. ap (λ y. is_joining y k) blocked; joins = λ k e. refl; handles = fewer })
+    marks
+    (omega (arith, one, out b c balanced.rising it.here (awaited_of a), on_left (a == a) (is_awaited c.phase) (is_itself a), ap bit it.awaited))))
+    (λ panicked.
+    let inside : a < length b.phases = is_there b.phases a (λ ended. cc) in
+    let none : count_by (asking_of a) b.connections ≡ 0 = panicked-none (phase_of b a) _ _ (λ n. count_by (accepted_as a n) b.connections) panicked (balanced.fitting a) in
+    subst (λ (x : ActorPhase). Balanced s limit (cond {A = SpmState} (is_blocked x) (record b { connections = left; messages = rest; phases = slice_set b.phases a (Ready Done) }) (record b { connections = left; messages = rest }))) (sym panicked)
+    (subst (λ (ps : List ActorPhase). Balanced s limit (record b { connections = left; messages = rest; phases = ps })) (set_same b.phases a Panicked panicked)
+    (removed-keeps s limit b c Panicked rest
+    (record { balanced = balanced; here = it.here; client = inside; joined = λ k. ap (λ y. is_joining y k) panicked; joins = λ k e. refl; handles = fewer })
+    marks
+    (omega (arith, none, out b c balanced.rising it.here (asking_of a))))))
+
+second : (s : System) (limit : Handle → ℕ) (b : Bool) (x y : SpmState) → b ≡ false → Balanced s limit y → Balanced s limit (cond {A = SpmState} b x y)
+second s limit true x y e h = cc
+second s limit false x y e h = h
+
+pub not_negative : (n : ℕ) → int_lt (pos n) (pos 0) ≡ false
+not_negative n = grind arith
+
+not_both : (p : ConnPhase) → is_dead p ≡ true → is_awaited p ≡ true → ⊥
+not_both Dead e k = cc
+not_both Opening e k = cc
+not_both Idle e k = cc
+not_both Busy e k = cc
+not_both Error e k = cc
+not_both Closing e k = cc
+
+abbrev actor : ℕ → ActorId
+actor n = record { 0 = n }
+
+-- a request answered as to a client that goes on, whoever its client is
+abbrev pub request_settled : SpmState → PendingMessage → ℤ → SpmState
+request_settled b m status =
+    if int_eq status PSA_ERROR_PROGRAMMER_ERROR
+    then with_phase (with_connection_phase b m.connection Error) m.client.0 (Ready (Value PSA_ERROR_PROGRAMMER_ERROR))
+    else with_phase (with_connection_phase b m.connection Idle) m.client.0 (Ready (Value status))
+
+-- a reply before the panic that a partition owes, and with that partition told like any other client
+abbrev pub settled : SpmState → Handle → ℤ → PendingMessage → SpmState
+settled b h status m =
+    if int_eq m.kind PSA_IPC_CONNECT
+    then connect_answered (without_message b h) m status
+    else (if int_lt m.kind PSA_IPC_CALL then close_answered (without_message b h) m else request_settled (without_message b h) m status)
+
+request : (s : System) (limit : Handle → ℕ) (b : SpmState) (p : ℕ) (h : Handle) (status : ℤ) (m : PendingMessage) (n : ℕ) → Balanced s limit b → message_held s b p h ≡ Some m → m.kind ≡ pos n
+    → Balanced s limit (request_settled (without_message b h) m status)
+request s limit b p h status m n balanced found e =
+    let it = partner s limit b _ m is_busy balanced found (ap (λ k. is_busy (phase_for k)) e) in
+    let c : OpenConnection = it.0 in
+    let rest : List PendingMessage = filter (λ x. not (has_handle x.handle h)) b.messages in
+    let put_in : (ph : ConnPhase) (z : ℤ) → is_awaited ph ≡ false → is_opening ph ≡ false → Balanced s limit (record b { connections = map (phase_put m.connection ph) b.connections; messages = rest; phases = slice_set b.phases m.client.0 (Ready (Value z)) }) =
+    λ ph z settled shut.
+    subst (λ (x : ℕ). Balanced s limit (record b { connections = map (phase_put x ph) b.connections; messages = rest; phases = slice_set b.phases m.client.0 (Ready (Value z)) })) it.1.serial
+    (subst (λ (a : ℕ). Balanced s limit (record b { connections = map (phase_put c.serial ph) b.connections; messages = rest; phases = slice_set b.phases a (Ready (Value z)) })) it.1.client
+    (request-own s limit b p h m c ph (Value z) n balanced found e it.1 settled shut)) in
+    let go : (d : Bool) → Balanced s limit (cond {A = SpmState} d (record b { connections = map (phase_put m.connection Error) b.connections; messages = rest; phases = slice_set b.phases m.client.0 (Ready (Value PSA_ERROR_PROGRAMMER_ERROR)) })
+    (record b { connections = map (phase_put m.connection Idle) b.connections; messages = rest; phases = slice_set b.phases m.client.0 (Ready (Value status)) })) =
+    elim [ true ↦ put_in Error PSA_ERROR_PROGRAMMER_ERROR refl refl | false ↦ put_in Idle status refl refl ] in
+    go (int_eq status PSA_ERROR_PROGRAMMER_ERROR)
+
+connect : (s : System) (limit : Handle → ℕ) (b : SpmState) (p : ℕ) (h : Handle) (status : ℤ) (m : PendingMessage) → Balanced s limit b → message_held s b p h ≡ Some m → m.kind ≡ negsuc 0
+    → Balanced s limit (connect_answered (without_message b h) m status)
+connect s limit b p h status m balanced found e =
+    let it = partner s limit b _ m is_opening balanced found (ap (λ k. is_opening (phase_for k)) e) in
+    let c : OpenConnection = it.0 in
+    let rest : List PendingMessage = filter (λ x. not (has_handle x.handle h)) b.messages in
+    let go : (d : Bool) → Balanced s limit (cond {A = SpmState} d (record b { connections = map (phase_put m.connection Idle) b.connections; messages = rest; phases = slice_set b.phases m.client.0 (Connected m.connection) })
+    (record b { connections = filter (λ x. not (x.serial == m.connection)) b.connections; messages = rest; phases = slice_set b.phases m.client.0 (Ready (Value status)) })) =
+    elim [
+      | true ↦
+          subst (λ (x : ℕ). Balanced s limit (record b { connections = map (phase_put x Idle) b.connections; messages = rest; phases = slice_set b.phases m.client.0 (Connected x) })) it.1.serial
+          (subst (λ (a : ℕ). Balanced s limit (record b { connections = map (phase_put c.serial Idle) b.connections; messages = rest; phases = slice_set b.phases a (Connected c.serial) })) it.1.client
+          (accept-own s limit b p h m c balanced found e it.1))
+      | false ↦
+          subst (λ (x : ℕ). Balanced s limit (record b { connections = filter (λ d. not (d.serial == x)) b.connections; messages = rest; phases = slice_set b.phases m.client.0 (Ready (Value status)) })) it.1.serial
+          (subst (λ (a : ℕ). Balanced s limit (record b { connections = filter (λ d. not (d.serial == c.serial)) b.connections; messages = rest; phases = slice_set b.phases a (Ready (Value status)) })) it.1.client
+          (refuse-own s limit b p h m c status balanced found e it.1))
+    ] in
+    go (int_eq status (pos 0))
+
+close : (s : System) (limit : Handle → ℕ) (b : SpmState) (p : ℕ) (h : Handle) (m : PendingMessage) → Balanced s limit b → message_held s b p h ≡ Some m → m.kind ≡ negsuc 1
+    → Balanced s limit (close_answered (without_message b h) m)
+close s limit b p h m balanced found e =
+    let it = partner s limit b _ m is_closing balanced found (ap (λ k. is_closing (phase_for k)) e) in
+    let c : OpenConnection = it.0 in
+    subst (λ (x : ℕ). Balanced s limit (close_answered (without_message b h) (record m { connection = x }))) it.1.serial
+    (subst (λ (a : ActorId). Balanced s limit (close_answered (without_message b h) (record m { connection = c.serial; client = a }))) (ap actor it.1.client)
+    (closed-own s limit b p h m c balanced found e it.1))
+
+-- no message has another kind
+pub no-other : (s : System) (limit : Handle → ℕ) (b : SpmState) (p k : ℕ) (h : Handle) (m : PendingMessage) → Balanced s limit b → message_held s b p h ≡ Some m → m.kind ≡ negsuc (suc (suc k)) → ⊥
+no-other s limit b p k h m balanced found e =
+    let it = partner s limit b _ m is_dead balanced found (ap (λ z. is_dead (phase_for z)) e) in
+    not_both it.0.phase it.1.passes it.1.awaited
+
+-- the message is answered, and its client told
+pub settled-keeps : (s : System) (limit : Handle → ℕ) (b : SpmState) (p : ℕ) (h : Handle) (status : ℤ) (m : PendingMessage) → Balanced s limit b → message_held s b p h ≡ Some m → Balanced s limit (settled b h status m)
+settled-keeps s limit b p h status m balanced found =
+    let rest : List PendingMessage = filter (λ n. not (has_handle n.handle h)) b.messages in
+    let whole : (k : ℤ) → m.kind ≡ k → Balanced s limit (cond {A = SpmState} (int_eq k (negsuc 0)) (connect_answered (without_message b h) m status)
+    (cond {A = SpmState} (int_lt k (pos 0)) (close_answered (without_message b h) m) (request_settled (without_message b h) m status))) =
+    elim [
+      | pos n ↦ λ e. second s limit (int_lt (pos n) (pos 0)) _ _ (not_negative n) (request s limit b p h status m n balanced found e)
+      | negsuc n ↦ elim n as (λ (n : ℕ). m.kind ≡ negsuc n → Balanced s limit (cond {A = SpmState} (int_eq (negsuc n) (negsuc 0)) (connect_answered (without_message b h) m status)
+          (cond {A = SpmState} (int_lt (negsuc n) (pos 0)) (close_answered (without_message b h) m) (request_settled (without_message b h) m status)))) [
+            | zero ↦ λ e. connect s limit b p h status m balanced found e
+            | suc k ↦ elim k as (λ (k : ℕ). m.kind ≡ negsuc (suc k) → Balanced s limit (cond {A = SpmState} (int_eq (negsuc (suc k)) (negsuc 0)) (connect_answered (without_message b h) m status)
+                (cond {A = SpmState} (int_lt (negsuc (suc k)) (pos 0)) (close_answered (without_message b h) m) (request_settled (without_message b h) m status)))) [
+                  | zero ↦ λ e. close s limit b p h m balanced found e
+                  | suc j ↦ λ e. absurd (no-other s limit b p j h m balanced found e)
+                ]
+          ]
+    ] in
+    whole m.kind refl

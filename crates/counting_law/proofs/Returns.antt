@@ -1,0 +1,186 @@
+-- In a run an actor's last entry is Blocked exactly where a call of it waits for its return, or where it panicked for another's reply.
+use Rattle.std.proofs.Common.{ℕ, zero, suc, ◌≡◌, ◌==◌, Bool, true, false, cond, not, ◌&&◌, ◌||◌, List, [], ◌∷◌, ◌++◌, get_or, inl, inr, arith, ◌∙◌, ap, sym, refl, subst}
+use Rattle.std.specs.Prelude.{Some, replicate}
+use Rattle.ffm_model.specs.declared.system.System.{System}
+use Rattle.ffm_model.specs.declared.machine.Entry.{Entry}
+use Rattle.ffm_model.specs.declared.machine.Outcome.{Outcome}
+use Rattle.ffm_model.specs.declared.machine.Outcome.TheVariants as outcome
+use Rattle.ffm_model.specs.declared.objects.ActorPhase.{ActorPhase}
+use Rattle.ffm_model.specs.declared.objects.ActorPhase.TheVariants.{Running, Blocked, Waiting, Ready, Connected, Ended, Panicked}
+use Rattle.ffm_model.specs.Actors.{actor_count}
+use Rattle.ffm_model.specs.Memory.{ByteMap}
+use Rattle.ffm_model.specs.State.{State, opening, phase_of}
+use Rattle.ffm_model.specs.Signals.{can_go_on, is_panicked, may_resume, signals_of}
+use Rattle.ffm_model.specs.Records.{entries_of, outcomes_of, is_blocked_outcome, ends_blocked}
+use Rattle.ffm_model.specs.Step.{step, after, outcome_eq}
+use Rattle.counting_law.specs.Pending.{ReturnsDue, is_pending, is_panicked_outcome, ends_panicked, answers_to}
+use Rattle.counting_law.proofs.Balance.{Balanced}
+use Rattle.counting_law.proofs.Parts.{same_or_not, is_itself}
+use Rattle.counting_law.proofs.Resume.{times}
+use Rattle.counting_law.proofs.Steps.{step-kind}
+use Rattle.counting_law.proofs.Runs.{step-keeps, run-has, opening-balanced}
+use Rattle.counting_law.proofs.Turns.{Turned, Turns, is_told, is_sound, goes_with, kinds-turn}
+
+-- one outcome more
+ends_blocked-push : (os : List Outcome) (o : Outcome) → ends_blocked (os ++ o ∷ []) ≡ is_blocked_outcome o
+unfolding ends_blocked
+ends_blocked-push [] o = refl
+ends_blocked-push (p ∷ []) o = refl
+ends_blocked-push (p ∷ q ∷ os) o = ends_blocked-push (q ∷ os) o
+
+ends_panicked-push : (os : List Outcome) (o : Outcome) → ends_panicked (os ++ o ∷ []) ≡ is_panicked_outcome o
+unfolding ends_panicked
+ends_panicked-push [] o = refl
+ends_panicked-push (p ∷ []) o = refl
+ends_panicked-push (p ∷ q ∷ os) o = ends_panicked-push (q ∷ os) o
+
+blocked_not_panicked : (o : Outcome) → is_blocked_outcome o ≡ true → is_panicked_outcome o ≡ false
+blocked_not_panicked (outcome.Value z) e = refl
+blocked_not_panicked (outcome.Number n) e = refl
+blocked_not_panicked (outcome.Signals n) e = refl
+blocked_not_panicked (outcome.Got m) e = refl
+blocked_not_panicked outcome.Blocked e = refl
+blocked_not_panicked outcome.Done e = refl
+blocked_not_panicked outcome.Panicked e = cc
+
+ends_apart : (os : List Outcome) → ends_blocked os ≡ true → ends_panicked os ≡ false
+unfolding ends_blocked ends_panicked
+ends_apart [] e = refl
+ends_apart (p ∷ []) e = blocked_not_panicked p e
+ends_apart (p ∷ q ∷ os) e = ends_apart (q ∷ os) e
+
+-- one entry more, of this actor or of another
+answers-here : (a : ℕ) (es : List Entry) (e : Entry) → (e.actor.0 == a) ≡ true → answers_to a (es ++ e ∷ []) ≡ answers_to a es ++ e.outcome ∷ []
+answers-here a [] e h = ap (λ (b : Bool). outcomes_of (cond {A = List Entry} b (e ∷ []) [])) h
+answers-here a (d ∷ es) e h =
+    let go : (b : Bool) → outcomes_of (cond {A = List Entry} b (d ∷ entries_of a (es ++ e ∷ [])) (entries_of a (es ++ e ∷ []))) ≡ outcomes_of (cond {A = List Entry} b (d ∷ entries_of a es) (entries_of a es)) ++ e.outcome ∷ [] =
+    elim [ true ↦ ap (λ (os : List Outcome). d.outcome ∷ os) (answers-here a es e h) | false ↦ answers-here a es e h ] in
+    go (d.actor.0 == a)
+
+answers-else : (a : ℕ) (es : List Entry) (e : Entry) → (e.actor.0 == a) ≡ false → answers_to a (es ++ e ∷ []) ≡ answers_to a es
+answers-else a [] e h = ap (λ (b : Bool). outcomes_of (cond {A = List Entry} b (e ∷ []) [])) h
+answers-else a (d ∷ es) e h =
+    let go : (b : Bool) → outcomes_of (cond {A = List Entry} b (d ∷ entries_of a (es ++ e ∷ [])) (entries_of a (es ++ e ∷ []))) ≡ outcomes_of (cond {A = List Entry} b (d ∷ entries_of a es) (entries_of a es)) =
+    elim [ true ↦ ap (λ (os : List Outcome). d.outcome ∷ os) (answers-else a es e h) | false ↦ answers-else a es e h ] in
+    go (d.actor.0 == a)
+
+-- outcomes that are equal but for numbers
+blocked-alike : (o p : Outcome) → outcome_eq o p ≡ true → is_blocked_outcome o ≡ is_blocked_outcome p
+blocked-alike (outcome.Value z) (outcome.Value w) e = refl
+blocked-alike (outcome.Number n) (outcome.Number k) e = refl
+blocked-alike (outcome.Signals n) (outcome.Signals k) e = refl
+blocked-alike (outcome.Got m) (outcome.Got n) e = refl
+blocked-alike outcome.Blocked outcome.Blocked e = refl
+blocked-alike outcome.Done outcome.Done e = refl
+blocked-alike outcome.Panicked outcome.Panicked e = refl
+blocked-alike _ _ e = cc
+
+panicked-alike : (o p : Outcome) → outcome_eq o p ≡ true → is_panicked_outcome o ≡ is_panicked_outcome p
+panicked-alike (outcome.Value z) (outcome.Value w) e = refl
+panicked-alike (outcome.Number n) (outcome.Number k) e = refl
+panicked-alike (outcome.Signals n) (outcome.Signals k) e = refl
+panicked-alike (outcome.Got m) (outcome.Got n) e = refl
+panicked-alike outcome.Blocked outcome.Blocked e = refl
+panicked-alike outcome.Done outcome.Done e = refl
+panicked-alike outcome.Panicked outcome.Panicked e = refl
+panicked-alike _ _ e = cc
+
+-- the phase that goes with the answers so far
+abbrev fits_answers : List Outcome → ActorPhase → Bool
+fits_answers os p = is_pending p || (is_panicked p && not (ends_panicked os))
+
+-- what a run keeps of the phases and the answers
+pub record CallsWait (s : System) (es : List Entry) (st : State) : Type 0 where
+  pub balanced : Balanced s (times st.handles_given) st.spm
+  pub sound : (a : ℕ) → is_sound (phase_of st.spm a) ≡ true
+  pub last : (a : ℕ) → ends_blocked (answers_to a es) ≡ fits_answers (answers_to a es) (phase_of st.spm a)
+
+told_pending : (p : ActorPhase) → is_told p ≡ true → is_pending p ≡ true
+told_pending (Ready o) e = refl
+told_pending (Connected c) e = refl
+told_pending Running e = cc
+told_pending Blocked e = cc
+told_pending (Waiting mask) e = cc
+told_pending Ended e = cc
+told_pending Panicked e = cc
+
+told_sound : (p : ActorPhase) → is_told p ≡ true → is_sound p ≡ true
+told_sound (Ready o) e = e
+told_sound (Connected c) e = refl
+told_sound Running e = cc
+told_sound Blocked e = cc
+told_sound (Waiting mask) e = cc
+told_sound Ended e = cc
+told_sound Panicked e = cc
+
+-- another's phase
+turned-sound : (p q : ActorPhase) → Turned p q → is_sound p ≡ true → is_sound q ≡ true
+turned-sound p q (inl e) h = ap is_sound (sym e) ∙ h
+turned-sound p q (inr (inl k)) h = told_sound q k.1
+turned-sound p q (inr (inr k)) h = ap is_sound k.1
+
+turned-fits : (os : List Outcome) (p q : ActorPhase) → Turned p q → ends_blocked os ≡ fits_answers os p → ends_blocked os ≡ fits_answers os q
+turned-fits os p q (inl e) h = h ∙ ap (fits_answers os) e
+turned-fits os p q (inr (inl k)) h =
+    let yes : ends_blocked os ≡ true = h ∙ ap (fits_answers os) k.0 in
+    yes ∙ sym (ap (λ (b : Bool). b || (is_panicked q && not (ends_panicked os))) (told_pending q k.1))
+turned-fits os p q (inr (inr k)) h =
+    let yes : ends_blocked os ≡ true = h ∙ ap (fits_answers os) k.0 in
+    yes ∙ sym (ap (fits_answers os) k.1 ∙ ap not (ends_apart os yes))
+
+step-waits : (s : System) (es : List Entry) (st new : State) (e : Entry) → CallsWait s es st → step s st e ≡ Some new → CallsWait s (es ++ e ∷ []) new
+step-waits s es st new e w h =
+    let it = step-kind s st new e (λ o spm given. Turns e.actor.0 st.spm spm o) (kinds-turn s st.spm st.handles_given e.actor.0 e.call w.balanced (w.sound e.actor.0)) h in
+    let turns : Turns e.actor.0 st.spm new.spm it.0 = it.2 in
+    record {
+      balanced = step-keeps s st new e w.balanced h;
+      sound = λ a. same_or_not a e.actor.0 (is_sound (phase_of new.spm a) ≡ true)
+          (λ k. ap (λ (x : ℕ). is_sound (phase_of new.spm x)) k ∙ turns.sound)
+          (λ k. turned-sound _ _ (turns.others a k) (w.sound a));
+      last = λ a. same_or_not a e.actor.0 (ends_blocked (answers_to a (es ++ e ∷ [])) ≡ fits_answers (answers_to a (es ++ e ∷ [])) (phase_of new.spm a))
+          (λ k.
+          let mine : (e.actor.0 == a) ≡ true = ap (λ (x : ℕ). e.actor.0 == x) k ∙ is_itself e.actor.0 in
+          let os : List Outcome = answers_to a es in
+          let own : is_blocked_outcome it.0 ≡ goes_with it.0 (phase_of new.spm a) = turns.own ∙ ap (λ (x : ℕ). goes_with it.0 (phase_of new.spm x)) (sym k) in
+          subst (λ (xs : List Outcome). ends_blocked xs ≡ fits_answers xs (phase_of new.spm a)) (sym (answers-here a es e mine))
+          (ends_blocked-push os e.outcome ∙ sym (blocked-alike it.0 e.outcome it.1) ∙ own
+          ∙ ap (λ (b : Bool). is_pending (phase_of new.spm a) || (is_panicked (phase_of new.spm a) && not b)) (panicked-alike it.0 e.outcome it.1 ∙ sym (ends_panicked-push os e.outcome))))
+          (λ k.
+          let flipped : (e.actor.0 == a) ≡ false = grind arith in
+          subst (λ (xs : List Outcome). ends_blocked xs ≡ fits_answers xs (phase_of new.spm a)) (sym (answers-else a es e flipped))
+          (turned-fits (answers_to a es) (phase_of st.spm a) (phase_of new.spm a) (turns.others a k) (w.last a)));
+    }
+
+open-phase : (q : ActorPhase → Bool) (v : Bool) → q Running ≡ v → q Ended ≡ v → (n a : ℕ) → q (get_or (replicate n Running) a Ended) ≡ v
+open-phase q v running ended zero a = ended
+open-phase q v running ended (suc n) zero = running
+open-phase q v running ended (suc n) (suc a) = open-phase q v running ended n a
+
+none-blocked : ends_blocked [] ≡ false
+unfolding ends_blocked
+none-blocked = refl
+
+opening-waits : (s : System) (m : ByteMap) → CallsWait s [] (opening s m)
+opening-waits s m = record {
+  balanced = opening-balanced s;
+  sound = λ a. open-phase is_sound true refl refl (actor_count s) a;
+  last = λ a. none-blocked ∙ sym (open-phase (fits_answers []) false refl refl (actor_count s) a);
+}
+
+enabled-due : (p : ActorPhase) (word : ℕ) (os : List Outcome) → can_go_on p word ≡ true → ends_blocked os ≡ fits_answers os p → may_resume p ≡ ends_blocked os
+enabled-due Running word os e h = sym h
+enabled-due Blocked word os e h = cc
+enabled-due (Waiting mask) word os e h = sym h
+enabled-due (Ready o) word os e h = sym h
+enabled-due (Connected c) word os e h = sym h
+enabled-due Ended word os e h = cc
+enabled-due Panicked word os e h = cc
+
+-- in each state of a run
+pub run-returns : (s : System) (m : ByteMap) (es : List Entry) (st : State) → after s m es ≡ Some st → ReturnsDue s es st
+run-returns s m es st h =
+    let w : CallsWait s es st = run-has s m (CallsWait s) (opening-waits s m) (λ xs x new e. step-waits s xs x new e) es st h in
+    record {
+      last = w.last;
+      enabled_actors = λ a e. enabled-due (phase_of st.spm a) (signals_of s st.spm a) (answers_to a es) e (w.last a);
+    }

@@ -1,0 +1,171 @@
+-- How many slots a run takes: the walk of the names, step by step.
+use Rattle.std.proofs.Common.{ℕ, zero, suc, ◌≡◌, ◌<◌, ◌≤◌, ◌+◌, ◌-◌, ◌==◌, Bool, true, false, cond, ◌&&◌, ◌||◌, List, [], ◌∷◌, ◌++◌, length, get_or, arith, ◌∙◌, ap, sym, refl, length-append}
+use Rattle.std.specs.Prelude.{count_by, nat_lt, Option, Some, None}
+use Rattle.std.specs.List.{list_any}
+use Rattle.std.specs.Option.{option_map}
+use Rattle.std.proofs.lemmas.Bool.Decides.{Decides-int_eq, nat_tests}
+use Rattle.ffm_model.specs.declared.system.System.{System}
+use Rattle.ffm_model.specs.declared.machine.Entry.{Entry}
+use Rattle.ffm_model.specs.declared.objects.PendingMessage.{PendingMessage}
+use Rattle.ffm_model.specs.Memory.{ByteMap}
+use Rattle.ffm_model.specs.State.{SpmState, State}
+use Rattle.ffm_model.specs.Step.{step, after}
+use Rattle.ffm_model.specs.Names.{NamesSoFar, NamedState, SlotName, capacity, live_connections, named_step, names_after, next_slot, shows_name, slots_kept, stays, with_connection, with_messages}
+use Rattle.counting_law.specs.Objects.{ObjectsFit, Mark, message_marked, connection_marked, is_awaited}
+use Rattle.counting_law.specs.Takes.{TakesFew}
+use Rattle.counting_law.proofs.Balance.{Balanced}
+use Rattle.counting_law.proofs.Counts.{bit, count-cons, count-le, none-count}
+use Rattle.counting_law.proofs.Parts.{is_itself, unique, and_on, both-le-left, both-le-right}
+use Rattle.counting_law.proofs.Pairs.{member-counts, count-sum, none-counts}
+use Rattle.counting_law.proofs.Resume.{times}
+use Rattle.counting_law.proofs.Steps.{step-kind}
+use Rattle.counting_law.proofs.Runs.{step-keeps, run-has, opening-balanced}
+use Rattle.counting_law.proofs.Takes.{Spends, same_message, kinds-spend}
+
+-- ---- the messages that stay
+
+some-any : {X : Type 0} (p : X → Bool) (xs : List X) → 1 ≤ count_by p xs → list_any p xs ≡ true
+some-any p xs h =
+    let go : (b : Bool) → list_any p xs ≡ b → list_any p xs ≡ true = elim [ true ↦ λ e. e | false ↦ λ e. absurd (omega (arith, none-count p xs e)) ] in
+    go (list_any p xs) refl
+
+pub count-le-at : {X : Type 0} (p q : X → Bool) (xs : List X) → ((i : ℕ) (d : X) → i < length xs → bit (p (get_or xs i d)) ≤ bit (q (get_or xs i d))) → count_by p xs ≤ count_by q xs
+count-le-at p q [] h = omega arith
+count-le-at p q (x ∷ xs) h = omega (arith, count-cons p x xs, count-cons q x xs, h 0 x (omega arith), count-le-at p q xs (λ i d lt. h (suc i) d (omega arith)))
+
+pub same-self : (m : PendingMessage) → same_message m m ≡ true
+same-self m =
+    and_on _ _ (is_itself m.connection) ((Decides-int_eq m.kind m.kind).1 refl)
+
+-- what a change says to stay does stay
+pub stays-at : (old new : List PendingMessage) (q : PendingMessage → Bool) → ((m : PendingMessage) → count_by (λ x. q x && same_message m x) old ≤ count_by (same_message m) new)
+    → (i : ℕ) (d : PendingMessage) → i < length old → bit (q (get_or old i d)) ≤ bit (stays new (get_or old i d))
+stays-at old new q stay i d lt =
+    let m : PendingMessage = get_or old i d in
+    let here : bit (q m && same_message m m) ≤ count_by (λ x. q x && same_message m x) old = member-counts (λ x. q x && same_message m x) old i d lt in
+    let go : (x y : Bool) → q m ≡ x → stays new m ≡ y → bit x ≤ bit y =
+    elim [
+      | true ↦ elim [
+        | true ↦ λ e k. omega arith
+        | false ↦ λ e k. absurd (let some : stays new m ≡ true = some-any (same_message m) new (omega (arith, here, stay m, ap (λ (c : Bool). bit (c && same_message m m)) e, ap bit (same-self m))) in cc)
+      ]
+      | false ↦ λ y e k. omega arith
+    ] in
+    go (q m) (stays new m) refl refl
+
+stays-least : (b new : SpmState) → (sp : Spends b new) → count_by sp.q b.messages ≤ count_by (stays new.messages) b.messages
+stays-least b new sp = count-le-at sp.q (stays new.messages) b.messages (stays-at b.messages new.messages sp.q sp.stay)
+
+-- no message stands for two
+pub stays-most : (old ns : List PendingMessage) → ((n : PendingMessage) → count_by (λ m. same_message m n) old ≤ 1) → count_by (stays ns) old ≤ length ns
+stays-most old [] few = omega (arith, none-counts (stays []) (λ m. refl) old)
+stays-most old (n ∷ ns) few =
+    let either : (x y : Bool) → bit (x || y) ≤ bit x + bit y = elim [ true ↦ λ y. omega arith | false ↦ λ y. omega arith ] in
+    omega (arith, count-sum (stays (n ∷ ns)) (λ m. same_message m n) (stays ns) (λ m. either (same_message m n) (stays ns m)) old, few n, stays-most old ns few)
+
+and-flip : (x n : ℕ) (c : Bool) → bit ((n == x) && c) ≤ bit (x == n)
+and-flip x n c = let e : (n == x) ≡ (x == n) = grind arith in omega (arith, both-le-left (n == x) c, ap bit e)
+
+pub one-each : (s : System) (b : SpmState) → ObjectsFit s b → (n : PendingMessage) → count_by (λ m. same_message m n) b.messages ≤ 1
+one-each s b h n =
+    let t : Mark = λ serial a v ph. serial == n.connection in
+    omega (
+      arith,
+      count-le (λ m. same_message m n) (message_marked t) (λ m. and-flip m.connection n.connection _) b.messages,
+      h.paired t,
+      count-le (connection_marked t) (λ c. c.serial == n.connection) (λ c. both-le-right (is_awaited c.phase) (c.serial == n.connection)) b.connections,
+      unique 0 b.connections_made n.connection b.connections h.rising,
+    )
+
+-- ---- lengths in the walk
+
+pub kept-length : (p : PendingMessage → Bool) (ms : List PendingMessage) (ts : List SlotName) → length ts ≡ length ms → length (slots_kept p ms ts) ≡ count_by p ms
+kept-length p [] ts h = refl
+kept-length p (m ∷ ms) [] h = absurd (omega (arith, h))
+kept-length p (m ∷ ms) (t ∷ ts) h =
+    let go : (b : Bool) → length (cond {A = List SlotName} b (t ∷ slots_kept p ms ts) (slots_kept p ms ts)) ≡ bit b + count_by p ms =
+    elim [ true ↦ omega (arith, kept-length p ms ts (omega (arith, h))) | false ↦ omega (arith, kept-length p ms ts (omega (arith, h))) ] in
+    go (p m) ∙ sym (count-cons p m ms)
+
+pub record Lengths (k new : NamesSoFar) (n : ℕ) : Type 0 where
+  pub messages : length new.messages ≡ length k.messages + n
+  pub past : length new.past_messages ≡ length k.past_messages + n
+  pub connections : length new.connections ≡ length k.connections
+
+with_messages-lengths : (size n : ℕ) (k : NamesSoFar) → Lengths k (with_messages size n k) n
+with_messages-lengths size zero k = record { messages = omega arith; past = omega arith; connections = refl }
+with_messages-lengths size (suc n) k =
+    let t : SlotName = next_slot size k.messages k.past_messages in
+    let it = with_messages-lengths size n (record k { messages = k.messages ++ t ∷ []; past_messages = k.past_messages ++ t ∷ [] }) in
+    record {
+      messages = omega (arith, it.messages, length-append k.messages (t ∷ []));
+      past = omega (arith, it.past, length-append k.past_messages (t ∷ []));
+      connections = it.connections;
+    }
+
+pub record Grown (k new : NamesSoFar) (n : ℕ) : Type 0 where
+  pub messages : new.messages ≡ k.messages
+  pub past : new.past_messages ≡ k.past_messages
+  pub connections : length new.connections ≡ length k.connections + n
+
+with_connection-lengths : (size : ℕ) (old new : SpmState) (k : NamesSoFar) → old.connections_made ≤ new.connections_made → new.connections_made ≤ old.connections_made + 1
+    → Grown k (with_connection size old new k) (new.connections_made - old.connections_made)
+with_connection-lengths size old new k low high =
+    let x : ℕ = old.connections_made in
+    let y : ℕ = new.connections_made in
+    let t : SlotName = next_slot size (live_connections k old) k.connections in
+    let go : (b : Bool) → nat_lt x y ≡ b → Grown k (cond {A = NamesSoFar} b (record k { connections = k.connections ++ t ∷ [] }) k) (y - x) =
+    elim [
+      | true ↦ λ e. let less : x < y = grind (arith, nat_tests) in record { messages = refl; past = refl; connections = omega (arith, less, high, length-append k.connections (t ∷ [])) }
+      | false ↦ λ e. let not_less : y ≤ x = grind (arith, nat_tests) in record { messages = refl; past = refl; connections = omega (arith, not_less, low) }
+    ] in
+    go (nat_lt x y) refl
+
+-- ---- a step of the walk
+
+pub names-lengths : (s : System) (es : List Entry) (e : Entry) (w : NamedState) (new : State) → ObjectsFit s w.state.spm → TakesFew es w → (sp : Spends w.state.spm new.spm)
+    → TakesFew (es ++ e ∷ []) (record { state = new; names = names_after s w.state.spm new.spm w.names })
+names-lengths s es e w new fit few sp =
+    let old : SpmState = w.state.spm in
+    let kept : List SlotName = slots_kept (stays new.spm.messages) old.messages w.names.messages in
+    let k : NamesSoFar = record w.names { messages = kept } in
+    let k' : NamesSoFar = with_connection (capacity s) old new.spm k in
+    let n : ℕ = length new.spm.messages - length kept in
+    let kept_is : length kept ≡ count_by (stays new.spm.messages) old.messages = kept-length (stays new.spm.messages) old.messages w.names.messages few.message_slots in
+    let most : count_by (stays new.spm.messages) old.messages ≤ length new.spm.messages = stays-most old.messages new.spm.messages (one-each s old fit) in
+    let least : count_by sp.q old.messages ≤ count_by (stays new.spm.messages) old.messages = stays-least old new.spm sp in
+    let grown : Grown k k' (new.spm.connections_made - old.connections_made) = with_connection-lengths (capacity s) old new.spm k sp.grows sp.made in
+    let lengths : Lengths k' (with_messages (capacity s) n k') n = with_messages-lengths (capacity s) n k' in
+    let longer : length (es ++ e ∷ []) ≡ length es + 1 = length-append es (e ∷ []) in
+    let grown_messages : length k'.messages ≡ length kept = ap (λ (ts : List SlotName). length ts) grown.messages in
+    let grown_past : length k'.past_messages ≡ length w.names.past_messages = ap (λ (ts : List SlotName). length ts) grown.past in
+    record {
+      connections = omega (arith, longer, sp.made, few.connections);
+      connection_slots = omega (arith, lengths.connections, grown.connections, few.connection_slots, sp.grows);
+      message_slots = omega (arith, lengths.messages, grown_messages, kept_is, most);
+      messages = omega (arith, lengths.past, grown_past, kept_is, most, least, sp.count, sp.owners, sp.grows, few.messages, longer);
+    }
+
+pub named-step-is : (s : System) (w new : NamedState) (e : Entry) (P : Type 0) → named_step s w e ≡ Some new
+    → ((st : State) → step s w.state e ≡ Some st → record { state = st; names = names_after s w.state.spm st.spm w.names } ≡ new → shows_name s w.state e w.names ≡ true → P) → P
+named-step-is s w new e P h f =
+    let shows : Bool = shows_name s w.state e w.names in
+    let made : (o : Option State) → step s w.state e ≡ o → shows ≡ true → option_map (λ st. record { state = st; names = names_after s w.state.spm st.spm w.names }) o ≡ Some new → P =
+    elim [ None ↦ λ k y g. cc | Some st ↦ λ k y g. f st k (let it : record { state = st; names = names_after s w.state.spm st.spm w.names } ≡ new = cc in it) y ] in
+    let go : (x : Bool) → shows ≡ x → cond {A = Option NamedState} x (option_map (λ st. record { state = st; names = names_after s w.state.spm st.spm w.names }) (step s w.state e)) None ≡ Some new → P =
+    elim [ true ↦ λ y g. made (step s w.state e) refl y g | false ↦ λ y g. cc ] in
+    go shows refl h
+
+-- connections alone, whatever the handles
+pub record Made (s : System) (es : List Entry) (st : State) : Type 0 where
+  pub balanced : Balanced s (times st.handles_given) st.spm
+  pub few : st.spm.connections_made ≤ length es
+
+step-makes : (s : System) (es : List Entry) (st new : State) (e : Entry) → Made s es st → step s st e ≡ Some new → Made s (es ++ e ∷ []) new
+step-makes s es st new e h is_step =
+    let spends = step-kind s st new e (λ o spm given. Spends st.spm spm) (kinds-spend s st.spm st.handles_given e.actor.0 e.call h.balanced) is_step in
+    let sp : Spends st.spm new.spm = spends.2 in
+    record { balanced = step-keeps s st new e h.balanced is_step; few = omega (arith, h.few, sp.made, length-append es (e ∷ [])) }
+
+pub run-makes : (s : System) (m : ByteMap) (es : List Entry) (st : State) → after s m es ≡ Some st → st.spm.connections_made ≤ length es
+run-makes s m es st h = (run-has s m (Made s) (record { balanced = opening-balanced s; few = omega arith }) (λ xs x new e. step-makes s xs x new e) es st h).few

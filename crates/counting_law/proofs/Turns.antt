@@ -1,0 +1,251 @@
+-- How the phases of the actors change in an event: the actor's own as its outcome says, and another's only where it is told an answer or panics for a reply.
+use Rattle.std.proofs.Common.{ℕ, zero, suc, ◌≡◌, ◌<◌, ◌==◌, Bool, true, false, cond, not, ◌&&◌, ◌||◌, List, length, get_or, ◌⊎◌, inl, inr, arith, ◌∙◌, ap, sym, refl, subst}
+use Rattle.std.specs.Prelude.{ℤ, pos, negsuc, int_lt, count_by, Some, slice_set}
+use Rattle.std.specs.Ordering.{int_eq}
+use Rattle.ffm_model.specs.declared.constants.TheConstants.{PSA_IPC_CALL, PSA_IPC_CONNECT, PSA_SUCCESS, PSA_ERROR_PROGRAMMER_ERROR, PSA_ERROR_COMMUNICATION_FAILURE}
+use Rattle.ffm_model.specs.declared.system.System.{System}
+use Rattle.ffm_model.specs.declared.machine.Handle.{Handle}
+use Rattle.ffm_model.specs.declared.machine.Call.{Call}
+use Rattle.ffm_model.specs.declared.machine.Outcome.{Outcome}
+use Rattle.ffm_model.specs.declared.machine.Outcome.TheVariants as outcome
+use Rattle.ffm_model.specs.declared.objects.PendingMessage.{PendingMessage}
+use Rattle.ffm_model.specs.declared.objects.ConnPhase.{ConnPhase}
+use Rattle.ffm_model.specs.declared.objects.ConnPhase.TheVariants.{Idle, Error}
+use Rattle.ffm_model.specs.declared.objects.ActorPhase.{ActorPhase}
+use Rattle.ffm_model.specs.declared.objects.ActorPhase.TheVariants.{Running, Blocked, Waiting, Ready, Connected, Ended, Panicked}
+use Rattle.ffm_model.specs.State.{SpmState, phase_of, with_phase, message_held, with_connection_phase, without_connection, without_message}
+use Rattle.ffm_model.specs.Signals.{is_blocked, is_panicked}
+use Rattle.ffm_model.specs.Panic.{is_dead, panic_effect}
+use Rattle.ffm_model.specs.ClientCalls.{Move, move, call_on, close_on, is_busy}
+use Rattle.ffm_model.specs.ServiceCalls.{connect_answered, close_answered}
+use Rattle.ffm_model.specs.Records.{is_blocked_outcome}
+use Rattle.counting_law.specs.Objects.{phase_for, is_opening, is_asking, awaited_of, accepted_as}
+use Rattle.counting_law.specs.Pending.{is_pending, is_panicked_outcome}
+use Rattle.counting_law.proofs.Balance.{Balanced}
+use Rattle.counting_law.proofs.Counts.{count-le}
+use Rattle.counting_law.proofs.Parts.{is_plain, is_there, same_or_not, phase_same, phase_other, running-quiet, both-le-right}
+use Rattle.counting_law.proofs.Reply.{settled, request_settled, settled-keeps, partner, client-blocked, busy_is, not_negative, no-other, opening_is}
+use Rattle.counting_law.proofs.Resume.{times}
+use Rattle.counting_law.proofs.Panic.{phase_after, told-same, lost_of}
+use Rattle.counting_law.proofs.Keeps.{request-ready, ready-quiet}
+use Rattle.counting_law.proofs.Events.{EachKind}
+
+-- an answer was told: an outcome that ends a call, or an accepted connection
+abbrev pub is_told : ActorPhase → Bool
+is_told (Ready o) = is_plain o
+is_told (Connected c) = true
+is_told _ = false
+
+-- an answer that is there ends its call
+abbrev pub is_sound : ActorPhase → Bool
+is_sound (Ready o) = is_plain o
+is_sound _ = true
+
+-- another actor's phase stays, or it was Blocked and is told an answer, or it was Blocked and is panicked
+abbrev pub Turned : ActorPhase → ActorPhase → Type 0
+Turned p q = (p ≡ q) ⊎ ((p ≡ Blocked) × (is_told q ≡ true)) ⊎ ((p ≡ Blocked) × (q ≡ Panicked))
+
+abbrev pub stays_as : (p q : ActorPhase) → p ≡ q → Turned p q
+stays_as p q e = inl e
+
+abbrev pub told_to : (p q : ActorPhase) → p ≡ Blocked → is_told q ≡ true → Turned p q
+told_to p q e k = inr (inl (e, k))
+
+abbrev pub panicked_to : (p q : ActorPhase) → p ≡ Blocked → q ≡ Panicked → Turned p q
+panicked_to p q e k = inr (inr (e, k))
+
+-- the caller's phase goes with its outcome
+abbrev pub goes_with : Outcome → ActorPhase → Bool
+goes_with o p = is_pending p || (is_panicked p && not (is_panicked_outcome o))
+
+pub record Turns (a : ℕ) (old new : SpmState) (o : Outcome) : Type 0 where
+  pub own : is_blocked_outcome o ≡ goes_with o (phase_of new a)
+  pub sound : is_sound (phase_of new a) ≡ true
+  pub others : (x : ℕ) → (x == a) ≡ false → Turned (phase_of old x) (phase_of new x)
+
+plain_ends : (o : Outcome) → is_plain o ≡ true → is_blocked_outcome o ≡ false
+plain_ends (outcome.Value z) e = refl
+plain_ends (outcome.Number n) e = refl
+plain_ends (outcome.Signals n) e = refl
+plain_ends (outcome.Got m) e = refl
+plain_ends outcome.Blocked e = cc
+plain_ends outcome.Done e = refl
+plain_ends outcome.Panicked e = cc
+
+-- no phase changes
+same-turns : (b new : SpmState) (a : ℕ) (o : Outcome) → phase_of b a ≡ Running → is_plain o ≡ true → new.phases ≡ b.phases → Turns a b new o
+same-turns b new a o running plain e =
+    let at : (x : ℕ) → phase_of new x ≡ phase_of b x = λ x. ap (λ (ps : List ActorPhase). get_or ps x Ended) e in
+    let here : phase_of new a ≡ Running = at a ∙ running in
+    record {
+      own = plain_ends o plain ∙ sym (ap (goes_with o) here);
+      sound = ap is_sound here;
+      others = λ x k. stays_as _ _ (sym (at x));
+    }
+
+-- the caller's phase alone changes
+set-turns : (b new : SpmState) (a : ℕ) (o : Outcome) (p : ActorPhase) → (phase_of b a ≡ Ended → ⊥) → is_blocked_outcome o ≡ goes_with o p → is_sound p ≡ true → new.phases ≡ slice_set b.phases a p → Turns a b new o
+set-turns b new a o p there own sound e =
+    let at : (x : ℕ) → phase_of new x ≡ get_or (slice_set b.phases a p) x Ended = λ x. ap (λ (ps : List ActorPhase). get_or ps x Ended) e in
+    let here : phase_of new a ≡ p = at a ∙ phase_same b.phases a p (is_there b.phases a there) in
+    record {
+      own = own ∙ sym (ap (goes_with o) here);
+      sound = ap is_sound here ∙ sound;
+      others = λ x k. stays_as _ _ (sym (at x ∙ phase_other b.phases a x p k));
+    }
+
+-- what a reply makes of a state: the connection gets a phase or goes, and the client, where it waits, is told
+pub settled-cases : (s : System) (limit : Handle → ℕ) (b : SpmState) (p : ℕ) (h : Handle) (status : ℤ) (m : PendingMessage) → Balanced s limit b → message_held s b p h ≡ Some m → (P : SpmState → Type 0)
+    → ((ph : ConnPhase) (q : ActorPhase) → phase_of b m.client.0 ≡ Blocked → is_told q ≡ true → P (with_phase (with_connection_phase (without_message b h) m.connection ph) m.client.0 q))
+    → ((q : ActorPhase) → phase_of b m.client.0 ≡ Blocked → is_told q ≡ true → P (with_phase (without_connection (without_message b h) m.connection) m.client.0 q))
+    → P (without_connection (without_message b h) m.connection)
+    → P (settled b h status m)
+settled-cases s limit b p h status m balanced found P kept gone silent =
+    let rest : SpmState = without_message b h in
+    let asked : (u : ConnPhase → Bool) → u (phase_for m.kind) ≡ true → ((ph : ConnPhase) → u ph ≡ true → is_asking ph ≡ true) → phase_of b m.client.0 ≡ Blocked =
+    λ u e asks.
+    let it = partner s limit b _ m u balanced found e in
+    subst (λ (x : ℕ). phase_of b x ≡ Blocked) it.1.client (client-blocked s limit b it.0 balanced it.1.here (asks it.0.phase it.1.passes)) in
+    let connect : m.kind ≡ negsuc 0 → P (connect_answered rest m status) =
+    λ e.
+    let blocked : phase_of b m.client.0 ≡ Blocked = asked is_opening (ap (λ k. is_opening (phase_for k)) e) (λ ph o. ap is_asking (opening_is ph o)) in
+    let go : (d : Bool) → P (cond {A = SpmState} d (with_phase (with_connection_phase rest m.connection Idle) m.client.0 (Connected m.connection)) (with_phase (without_connection rest m.connection) m.client.0 (Ready (outcome.Value status)))) =
+    elim [ true ↦ kept Idle (Connected m.connection) blocked refl | false ↦ gone (Ready (outcome.Value status)) blocked refl ] in
+    go (int_eq status PSA_SUCCESS) in
+    let request : (n : ℕ) → m.kind ≡ pos n → P (request_settled rest m status) =
+    λ n e.
+    let blocked : phase_of b m.client.0 ≡ Blocked = asked is_busy (ap (λ k. is_busy (phase_for k)) e) (λ ph o. ap is_asking (busy_is ph o)) in
+    let go : (d : Bool) → P (cond {A = SpmState} d (with_phase (with_connection_phase rest m.connection Error) m.client.0 (Ready (outcome.Value PSA_ERROR_PROGRAMMER_ERROR))) (with_phase (with_connection_phase rest m.connection Idle) m.client.0 (Ready (outcome.Value status)))) =
+    elim [ true ↦ kept Error (Ready (outcome.Value PSA_ERROR_PROGRAMMER_ERROR)) blocked refl | false ↦ kept Idle (Ready (outcome.Value status)) blocked refl ] in
+    go (int_eq status PSA_ERROR_PROGRAMMER_ERROR) in
+    let close : P (close_answered rest m) =
+    let go : (q : ActorPhase) → phase_of b m.client.0 ≡ q → P (cond {A = SpmState} (is_blocked q) (with_phase (without_connection rest m.connection) m.client.0 (Ready outcome.Done)) (without_connection rest m.connection)) =
+    elim [
+      | Blocked ↦ λ e. gone (Ready outcome.Done) e refl
+      | Running ↦ λ e. silent
+      | Waiting mask ↦ λ e. silent
+      | Ready o ↦ λ e. silent
+      | Connected c ↦ λ e. silent
+      | Ended ↦ λ e. silent
+      | Panicked ↦ λ e. silent
+    ] in
+    go (phase_of b m.client.0) refl in
+    let second : (x : Bool) (y z : SpmState) → x ≡ false → P z → P (cond {A = SpmState} x y z) = elim [ true ↦ λ y z e q. cc | false ↦ λ y z e q. q ] in
+    let whole : (k : ℤ) → m.kind ≡ k → P (cond {A = SpmState} (int_eq k PSA_IPC_CONNECT) (connect_answered rest m status) (cond {A = SpmState} (int_lt k PSA_IPC_CALL) (close_answered rest m) (request_settled rest m status))) =
+    elim [
+      | pos n ↦ λ e. second (int_lt (pos n) PSA_IPC_CALL) _ _ (not_negative n) (request n e)
+      | negsuc n ↦ elim n as (λ (n : ℕ). m.kind ≡ negsuc n → P (cond {A = SpmState} (int_eq (negsuc n) PSA_IPC_CONNECT) (connect_answered rest m status) (cond {A = SpmState} (int_lt (negsuc n) PSA_IPC_CALL) (close_answered rest m) (request_settled rest m status)))) [
+        | zero ↦ λ e. connect e
+        | suc k ↦ elim k as (λ (k : ℕ). m.kind ≡ negsuc (suc k) → P (cond {A = SpmState} (int_eq (negsuc (suc k)) PSA_IPC_CONNECT) (connect_answered rest m status) (cond {A = SpmState} (int_lt (negsuc (suc k)) PSA_IPC_CALL) (close_answered rest m) (request_settled rest m status)))) [
+          | zero ↦ λ e. close
+          | suc j ↦ λ e. absurd (no-other s limit b p j h m balanced found e)
+        ]
+      ]
+    ] in
+    whole m.kind refl
+
+-- another actor is told
+told-turns : (b new : SpmState) (a x : ℕ) (q : ActorPhase) → phase_of b a ≡ Running → phase_of b x ≡ Blocked → is_told q ≡ true → new.phases ≡ slice_set b.phases x q → Turns a b new outcome.Done
+told-turns b new a x q running blocked told e =
+    let at : (y : ℕ) → phase_of new y ≡ get_or (slice_set b.phases x q) y Ended = λ y. ap (λ (ps : List ActorPhase). get_or ps y Ended) e in
+    let apart : (a == x) ≡ false = same_or_not a x ((a == x) ≡ false) (λ k. absurd (let it : phase_of b x ≡ Running = ap (phase_of b) (sym k) ∙ running in cc)) (λ k. k) in
+    let here : phase_of new a ≡ Running = at a ∙ phase_other b.phases x a q apart ∙ running in
+    record {
+      own = sym (ap (goes_with outcome.Done) here);
+      sound = ap is_sound here;
+      others = λ y k. same_or_not y x (Turned (phase_of b y) (phase_of new y))
+          (λ z. told_to _ _ (ap (phase_of b) z ∙ blocked) (ap is_told (ap (phase_of new) z ∙ at x ∙ phase_same b.phases x q (is_there b.phases x (λ w. cc))) ∙ told))
+          (λ z. stays_as _ _ (sym (at y ∙ phase_other b.phases x y q z)));
+    }
+
+-- the panic of an actor that no connection awaits an answer for
+pub panicked-self : (s : System) (limit : Handle → ℕ) (b : SpmState) (p : ℕ) → Balanced s limit b → p < length b.phases → count_by (awaited_of p) b.connections ≡ 0 → phase_of (panic_effect s b p) p ≡ Panicked
+panicked-self s limit b p h inside quiet =
+    let none : count_by (lost_of s p p) b.connections ≡ 0 = omega (arith, count-le (lost_of s p p) (awaited_of p) (λ c. both-le-right _ (awaited_of p c)) b.connections) in
+    told-same s p p b.connections (slice_set b.phases p Panicked) none ∙ phase_same b.phases p Panicked inside
+
+pub panicked-other : (s : System) (limit : Handle → ℕ) (b : SpmState) (p x : ℕ) → Balanced s limit b → (x == p) ≡ false → Turned (phase_of b x) (phase_of (panic_effect s b p) x)
+panicked-other s limit b p x h e =
+    phase_after s limit b p x (Turned (phase_of b x) (phase_of (panic_effect s b p) x)) h e
+    (λ z now. stays_as _ _ (sym now))
+    (λ o blocked one now plain. told_to _ _ blocked (ap is_told now ∙ plain))
+    (λ gone now. stays_as _ _ (gone ∙ sym now))
+
+-- one that runs goes on
+panicked-running : (s : System) (limit : Handle → ℕ) (b : SpmState) (p x : ℕ) → Balanced s limit b → (x == p) ≡ false → phase_of b x ≡ Running → phase_of (panic_effect s b p) x ≡ Running
+panicked-running s limit b p x h e running =
+    phase_after s limit b p x (phase_of (panic_effect s b p) x ≡ Running) h e
+    (λ z now. now ∙ running)
+    (λ o blocked one now plain. cc)
+    (λ gone now. cc)
+
+panic-turns : (s : System) (limit : Handle → ℕ) (b : SpmState) (a : ℕ) → Balanced s limit b → phase_of b a ≡ Running → Turns a b (panic_effect s b a) outcome.Panicked
+panic-turns s limit b a h running =
+    let quiet : count_by (awaited_of a) b.connections ≡ 0 = running-quiet (phase_of b a) _ _ (λ n. count_by (accepted_as a n) b.connections) running (h.fitting a) in
+    let here : phase_of (panic_effect s b a) a ≡ Panicked = panicked-self s limit b a h (is_there b.phases a (λ x. cc)) quiet in
+    record {
+      own = sym (ap (goes_with outcome.Panicked) here);
+      sound = ap is_sound here;
+      others = λ x e. panicked-other s limit b a x h e;
+    }
+
+-- a reply touches the phase of its client alone
+settled-elsewhere : (s : System) (limit : Handle → ℕ) (b : SpmState) (p : ℕ) (h : Handle) (status : ℤ) (m : PendingMessage) → Balanced s limit b → message_held s b p h ≡ Some m → (x : ℕ) → (x == m.client.0) ≡ false
+    → phase_of (settled b h status m) x ≡ phase_of b x
+settled-elsewhere s limit b p h status m balanced found x e =
+    settled-cases s limit b p h status m balanced found (λ new. phase_of new x ≡ phase_of b x)
+    (λ ph q blocked told. phase_other b.phases m.client.0 x q e) (λ q blocked told. phase_other b.phases m.client.0 x q e) refl
+
+owed-turns : (s : System) (limit : Handle → ℕ) (b : SpmState) (a : ℕ) (h : Handle) (status : ℤ) (m : PendingMessage) (n : ℕ) → Balanced s limit b → phase_of b a ≡ Running → message_held s b a h ≡ Some m → m.kind ≡ pos n
+    → Turns a b (panic_effect s (settled b h status m) m.client.0) outcome.Done
+owed-turns s limit b a h status m n balanced running found kind =
+    let x : ℕ = m.client.0 in
+    let told : SpmState = settled b h status m in
+    let kept : Balanced s limit told = settled-keeps s limit b a h status m balanced found in
+    let ready = request-ready s limit b a h status m n balanced found kind in
+    let it = partner s limit b _ m is_busy balanced found (ap (λ k. is_busy (phase_for k)) kind) in
+    let blocked : phase_of b x ≡ Blocked = subst (λ (y : ℕ). phase_of b y ≡ Blocked) it.1.client (client-blocked s limit b it.0 balanced it.1.here (ap is_asking (busy_is it.0.phase it.1.passes))) in
+    let apart : (a == x) ≡ false = same_or_not a x ((a == x) ≡ false) (λ k. absurd (let same : phase_of b x ≡ Running = ap (phase_of b) (sym k) ∙ running in cc)) (λ k. k) in
+    let before : (y : ℕ) → (y == x) ≡ false → phase_of told y ≡ phase_of b y = settled-elsewhere s limit b a h status m balanced found in
+    let here : phase_of (panic_effect s told x) a ≡ Running = panicked-running s limit told x a kept apart (before a apart ∙ running) in
+    let gone : phase_of (panic_effect s told x) x ≡ Panicked =
+    panicked-self s limit told x kept (is_there told.phases x (λ w. let at : phase_of told x ≡ Ready ready.0 = ready.1 in cc))
+    (ready-quiet (phase_of told x) ready.0 _ _ (λ z. count_by (accepted_as x z) told.connections) ready.1 (kept.fitting x)) in
+    record {
+      own = sym (ap (goes_with outcome.Done) here);
+      sound = ap is_sound here;
+      others = λ y e. same_or_not y x (Turned (phase_of b y) (phase_of (panic_effect s told x) y))
+          (λ z. panicked_to _ _ (ap (phase_of b) z ∙ blocked) (ap (phase_of (panic_effect s told x)) z ∙ gone))
+          (λ z. subst (λ (q : ActorPhase). Turned q (phase_of (panic_effect s told x) y)) (before y z) (panicked-other s limit told x y kept z));
+    }
+
+-- each kind of change, where the answers that are there end their calls
+pub kinds-turn : (s : System) (b : SpmState) (given : List Handle) (a : ℕ) (d : Call) → Balanced s (times given) b → is_sound (phase_of b a) ≡ true → EachKind s b given a d (λ o new all. Turns a b new o)
+kinds-turn s b given a d h sound =
+    let runs : phase_of b a ≡ Running → phase_of b a ≡ Ended → ⊥ = λ running e. cc in
+    record {
+      beside = λ running o doorbells sources plain. same-turns b _ a o running plain refl;
+      waits = λ running mask. set-turns b _ a outcome.Blocked (Waiting mask) (runs running) refl refl refl;
+      ends = λ running. set-turns b _ a outcome.Done Ended (runs running) refl refl refl;
+      wakes = λ mask n e. set-turns b _ a (outcome.Signals n) Running (λ k. cc) refl refl refl;
+      returns = λ o e. set-turns b _ a o Running (λ k. cc) (plain_ends o (sym (ap is_sound e) ∙ sound)) refl refl;
+      joins = λ is n k e new. set-turns b _ a (outcome.Value k.0) Running (λ z. cc) refl refl refl;
+      connects = λ running v free. set-turns b _ a outcome.Blocked Blocked (runs running) refl refl refl;
+      calls = λ running k c n v held takes.
+          let go : (d : Bool) → (let m : Move = cond {A = Move} d (move (outcome.Value PSA_ERROR_COMMUNICATION_FAILURE) b) (call_on b a (record c { phase = Idle }) (pos n) v) in Turns a b m.spm m.outcome) =
+          elim [ true ↦ same-turns b b a (outcome.Value PSA_ERROR_COMMUNICATION_FAILURE) running refl refl | false ↦ set-turns b _ a outcome.Blocked Blocked (runs running) refl refl refl ] in
+          go (is_dead c.phase);
+      closes = λ running k c held.
+          let go : (d : Bool) → (let m : Move = cond {A = Move} d (move outcome.Done (without_connection b c.serial)) (close_on b a (record c { phase = Idle })) in Turns a b m.spm m.outcome) =
+          elim [ true ↦ same-turns b (without_connection b c.serial) a outcome.Done running refl refl | false ↦ set-turns b _ a outcome.Blocked Blocked (runs running) refl refl refl ] in
+          go (is_dead c.phase);
+      gets = λ running signal msg v is has first at k shown tells new. same-turns b _ a (outcome.Got shown) running refl refl;
+      moves = λ running o k v plain. same-turns b _ a o running plain refl;
+      marks = λ running n r. same-turns b _ a outcome.Done running refl refl;
+      replies = λ running k status m held.
+          settled-cases s (times given) b a k status m h held (λ new. Turns a b new outcome.Done)
+          (λ ph q blocked told. told-turns b _ a m.client.0 q running blocked told refl) (λ q blocked told. told-turns b _ a m.client.0 q running blocked told refl)
+          (same-turns b _ a outcome.Done running refl refl);
+      owes = λ running k status m n held kind. owed-turns s (times given) b a k status m n h running held kind;
+      panics = λ running. panic-turns s (times given) b a h running;
+    }

@@ -1,0 +1,13 @@
+use Rattle.counting_law.proofs.Runs.{run-objects}
+use Rattle.counting_law.proofs.Bounds.{few-connections}
+use Rattle.counting_law.proofs.Rooms.{few-messages-of, fitting-room}
+use Rattle.counting_law.proofs.declared_connections_suffice.Goals as goal
+
+pub returns-clause-connections : goal.returns-clause-connections
+returns-clause-connections c s m es st h = few-connections s st.spm (run-objects s m es st h)
+
+pub returns-clause-messages : goal.returns-clause-messages
+returns-clause-messages c s m es st h = few-messages-of s st.spm (run-objects s m es st h)
+
+pub returns-clause-room : goal.returns-clause-room
+returns-clause-room c = fitting-room
