@@ -8,7 +8,7 @@ use Rattle.ffm_model.specs.declared.system.Region.{Region}
 use Rattle.ffm_model.specs.declared.constants.TheConstants.{PSA_MAX_IOVEC}
 use Rattle.ffm_model.specs.declared.objects.Span.{Span}
 use Rattle.ffm_model.specs.declared.objects.Vectors.{Vectors}
-use Rattle.ffm_model.specs.Memory.{ByteMap, write_bytes, store_number, low_bytes, copy_bytes, bytes_at, span_at, spans_at, vectors_read, vectors_of, valid_buffer, lies_in, is_ram_of, lengths_written, no_span, number_of, load_number}
+use Rattle.ffm_model.specs.Memory.{ByteMap, write_bytes, store_number, low_bytes, copy_bytes, bytes_at, span_at, spans_at, vectors_read, vectors_of, valid_buffer, lies_in, is_ram_of, lengths_written, no_span, number_of, load_number, words_stored}
 use Rattle.ffm_model.specs.Reach.{covers, span_has, length_word_has}
 use Rattle.ffm_model.specs.ServiceCalls.{rest_of}
 use Rattle.message_vectors.specs.Bytes.{range_has, ram_has, AgreeWhere, TellsNothingAt}
@@ -24,6 +24,16 @@ length-low_bytes (suc n) v = ap suc (length-low_bytes n (v / 256))
 -- outside of the bytes that are put, memory stays
 write_bytes-outside : (m : ByteMap) (a : ℕ) (bs : List ℕ) (n x : ℕ) → length bs ≡ n → range_has x a n ≡ false → write_bytes m a bs x ≡ m x
 write_bytes-outside m a bs n x long out = grind (arith, nat_tests)
+
+-- a number changes its own bytes alone
+pub store_number-outside : (m : ByteMap) (at size v x : ℕ) → range_has x at size ≡ false → store_number m at size v x ≡ m x
+store_number-outside m at size v x out = write_bytes-outside m at (low_bytes size v) size x (length-low_bytes size v) out
+
+-- and words theirs
+pub words_stored-outside : (m : ByteMap) (at x : ℕ) (ws : List ℕ) → range_has x at (4 * length ws) ≡ false → words_stored m at ws x ≡ m x
+words_stored-outside m at x [] out = refl
+words_stored-outside m at x (w ∷ ws) out =
+    words_stored-outside (store_number m at 4 w) (at + 4) x ws (grind (arith, nat_tests)) ∙ store_number-outside m at 4 w x (grind (arith, nat_tests))
 
 -- where the same bytes are put
 write_bytes-tells : (one other : ByteMap) (a : ℕ) (bs : List ℕ) (x : ℕ) → TellsNothingAt x one other (write_bytes one a bs) (write_bytes other a bs)
@@ -44,6 +54,10 @@ bytes_at-same one other a (suc len) same =
     let rest : bytes_at one (a + 1) len ≡ bytes_at other (a + 1) len = bytes_at-same one other (a + 1) len (λ x h. same x (grind (arith, nat_tests))) in
     rw (here, rest) refl
 
+-- a number is read from its own bytes alone
+pub load_number-same : (one other : ByteMap) (at size : ℕ) → AgreeWhere (λ x. range_has x at size) one other → load_number one at size ≡ load_number other at size
+load_number-same one other at size same = ap number_of (bytes_at-same one other at size same)
+
 -- a copy reads its source alone
 pub copy_bytes-tells : (one other : ByteMap) (from to len x : ℕ) → AgreeWhere (λ y. range_has y from len) one other
     → TellsNothingAt x one other (copy_bytes one from to len) (copy_bytes other from to len)
@@ -59,7 +73,7 @@ lengths_written-outside m at x [] out = refl
 lengths_written-outside m at x (v ∷ vs) out =
     or_false (nat_le (at + 4) x && nat_lt x (at + 8)) (length_word_has x (at + 8) (length vs)) out
     (λ here rest. lengths_written-outside (store_number m (at + 4) 4 v.moved) (at + 8) x vs rest
-    ∙ write_bytes-outside m (at + 4) (low_bytes 4 v.moved) 4 x (length-low_bytes 4 v.moved) (grind (arith, nat_tests)))
+    ∙ store_number-outside m (at + 4) 4 v.moved x (grind (arith, nat_tests)))
 
 tells-then : (x : ℕ) (one other one_next other_next one_after other_after : ByteMap) → TellsNothingAt x one other one_next other_next
     → TellsNothingAt x one_next other_next one_after other_after → TellsNothingAt x one other one_after other_after
@@ -117,10 +131,10 @@ span_at-same one other a same = both (load_number one a 4) (load_number other a 
   span b l = record { base = b; len = l; moved = 0 }
 
   base : load_number one a 4 ≡ load_number other a 4
-  base = ap number_of (bytes_at-same one other a 4 (λ x h. same x (grind (arith, nat_tests))))
+  base = load_number-same one other a 4 (λ x h. same x (grind (arith, nat_tests)))
 
   len : load_number one (a + 4) 4 ≡ load_number other (a + 4) 4
-  len = ap number_of (bytes_at-same one other (a + 4) 4 (λ x h. same x (grind (arith, nat_tests))))
+  len = load_number-same one other (a + 4) 4 (λ x h. same x (grind (arith, nat_tests)))
 
   both : (b c l n : ℕ) → b ≡ c → l ≡ n → span b l ≡ span c n
   both b c l n base len = ap (λ x. span x l) base ∙ ap (span c) len

@@ -1,8 +1,8 @@
 //! Which bytes the calls on vectors read and change, as laws over the definitions.
-ghost use Rattle.std.specs.Prelude.{◌≡◌, ℕ, ◌+◌, ◌≤◌, length, true, false, List};
+ghost use Rattle.std.specs.Prelude.{◌≡◌, ℕ, ◌+◌, ◌*◌, ◌≤◌, length, true, false, List};
 ghost use Rattle.ffm_model.specs.declared.objects.Span.{Span as SpanSeen};
 ghost use Rattle.ffm_model.specs.declared.system.System.{System as SystemSeen};
-ghost use Rattle.ffm_model.specs.Memory.{ByteMap, valid_buffer, vectors_of, copy_bytes, lengths_written};
+ghost use Rattle.ffm_model.specs.Memory.{ByteMap, valid_buffer, vectors_of, copy_bytes, lengths_written, load_number, store_number, words_stored};
 ghost use Rattle.ffm_model.specs.Reach.{span_has, length_word_has};
 ghost use Rattle.message_vectors.specs.Bytes.{range_has, ram_has, AgreeWhere, TellsNothingAt};
 
@@ -26,6 +26,23 @@ pub fn copy_changes_target()
 pub fn copy_tells_source()
     ensures { (one other : ByteMap) → (from to len x : ℕ) → AgreeWhere (λ y. range_has y from len) one other →
         TellsNothingAt x one other (copy_bytes one from to len) (copy_bytes other from to len) }
+{}
+
+/// Storing a number, as an actor does by itself, changes no byte outside of its `size` bytes.
+pub fn store_changes_range()
+    ensures { (m : ByteMap) → (at size v x : ℕ) → range_has x at size ≡ false → store_number m at size v x ≡ m x }
+{}
+
+/// Loading a number, as an actor does by itself, tells nothing of bytes outside of its `size` bytes:
+/// memories that agree in these give the same number.
+pub fn load_tells_range()
+    ensures { (one other : ByteMap) → (at size : ℕ) → AgreeWhere (λ x. range_has x at size) one other → load_number one at size ≡ load_number other at size }
+{}
+
+/// Storing words one behind the other, as `psa_get` does with the twelve of a `psa_msg_t`, changes no
+/// byte outside of them, four bytes a word.
+pub fn words_change_range()
+    ensures { (m : ByteMap) → (at x : ℕ) → (words : List ℕ) → range_has x at (4 * length words) ≡ false → words_stored m at words x ≡ m x }
 {}
 
 /// The lengths that a reply writes change no byte outside of the length words of the descriptors.

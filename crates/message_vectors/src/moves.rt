@@ -10,8 +10,10 @@ ghost use Rattle.message_vectors.specs.Vectors.{AreMovedWithin, AreWithin, input
 use ffm_model::{Fault, PSA_MAX_IOVEC, Span, Vectors};
 use memory_image::Image;
 
-/// Passes over bytes of an input vector: the lesser of `len` and what is left of it, which is
-/// answered.
+/// `psa_skip` (`psa/service.h`): passes over bytes of input vector `index`, which is below four.
+/// Answers their number, the lesser of `len` and what is left of the vector. No more was moved of any
+/// vector than it has, before the call and after it; where the vectors meet the condition on vectors,
+/// they do so afterwards.
 pub fn skip(vectors: &mut Vectors, index: u32, len: u32) -> u32
     requires index { index < PSA_MAX_IOVEC }
     requires moved { AreMovedWithin vectors.old }
@@ -36,8 +38,10 @@ fn next_byte(image: &Image, span: &Span) -> u32
     span.base + span.moved
 }
 
-/// Copies bytes of an input vector to a buffer: the lesser of `len` and what is left of it, which is
-/// answered, as if all were read before the first one is written.
+/// `psa_read` (`psa/service.h`): copies the next bytes of input vector `index`, which is below four,
+/// to the buffer, as if all were read before the first one is written. Answers their number, the
+/// lesser of `len` and what is left of the vector. All `len` bytes of the buffer lie in one region,
+/// and the vectors meet the condition on vectors, before the call and after it.
 pub fn read(image: &mut Image, vectors: &mut Vectors, index: u32, buffer: u32, len: u32) -> u32
     requires index { index < PSA_MAX_IOVEC }
     requires within { AreWithin (regions_of image.old) vectors.old }
@@ -75,8 +79,11 @@ fn advance(vectors: &mut Vectors, index: u32, len: u32) -> Result<(), Fault>
     Ok(())
 }
 
-/// Copies the `len` bytes of a buffer to an output vector, behind what was written of it. Fault
-/// exactly where they are more than what is left of it.
+/// `psa_write` (`psa/service.h`): copies the `len` bytes of the buffer to output vector `index`, which
+/// is below four, behind what was written of it, as if all were read before the first one is
+/// written. All `len` bytes of the buffer lie in one region, and the vectors meet the condition on
+/// vectors, before the call and after it. Fault exactly where the bytes are more than what is left of
+/// the vector, and then memory and vectors are as before.
 pub fn write(
     image: &mut Image,
     vectors: &mut Vectors,
@@ -115,8 +122,9 @@ fn put_lengths(image: &mut Image, at: u32, spans: &[Span])
     }
 }
 
-/// Tells the client how much was written of each given output vector: the number of bytes goes into
-/// the length word of its descriptor, in order.
+/// What `psa_reply` (`psa/service.h`) tells the client: how many bytes were written of each given
+/// output vector. The number goes into the length word of the vector's descriptor, in order, and no
+/// other byte changes. The vectors meet the condition on vectors.
 pub fn finish(image: &mut Image, vectors: &Vectors)
     requires { AreWithin (regions_of image.old) vectors.now }
     ensures bytes { byte_at image.new ≡ lengths_written (byte_at image.old) vectors.now.out_vec (take vectors.now.out_len vectors.now.output) }

@@ -1,0 +1,5 @@
+use Rattle.message_vectors.proofs.Reached.{store_number-outside}
+use Rattle.message_vectors.proofs.laws.store_changes_range.Goals as goal
+
+pub returns : goal.returns
+returns c = store_number-outside
