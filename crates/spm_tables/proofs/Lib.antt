@@ -1,0 +1,6 @@
+pub mod SignalLemmas
+pub mod SystemLemmas
+pub mod MessageLemmas
+pub mod QueueLemmas
+pub mod QueueUpdates
+pub mod QueueMessages

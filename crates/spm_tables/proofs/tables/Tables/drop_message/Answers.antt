@@ -1,0 +1,14 @@
+use Rattle.spm_tables.proofs.QueueMessages.{keeps-out}
+use Rattle.spm_tables.proofs.MessageLemmas.{dropped-state}
+use Rattle.spm_tables.specs.contracts.tables.Tables.{the_view}
+use Rattle.spm_tables.proofs.tables.Tables.drop_message.Goals as goal
+
+pub returns-clause-state : goal.returns-clause-state
+returns-clause-state c =
+    rw (← c.self.view_is, c.put_back-item.ensures.rest)
+    (λ on. dropped-state (the_view c.self.inside) c.args.slot c.put_back-item.result c.law.ensures c.put_back-item.ensures.item on)
+
+pub invariant_of-self : goal.invariant_of-self
+invariant_of-self c =
+    rw (c.put_back-item.ensures.rest, c.leave.ensures.links, c.leave.ensures.ends)
+    (keeps-out c.self.inside.messages c.self.inside.services.items c.self.inside.links.items c.self.inside.ends.items c.args.slot c.put_back-item.result c.law.ensures c.self.invariant c.put_back-item.ensures.item)

@@ -1,0 +1,135 @@
+//! Queues of indices, threaded through links.
+
+ghost use Rattle.std.specs.Prelude.{◌≡◌, slice_set, if◌then◌else◌};
+ghost use Rattle.spm_tables.specs.Queues.{link_at, ends_at, with_after, with_before, joined, unlinked, joined_ends, unlinked_ends};
+
+use crate::item::MessageItem;
+
+/// The indices before and after one in its queue.
+#[derive(Clone, Copy, Debug)]
+pub(crate) struct Link {
+    pub(crate) before: Option<u32>,
+    pub(crate) after: Option<u32>,
+}
+
+/// The first and the last index of a queue.
+#[derive(Clone, Copy, Debug)]
+pub(crate) struct Ends {
+    pub(crate) first: Option<u32>,
+    pub(crate) last: Option<u32>,
+}
+
+pub(crate) const NO_LINK: Link = Link {
+    before: None,
+    after: None,
+};
+
+pub(crate) const NO_ENDS: Ends = Ends {
+    first: None,
+    last: None,
+};
+
+fn link_at(links: &[Link], index: u32) -> Link
+    ensures { result ≡ link_at links.now index }
+{
+    match links.get(index as usize) {
+        Some(link) => *link,
+        None => NO_LINK,
+    }
+}
+
+pub(crate) fn ends_at(ends: &[Ends], service: usize) -> Ends
+    ensures { result ≡ ends_at ends.now service }
+{
+    match ends.get(service) {
+        Some(ends) => *ends,
+        None => NO_ENDS,
+    }
+}
+
+fn put_link(links: &mut Vec<Link>, index: u32, link: Link)
+    ensures { links.new.items ≡ slice_set links.old.items index link }
+{
+    let at = index as usize;
+    if at < links.len() {
+        links[at] = link;
+    }
+}
+
+fn put_ends(ends: &mut Vec<Ends>, service: u32, set: Ends)
+    ensures { ends.new.items ≡ slice_set ends.old.items service set }
+{
+    let at = service as usize;
+    if at < ends.len() {
+        ends[at] = set;
+    }
+}
+
+fn set_after(links: &mut Vec<Link>, index: Option<u32>, after: Option<u32>)
+    ensures { links.new.items ≡ with_after index after links.old.items }
+{
+    if let Some(index) = index {
+        let before = link_at(links.as_slice(), index).before;
+        put_link(links, index, Link { before, after });
+    }
+}
+
+fn set_before(links: &mut Vec<Link>, index: Option<u32>, before: Option<u32>)
+    ensures { links.new.items ≡ with_before index before links.old.items }
+{
+    if let Some(index) = index {
+        let after = link_at(links.as_slice(), index).after;
+        put_link(links, index, Link { before, after });
+    }
+}
+
+/// Puts an index last into the queue of a service.
+pub(crate) fn join(links: &mut Vec<Link>, ends: &mut Vec<Ends>, service: u32, index: u32)
+    ensures links { links.new.items ≡ joined links.old.items (ends_at ends.old.items service).last index }
+    ensures ends { ends.new.items ≡ slice_set ends.old.items service (joined_ends (ends_at ends.old.items service) index) }
+{
+    let old = ends_at(ends.as_slice(), service as usize);
+    let before = old.last;
+    let after = None;
+    put_link(links, index, Link { before, after });
+    set_after(links, before, Some(index));
+    let first = if old.first.is_none() {
+        Some(index)
+    } else {
+        old.first
+    };
+    let last = Some(index);
+    put_ends(ends, service, Ends { first, last });
+}
+
+/// Takes a message that goes out of its queue, where it waits in one.
+pub(crate) fn leave(links: &mut Vec<Link>, ends: &mut Vec<Ends>, item: &MessageItem, index: u32)
+    ensures links { links.new.items ≡ (if item.now.delivered then links.old.items else unlinked links.old.items (link_at links.old.items index)) }
+    ensures ends { ends.new.items ≡ (if item.now.delivered then ends.old.items else slice_set ends.old.items item.now.service (unlinked_ends (ends_at ends.old.items item.now.service) (link_at links.old.items index))) }
+{
+    if !item.delivered {
+        unlink(links, ends, item.service, index);
+    }
+}
+
+/// Takes an index out of the queue of a service.
+pub(crate) fn unlink(links: &mut Vec<Link>, ends: &mut Vec<Ends>, service: u32, index: u32)
+    ensures links { links.new.items ≡ unlinked links.old.items (link_at links.old.items index) }
+    ensures ends { ends.new.items ≡ slice_set ends.old.items service (unlinked_ends (ends_at ends.old.items service) (link_at links.old.items index)) }
+{
+    let link = link_at(links.as_slice(), index);
+    set_after(links, link.before, link.after);
+    set_before(links, link.after, link.before);
+    let old = ends_at(ends.as_slice(), service as usize);
+    let first = if link.before.is_none() {
+        link.after
+    } else {
+        old.first
+    };
+    let last = if link.after.is_none() {
+        link.before
+    } else {
+        old.last
+    };
+    put_ends(ends, service, Ends { first, last });
+}
