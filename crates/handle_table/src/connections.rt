@@ -20,8 +20,11 @@ use std::marker::Model;
 pub struct Connection {
     /// The client.
     pub owner: ActorId,
+    /// The service's place in the system's list of services, counted from 0.
     pub service: u32,
+    /// What it does.
     pub phase: ConnPhase,
+    /// What its service set by `psa_set_rhandle`; 0 before.
     pub rhandle: u32,
     /// How many connections were started before it.
     pub serial: u32,

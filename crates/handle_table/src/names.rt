@@ -10,9 +10,10 @@ ghost use Rattle.handle_table.specs.Handles.{IsPast, TakesNextName, GivesFresh, 
 
 use object_pools::Pool;
 
-/// Says that a handle is new when it is told, though slots are used again. It does nothing.
+/// Says that a handle is new when it is told, though slots are used again: an empty pool begins so, and each call keeps it. It does nothing.
 pub fn fresh_law<T: Copy>(pool: &Pool<T, 256>)
-    ensures { (f : Family) (told : T → Bool) (given : List Handle) → GivesFresh f told pool.now given → StaysFresh f told pool.now given }
+    ensures none { (f : Family) (told : T → Bool) (size : ℕ) → GivesFresh f told (empty size) [] }
+    ensures keeps { (f : Family) (told : T → Bool) (given : List Handle) → GivesFresh f told pool.now given → StaysFresh f told pool.now given }
 {
     pool.law();
 }

@@ -1,4 +1,5 @@
 -- Where a pool keeps its items: an item stays in the cell of its index, and the order of the takes is a list of indices.
+-- Source: of this repository; what it stores makes up the pool that contracts see.
 use Rattle.std.specs.Prelude.{◌≡◌, ℕ, ◌≤◌, ◌<◌, ◌^◌, ◌==◌, true, is_some, if◌then◌else◌, List, length, Option, None, map, count_by, get_or, slice_get, option_and_then}
 use Rattle.std.specs.List.{filter_map}
 use Rattle.std.specs.Option.{option_map}

@@ -1,4 +1,5 @@
 -- What a pool ends as, where a `&mut` to an item is returned.
+-- Source: of this repository; it serves the call that lends a live item for writing.
 use Rattle.std.specs.Prelude.{Option}
 use Rattle.std.specs.Borrow.{LendsIf, Fml, RattleType, MutBor}
 use Rattle.object_pools.specs.declared.slot.Slot.{Slot}

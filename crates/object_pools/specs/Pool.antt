@@ -1,4 +1,5 @@
 -- What contracts see of a pool: for each index the last generation that it gave, the live items, and how many takes there were.
+-- Source: of this repository; FF-M 1.0 leaves open how a manager keeps its connections and messages.
 use Rattle.std.specs.Prelude.{◌≡◌, ℕ, ◌+◌, ◌<◌, ◌≤◌, ◌==◌, Bool, not, ◌&&◌, if◌then◌else◌, List, [], ◌∷◌, ◌++◌, length, Option, Some, None, Result, Ok, Err, find, map, filter, replicate, slice_set, get_or, count_by, All}
 use Rattle.std.specs.List.{list_any, range_with_len}
 use Rattle.std.specs.Option.{option_map}

@@ -12,6 +12,8 @@ pub struct Slot {
 /// A live item with its slot.
 #[derive(Clone, Copy, Debug, Default, PartialEq, Eq)]
 pub struct Held<T> {
+    /// Its name.
     pub slot: Slot,
+    /// The item itself.
     pub item: T,
 }

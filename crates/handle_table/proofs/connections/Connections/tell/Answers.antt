@@ -12,7 +12,7 @@ invariant_of-self c =
     let live = rw (← c.self.view_is) at c.open_at-connection.ensures.item in
     rw c.set.ensures
     (IsTable-put _ c.self.inside.pool c.args.slot c.open_at-connection.result (λ d. record d { handle = Some c.handle_of-handle.result }) (λ d. refl) kept c.self.invariant live
-    c.handle_of-handle.ensures)
+    c.handle_of-handle.ensures.value)
 
 pub returns-clause-state : goal.returns-clause-state
 returns-clause-state c =
