@@ -1,4 +1,5 @@
 //! The listing of one system with a line of each form.
+ghost use Rattle.std.specs.Prelude.{◌≤◌, length, IfOk};
 
 use crate::listing;
 use ffm_model::{
@@ -58,7 +59,9 @@ fn region(base: u32, size: u32, class: Class) -> Region {
     Region { base, size, class }
 }
 
-fn regions(alloc: Global) -> Result<Vec<Region>, AllocError> {
+fn regions(alloc: Global) -> Result<Vec<Region>, AllocError>
+    ensures { IfOk result (λ regions. length regions.items ≤ 3) }
+{
     let mmio = Class::Mmio {
         owner: 0,
         writable: true,
