@@ -4,3 +4,4 @@ pub mod MessageLemmas
 pub mod QueueLemmas
 pub mod QueueUpdates
 pub mod QueueMessages
+pub mod WordLemmas

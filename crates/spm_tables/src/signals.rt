@@ -5,10 +5,11 @@ ghost use Rattle.ffm_model.specs.Signals.{union_of};
 ghost use Rattle.spm_tables.specs.Desk.{asserted, service_signal, source_signal};
 ghost use Rattle.spm_tables.specs.Queues.{ends_at};
 ghost use Rattle.ffm_model.specs.State.{no_flags};
-ghost use Rattle.std.specs.Prelude.{get_or};
+ghost use Rattle.std.specs.Prelude.{get_or, false, if◌then◌else◌};
+ghost use Rattle.spm_tables.specs.Words.{owner_at, with_word, word_of};
 
 use crate::queues::{Ends, ends_at};
-use ffm_model::{Memory, Service, Source, SourceFlags};
+use ffm_model::{Memory, PSA_DOORBELL, Service, Source, SourceFlags};
 use std::alloc::Global;
 
 /// Whose a signal is, and its bit.
@@ -85,4 +86,56 @@ pub(crate) fn source_word(sources: &[OwnedSignal], flags: &[SourceFlags], partit
         }
     }
     word
+}
+
+fn doorbell_word(doorbells: &[bool], partition: u32) -> u32
+    ensures { result ≡ (if get_or doorbells.now partition false then PSA_DOORBELL else 0) }
+{
+    match doorbells.get(partition as usize) {
+        Some(true) => PSA_DOORBELL,
+        _ => 0,
+    }
+}
+
+// The partition that has the signal of that place.
+pub(crate) fn owner_at(signals: &[OwnedSignal], place: u32) -> Option<u32>
+    ensures { result ≡ owner_at signals.now place }
+{
+    match signals.get(place as usize) {
+        Some(signal) => Some(signal.owner),
+        None => None,
+    }
+}
+
+// The word of a partition; no signal where there is no such partition.
+pub(crate) fn word_at(words: &[u32], partition: u32) -> u32
+    ensures { result ≡ get_or words.now partition 0 }
+{
+    match words.get(partition as usize) {
+        Some(word) => *word,
+        None => 0,
+    }
+}
+
+// Makes the word of a partition anew, if one is meant and there.
+pub(crate) fn refresh(
+    words: &mut Vec<u32>,
+    partition: Option<u32>,
+    services: &[OwnedSignal],
+    ends: &[Ends],
+    doorbells: &[bool],
+    sources: &[OwnedSignal],
+    flags: &[SourceFlags],
+)
+    ensures { words.new.items ≡ with_word partition (word_of services.now ends.now doorbells.now sources.now flags.now) words.old.items }
+{
+    if let Some(partition) = partition {
+        let at = partition as usize;
+        if at < words.len() {
+            let services = service_word(services, ends, partition);
+            let doorbell = doorbell_word(doorbells, partition);
+            let sources = source_word(sources, flags, partition);
+            words[at] = services | (doorbell | sources);
+        }
+    }
 }

@@ -1,6 +1,7 @@
 use Rattle.std.proofs.Common.{rules}
 use Rattle.std.proofs.Common.{sym, ◌∙◌}
 use Rattle.spm_tables.proofs.QueueMessages.{first-is, keeps-oldest}
+use Rattle.spm_tables.proofs.WordLemmas.{keeps-leave}
 use Rattle.spm_tables.proofs.MessageLemmas.{oldest-of, none-oldest, oldest-item, oldest-message, delivered-state, live-put}
 use Rattle.spm_tables.specs.contracts.tables.Tables.{the_view}
 use Rattle.spm_tables.proofs.tables.Tables.dequeue.Goals as goal
@@ -24,10 +25,12 @@ pub returns-clause-live : goal.returns-clause-live
 returns-clause-live c = rw (c.set.ensures, live-put c.self.inside.messages c.in-Some.slot c.live_item-item.result _ c.live_item-item.ensures) (search rules)
 
 pub oldest-requires : goal.oldest-requires
-oldest-requires c = rw c.as_slice.ensures.value (first-is c.self.inside.messages c.self.inside.services.items c.self.inside.links.items c.self.inside.ends.items c.args.service c.self.invariant)
+oldest-requires c = rw c.as_slice.ensures.value (first-is c.self.inside.messages c.self.inside.services.items c.self.inside.links.items c.self.inside.ends.items c.args.service c.self.invariant.0)
 
 pub invariant_of-self : goal.invariant_of-self
 invariant_of-self c =
-    rw (c.set.ensures, c.leave.ensures.links, c.leave.ensures.ends)
-    (keeps-oldest c.self.inside.messages c.self.inside.services.items c.self.inside.links.items c.self.inside.ends.items c.args.service c.in-Some.slot c.live_item-item.result c.law.ensures c.self.invariant
-    (oldest-of c.self.inside.messages c.args.service c.in-Some.slot c.law.ensures c.in-Some.ensures) c.live_item-item.ensures)
+    rw (c.refresh.ensures, c.as_slice-3.ensures.value, c.as_slice-4.ensures.value, c.as_slice-5.ensures.value, c.as_slice-6.ensures.value, c.as_slice-7.ensures.value, c.owner_at-owner.ensures, c.as_slice-2.ensures.value, c.set.ensures, c.leave.ensures.links, c.leave.ensures.ends) (
+      keeps-oldest c.self.inside.messages c.self.inside.services.items c.self.inside.links.items c.self.inside.ends.items c.args.service c.in-Some.slot c.live_item-item.result c.law.ensures c.self.invariant.0
+          (oldest-of c.self.inside.messages c.args.service c.in-Some.slot c.law.ensures c.in-Some.ensures) c.live_item-item.ensures,
+      keeps-leave c.self.inside.services.items c.self.inside.sources.items c.self.inside.ends.items c.self.inside.doorbells.items c.self.inside.flags.items c.self.inside.words.items c.live_item-item.result.service _ c.live_item-item.result.delivered c.self.invariant.1,
+    )

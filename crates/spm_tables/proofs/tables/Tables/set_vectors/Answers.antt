@@ -10,5 +10,7 @@ returns-clause-state c =
 
 pub invariant_of-self : goal.invariant_of-self
 invariant_of-self c =
-    rw c.set.ensures
-    (keeps-vectors c.self.inside.messages c.self.inside.services.items c.self.inside.links.items c.self.inside.ends.items c.args.slot c.live_item-item.result c.args.vectors c.law.ensures c.self.invariant c.live_item-item.ensures)
+    rw c.set.ensures (
+      keeps-vectors c.self.inside.messages c.self.inside.services.items c.self.inside.links.items c.self.inside.ends.items c.args.slot c.live_item-item.result c.args.vectors c.law.ensures c.self.invariant.0 c.live_item-item.ensures,
+      c.self.invariant.1,
+    )
