@@ -1,6 +1,6 @@
 //! The connections of a manager.
 
-ghost use Rattle.std.specs.Prelude.{◌≡◌, ◌<◌, ◌≤◌, ◌==◌, ◌&&◌, ◌↔◌, length, IsTrue, IsSome, IfSome, Some, find, All, option_and_then, nat_le};
+ghost use Rattle.std.specs.Prelude.{◌≡◌, ◌<◌, ◌≤◌, ◌==◌, ◌&&◌, ◌↔◌, length, IsTrue, IsSome, IfSome, Some, find, All, option_and_then, nat_le, slice_get};
 ghost use Rattle.ffm_model.specs.State.{connection_held, in_use, has_handle, with_connection_phase, with_rhandle, with_connection_handle, without_connection};
 ghost use Rattle.ffm_model.specs.ClientCalls.{new_connection};
 ghost use Rattle.object_pools.specs.Pool.{Places, empty, taken, free_slot, item_at, without, with_item, IsKept};
@@ -12,7 +12,7 @@ ghost use Rattle.handle_table.specs.Table.{connections, spm_of, with_started, co
 
 use crate::handles::{Family, handle_of, slot_of};
 use ffm_model::{ActorId, ConnPhase, Handle, OpenConnection};
-use object_pools::{Pool, Slot};
+use object_pools::{Held, Pool, Slot};
 use std::marker::Model;
 
 /// What is told of a connection.
@@ -133,6 +133,14 @@ impl Connections {
         ensures { IsTrue result ↔ IsSome (item_at self.now slot) }
     {
         self.pool.get(slot).is_some()
+    }
+
+    /// The connection at a place in the order of the starts, counted from 0, with its slot, in constant time.
+    pub fn nth(&self, place: u32) -> Held<OpenConnection>
+        requires { place < length self.now.held }
+        ensures { slice_get self.now.held place ≡ Some result }
+    {
+        self.pool.nth(place)
     }
 
     /// An Opening connection with rhandle 0, no handle told, and the next serial number, in the slot that is free.

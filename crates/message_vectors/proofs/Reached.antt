@@ -36,7 +36,7 @@ words_stored-outside m at x (w ∷ ws) out =
     words_stored-outside (store_number m at 4 w) (at + 4) x ws (grind (arith, nat_tests)) ∙ store_number-outside m at 4 w x (grind (arith, nat_tests))
 
 -- where the same bytes are put
-write_bytes-tells : (one other : ByteMap) (a : ℕ) (bs : List ℕ) (x : ℕ) → TellsNothingAt x one other (write_bytes one a bs) (write_bytes other a bs)
+pub write_bytes-tells : (one other : ByteMap) (a : ℕ) (bs : List ℕ) (x : ℕ) → TellsNothingAt x one other (write_bytes one a bs) (write_bytes other a bs)
 write_bytes-tells one other a bs x = by_test (range_has x a (length bs)) refl where
   by_test : (b : Bool) → range_has x a (length bs) ≡ b → TellsNothingAt x one other (write_bytes one a bs) (write_bytes other a bs)
   by_test true inside = inl (rw inside refl)
@@ -75,7 +75,7 @@ lengths_written-outside m at x (v ∷ vs) out =
     (λ here rest. lengths_written-outside (store_number m (at + 4) 4 v.moved) (at + 8) x vs rest
     ∙ store_number-outside m (at + 4) 4 v.moved x (grind (arith, nat_tests)))
 
-tells-then : (x : ℕ) (one other one_next other_next one_after other_after : ByteMap) → TellsNothingAt x one other one_next other_next
+pub tells-then : (x : ℕ) (one other one_next other_next one_after other_after : ByteMap) → TellsNothingAt x one other one_next other_next
     → TellsNothingAt x one_next other_next one_after other_after → TellsNothingAt x one other one_after other_after
 tells-then x one other one_next other_next one_after other_after first (inl same) = inl same
 tells-then x one other one_next other_next one_after other_after (inl same) (inr kept) = inl (kept.0 ∙ same ∙ sym kept.1)

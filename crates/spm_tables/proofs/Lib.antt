@@ -5,3 +5,4 @@ pub mod QueueLemmas
 pub mod QueueUpdates
 pub mod QueueMessages
 pub mod WordLemmas
+pub mod SlotLemmas

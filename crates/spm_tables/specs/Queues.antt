@@ -1,4 +1,5 @@
 -- Queues of indices, threaded by what comes before and after each index.
+-- Source: FF-M 1.0, messages of a service are delivered in order of arrival; the links are this manager's.
 use Rattle.std.specs.Prelude.{◌≡◌, ℕ, ◌<◌, List, [], ◌∷◌, length, Option, Some, None, get_or, slice_set, map, filter, All, is_none, if◌then◌else◌}
 use Rattle.object_pools.specs.Pool.{Places}
 use Rattle.spm_tables.specs.declared.queues.Link.{Link}

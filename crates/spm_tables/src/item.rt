@@ -16,7 +16,7 @@ pub struct MessageItem {
     /// The place of its service.
     pub service: u32,
     pub client: ActorId,
-    /// The slot of its connection; None where that connection is gone.
+    /// The slot of its connection, as long as that is there.
     pub connection: Option<Slot>,
     /// The serial number of its connection.
     pub serial: u32,

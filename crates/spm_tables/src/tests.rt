@@ -1,6 +1,6 @@
 //! Tables beside a plain list of messages.
 
-ghost use Rattle.std.specs.Prelude.{◌≡◌, false, length, IfOk};
+ghost use Rattle.std.specs.Prelude.{◌≡◌, false, length, IfOk, Some};
 
 use crate::{MessageItem, Tables};
 use ffm_model::{
@@ -87,16 +87,18 @@ fn system(alloc: Global) -> Result<System, Fail> {
     Ok(made.ok_or("the parts don't fit")?)
 }
 
-fn request(service: u32, kind: i32) -> MessageItem
+fn request(connection: Slot, serial: u32, service: u32, kind: i32) -> MessageItem
     ensures service { result.service ≡ service }
+    ensures connection { result.connection ≡ Some connection }
+    ensures serial { result.serial ≡ serial }
     ensures delivered { result.delivered ≡ false }
 {
     let none = Span::default();
     MessageItem {
         service,
         client: CLIENT,
-        connection: None,
-        serial: 0,
+        connection: Some(connection),
+        serial,
         kind,
         vectors: Vectors {
             input: [none; 4],
@@ -108,11 +110,27 @@ fn request(service: u32, kind: i32) -> MessageItem
     }
 }
 
-fn enqueue(rt: &impl Abort, tables: &mut Tables, service: u32, kind: i32) -> Slot {
+fn start(rt: &impl Abort, tables: &mut Tables) -> Slot {
+    assert!(rt; tables.connections().live() < tables.connections().size());
+    assert!(rt; tables.connections().made() < 1000);
+    tables.start(CLIENT, 0)
+}
+
+// Sends a message of a connection.
+fn enqueue(
+    rt: &impl Abort,
+    tables: &mut Tables,
+    connection: Slot,
+    service: u32,
+    kind: i32,
+) -> Slot {
     assert!(rt; tables.has_service(service));
     assert!(rt; tables.messages().live() < tables.messages().size());
     assert!(rt; tables.messages().takes() < 1000);
-    tables.enqueue(request(service, kind))
+    assert!(rt; tables.connections().is_live(connection));
+    let serial = tables.connections().connection(connection).serial;
+    tables.law();
+    tables.enqueue(request(connection, serial, service, kind))
 }
 
 fn message(rt: &impl Abort, tables: &Tables, slot: Slot) -> MessageItem {
@@ -164,13 +182,14 @@ fn expected_signals(plain: &[Plain]) -> u32 {
 fn does_what_a_plain_list_does(rt: HostRuntime) -> Result<(), Fail> {
     let system = system(rt.alloc())?;
     let mut tables = Tables::new(rt.alloc(), &system)?;
+    let connection = start(&rt, &mut tables);
     let mut plain: Vec<Plain> = Vec::new(rt.alloc());
     for (place, step) in STEPS.iter().enumerate() {
         match step {
             b'a' | b'b' => {
                 let service: u32 = if *step == b'a' { 0 } else { 1 };
                 let kind = *step as i32;
-                let slot = enqueue(&rt, &mut tables, service, kind);
+                let slot = enqueue(&rt, &mut tables, connection, service, kind);
                 plain.push(Plain {
                     slot,
                     service,
@@ -225,16 +244,14 @@ fn signals_and_handles(rt: HostRuntime) -> Result<(), Fail> {
     tables.set_source_flags(0, asserted);
     assert_eq!(rt; tables.source_flags(0), asserted);
     assert_eq!(rt; tables.signals(VAULT), PSA_DOORBELL | 0x40);
-    let slot = enqueue(&rt, &mut tables, 1, 7);
+    let connection = start(&rt, &mut tables);
+    let slot = enqueue(&rt, &mut tables, connection, 1, 7);
     assert_eq!(rt; tables.message_to(1), Some(slot));
     assert_eq!(rt; tables.message_to(0), None);
     assert_eq!(rt; tables.find_message(VAULT, Handle(1536)), None);
     assert_eq!(rt; tables.dequeue(1), Some(slot));
     assert_eq!(rt; tables.find_message(VAULT, Handle(1536)), Some(slot));
     assert_eq!(rt; tables.find_message(CLIENT, Handle(1536)), None);
-    assert!(rt; tables.connections().live() < tables.connections().size());
-    assert!(rt; tables.connections().made() < 1000);
-    let connection = tables.start(CLIENT, 0);
     assert!(rt; tables.connections().is_live(connection));
     tables.set_connection_phase(connection, ConnPhase::Idle);
     assert!(rt; tables.connections().is_live(connection));

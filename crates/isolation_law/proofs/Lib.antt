@@ -1,0 +1,7 @@
+mod Tests
+mod Effects
+pub mod Reached
+pub mod Steps
+pub mod Changed
+pub mod Told
+pub mod Within

@@ -1,0 +1,255 @@
+-- What a single change of the tables does to their names.
+use Rattle.std.proofs.Common.{ℕ, zero, suc, ◌≡◌, ◌<◌, ◌≤◌, ◌+◌, ◌==◌, Bool, true, false, cond, not, ◌&&◌, ◌||◌, List, [], ◌∷◌, ◌++◌, length, map, get_or, arith, ◌∙◌, ap, sym, refl, subst, length-append}
+use Rattle.std.specs.Prelude.{ℤ, All, Option, Some, None, count_by, find}
+use Rattle.std.specs.Ordering.{int_eq}
+use Rattle.std.specs.List.{list_any, filter_map, cons_option}
+use Rattle.std.proofs.Math.Seq.{get_or-append_seam}
+use Rattle.std.proofs.lemmas.List.{get_or_append_left}
+use Rattle.std.proofs.lemmas.List.Elements.{All-cons, All-head, All-map, All-nil, All-push, All-tail, All-weaker, All-filter}
+use Rattle.ffm_model.specs.declared.objects.OpenConnection.{OpenConnection}
+use Rattle.ffm_model.specs.Names.{NamesSoFar, SlotName, next_slot, no_slot, with_messages}
+use Rattle.object_pools.specs.declared.slot.Slot.{Slot}
+use Rattle.object_pools.specs.declared.slot.Held.{Held}
+use Rattle.object_pools.specs.Pool.{Places, IsKept, free_slot, has_slot, item_at, item_put, taken, with_item, without}
+use Rattle.object_pools.proofs.Counts.{bit, count-cons}
+use Rattle.handle_table.specs.Handles.{live_names, slot_name}
+use Rattle.handle_table.specs.Table.{IsTable, Rises, connections}
+use Rattle.handle_table.proofs.NameLemmas.{next-name, past-after}
+use Rattle.handle_table.proofs.SlotLemmas.{held-of, one_slot}
+use Rattle.handle_table.proofs.TableLemmas.{rises-bounds}
+use Rattle.spm_tables.specs.declared.item.MessageItem.{MessageItem}
+use Rattle.spm_tables.specs.Desk.{Desk}
+use Rattle.slot_names.specs.Named.{NamesAre, IsNamedBy}
+use Rattle.slot_names.specs.Changes.{Relinks, Rewaits, is_like}
+use Rattle.slot_names.proofs.Kept.{name_list}
+
+-- ---- pools that change without a take
+
+pub relinks-same : (old new : Places OpenConnection) → new ≡ old → Relinks old new
+relinks-same old new same = record {
+  generations = ap (λ (p : Places OpenConnection). p.generations) same;
+  takes = ap (λ (p : Places OpenConnection). p.takes) same;
+  held = λ ts named. subst (λ (p : Places OpenConnection). All (IsNamedBy ts) p.held) (sym same) named;
+}
+
+-- by another name of the new one
+pub relinks-to : (old new changed : Places OpenConnection) → new ≡ changed → Relinks old changed → Relinks old new
+relinks-to old new changed same it = subst (Relinks old) (sym same) it
+
+pub relinks-trans : (old mid new : Places OpenConnection) → Relinks old mid → Relinks mid new → Relinks old new
+relinks-trans old mid new one two = record {
+  generations = two.generations ∙ one.generations;
+  takes = two.takes ∙ one.takes;
+  held = λ ts named. two.held ts (one.held ts named);
+}
+
+-- ---- an item changes in its slot
+
+module _ {T : Type 0} where
+  none-passes : (p : Held T → Bool) (Q : Held T → Type 0) (hs : List (Held T)) → count_by p hs ≡ 0 → All (λ x. p x ≡ true → Q x) hs
+  none-passes p Q [] none = All-nil (λ x. p x ≡ true → Q x)
+  none-passes p Q (y ∷ ys) none =
+      let split : bit (p y) + count_by p ys ≡ 0 = sym (count-cons p y ys) ∙ none in
+      All-cons (λ x. p x ≡ true → Q x) y ys (λ e. absurd (omega (arith, ap bit e, split))) (none-passes p Q ys (omega (arith, split)))
+
+  -- where one item at most passes, each that passes is the one that is found
+  only-found : (p : Held T → Bool) (hs : List (Held T)) (h : Held T) → find p hs ≡ Some h → count_by p hs ≤ 1 → All (λ x. p x ≡ true → x.item ≡ h.item) hs
+  only-found p [] h found one = All-nil (λ x. p x ≡ true → x.item ≡ h.item)
+  only-found p (y ∷ ys) h found one =
+      let few : bit (p y) + count_by p ys ≤ 1 = omega (arith, count-cons p y ys, one) in
+      let go : (b : Bool) → p y ≡ b → bit b + count_by p ys ≤ 1 → cond b (Some y) (find p ys) ≡ Some h → All (λ x. p x ≡ true → x.item ≡ h.item) (y ∷ ys) =
+      elim [
+        | true ↦ λ e n f.
+            let it : y ≡ h = cc in
+            All-cons (λ x. p x ≡ true → x.item ≡ h.item) y ys (λ g. ap (λ (z : Held T). z.item) it) (none-passes p (λ x. x.item ≡ h.item) ys (omega (arith, n)))
+        | false ↦ λ e n f.
+            All-cons (λ x. p x ≡ true → x.item ≡ h.item) y ys (λ g. cc) (only-found p ys h f (omega (arith, n)))
+      ] in
+      go (p y) refl few found
+
+  -- what is live in a slot is its one item
+  pub only-item : (capacity : ℕ) (p : Places T) (s : Slot) (c : T) → IsKept capacity p → item_at p s ≡ Some c → All (λ h. has_slot s h ≡ true → h.item ≡ c) p.held
+  only-item capacity p s c kept live =
+      let it = held-of p s c live in
+      All-weaker (λ h. has_slot s h ≡ true → h.item ≡ it.0.item) (λ h. has_slot s h ≡ true → h.item ≡ c) (λ h same e. same e ∙ it.2) p.held
+      (only-found (has_slot s) p.held it.0 it.1 (one_slot capacity p s kept))
+
+  put-slot : (s : Slot) (x : T) (h : Held T) → (item_put s x h).slot ≡ h.slot
+  put-slot s x h =
+      let go : (b : Bool) → (cond {A = Held T} b (record h { item = x }) h).slot ≡ h.slot = elim [ true ↦ refl | false ↦ refl ] in
+      go (has_slot s h)
+
+put-named : (ts : List SlotName) (s : Slot) (c : OpenConnection) (h : Held OpenConnection) → (has_slot s h ≡ true → h.item.serial ≡ c.serial) → IsNamedBy ts h → IsNamedBy ts (item_put s c h)
+put-named ts s c h same named =
+    let go : (b : Bool) → has_slot s h ≡ b → IsNamedBy ts (cond {A = Held OpenConnection} b (record h { item = c }) h) =
+    elim [ true ↦ λ e. ap (λ n. get_or ts n no_slot) (sym (same e)) ∙ named | false ↦ λ e. named ] in
+    go (has_slot s h) refl
+
+pub relinks-item : (capacity : ℕ) (p : Places OpenConnection) (s : Slot) (c changed : OpenConnection) → IsKept capacity p → item_at p s ≡ Some c → changed.serial ≡ c.serial → Relinks p (with_item p s changed)
+relinks-item capacity p s c changed kept live serial = record {
+  generations = refl;
+  takes = refl;
+  held = λ ts named.
+      All-map (IsNamedBy ts) (item_put s changed) p.held
+      (λ k d lt. put-named ts s changed (get_or p.held k d) (λ e. ap (λ (x : OpenConnection). x.serial) (only-item capacity p s c kept live k d lt e) ∙ sym serial) (named k d lt));
+}
+
+pub relinks-without : (p : Places OpenConnection) (s : Slot) → Relinks p (without p s)
+relinks-without p s = record {
+  generations = refl;
+  takes = refl;
+  held = λ ts named. All-filter (λ h. not (has_slot s h)) (IsNamedBy ts) p.held named;
+}
+
+-- some connections go, and others change in their slots
+pub relinks-some : (p : Places OpenConnection) (f : Held OpenConnection → Option (Held OpenConnection)) → ((h g : Held OpenConnection) → f h ≡ Some g → (g.slot ≡ h.slot) × (g.item.serial ≡ h.item.serial))
+    → Relinks p (record p { held = filter_map f p.held })
+relinks-some p f same = record { generations = refl; takes = refl; held = λ ts named. some ts p.held named } where
+  some : (ts : List SlotName) (hs : List (Held OpenConnection)) → All (IsNamedBy ts) hs → All (IsNamedBy ts) (filter_map f hs)
+  some ts [] named = All-nil (IsNamedBy ts)
+  some ts (h ∷ hs) named =
+      let rest : All (IsNamedBy ts) (filter_map f hs) = some ts hs (All-tail (IsNamedBy ts) h hs named) in
+      let go : (o : Option (Held OpenConnection)) → f h ≡ o → All (IsNamedBy ts) (cons_option o (filter_map f hs)) =
+      elim [
+        | None ↦ λ e. rest
+        | Some g ↦ λ e.
+            let it = same h g e in
+            All-cons (IsNamedBy ts) g (filter_map f hs) (ap (λ n. get_or ts n no_slot) it.1 ∙ All-head (IsNamedBy ts) h hs named ∙ ap slot_name (sym it.0)) rest
+      ] in
+      go (f h) refl
+
+pub rewaits-same : (old new : Places MessageItem) → new ≡ old → Rewaits old new
+rewaits-same old new same = record {
+  generations = ap (λ (p : Places MessageItem). p.generations) same;
+  takes = ap (λ (p : Places MessageItem). p.takes) same;
+  names = ap live_names same;
+  alike = λ h. ap (λ (p : Places MessageItem). list_any (is_like h) p.held) same;
+}
+
+pub rewaits-to : (old new changed : Places MessageItem) → new ≡ changed → Rewaits old changed → Rewaits old new
+rewaits-to old new changed same it = subst (Rewaits old) (sym same) it
+
+pub rewaits-trans : (old mid new : Places MessageItem) → Rewaits old mid → Rewaits mid new → Rewaits old new
+rewaits-trans old mid new one two = record {
+  generations = two.generations ∙ one.generations;
+  takes = two.takes ∙ one.takes;
+  names = two.names ∙ one.names;
+  alike = λ h. two.alike h ∙ one.alike h;
+}
+
+names-put : (s : Slot) (m : MessageItem) (hs : List (Held MessageItem)) → name_list (map (item_put s m) hs) ≡ name_list hs
+names-put s m [] = refl
+names-put s m (h ∷ hs) = ap (λ (u : Slot). slot_name u ∷ name_list (map (item_put s m) hs)) (put-slot s m h) ∙ ap (λ (ts : List SlotName). slot_name h.slot ∷ ts) (names-put s m hs)
+
+like-put : (s : Slot) (m : MessageItem) (x h : Held MessageItem) → (has_slot s h ≡ true → (h.item.serial ≡ m.serial) × (h.item.kind ≡ m.kind)) → is_like x (item_put s m h) ≡ is_like x h
+like-put s m x h same =
+    let go : (b : Bool) → has_slot s h ≡ b → is_like x (cond {A = Held MessageItem} b (record h { item = m }) h) ≡ is_like x h =
+    elim [
+      | true ↦ λ e. ap (λ n. (n == x.item.serial) && int_eq m.kind x.item.kind) (sym (same e).0) ∙ ap (λ (z : ℤ). (h.item.serial == x.item.serial) && int_eq z x.item.kind) (sym (same e).1)
+      | false ↦ λ e. refl
+    ] in
+    go (has_slot s h) refl
+
+likes-put : (s : Slot) (m : MessageItem) (x : Held MessageItem) (hs : List (Held MessageItem)) → All (λ h. has_slot s h ≡ true → (h.item.serial ≡ m.serial) × (h.item.kind ≡ m.kind)) hs
+    → list_any (is_like x) (map (item_put s m) hs) ≡ list_any (is_like x) hs
+likes-put s m x [] same = refl
+likes-put s m x (h ∷ hs) same =
+    let P : Held MessageItem → Type 0 = λ y. has_slot s y ≡ true → (y.item.serial ≡ m.serial) × (y.item.kind ≡ m.kind) in
+    ap (λ b. b || list_any (is_like x) (map (item_put s m) hs)) (like-put s m x h (All-head P h hs same)) ∙ ap (λ b. is_like x h || b) (likes-put s m x hs (All-tail P h hs same))
+
+pub rewaits-item : (capacity : ℕ) (p : Places MessageItem) (s : Slot) (m changed : MessageItem) → IsKept capacity p → item_at p s ≡ Some m → changed.serial ≡ m.serial → changed.kind ≡ m.kind → Rewaits p (with_item p s changed)
+rewaits-item capacity p s m changed kept live serial kind = record {
+  generations = refl;
+  takes = refl;
+  names = names-put s changed p.held;
+  alike = λ x.
+      likes-put s changed x p.held
+      (λ k d lt e.
+      let it : (get_or p.held k d).item ≡ m = only-item capacity p s m kept live k d lt e in
+      (ap (λ (y : MessageItem). y.serial) it ∙ sym serial, ap (λ (y : MessageItem). y.kind) it ∙ sym kind));
+}
+
+-- ---- the names of changed tables
+
+-- some slots were put back at most
+pub names-with : (old new : Desk) (k : NamesSoFar) (ts : List SlotName) → NamesAre old k → Relinks old.linked new.linked → new.waiting.generations ≡ old.waiting.generations → new.waiting.takes ≡ old.waiting.takes → ts ≡ live_names new.waiting
+    → NamesAre new (record k { messages = ts })
+names-with old new k ts was linked generations takes names = record {
+  made = was.made ∙ sym linked.takes;
+  connections = linked.held k.connections was.connections;
+  past_connections = record { uses = λ i. was.past_connections.uses i ∙ ap (λ gs. get_or gs i 0) (sym linked.generations) };
+  messages = names;
+  past_messages = record { uses = λ i. was.past_messages.uses i ∙ ap (λ gs. get_or gs i 0) (sym generations) };
+  sent = was.sent ∙ sym takes;
+}
+
+-- no message comes or goes
+pub names-stay : (old new : Desk) (k : NamesSoFar) → NamesAre old k → Relinks old.linked new.linked → Rewaits old.waiting new.waiting → NamesAre new k
+names-stay old new k was linked waiting = names-with old new k k.messages was linked waiting.generations waiting.takes (was.messages ∙ sym waiting.names)
+
+map-push : {X Y : Type 0} (f : X → Y) (xs : List X) (x : X) → map f (xs ++ x ∷ []) ≡ map f xs ++ f x ∷ []
+map-push f [] x = refl
+map-push {Y = Y} f (y ∷ ys) x = ap (λ (zs : List Y). f y ∷ zs) (map-push f ys x)
+
+-- the serial numbers are below the number of connections made
+below-made : (low made : ℕ) (cs : List OpenConnection) → Rises low cs made → All (λ c. c.serial < made) cs
+below-made low made [] rises = All-nil (λ c. c.serial < made)
+below-made low made (c ∷ cs) rises =
+    All-cons (λ d. d.serial < made) c cs (omega (arith, rises-bounds (c.serial + 1) made cs rises.1)) (below-made (c.serial + 1) made cs rises.1)
+
+named-later : (ts : List SlotName) (t : SlotName) (hs : List (Held OpenConnection)) → All (λ c. c.serial < length ts) (map (λ (h : Held OpenConnection). h.item) hs) → All (IsNamedBy ts) hs → All (IsNamedBy (ts ++ t ∷ [])) hs
+named-later ts t [] below named = All-nil (IsNamedBy (ts ++ t ∷ []))
+named-later ts t (h ∷ hs) below named =
+    let cs : List OpenConnection = map (λ (x : Held OpenConnection). x.item) hs in
+    All-cons (IsNamedBy (ts ++ t ∷ [])) h hs
+    (get_or_append_left ts (t ∷ []) no_slot h.item.serial (All-head (λ c. c.serial < length ts) h.item cs below) ∙ All-head (IsNamedBy ts) h hs named)
+    (named-later ts t hs (All-tail (λ c. c.serial < length ts) h.item cs below) (All-tail (IsNamedBy ts) h hs named))
+
+-- a connection is made in its slot
+pub names-started : (old new : Desk) (k : NamesSoFar) (slot : Slot) (c : OpenConnection) → NamesAre old k → IsTable old.linked → free_slot old.linked ≡ Some slot → c.serial ≡ old.linked.takes
+    → new.linked ≡ taken old.linked slot c → new.waiting ≡ old.waiting → NamesAre new (record k { connections = k.connections ++ slot_name slot ∷ [] })
+names-started old new k slot c was table free serial linked waiting =
+    let ts : List SlotName = k.connections in
+    let t : SlotName = slot_name slot in
+    let below : All (λ d. d.serial < length ts) (connections old.linked) =
+    subst (λ n. All (λ d. d.serial < n) (connections old.linked)) (sym was.made) (below-made 0 old.linked.takes (connections old.linked) table.rising) in
+    let here : get_or (ts ++ t ∷ []) c.serial no_slot ≡ t = ap (λ n. get_or (ts ++ t ∷ []) n no_slot) (serial ∙ sym was.made) ∙ get_or-append_seam ts t [] no_slot in
+    let it : NamesAre (record old { linked = taken old.linked slot c }) (record k { connections = ts ++ t ∷ [] }) = record {
+      made = omega (arith, length-append ts (t ∷ []), was.made);
+      connections = All-push (IsNamedBy (ts ++ t ∷ [])) old.linked.held (record { slot = slot; item = c }) (named-later ts t old.linked.held below was.connections) here;
+      past_connections = past-after old.linked ts slot c was.past_connections free;
+      messages = was.messages;
+      past_messages = was.past_messages;
+      sent = was.sent;
+    } in
+    names-stay (record old { linked = taken old.linked slot c }) new (record k { connections = ts ++ t ∷ [] }) it (relinks-same (taken old.linked slot c) new.linked linked) (rewaits-same old.waiting new.waiting waiting)
+
+-- a message more, with the next slot
+abbrev pub one_more : ℕ → NamesSoFar → NamesSoFar
+one_more size k =
+    let t = next_slot size k.messages k.past_messages in
+    record k { messages = k.messages ++ t ∷ []; past_messages = k.past_messages ++ t ∷ [] }
+
+-- a message is taken in
+pub names-enqueued : (old new : Desk) (k : NamesSoFar) (slot : Slot) (x : MessageItem) (size : ℕ) → NamesAre old k → length old.waiting.generations ≡ size → free_slot old.waiting ≡ Some slot
+    → new.linked ≡ old.linked → new.waiting ≡ taken old.waiting slot x → NamesAre new (one_more size k)
+names-enqueued old new k slot x size was wide free linked waiting =
+    let t : SlotName = slot_name slot in
+    let next : t ≡ next_slot size k.messages k.past_messages =
+    next-name old.waiting k.past_messages slot was.past_messages free ∙ ap (λ n. next_slot n (live_names old.waiting) k.past_messages) wide ∙ ap (λ (ts : List SlotName). next_slot size ts k.past_messages) (sym was.messages) in
+    let more : SlotName → NamesSoFar = λ u. record k { messages = k.messages ++ u ∷ []; past_messages = k.past_messages ++ u ∷ [] } in
+    let it : NamesAre (record old { waiting = taken old.waiting slot x }) (more t) = record {
+      made = was.made;
+      connections = was.connections;
+      past_connections = was.past_connections;
+      messages = ap (λ (ts : List SlotName). ts ++ t ∷ []) was.messages ∙ sym (map-push (λ (h : Held MessageItem). slot_name h.slot) old.waiting.held (record { slot = slot; item = x }));
+      past_messages = past-after old.waiting k.past_messages slot x was.past_messages free;
+      sent = omega (arith, length-append k.past_messages (t ∷ []), was.sent);
+    } in
+    subst (λ u. NamesAre new (more u)) next
+    (names-stay (record old { waiting = taken old.waiting slot x }) new (more t) it (relinks-same old.linked new.linked linked) (rewaits-same (taken old.waiting slot x) new.waiting waiting))
+
+-- n messages and one more
+pub messages-more : (size n : ℕ) (k : NamesSoFar) → with_messages size (suc n) k ≡ one_more size (with_messages size n k)
+messages-more size zero k = refl
+messages-more size (suc n) k = messages-more size n (one_more size k)

@@ -1,0 +1,90 @@
+-- Changes of tables that remove messages and make nothing.
+use Rattle.std.proofs.Common.{ℕ, ◌≡◌, ◌≤◌, ◌+◌, ◌==◌, Bool, not, List, [], ◌++◌, length, filter, get_or, arith, ◌∙◌, ap, sym, refl, subst}
+use Rattle.std.specs.Prelude.{count_by, All, Some}
+use Rattle.std.specs.List.{list_any}
+use Rattle.std.specs.Ordering.{int_eq}
+use Rattle.std.proofs.lemmas.List.{append-nil, length-map}
+use Rattle.ffm_model.specs.declared.system.System.{System}
+use Rattle.ffm_model.specs.declared.objects.OpenConnection.{OpenConnection}
+use Rattle.ffm_model.specs.State.{SpmState}
+use Rattle.ffm_model.specs.Names.{stays}
+use Rattle.object_pools.specs.declared.slot.Slot.{Slot}
+use Rattle.object_pools.specs.declared.slot.Held.{Held}
+use Rattle.object_pools.specs.Pool.{Places, IsKept, has_slot, item_at, with_item, without}
+use Rattle.handle_table.specs.Handles.{slot_name}
+use Rattle.handle_table.proofs.Twins.{count-map}
+use Rattle.counting_law.specs.Objects.{ObjectsFit, Mark, is_awaited, connection_marked}
+use Rattle.counting_law.proofs.Counts.{bit, count-le}
+use Rattle.counting_law.proofs.Parts.{both-le-left, both-le-right, unique}
+use Rattle.spm_tables.specs.declared.item.MessageItem.{MessageItem}
+use Rattle.spm_tables.specs.Desk.{Desk, held_message, spm_of}
+use Rattle.slot_names.specs.Named.{KeepsNames, NamesAre}
+use Rattle.slot_names.specs.Changes.{OneMessageEach, PairsOff, Relinks, is_like}
+use Rattle.slot_names.proofs.Kept.{kept-where, like_itself, message_list, name_list, stays-is}
+use Rattle.slot_names.proofs.Moves.{names-with, relinks-item, relinks-same, relinks-to, relinks-without}
+use Rattle.slot_names.proofs.Changes.{after-is, kept_names}
+use Rattle.slot_names.proofs.Partings.{like-kept}
+
+pub fitting-pairs-off : (s : System) (b : SpmState) → ObjectsFit s b → PairsOff b
+fitting-pairs-off s b h = record { paired = h.paired; rising = h.rising }
+
+-- so each connection has one message at most
+pub one-message : (b : SpmState) → PairsOff b → OneMessageEach b
+one-message b h = λ n.
+    let t : Mark = λ serial a v ph. serial == n in
+    omega (
+      arith,
+      h.paired t,
+      count-le (connection_marked t) (λ c. c.serial == n) (λ c. both-le-right (is_awaited c.phase) (c.serial == n)) b.connections,
+      unique 0 b.connections_made n b.connections h.rising,
+    )
+
+pub fitting-messages : (s : System) (b : SpmState) → ObjectsFit s b → OneMessageEach b
+fitting-messages s b h = one-message b (fitting-pairs-off s b h)
+
+-- the same, of the items
+pub one-item : (d : Desk) → OneMessageEach (spm_of d) → (n : ℕ) → count_by (λ h. h.item.serial == n) d.waiting.held ≤ 1
+one-item d one n = omega (arith, one n, count-map held_message (λ m. m.connection == n) d.waiting.held)
+
+pub like-narrow : (h x : Held MessageItem) → bit (is_like h x) ≤ bit (x.item.serial == h.item.serial)
+like-narrow h x = both-le-left (x.item.serial == h.item.serial) (int_eq x.item.kind h.item.kind)
+
+-- the messages that pass the test stay, and the others go
+pub names-removed : (s : System) (old new : Desk) (q : Held MessageItem → Bool) → OneMessageEach (spm_of old) → Relinks old.linked new.linked
+    → new.waiting ≡ record old.waiting { held = filter q old.waiting.held } → KeepsNames s old new
+names-removed s old new q one linked waiting = λ k was.
+    let hs : List (Held MessageItem) = old.waiting.held in
+    let ts = name_list (filter q hs) in
+    let held : new.waiting.held ≡ filter q hs = ap (λ (p : Places MessageItem). p.held) waiting in
+    let apart : All (λ h. list_any (is_like h) (filter q hs ++ []) ≡ q h) hs =
+    like-kept is_like (λ h. h.item.serial) like_itself like-narrow q hs [] (one-item old one) (λ i d lt e. refl) in
+    let stay : All (λ h. stays (message_list new.waiting.held) (held_message h) ≡ q h) hs =
+    λ i d lt.
+    let h : Held MessageItem = get_or hs i d in
+    ap (λ (ns : List (Held MessageItem)). stays (message_list ns) (held_message h)) (held ∙ sym (append-nil (filter q hs))) ∙ stays-is (filter q hs ++ []) h ∙ apart i d lt in
+    let kept : kept_names old new k.messages ≡ ts = ap (kept_names old new) was.messages ∙ kept-where (stays (message_list new.waiting.held)) q hs stay in
+    let longer : length new.waiting.held ≡ length ts + 0 =
+    ap (λ (ns : List (Held MessageItem)). length ns) held ∙ omega (arith, length-map (filter q hs) (λ (h : Held MessageItem). slot_name h.slot)) in
+    subst (NamesAre new) (sym (after-is s old new k ts 0 kept longer linked.takes))
+    (names-with old new k ts was linked (ap (λ (p : Places MessageItem). p.generations) waiting) (ap (λ (p : Places MessageItem). p.takes) waiting) (ap name_list (sym held)))
+
+-- ---- a reply
+
+-- the message of a slot goes
+pub names-dropped : (s : System) (old new : Desk) (place : Slot) → OneMessageEach (spm_of old) → Relinks old.linked new.linked → new.waiting ≡ without old.waiting place → KeepsNames s old new
+names-dropped s old new place one linked waiting = names-removed s old new (λ h. not (has_slot place h)) one linked waiting
+
+-- and its connection stays as it is
+pub names-replied : (s : System) (old new : Desk) (place : Slot) → OneMessageEach (spm_of old) → new.linked ≡ old.linked → new.waiting ≡ without old.waiting place → KeepsNames s old new
+names-replied s old new place one linked waiting = names-dropped s old new place one (relinks-same old.linked new.linked linked) waiting
+
+-- or changes in its slot
+pub names-answered : (s : System) (old new : Desk) (place slot : Slot) (c changed : OpenConnection) → OneMessageEach (spm_of old) → IsKept 256 old.linked → item_at old.linked slot ≡ Some c → changed.serial ≡ c.serial
+    → new.linked ≡ with_item old.linked slot changed → new.waiting ≡ without old.waiting place → KeepsNames s old new
+names-answered s old new place slot c changed one kept live serial linked waiting =
+    names-dropped s old new place one (relinks-to old.linked new.linked (with_item old.linked slot changed) linked (relinks-item 256 old.linked slot c changed kept live serial)) waiting
+
+-- or goes too
+pub names-ended : (s : System) (old new : Desk) (place slot : Slot) → OneMessageEach (spm_of old) → new.linked ≡ without old.linked slot → new.waiting ≡ without old.waiting place → KeepsNames s old new
+names-ended s old new place slot one linked waiting =
+    names-dropped s old new place one (relinks-to old.linked new.linked (without old.linked slot) linked (relinks-without old.linked slot)) waiting

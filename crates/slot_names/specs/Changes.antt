@@ -1,0 +1,49 @@
+-- Changes of the tables' pools that take no slot, and the tables in the middle of an event that takes several.
+-- Source: of this repository; FF-M 1.0 leaves open how a manager keeps its connections and messages.
+use Rattle.std.specs.Prelude.{◌≡◌, ℕ, ◌≤◌, ◌==◌, Bool, ◌&&◌, List, count_by, filter, map, All}
+use Rattle.std.specs.List.{list_any}
+use Rattle.std.specs.Ordering.{int_eq}
+use Rattle.ffm_model.specs.declared.objects.OpenConnection.{OpenConnection}
+use Rattle.ffm_model.specs.State.{SpmState}
+use Rattle.ffm_model.specs.Names.{NamesSoFar, SlotName, with_messages}
+use Rattle.object_pools.specs.declared.slot.Held.{Held}
+use Rattle.object_pools.specs.Pool.{Places}
+use Rattle.handle_table.specs.Handles.{live_names, slot_name}
+use Rattle.counting_law.specs.Objects.{Mark, RisesTo, connection_marked, message_marked}
+use Rattle.spm_tables.specs.declared.item.MessageItem.{MessageItem}
+use Rattle.spm_tables.specs.Desk.{Desk}
+use Rattle.slot_names.specs.Named.{IsNamedBy, NamesAre}
+
+-- no connection is made, and those that are there have the slots and serial numbers that they had: what names the old ones names them
+pub record Relinks (old new : Places OpenConnection) : Type 0 where
+  pub generations : new.generations ≡ old.generations
+  pub takes : new.takes ≡ old.takes
+  pub held : (ts : List SlotName) → All (IsNamedBy ts) old.held → All (IsNamedBy ts) new.held
+
+-- a message of the same connection and kind
+abbrev pub is_like : Held MessageItem → Held MessageItem → Bool
+is_like h n = (n.item.serial == h.item.serial) && int_eq n.item.kind h.item.kind
+
+-- no message comes or goes, and each has the slot, connection and kind that it had
+pub record Rewaits (old new : Places MessageItem) : Type 0 where
+  pub generations : new.generations ≡ old.generations
+  pub takes : new.takes ≡ old.takes
+  pub names : live_names new ≡ live_names old
+  pub alike : (h : Held MessageItem) → list_any (is_like h) new.held ≡ list_any (is_like h) old.held
+
+-- the slots of the messages that pass the test
+abbrev pub names_of : (Held MessageItem → Bool) → Places MessageItem → List SlotName
+names_of q p = map (λ (h : Held MessageItem). slot_name h.slot) (filter q p.held)
+
+-- since the tables `old`, only the messages whose slots are `kept` stayed, and then n more were taken in
+abbrev pub TakesOn : ℕ → Desk → List SlotName → ℕ → Desk → Type 0
+TakesOn size old kept n d = (k : NamesSoFar) → NamesAre old k → NamesAre d (with_messages size n (record k { messages = kept }))
+
+-- no two messages are of one connection
+abbrev pub OneMessageEach : SpmState → Type 0
+OneMessageEach b = (n : ℕ) → count_by (λ m. m.connection == n) b.messages ≤ 1
+
+-- messages pair off with the connections whose service owes an answer, whatever the phases of the actors
+pub record PairsOff (b : SpmState) : Type 0 where
+  pub paired : (t : Mark) → count_by (message_marked t) b.messages ≡ count_by (connection_marked t) b.connections
+  pub rising : RisesTo 0 b.connections b.connections_made

@@ -1,0 +1,228 @@
+-- Which connection a message belongs to, after a connection or a message comes, changes or goes.
+use Rattle.std.proofs.Common.{ℕ, ◌≡◌, ◌<◌, ◌≤◌, ◌+◌, ◌==◌, Bool, true, false, cond, not, List, [], ◌∷◌, arith, ◌∙◌, ap, sym, refl, subst}
+use Rattle.std.specs.Prelude.{count_by, find, Option, Some, None, map, All, IsSome, IfSome, option_and_then, if◌then◌else◌}
+use Rattle.std.specs.Option.{option_map}
+use Rattle.std.proofs.lemmas.List.Elements.{All-nil, All-cons, All-push, All-filter, All-weaker, All-map, All-head, All-tail}
+use Rattle.ffm_model.specs.declared.objects.OpenConnection.{OpenConnection}
+use Rattle.object_pools.specs.declared.slot.Slot.{Slot}
+use Rattle.object_pools.specs.declared.slot.Held.{Held}
+use Rattle.object_pools.specs.Pool.{Places, IsKept, has_slot, item_at, item_put, taken, with_item, without}
+use Rattle.handle_table.specs.declared.connections.Connection.{Connection}
+use Rattle.handle_table.specs.Table.{connections, connection_of, Rises, IsTable}
+use Rattle.handle_table.proofs.SlotLemmas.{has_own, one_slot, slot-is, held-of}
+use Rattle.handle_table.proofs.TableLemmas.{rises-bounds, one_serial}
+use Rattle.handle_table.proofs.Twins.{find-passes, count-map}
+use Rattle.spm_tables.specs.declared.item.MessageItem.{MessageItem}
+use Rattle.spm_tables.specs.Slots.{BelongsTo, KeepSlots}
+use Rattle.spm_tables.proofs.MessageLemmas.{find-map, found-too}
+
+-- what all keep, the one that is found keeps
+All-found : {X : Type 0} (P : X → Type 0) (q : X → Bool) (xs : List X) (x : X) → All P xs → find q xs ≡ Some x → P x
+All-found P q [] x a f = cc
+All-found P q (y ∷ ys) x a f =
+    let go : (b : Bool) → cond b (Some y) (find q ys) ≡ Some x → P x =
+    elim [
+      | true ↦ λ g. let it : y ≡ x = cc in subst P it (All-head P y ys a)
+      | false ↦ λ g. All-found P q ys x (All-tail P y ys a) g
+    ] in
+    go (q y) f
+
+-- if it is the message's connection, the message names its slot
+abbrev Slotted : MessageItem → Held OpenConnection → Type 0
+Slotted m h = h.item.serial ≡ m.serial → m.connection ≡ Some h.slot
+
+pub named-slot : (p : Places OpenConnection) (s : Slot) (c : OpenConnection) (m : MessageItem) → BelongsTo p m → item_at p s ≡ Some c → c.serial ≡ m.serial → m.connection ≡ Some s
+named-slot p s c m b live same =
+    let it = held-of p s c live in
+    All-found (Slotted m) (has_slot s) p.held it.0 b.slot it.1 (ap (λ (d : OpenConnection). d.serial) it.2 ∙ same) ∙ ap (λ (t : Slot). Some t) it.3
+
+-- ---- changes of the connections
+
+pub slots-start : (p : Places OpenConnection) (w : Places MessageItem) (s : Slot) (c : OpenConnection) → c.serial ≡ p.takes → KeepSlots p w → KeepSlots (taken p s c) w
+slots-start p w s c serial k =
+    All-weaker (λ h. BelongsTo p h.item) (λ h. BelongsTo (taken p s c) h.item)
+    (λ h b. record {
+      made = omega (arith, b.made);
+      slot = All-push (Slotted h.item) p.held (record { slot = s; item = c }) b.slot (λ e. absurd (omega (arith, b.made)));
+    }) w.held k
+
+pub slots-change : (p : Places OpenConnection) (w : Places MessageItem) (s : Slot) (c d : OpenConnection) → item_at p s ≡ Some c → d.serial ≡ c.serial → KeepSlots p w → KeepSlots (with_item p s d) w
+slots-change p w s c d live same k =
+    All-weaker (λ h. BelongsTo p h.item) (λ h. BelongsTo (with_item p s d) h.item)
+    (λ h b. record {
+      made = b.made;
+      slot = All-map (Slotted h.item) (item_put s d) p.held
+          (All-weaker (Slotted h.item) (λ x. Slotted h.item (item_put s d x)) (λ x old. put h.item b x old (has_slot s x) refl) p.held b.slot);
+    }) w.held k where
+      put : (m : MessageItem) → BelongsTo p m → (x : Held OpenConnection) → Slotted m x → (b : Bool) → has_slot s x ≡ b → Slotted m (cond b (record x { item = d }) x)
+      put m b x old true e = λ serial. named-slot p s c m b live (sym same ∙ serial) ∙ ap (λ (t : Slot). Some t) (sym (slot-is s x e))
+      put m b x old false e = old
+
+pub slots-changed : (p q : Places OpenConnection) (w : Places MessageItem) (s : Slot) (f : OpenConnection → OpenConnection) → ((c : OpenConnection) → (f c).serial ≡ c.serial)
+    → IsSome (item_at p s) → IfSome (item_at p s) (λ c. q ≡ with_item p s (f c)) → KeepSlots p w → KeepSlots q w
+slots-changed p q w s f same some change k =
+    let go : (o : Option OpenConnection) → item_at p s ≡ o → IsSome o → IfSome o (λ c. q ≡ with_item p s (f c)) → KeepSlots q w =
+    elim [
+      | None ↦ λ e n i. cc
+      | Some c ↦ λ e n i. subst (λ (r : Places OpenConnection). KeepSlots r w) (sym i) (slots-change p w s c (f c) e (same c) k)
+    ] in
+    go (item_at p s) refl some change
+
+pub slots-free : (p : Places OpenConnection) (w : Places MessageItem) (s : Slot) → KeepSlots p w → KeepSlots (without p s) w
+slots-free p w s k =
+    All-weaker (λ h. BelongsTo p h.item) (λ h. BelongsTo (without p s) h.item)
+    (λ h b. record { made = b.made; slot = All-filter (λ x. not (has_slot s x)) (Slotted h.item) p.held b.slot }) w.held k
+
+-- ---- changes of the messages
+
+pub belongs-at : (p : Places OpenConnection) (w : Places MessageItem) (s : Slot) (m : MessageItem) → KeepSlots p w → item_at w s ≡ Some m → BelongsTo p m
+belongs-at p w s m k live =
+    let it = held-of w s m live in
+    subst (BelongsTo p) it.2 (All-found (λ h. BelongsTo p h.item) (has_slot s) w.held it.0 k it.1)
+
+pub slots-take : (p : Places OpenConnection) (w : Places MessageItem) (s : Slot) (m : MessageItem) → BelongsTo p m → KeepSlots p w → KeepSlots p (taken w s m)
+slots-take p w s m b k = All-push (λ h. BelongsTo p h.item) w.held (record { slot = s; item = m }) k b
+
+pub slots-put : (p : Places OpenConnection) (w : Places MessageItem) (s : Slot) (m n : MessageItem) → item_at w s ≡ Some m → n.serial ≡ m.serial → n.connection ≡ m.connection
+    → KeepSlots p w → KeepSlots p (with_item w s n)
+slots-put p w s m n live serial slot k =
+    All-map (λ h. BelongsTo p h.item) (item_put s n) w.held
+    (All-weaker (λ h. BelongsTo p h.item) (λ h. BelongsTo p (item_put s n h).item) (λ h old. put h old (has_slot s h)) w.held k) where
+      new : BelongsTo p m → BelongsTo p n
+      new b = record { made = omega (arith, b.made); slot = All-weaker (Slotted m) (Slotted n) (λ h old e. slot ∙ old (e ∙ serial)) p.held b.slot }
+
+      put : (h : Held MessageItem) → BelongsTo p h.item → (b : Bool) → BelongsTo p (cond b (record h { item = n }) h).item
+      put h old true = new (belongs-at p w s m k live)
+      put h old false = old
+
+pub slots-drop : (p : Places OpenConnection) (w : Places MessageItem) (s : Slot) → KeepSlots p w → KeepSlots p (without w s)
+slots-drop p w s k = All-filter (λ h. not (has_slot s h)) (λ h. BelongsTo p h.item) w.held k
+
+-- ---- serial numbers
+
+above-all : (low made : ℕ) (held : List (Held OpenConnection)) → Rises low (map (λ (h : Held OpenConnection). h.item) held) made → All (λ h. low ≤ h.item.serial) held
+above-all low made [] r = All-nil (λ h. low ≤ h.item.serial)
+above-all low made (x ∷ xs) r =
+    All-cons (λ h. low ≤ h.item.serial) x xs r.0
+    (All-weaker (λ h. x.item.serial + 1 ≤ h.item.serial) (λ h. low ≤ h.item.serial) (λ h a. omega (arith, r.0)) xs (above-all (x.item.serial + 1) made xs r.1))
+
+below-made : (low made : ℕ) (held : List (Held OpenConnection)) → Rises low (map (λ (h : Held OpenConnection). h.item) held) made → All (λ h. h.item.serial < made) held
+below-made low made [] r = All-nil (λ h. h.item.serial < made)
+below-made low made (x ∷ xs) r =
+    All-cons (λ h. h.item.serial < made) x xs
+    (omega (arith, rises-bounds (x.item.serial + 1) made (map (λ (h : Held OpenConnection). h.item) xs) r.1)) (below-made (x.item.serial + 1) made xs r.1)
+
+-- two live connections of one serial number are in one slot
+one-place : (low made : ℕ) (held : List (Held OpenConnection)) (q : Held OpenConnection → Bool) (x : Held OpenConnection) → Rises low (map (λ (h : Held OpenConnection). h.item) held) made → find q held ≡ Some x
+    → All (λ h. h.item.serial ≡ x.item.serial → h.slot ≡ x.slot) held
+one-place low made [] q x r f = cc
+one-place low made (y ∷ ys) q x r f =
+    let later : All (λ h. y.item.serial + 1 ≤ h.item.serial) ys = above-all (y.item.serial + 1) made ys r.1 in
+    let go : (b : Bool) → cond b (Some y) (find q ys) ≡ Some x → All (λ h. h.item.serial ≡ x.item.serial → h.slot ≡ x.slot) (y ∷ ys) =
+    elim [
+      | true ↦ λ g.
+          let it : y ≡ x = cc in
+          let same : y.item.serial ≡ x.item.serial = ap (λ (h : Held OpenConnection). h.item.serial) it in
+          All-cons (λ h. h.item.serial ≡ x.item.serial → h.slot ≡ x.slot) y ys (λ e. ap (λ (h : Held OpenConnection). h.slot) it)
+          (All-weaker (λ h. y.item.serial + 1 ≤ h.item.serial) (λ h. h.item.serial ≡ x.item.serial → h.slot ≡ x.slot) (λ h a e. absurd {A = h.slot ≡ x.slot} (omega arith)) ys later)
+      | false ↦ λ g.
+          let after : y.item.serial + 1 ≤ x.item.serial = All-found (λ h. y.item.serial + 1 ≤ h.item.serial) q ys x later g in
+          All-cons (λ h. h.item.serial ≡ x.item.serial → h.slot ≡ x.slot) y ys (λ e. absurd (omega arith)) (one-place (y.item.serial + 1) made ys q x r.1 g)
+    ] in
+    go (q y) f
+
+-- ---- a message of a connection
+
+-- of a live one, in its slot
+pub belongs-to : (p : Places OpenConnection) (s : Slot) (c : OpenConnection) (m : MessageItem) → IsTable p → item_at p s ≡ Some c → m.serial ≡ c.serial → m.connection ≡ Some s → BelongsTo p m
+belongs-to p s c m t live serial names =
+    let it = held-of p s c live in
+    let same : (it.0).item.serial ≡ c.serial = ap (λ (d : OpenConnection). d.serial) it.2 in
+    record {
+      made = omega (arith, All-found (λ h. h.item.serial < p.takes) (has_slot s) p.held it.0 (below-made 0 p.takes p.held t.rising) it.1);
+      slot = All-weaker (λ h. h.item.serial ≡ (it.0).item.serial → h.slot ≡ (it.0).slot) (Slotted m)
+          (λ h one e. names ∙ ap (λ (u : Slot). Some u) (sym (one (e ∙ serial ∙ sym same) ∙ it.3))) p.held (one-place 0 p.takes p.held (has_slot s) it.0 t.rising it.1);
+    }
+
+-- the same of what is told of that connection
+pub belongs-told : (p : Places OpenConnection) (s : Slot) (r : Connection) (m : MessageItem) → IsTable p → IsSome (item_at p s) → IfSome (item_at p s) (λ c. r ≡ connection_of c)
+    → m.serial ≡ r.serial → m.connection ≡ Some s → BelongsTo p m
+belongs-told p s r m t some told serial names =
+    let go : (o : Option OpenConnection) → item_at p s ≡ o → IsSome o → IfSome o (λ c. r ≡ connection_of c) → BelongsTo p m =
+    elim [
+      | None ↦ λ e n i. cc
+      | Some c ↦ λ e n i. belongs-to p s c m t e (serial ∙ ap (λ (x : Connection). x.serial) i) names
+    ] in
+    go (item_at p s) refl some told
+
+-- of one that was just started
+pub belongs-started : (p : Places OpenConnection) (s : Slot) (c : OpenConnection) (m : MessageItem) → IsTable p → c.serial ≡ p.takes → m.serial ≡ c.serial → m.connection ≡ Some s → BelongsTo (taken p s c) m
+belongs-started p s c m t serial same names = record {
+  made = omega arith;
+  slot = All-push (Slotted m) p.held (record { slot = s; item = c })
+      (All-weaker (λ h. h.item.serial < p.takes) (Slotted m) (λ h below e. absurd (omega arith)) p.held (below-made 0 p.takes p.held t.rising)) (λ e. names);
+}
+
+-- a message's connection, while it is there, is in the slot that the message names
+pub slot-of-serial : (p : Places OpenConnection) (m : MessageItem) (c : OpenConnection) → IsKept 256 p → BelongsTo p m → find (λ d. d.serial == m.serial) (connections p) ≡ Some c
+    → (s : Slot) × (m.connection ≡ Some s) × (item_at p s ≡ Some c)
+slot-of-serial p m c kept b f =
+    let go : (o : Option (Held OpenConnection)) → find (λ h. h.item.serial == m.serial) p.held ≡ o → option_map (λ (h : Held OpenConnection). h.item) o ≡ Some c
+    → (s : Slot) × (m.connection ≡ Some s) × (item_at p s ≡ Some c) =
+    elim [
+      | None ↦ λ e g. cc
+      | Some h ↦ λ e g.
+          let here : find (has_slot h.slot) p.held ≡ Some h = found-too (λ x. x.item.serial == m.serial) (has_slot h.slot) p.held h (has_own h.slot) (one_slot 256 p h.slot kept) e in
+          let serial : h.item.serial ≡ m.serial = equal h.item.serial m.serial (find-passes (λ x. x.item.serial == m.serial) p.held h e) in
+          (h.slot, All-found (Slotted m) (λ x. x.item.serial == m.serial) p.held h b.slot e serial, ap (option_map (λ (x : Held OpenConnection). x.item)) here ∙ g)
+    ] in
+    go (find (λ h. h.item.serial == m.serial) p.held) refl (sym (find-map (λ (h : Held OpenConnection). h.item) (λ d. d.serial == m.serial) p.held) ∙ f) where
+      equal : (k n : ℕ) → (k == n) ≡ true → k ≡ n
+      equal k n e = grind arith
+
+-- a live connection is that of its serial number
+pub by-serial : (p : Places OpenConnection) (s : Slot) (c : OpenConnection) → IsKept 256 p → IsTable p → item_at p s ≡ Some c → find (λ d. d.serial == c.serial) (connections p) ≡ Some c
+by-serial p s c kept t live =
+    let it = held-of p s c live in
+    let passes : ((it.0).item.serial == c.serial) ≡ true = ap (λ (d : OpenConnection). d.serial == c.serial) it.2 ∙ same_itself c.serial in
+    let few : count_by (λ (h : Held OpenConnection). h.item.serial == c.serial) p.held ≤ 1 =
+    omega (arith, one_serial c.serial 0 p.takes (connections p) t.rising, count-map (λ (h : Held OpenConnection). h.item) (λ d. d.serial == c.serial) p.held) in
+    find-map (λ (h : Held OpenConnection). h.item) (λ d. d.serial == c.serial) p.held
+    ∙ ap (option_map (λ (h : Held OpenConnection). h.item)) (found-too (has_slot s) (λ h. h.item.serial == c.serial) p.held it.0 passes few it.1)
+    ∙ ap (λ (d : OpenConnection). Some d) it.2 where
+      same_itself : (n : ℕ) → (n == n) ≡ true
+      same_itself n = grind arith
+
+-- the connection of a serial number, as the slot has it
+abbrev pub of_serial : ℕ → OpenConnection → Option OpenConnection
+of_serial serial c = if c.serial == serial then Some c else None
+
+-- a message's connection is what the slot has that the message names, if that has its serial number
+pub connection-of : (p : Places OpenConnection) (m : MessageItem) → IsKept 256 p → IsTable p → BelongsTo p m
+    → find (λ d. d.serial == m.serial) (connections p) ≡ option_and_then (λ s. option_and_then (of_serial m.serial) (item_at p s)) m.connection
+connection-of p m kept t b =
+    let go : (o : Option OpenConnection) → find (λ d. d.serial == m.serial) (connections p) ≡ o → o ≡ option_and_then (λ s. option_and_then (of_serial m.serial) (item_at p s)) m.connection =
+    elim [
+      | Some c ↦ λ f.
+          let it = slot-of-serial p m c kept b f in
+          let serial : (c.serial == m.serial) ≡ true = find-passes (λ d. d.serial == m.serial) (connections p) c f in
+          sym (ap (option_and_then (λ s. option_and_then (of_serial m.serial) (item_at p s))) it.1 ∙ ap (option_and_then (of_serial m.serial)) it.2 ∙ ap (λ x. cond x (Some c) None) serial)
+      | None ↦ λ f. none f m.connection
+    ] in
+    go (find (λ d. d.serial == m.serial) (connections p)) refl where
+      other : find (λ d. d.serial == m.serial) (connections p) ≡ None → (s : Slot) (c : OpenConnection) → item_at p s ≡ Some c → (x : Bool) → (c.serial == m.serial) ≡ x → None ≡ cond x (Some c) None
+      other f s c live true e =
+          let same : c.serial ≡ m.serial = equal c.serial m.serial e in
+          let here : find (λ d. d.serial == m.serial) (connections p) ≡ Some c = subst (λ n. find (λ d. d.serial == n) (connections p) ≡ Some c) same (by-serial p s c kept t live) in
+          cc where
+            equal : (k n : ℕ) → (k == n) ≡ true → k ≡ n
+            equal k n e = grind arith
+      other f s c live false e = refl
+
+      at : find (λ d. d.serial == m.serial) (connections p) ≡ None → (s : Slot) (o : Option OpenConnection) → item_at p s ≡ o → None ≡ option_and_then (of_serial m.serial) o
+      at f s None live = refl
+      at f s (Some c) live = other f s c live (c.serial == m.serial) refl
+
+      none : find (λ d. d.serial == m.serial) (connections p) ≡ None → (o : Option Slot) → None ≡ option_and_then (λ s. option_and_then (of_serial m.serial) (item_at p s)) o
+      none f None = refl
+      none f (Some s) = at f s (item_at p s) refl

@@ -1,0 +1,11 @@
+use Rattle.std.proofs.Common.{rules}
+use Rattle.std.specs.Prelude.{IsSome}
+use Rattle.object_pools.specs.Pool.{item_at}
+use Rattle.spm_tables.proofs.SlotLemmas.{belongs-told}
+use Rattle.spm_tables.proofs.tests.enqueue.Goals as goal
+
+pub enqueue-requires-clause-connection : goal.enqueue-requires-clause-connection
+enqueue-requires-clause-connection g c =
+    let live : IsSome (item_at c.args.tables.now.linked c.args.connection) = search rules in
+    belongs-told c.args.tables.now.linked c.args.connection c.connection-serial.result c.request.result c.law.ensures.table live
+    (rw c.connections-2.ensures at c.connection-serial.ensures) c.request.ensures.serial c.request.ensures.connection
