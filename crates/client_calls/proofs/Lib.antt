@@ -1,0 +1,6 @@
+mod PoolLemmas
+mod ServiceLemmas
+mod SendLemmas
+mod ConnectLemmas
+mod HeldLemmas
+mod NameLemmas

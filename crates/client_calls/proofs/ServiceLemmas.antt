@@ -1,0 +1,82 @@
+-- The service of a connection, and one that takes a version, is among the system's.
+use Rattle.std.proofs.Common.{ℕ, ◌≡◌, ◌<◌, ◌≤◌, ◌+◌, ◌==◌, Bool, true, false, cond, not, ◌&&◌, List, [], ◌∷◌, length, arith, ◌∙◌, ap, sym, refl}
+use Rattle.std.specs.Prelude.{find, Option, Some, None, nat_lt, slice_get}
+use Rattle.std.specs.List.{list_all}
+use Rattle.std.specs.Option.{option_map, option_map_or, unwrap_or}
+use Rattle.std.proofs.lemmas.List.{length-map}
+use Rattle.std.proofs.lemmas.Option.{slice_get_within}
+use Rattle.ffm_model.specs.declared.system.Budget.{Budget}
+use Rattle.ffm_model.specs.declared.system.Service.{Service}
+use Rattle.ffm_model.specs.declared.system.System.{System}
+use Rattle.ffm_model.specs.declared.objects.OpenConnection.{OpenConnection}
+use Rattle.ffm_model.specs.WellFormed.{is_well_formed, budgets_fit, budget_before, each_pair}
+use Rattle.ffm_model.specs.Actors.{version_fits}
+use Rattle.ffm_model.specs.ClientCalls.{takes_version}
+use Rattle.ffm_model.specs.State.{SpmState, in_use}
+use Rattle.handle_table.proofs.SlotLemmas.{both}
+use Rattle.counting_law.specs.Objects.{ObjectsFit, allowed}
+use Rattle.counting_law.proofs.Counts.{bit, count-found, find-passes}
+use Rattle.spm_tables.specs.Desk.{Desk, MadeFor, Shape, service_signal}
+
+-- what passes a test for all
+all-found : {X : Type 0} (p q : X → Bool) (xs : List X) (x : X) → list_all p xs ≡ true → find q xs ≡ Some x → p x ≡ true
+all-found p q [] x a f = cc
+all-found p q (y ∷ ys) x a f =
+    let parts = both (p y) (list_all p ys) a in
+    let go : (b : Bool) → cond b (Some y) (find q ys) ≡ Some x → p x ≡ true =
+    elim [ true ↦ λ g. let it : y ≡ x = cc in ap p (sym it) ∙ parts.0 | false ↦ λ g. all-found p q ys x parts.1 g ] in
+    go (q y) f
+
+abbrev is_service_there : System → Budget → Bool
+is_service_there s b = nat_lt b.client.0 (length s.partitions + length s.clients) && option_map_or (λ v. not (v.owner == b.client.0)) (slice_get s.services b.service) false
+
+budgets-there : (s : System) → list_all (is_service_there s) s.budgets ≡ true
+unfolding is_well_formed
+budgets-there s =
+    let fits : budgets_fit (length s.partitions + length s.clients) s.services s.budgets ≡ true =
+    (both _ (budgets_fit (length s.partitions + length s.clients) s.services s.budgets) s.well_formed).1 in
+    let pairs : (list_all (is_service_there s) s.budgets && each_pair budget_before s.budgets) ≡ true =
+    (both (list_all (is_service_there s) s.budgets && each_pair budget_before s.budgets) _ fits).0 in
+    (both (list_all (is_service_there s) s.budgets) (each_pair budget_before s.budgets) pairs).0
+
+there : (s : System) (b : Budget) → is_service_there s b ≡ true → b.service < length s.services
+there s b e =
+    let parts = both (nat_lt b.client.0 (length s.partitions + length s.clients)) _ e in
+    let go : (o : Option Service) → slice_get s.services b.service ≡ o → option_map_or (λ v. not (v.owner == b.client.0)) o false ≡ true → b.service < length s.services =
+    elim [ None ↦ λ f g. cc | Some v ↦ λ f g. slice_get_within s.services b.service v f ] in
+    go (slice_get s.services b.service) refl parts.1
+
+allowed-service : (s : System) (a v : ℕ) → 1 ≤ allowed s a v → v < length s.services
+allowed-service s a v some =
+    let test : Budget → Bool = λ b. (b.client.0 == a) && (b.service == v) in
+    let go : (o : Option Budget) → find test s.budgets ≡ o → 1 ≤ unwrap_or (option_map (λ b. b.count) o) 0 → v < length s.services =
+    elim [
+      | None ↦ λ f g. absurd (omega arith)
+      | Some b ↦ λ f g.
+          let same : b.service ≡ v = equal b.service v (both (b.client.0 == a) (b.service == v) (find-passes test s.budgets b f)).1 in
+          omega (arith, there s b (all-found (is_service_there s) test s.budgets b (budgets-there s) f))
+    ] in
+    go (find test s.budgets) refl some where
+      equal : (k m : ℕ) → (k == m) ≡ true → k ≡ m
+      equal k m f = grind arith
+
+-- that of a connection
+pub connection-service : (s : System) (b : SpmState) (q : OpenConnection → Bool) (c : OpenConnection) → ObjectsFit s b → find q b.connections ≡ Some c → c.service < length s.services
+connection-service s b q c fit f =
+    let between : OpenConnection → Bool = λ d. (d.client.0 == c.client.0) && (d.service == c.service) in
+    let itself : bit (between c) ≡ 1 = ap bit (own c.client.0 c.service) in
+    let counted : bit (between c) ≤ in_use b c.client.0 c.service = count-found q between b.connections c f in
+    allowed-service s c.client.0 c.service (omega (arith, fit.budgets c.client.0 c.service)) where
+      own : (k m : ℕ) → ((k == k) && (m == m)) ≡ true
+      own k m = grind arith
+
+-- one that takes a version
+pub taking-service : (s : System) (i asked : ℕ) → takes_version s i asked ≡ true → i < length s.services
+taking-service s i asked takes =
+    let go : (o : Option Service) → slice_get s.services i ≡ o → option_map_or (λ v. version_fits v.policy v.version asked) o false ≡ true → i < length s.services =
+    elim [ None ↦ λ f g. cc | Some v ↦ λ f g. slice_get_within s.services i v f ] in
+    go (slice_get s.services i) refl takes
+
+-- tables have as many services as the system that they were made for
+pub made-services : (d : Desk) (s : System) → MadeFor d s → length d.services ≡ length s.services
+made-services d s made = ap (λ (x : Shape). length x.services) made ∙ length-map s.services service_signal

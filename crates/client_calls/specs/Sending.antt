@@ -1,0 +1,11 @@
+-- The messages that the calls of clients make.
+-- Source: FF-M 1.0, a message is of one connection; the slots are this manager's.
+use Rattle.std.specs.Prelude.{ℤ, false, Some}
+use Rattle.ffm_model.specs.declared.objects.OpenConnection.{OpenConnection}
+use Rattle.ffm_model.specs.declared.objects.Vectors.{Vectors}
+use Rattle.object_pools.specs.declared.slot.Slot.{Slot}
+use Rattle.spm_tables.specs.declared.item.MessageItem.{MessageItem}
+
+-- a message of the connection in that slot, before its delivery
+abbrev pub message_on : Slot → OpenConnection → ℤ → Vectors → MessageItem
+message_on s c kind v = record { service = c.service; client = c.client; connection = Some s; serial = c.serial; kind = kind; vectors = v; delivered = false }

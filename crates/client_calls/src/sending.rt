@@ -1,0 +1,48 @@
+//! Messages of connections.
+ghost use Rattle.std.specs.Prelude.{◌≡◌, ◌<◌, length, IsSomeAnd, IfSome};
+ghost use Rattle.ffm_model.specs.State.{with_phase, with_message};
+ghost use Rattle.object_pools.specs.Pool.{free_slot, item_at, taken};
+ghost use Rattle.spm_tables.specs.Desk.{spm_of, shape_of};
+ghost use Rattle.client_calls.specs.Sending.{message_on};
+
+use ffm_model::{ActorPhase, Span, Vectors};
+use object_pools::Slot;
+use spm_tables::{MessageItem, Tables};
+
+const NO_SPAN: Span = Span {
+    base: 0,
+    len: 0,
+    moved: 0,
+};
+
+/// The vectors of a message that no `psa_call` made.
+pub(crate) const NO_VECTORS: Vectors = Vectors {
+    input: [NO_SPAN; 4],
+    output: [NO_SPAN; 4],
+    out_vec: 0,
+    out_len: 0,
+};
+
+/// Sends a message of a connection to its service. The connection's client is Blocked from then on.
+pub(crate) fn send(tables: &mut Tables, slot: Slot, kind: i32, vectors: Vectors)
+    requires connection { IsSomeAnd (item_at tables.old.linked slot) (λ c. c.service < length tables.old.services) }
+    requires room { length (spm_of tables.old).messages < (shape_of tables.old).messages }
+    requires few { tables.old.waiting.takes < 1048575 }
+    ensures linked { tables.new.linked ≡ tables.old.linked }
+    ensures waiting { IfSome (item_at tables.old.linked slot) (λ c. IsSomeAnd (free_slot tables.old.waiting) (λ place. tables.new.waiting ≡ taken tables.old.waiting place (message_on slot c kind vectors))) }
+    ensures state { IfSome (item_at tables.old.linked slot) (λ c. spm_of tables.new ≡ with_phase (with_message (spm_of tables.old) c kind vectors) c.client.0 ActorPhase.Blocked) }
+    ensures shape { shape_of tables.new ≡ shape_of tables.old }
+{
+    tables.law();
+    let connection = tables.connections().connection(slot);
+    tables.enqueue(MessageItem {
+        service: connection.service,
+        client: connection.owner,
+        connection: Some(slot),
+        serial: connection.serial,
+        kind,
+        vectors,
+        delivered: false,
+    });
+    tables.set_phase(connection.owner, ActorPhase::Blocked);
+}

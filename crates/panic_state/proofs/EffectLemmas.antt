@@ -1,0 +1,164 @@
+-- What a panic leaves of the tables is the effect that the machine has.
+use Rattle.std.proofs.Common.{ℕ, ◌≡◌, ◌<◌, ◌≤◌, ◌+◌, Bool, true, false, cond, not, List, [], ◌∷◌, ◌++◌, length, length-append, map, filter, get_or, arith, ◌∙◌, ap, sym, refl, subst}
+use Rattle.std.specs.Prelude.{Option, Some, None, slice_set, All, if◌then◌else◌, option_and_then}
+use Rattle.std.specs.List.{filter_map}
+use Rattle.std.specs.Option.{option_map}
+use Rattle.std.proofs.Math.ListN.{length-set}
+use Rattle.std.proofs.lemmas.List.{length-map, get_or-map}
+use Rattle.ffm_model.specs.declared.system.System.{System}
+use Rattle.ffm_model.specs.declared.objects.OpenConnection.{OpenConnection}
+use Rattle.ffm_model.specs.declared.objects.PendingMessage.{PendingMessage}
+use Rattle.ffm_model.specs.declared.objects.ConnPhase.{ConnPhase}
+use Rattle.ffm_model.specs.declared.objects.ActorPhase.{ActorPhase}
+use Rattle.ffm_model.specs.declared.objects.ActorPhase.TheVariants.{Running, Ready, Ended, Panicked}
+use Rattle.ffm_model.specs.declared.objects.ConnPhase.TheVariants.{Opening, Idle, Busy, Error, Closing, Dead}
+use Rattle.ffm_model.specs.declared.machine.Outcome.TheVariants.{Value, Done}
+use Rattle.ffm_model.specs.declared.constants.TheConstants.{PSA_ERROR_CONNECTION_REFUSED, PSA_ERROR_COMMUNICATION_FAILURE}
+use Rattle.ffm_model.specs.Signals.{is_blocked}
+use Rattle.ffm_model.specs.Actors.{is_service_of}
+use Rattle.ffm_model.specs.State.{with_phase, phase_of}
+use Rattle.ffm_model.specs.Names.{SlotName, capacity}
+use Rattle.ffm_model.specs.Panic.{panic_effect, client_answered, clients_answered, without_service, without_client, disconnection, lost}
+use Rattle.object_pools.specs.declared.slot.Held.{Held}
+use Rattle.object_pools.specs.Pool.{Places}
+use Rattle.handle_table.specs.Table.{connections}
+use Rattle.counting_law.specs.Objects.{ObjectsFit}
+use Rattle.counting_law.proofs.Parts.{phase_same}
+use Rattle.counting_law.proofs.Rooms.{panic-room}
+use Rattle.spm_tables.specs.Desk.{Desk, Shape, MadeFor, spm_of, shape_of, held_message, service_signal}
+use Rattle.spm_tables.proofs.SystemLemmas.{few_connections}
+use Rattle.slot_names.specs.Named.{KeepsNames}
+use Rattle.slot_names.specs.Changes.{PairsOff, Relinks, TakesOn, names_of}
+use Rattle.slot_names.proofs.Moves.{relinks-some}
+use Rattle.slot_names.proofs.Panics.{names-panicked, takes-first}
+use Rattle.panic_state.specs.Losses.{left_by, in_slot, held_without_service, held_without_client, as_client, goodbyes}
+use Rattle.panic_state.proofs.Lists.{map-left, left-twice, map-kept, All-left}
+use Rattle.panic_state.proofs.ServiceLemmas.{services-known}
+use Rattle.panic_state.proofs.Walks.{items}
+
+seen-left : (h : Held OpenConnection) (o : Option OpenConnection) → option_map (λ (x : Held OpenConnection). x.item) (in_slot h o) ≡ o
+seen-left h None = refl
+seen-left h (Some c) = refl
+
+connections-served : (s : System) (p : ℕ) (d : Desk) → items (as_client s p d).linked.held ≡ filter_map (without_service s p) (connections d.linked)
+connections-served s p d = map-left (λ (h : Held OpenConnection). h.item) (held_without_service s p) (without_service s p) (λ h. seen-left h (without_service s p h.item)) d.linked.held
+
+goodbyes-are : (s : System) (p : ℕ) (d : Desk) → goodbyes p (as_client s p d).linked ≡ filter_map (λ c. option_and_then (disconnection p) (without_service s p c)) (connections d.linked)
+goodbyes-are s p d = ap (filter_map (disconnection p)) (connections-served s p d) ∙ left-twice (without_service s p) (disconnection p) (connections d.linked)
+
+connections-are : (s : System) (p : ℕ) (d : Desk)
+    → connections (left_by (held_without_client p) (as_client s p d).linked) ≡ filter_map (λ c. option_and_then (without_client p) (without_service s p c)) (connections d.linked)
+connections-are s p d =
+    map-left (λ (h : Held OpenConnection). h.item) (held_without_client p) (without_client p) (λ h. seen-left h (without_client p h.item)) (as_client s p d).linked.held
+    ∙ ap (filter_map (without_client p)) (connections-served s p d) ∙ left-twice (without_service s p) (without_client p) (connections d.linked)
+
+messages-kept : (s : System) (p : ℕ) (d : Desk) → map held_message (as_client s p d).waiting.held ≡ filter (λ m. not (is_service_of s p m.service)) (map held_message d.waiting.held)
+messages-kept s p d = map-kept held_message (λ m. not (is_service_of s p m.service)) d.waiting.held
+
+-- ---- the effect
+
+pub effect-is : (s : System) (p : ℕ) (d mid new : Desk) → mid ≡ as_client s p d → new.linked ≡ left_by (held_without_client p) mid.linked
+    → map held_message new.waiting.held ≡ map held_message mid.waiting.held ++ goodbyes p mid.linked → new ≡ record mid { linked = new.linked; waiting = new.waiting } → spm_of new ≡ panic_effect s (spm_of d) p
+effect-is s p d mid new before linked messages rest =
+    let at : record mid { linked = new.linked; waiting = new.waiting } ≡ record (as_client s p d) { linked = new.linked; waiting = new.waiting } = ap (λ (x : Desk). record x { linked = new.linked; waiting = new.waiting }) before in
+    let is : new ≡ record (as_client s p d) { linked = new.linked; waiting = new.waiting } = rest ∙ at in
+    let made : new.linked ≡ left_by (held_without_client p) (as_client s p d).linked = linked ∙ ap (λ (x : Desk). left_by (held_without_client p) x.linked) before in
+    let cs = ap connections made ∙ connections-are s p d in
+    let count = ap (λ (x : Places OpenConnection). x.takes) made in
+    let ms = messages ∙ ap (λ (x : Desk). map held_message x.waiting.held ++ goodbyes p x.linked) before
+    ∙ ap (λ (xs : List PendingMessage). xs ++ goodbyes p (as_client s p d).linked) (messages-kept s p d)
+    ∙ ap (λ (xs : List PendingMessage). filter (λ m. not (is_service_of s p m.service)) (map held_message d.waiting.held) ++ xs) (goodbyes-are s p d) in
+    ap spm_of is ∙ (λ j. record (spm_of (as_client s p d)) { connections = cs j; connections_made = count j; messages = ms j })
+
+-- ---- the room
+
+-- the messages that stay and those that come are no more than the connections that are declared
+pub room-of : (s : System) (p : ℕ) (d : Desk) → MadeFor d s → p < length s.partitions → ObjectsFit s (with_phase (spm_of d) p Running)
+    → length (as_client s p d).waiting.held + length (goodbyes p (as_client s p d).linked) ≤ capacity s
+room-of s p d made inside fits =
+    let there : p < length d.phases = omega (arith, ap (λ (x : Shape). x.actors) made) in
+    let running : phase_of (with_phase (spm_of d) p Running) p ≡ Running = phase_same d.phases p Running there in
+    let kept : List PendingMessage = filter (λ m. not (is_service_of s p m.service)) (map held_message d.waiting.held) in
+    let sent : List PendingMessage = filter_map (λ c. option_and_then (disconnection p) (without_service s p c)) (connections d.linked) in
+    omega (
+      arith,
+      panic-room s (with_phase (spm_of d) p Running) p fits running,
+      length-append kept sent,
+      ap (λ (ms : List PendingMessage). length ms) (messages-kept s p d),
+      ap (λ (ms : List PendingMessage). length ms) (goodbyes-are s p d),
+      length-map (as_client s p d).waiting.held held_message,
+    )
+
+-- ---- the services of the connections
+
+pub services-of : (s : System) (p : ℕ) (d : Desk) → MadeFor d s → ObjectsFit s (with_phase (spm_of d) p Running) → All (λ h. h.item.service < length (as_client s p d).services) (as_client s p d).linked.held
+services-of s p d made fit =
+    let count : length d.services ≡ length s.services = ap (λ (x : Shape). length x.services) made ∙ length-map s.services service_signal in
+    let all : All (λ h. h.item.service < length d.services) d.linked.held =
+    λ k h lt.
+    let at : get_or (connections d.linked) k h.item ≡ (get_or d.linked.held k h).item = get_or-map (λ (x : Held OpenConnection). x.item) d.linked.held k h h.item lt in
+    let here : (get_or (connections d.linked) k h.item).service < length s.services =
+    services-known s (with_phase (spm_of d) p Running) fit.budgets k h.item (omega (arith, lt, length-map d.linked.held (λ (x : Held OpenConnection). x.item))) in
+    omega (arith, here, count, ap (λ (c : OpenConnection). c.service) at) in
+    All-left (λ h. h.item.service < length d.services) (held_without_service s p) same_service d.linked.held all where
+      same_service : (x y : Held OpenConnection) → held_without_service s p x ≡ Some y → x.item.service < length d.services → y.item.service < length d.services
+      same_service x y e below = omega (arith, below, same_one x y (is_service_of s p x.item.service) (lost x.item.phase) e) where
+        same_one : (x y : Held OpenConnection) (b : Bool) (l : Option ConnPhase) → in_slot x (if b then option_map (λ f. record x.item { phase = f }) l else Some x.item) ≡ Some y → x.item.service ≡ y.item.service
+        same_one x y true None f = cc
+        same_one x y true (Some ph) f = let it : record x { item = record x.item { phase = ph } } ≡ y = cc in ap (λ (h : Held OpenConnection). h.item.service) it
+        same_one x y false l f = let it : x ≡ y = cc in ap (λ (h : Held OpenConnection). h.item.service) it
+
+-- ---- the shape
+
+answered-length : (phase : ConnPhase) (phases : List ActorPhase) (client : ℕ) → length (client_answered phase phases client) ≡ length phases
+answered-length Opening phases client = length-set phases client (Ready (Value PSA_ERROR_CONNECTION_REFUSED))
+answered-length Busy phases client = length-set phases client (Ready (Value PSA_ERROR_COMMUNICATION_FAILURE))
+answered-length Closing phases client =
+    let go : (b : Bool) → length (cond b (slice_set phases client (Ready Done)) phases) ≡ length phases = elim [ true ↦ length-set phases client (Ready Done) | false ↦ refl ] in
+    go (is_blocked (get_or phases client Ended))
+answered-length Idle phases client = refl
+answered-length Error phases client = refl
+answered-length Dead phases client = refl
+
+clients-length : (s : System) (p : ℕ) (cs : List OpenConnection) (phases : List ActorPhase) → length (clients_answered s p cs phases) ≡ length phases
+clients-length s p [] phases = refl
+clients-length s p (c ∷ cs) phases =
+    let told : List ActorPhase = client_answered c.phase phases c.client.0 in
+    let go : (b : Bool) → length (cond b told phases) ≡ length phases = elim [ true ↦ answered-length c.phase phases c.client.0 | false ↦ refl ] in
+    clients-length s p cs (cond (is_service_of s p c.service) told phases) ∙ go (is_service_of s p c.service)
+
+pub shape-is : (s : System) (p : ℕ) (d mid new : Desk) → mid ≡ as_client s p d → new.linked ≡ left_by (held_without_client p) mid.linked
+    → length new.waiting.generations ≡ length mid.waiting.generations → new ≡ record mid { linked = new.linked; waiting = new.waiting } → shape_of new ≡ shape_of d
+shape-is s p d mid new before linked size rest =
+    let is : new ≡ record (as_client s p d) { linked = new.linked; waiting = new.waiting } = rest ∙ ap (λ (x : Desk). record x { linked = new.linked; waiting = new.waiting }) before in
+    let made = ap (λ (x : Places OpenConnection). length x.generations) (linked ∙ ap (λ (x : Desk). left_by (held_without_client p) x.linked) before) in
+    let room = size ∙ ap (λ (x : Desk). length x.waiting.generations) before in
+    let phases = clients-length s p (connections d.linked) (slice_set d.phases p Panicked) ∙ length-set d.phases p Panicked in
+    ap shape_of is ∙ (λ j. record (shape_of d) { actors = phases j; connections = made j; messages = room j })
+
+pub few-goodbyes : (s : System) (p : ℕ) (d : Desk) → MadeFor d s → p < length s.partitions → ObjectsFit s (with_phase (spm_of d) p Running) → length (goodbyes p (as_client s p d).linked) ≤ 256
+few-goodbyes s p d made inside fit = omega (arith, room-of s p d made inside fit, few_connections s)
+
+-- ---- the names
+
+pub names-are : (s : System) (p : ℕ) (d mid new : Desk) → MadeFor d s → ObjectsFit s (with_phase (spm_of d) p Running) → mid ≡ as_client s p d → spm_of new ≡ panic_effect s (spm_of d) p
+    → ((first : Desk) (kept : List SlotName) → TakesOn (length mid.waiting.generations) first kept 0 mid → TakesOn (length mid.waiting.generations) first kept (length (goodbyes p mid.linked)) new) → KeepsNames s d new
+names-are s p d mid new made fit before effect more =
+    let pairs : PairsOff (spm_of d) = record { paired = fit.paired; rising = fit.rising } in
+    let kept : List SlotName = names_of (λ h. not (is_service_of s p h.item.service)) d.waiting in
+    let size : length mid.waiting.generations ≡ capacity s = ap (λ (x : Desk). length x.waiting.generations) before ∙ ap (λ (x : Shape). x.messages) made in
+    let linked : Relinks d.linked (as_client s p d).linked =
+    relinks-some d.linked (held_without_service s p) (λ h g e. (same_slot h g (is_service_of s p h.item.service) (lost h.item.phase) e, same_serial h g (is_service_of s p h.item.service) (lost h.item.phase) e)) in
+    let gone : TakesOn (capacity s) d kept 0 (as_client s p d) = takes-first (capacity s) d (as_client s p d) (λ h. not (is_service_of s p h.item.service)) linked refl in
+    let there : TakesOn (length mid.waiting.generations) d kept 0 mid = subst (λ (n : ℕ). TakesOn n d kept 0 mid) (sym size) (subst (λ (x : Desk). TakesOn (capacity s) d kept 0 x) (sym before) gone) in
+    let all : TakesOn (capacity s) d kept (length (goodbyes p mid.linked)) new = subst (λ (n : ℕ). TakesOn n d kept (length (goodbyes p mid.linked)) new) size (more d kept there) in
+    names-panicked s d new p kept (length (goodbyes p mid.linked)) pairs effect refl all where
+      same_slot : (x y : Held OpenConnection) (b : Bool) (l : Option ConnPhase) → in_slot x (if b then option_map (λ f. record x.item { phase = f }) l else Some x.item) ≡ Some y → y.slot ≡ x.slot
+      same_slot x y true None f = cc
+      same_slot x y true (Some ph) f = let it : record x { item = record x.item { phase = ph } } ≡ y = cc in ap (λ (h : Held OpenConnection). h.slot) (sym it)
+      same_slot x y false l f = let it : x ≡ y = cc in ap (λ (h : Held OpenConnection). h.slot) (sym it)
+
+      same_serial : (x y : Held OpenConnection) (b : Bool) (l : Option ConnPhase) → in_slot x (if b then option_map (λ f. record x.item { phase = f }) l else Some x.item) ≡ Some y → y.item.serial ≡ x.item.serial
+      same_serial x y true None f = cc
+      same_serial x y true (Some ph) f = let it : record x { item = record x.item { phase = ph } } ≡ y = cc in ap (λ (h : Held OpenConnection). h.item.serial) (sym it)
+      same_serial x y false l f = let it : x ≡ y = cc in ap (λ (h : Held OpenConnection). h.item.serial) (sym it)

@@ -1,0 +1,7 @@
+mod Lists
+mod PlaceLemmas
+mod Walks
+mod Leaving
+pub mod ServiceLemmas
+mod EffectLemmas
+mod TestLemmas

@@ -1,0 +1,128 @@
+-- The tables while a panic walks through the connections or messages: those before a place are done.
+use Rattle.std.proofs.Common.{ℕ, ◌≡◌, ◌≤◌, ◌+◌, Bool, true, false, not, List, [], ◌∷◌, length, map, filter, drop, cond, ◌∙◌, ap, sym, refl}
+use Rattle.std.specs.Prelude.{Option, Some, None, is_some, if◌then◌else◌, slice_get}
+use Rattle.std.specs.List.{filter_map, cons_option}
+use Rattle.std.specs.Option.{option_map}
+use Rattle.ffm_model.specs.declared.system.System.{System}
+use Rattle.ffm_model.specs.declared.objects.OpenConnection.{OpenConnection}
+use Rattle.ffm_model.specs.declared.objects.ConnPhase.{ConnPhase}
+use Rattle.ffm_model.specs.declared.objects.ActorPhase.{ActorPhase}
+use Rattle.ffm_model.specs.Actors.{is_service_of}
+use Rattle.ffm_model.specs.Panic.{lost, client_answered, clients_answered}
+use Rattle.object_pools.specs.declared.slot.Held.{Held}
+use Rattle.object_pools.specs.Pool.{IsKept, with_item, without}
+use Rattle.spm_tables.specs.declared.item.MessageItem.{MessageItem}
+use Rattle.spm_tables.specs.Desk.{Desk}
+use Rattle.panic_state.specs.Losses.{with_left, in_slot, in_phase, held_without_service, with_lost, without_messages}
+use Rattle.panic_state.proofs.Lists.{left_from, left_from-same, left_from-set, left_from-out, left_from-all, length-out, drop-nth, drop-set, drop-out, drop-all}
+use Rattle.panic_state.proofs.PlaceLemmas.{with_item-at, without-at}
+
+abbrev pub items : List (Held OpenConnection) → List OpenConnection
+items hs = map (λ h. h.item) hs
+
+-- the services of the connections from a place on are gone too
+abbrev pub services_from : System → ℕ → ℕ → Desk → Desk
+services_from s p n d = record d {
+  linked = record d.linked { held = left_from (held_without_service s p) n d.linked.held };
+  phases = clients_answered s p (items (drop n d.linked.held)) d.phases;
+}
+
+-- at the end none is left to be lost
+pub services_from-all : (s : System) (p n : ℕ) (d : Desk) → length d.linked.held ≤ n → services_from s p n d ≡ d
+services_from-all s p n d past = λ j. record d {
+  linked = record d.linked { held = left_from-all (held_without_service s p) d.linked.held n past j };
+  phases = clients_answered s p (items (drop-all d.linked.held n past j)) d.phases;
+}
+
+abbrev answered_by : System → ℕ → List ActorPhase → OpenConnection → List ActorPhase
+answered_by s p phases c = if is_service_of s p c.service then client_answered c.phase phases c.client.0 else phases
+
+-- one further, where the service is another partition's
+pub services_from-other : (s : System) (p n : ℕ) (d : Desk) (h : Held OpenConnection) → slice_get d.linked.held n ≡ Some h → is_service_of s p h.item.service ≡ false
+    → services_from s p (n + 1) d ≡ services_from s p n d
+services_from-other s p n d h here other =
+    let kept : held_without_service s p h ≡ Some h = ap (λ (b : Bool). in_slot h (if b then option_map (λ f. record h.item { phase = f }) (lost h.item.phase) else Some h.item)) other in
+    let held = left_from-same (held_without_service s p) d.linked.held n h here kept in
+    let step : answered_by s p d.phases h.item ≡ d.phases = ap (λ (b : Bool). if b then client_answered h.item.phase d.phases h.item.client.0 else d.phases) other in
+    let rest = drop-nth d.linked.held n h here in
+    let phases : clients_answered s p (items (drop (n + 1) d.linked.held)) d.phases ≡ clients_answered s p (items (drop n d.linked.held)) d.phases =
+    ap (clients_answered s p (items (drop (n + 1) d.linked.held))) (sym step) ∙ ap (λ (hs : List (Held OpenConnection)). clients_answered s p (items hs) d.phases) (sym rest) in
+    λ j. record d { linked = record d.linked { held = held j }; phases = phases j }
+
+-- one lost
+pub services_from-lost : (s : System) (p n : ℕ) (d new : Desk) (h : Held OpenConnection) (kept : Bool) → IsKept 256 d.linked → slice_get d.linked.held n ≡ Some h → is_service_of s p h.item.service ≡ true
+    → new ≡ with_lost d h → kept ≡ is_some (lost h.item.phase) → services_from s p (if kept then n + 1 else n) new ≡ services_from s p n d
+services_from-lost s p n d new h kept k here own after stays =
+    let rest = drop-nth d.linked.held n h here in
+    let left : (o : Option ConnPhase) → lost h.item.phase ≡ o → held_without_service s p h ≡ in_slot h (in_phase h.item o) =
+    λ o e. ap (λ (b : Bool). in_slot h (if b then option_map (λ f. record h.item { phase = f }) (lost h.item.phase) else Some h.item)) own ∙ ap (λ (f : Option ConnPhase). in_slot h (in_phase h.item f)) e in
+    let told : List ActorPhase = client_answered h.item.phase d.phases h.item.client.0 in
+    let step : answered_by s p d.phases h.item ≡ told = ap (λ (b : Bool). if b then client_answered h.item.phase d.phases h.item.client.0 else d.phases) own in
+    let phases : (hs : List (Held OpenConnection)) → hs ≡ drop (n + 1) d.linked.held → clients_answered s p (items hs) told ≡ clients_answered s p (items (drop n d.linked.held)) d.phases =
+    λ hs e. ap (λ (xs : List (Held OpenConnection)). clients_answered s p (items xs) told) e ∙ ap (clients_answered s p (items (drop (n + 1) d.linked.held))) (sym step)
+    ∙ ap (λ (xs : List (Held OpenConnection)). clients_answered s p (items xs) d.phases) (sym rest) in
+    let go : (o : Option ConnPhase) → lost h.item.phase ≡ o
+    → services_from s p (if is_some o then n + 1 else n) (record d { linked = with_left d.linked h.slot (in_phase h.item o); phases = told }) ≡ services_from s p n d =
+    elim [
+      | None ↦ λ e.
+          let out = without-at d.linked n h k here in
+          let held = ap (left_from (held_without_service s p) n) out ∙ left_from-out (held_without_service s p) d.linked.held n h here (left None e) in
+          let tail = phases (drop n (without d.linked h.slot).held) (ap (drop n) out ∙ drop-out d.linked.held n) in
+          λ j. record d { linked = record d.linked { held = held j }; phases = tail j }
+      | Some f ↦ λ e.
+          let changed : Held OpenConnection = record h { item = record h.item { phase = f } } in
+          let put = with_item-at d.linked n h (record h.item { phase = f }) k here in
+          let held = ap (left_from (held_without_service s p) (n + 1)) put ∙ left_from-set (held_without_service s p) d.linked.held n h changed here (left (Some f) e) in
+          let tail = phases (drop (n + 1) (with_item d.linked h.slot (record h.item { phase = f })).held) (ap (drop (n + 1)) put ∙ drop-set d.linked.held n changed) in
+          λ j. record d { linked = record d.linked { held = held j }; phases = tail j }
+    ] in
+    ap (λ (b : Bool). services_from s p (if b then n + 1 else n) new) stays ∙ ap (services_from s p (if is_some (lost h.item.phase) then n + 1 else n)) after ∙ go (lost h.item.phase) refl
+
+-- a connection that goes leaves fewer
+pub lost-shorter : (p : ℕ) (d new : Desk) (h : Held OpenConnection) (kept : Bool) → IsKept 256 d.linked → slice_get d.linked.held p ≡ Some h → new ≡ with_lost d h → kept ≡ is_some (lost h.item.phase) → kept ≡ false
+    → length new.linked.held + 1 ≡ length d.linked.held
+lost-shorter n d new h kept k here after stays gone =
+    let go : (o : Option ConnPhase) → lost h.item.phase ≡ o → is_some o ≡ false → length (with_left d.linked h.slot (in_phase h.item o)).held + 1 ≡ length d.linked.held =
+    elim [
+      | None ↦ λ e f. ap (λ (hs : List (Held OpenConnection)). length hs + 1) (without-at d.linked n h k here) ∙ length-out d.linked.held n h here
+      | Some f ↦ λ e g. cc
+    ] in
+    ap (λ (x : Desk). length x.linked.held + 1) after ∙ go (lost h.item.phase) refl (sym stays ∙ gone)
+
+-- the messages from a place on are gone too, where they are to the partition's services
+abbrev pub is_kept : System → ℕ → Held MessageItem → Option (Held MessageItem)
+is_kept s p h = if is_service_of s p h.item.service then None else Some h
+
+abbrev pub messages_from : System → ℕ → ℕ → Desk → Desk
+messages_from s p n d = record d { waiting = record d.waiting { held = left_from (is_kept s p) n d.waiting.held } }
+
+pub messages_from-all : (s : System) (p n : ℕ) (d : Desk) → length d.waiting.held ≤ n → messages_from s p n d ≡ d
+messages_from-all s p n d past = λ j. record d { waiting = record d.waiting { held = left_from-all (is_kept s p) d.waiting.held n past j } }
+
+pub messages_from-other : (s : System) (p n : ℕ) (d : Desk) (h : Held MessageItem) → slice_get d.waiting.held n ≡ Some h → is_service_of s p h.item.service ≡ false → messages_from s p (n + 1) d ≡ messages_from s p n d
+messages_from-other s p n d h here other =
+    let held = left_from-same (is_kept s p) d.waiting.held n h here (ap (λ (b : Bool). if b then None else Some h) other) in
+    λ j. record d { waiting = record d.waiting { held = held j } }
+
+pub messages_from-gone : (s : System) (p n : ℕ) (d new : Desk) (h : Held MessageItem) → IsKept 256 d.waiting → slice_get d.waiting.held n ≡ Some h → is_service_of s p h.item.service ≡ true
+    → new ≡ record d { waiting = without d.waiting h.slot } → messages_from s p n new ≡ messages_from s p n d
+messages_from-gone s p n d new h k here own after =
+    let held = ap (left_from (is_kept s p) n) (without-at d.waiting n h k here) ∙ left_from-out (is_kept s p) d.waiting.held n h here (ap (λ (b : Bool). if b then None else Some h) own) in
+    let step : messages_from s p n (record d { waiting = without d.waiting h.slot }) ≡ messages_from s p n d = λ j. record d { waiting = record d.waiting { held = held j } } in
+    ap (messages_from s p n) after ∙ step
+
+pub gone-shorter : (n : ℕ) (d new : Desk) (h : Held MessageItem) → IsKept 256 d.waiting → slice_get d.waiting.held n ≡ Some h → new ≡ record d { waiting = without d.waiting h.slot } → length new.waiting.held + 1 ≡ length d.waiting.held
+gone-shorter n d new h k here after =
+    ap (λ (x : Desk). length x.waiting.held + 1) after ∙ ap (λ (hs : List (Held MessageItem)). length hs + 1) (without-at d.waiting n h k here) ∙ length-out d.waiting.held n h here
+
+-- a filter, as what is left
+kept-filter : (s : System) (p : ℕ) (hs : List (Held MessageItem)) → filter_map (is_kept s p) hs ≡ filter (λ h. not (is_service_of s p h.item.service)) hs
+kept-filter s p [] = refl
+kept-filter s p (h ∷ hs) =
+    let rest : List (Held MessageItem) = filter (λ x. not (is_service_of s p x.item.service)) hs in
+    let go : (b : Bool) → cons_option (if b then None else Some h) (filter_map (is_kept s p) hs) ≡ cond (not b) (h ∷ rest) rest =
+    elim [ true ↦ kept-filter s p hs | false ↦ ap (λ (xs : List (Held MessageItem)). h ∷ xs) (kept-filter s p hs) ] in
+    go (is_service_of s p h.item.service)
+
+pub messages_from-none : (s : System) (p : ℕ) (d : Desk) → messages_from s p 0 d ≡ without_messages s p d
+messages_from-none s p d = λ j. record d { waiting = record d.waiting { held = kept-filter s p d.waiting.held j } }

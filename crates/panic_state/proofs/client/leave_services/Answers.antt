@@ -1,0 +1,93 @@
+use Rattle.std.proofs.Common.{◌≡◌, ◌≢◌, ◌+◌, ◌==◌, ◌++◌, [], ◌∷◌, length, map, true, false, arith, ap, sym, ◌∙◌, subst, ℕ}
+use Rattle.std.specs.Prelude.{IsSome}
+use Rattle.std.proofs.lemmas.List.{length-map}
+use Rattle.ffm_model.specs.declared.objects.OpenConnection.{OpenConnection}
+use Rattle.ffm_model.specs.declared.objects.PendingMessage.{PendingMessage}
+use Rattle.ffm_model.specs.State.{SpmState}
+use Rattle.object_pools.specs.Pool.{Places, item_at, taken}
+use Rattle.spm_tables.specs.Desk.{Desk, held_message}
+use Rattle.spm_tables.proofs.SlotLemmas.{belongs-to}
+use Rattle.panic_state.specs.Losses.{goodbye}
+use Rattle.panic_state.proofs.Leaving.{messages_of, leaves-other, leaves-dead, dead-shorter, leaves-closing, closing-both, closing-length, room-left, takes-left, service-known, left-linked, left-messages, left-names, left-takes}
+use Rattle.panic_state.proofs.client.leave_services.Goals as goal
+
+same : (x p : ℕ) → x ≡ p → (x == p) ≡ true
+same x p e = grind arith
+
+other : (x p : ℕ) → x ≢ p → (x == p) ≡ false
+other x p e = grind arith
+
+pub loop-place-preserved-then-held-partition : goal.loop-place-preserved-then-held-partition
+loop-place-preserved-then-held-partition c =
+    leaves-other c.args.partition.0 c.loop-place.place c.args.tables.now c.loop-place.tables c.connection_at-held.result c.loop-place.invariant c.connection_at-held.ensures.at (other c.connection_at-held.result.item.client.0 c.args.partition.0 c.if-held-partition.true)
+
+pub loop-place-smaller-then-is_dead : goal.loop-place-smaller-then-is_dead
+loop-place-smaller-then-is_dead c =
+    let shorter : length c.free.new.self.linked.held + 1 ≡ length c.loop-place.tables.linked.held = dead-shorter c.loop-place.place c.loop-place.tables c.free.new.self c.connection_at-held.result c.connection_at-held.ensures.kept c.connection_at-held.ensures.at c.free.ensures.after in
+    omega (arith, shorter, c.live.ensures, c.loop-place-test.true, ap (λ (q : Places OpenConnection). length q.held) c.connections.ensures)
+
+pub loop-place-preserved-then-is_dead : goal.loop-place-preserved-then-is_dead
+loop-place-preserved-then-is_dead c =
+    leaves-dead c.args.partition.0 c.loop-place.place c.args.tables.now c.loop-place.tables c.free.new.self c.connection_at-held.result c.loop-place.invariant c.connection_at-held.ensures.kept c.connection_at-held.ensures.at
+    (same c.connection_at-held.result.item.client.0 c.args.partition.0 c.if-held-partition.false) (sym c.is_dead.ensures ∙ c.if-is_dead.true) c.free.ensures.after
+
+pub enqueue-requires-clause-service : goal.enqueue-requires-clause-service
+enqueue-requires-clause-service c =
+    omega (
+      arith,
+      service-known c.args.partition.0 c.loop-place.place c.args.tables.now c.loop-place.tables c.connection_at-held.result c.loop-place.invariant c.connection_at-held.ensures.at,
+      ap (λ (m : PendingMessage). m.service) c.disconnection.ensures.message,
+    )
+
+pub enqueue-requires-clause-connection : goal.enqueue-requires-clause-connection
+enqueue-requires-clause-connection c =
+    belongs-to c.loop-place.tables.linked c.connection_at-held.result.slot c.connection_at-held.result.item c.disconnection.result c.connection_at-held.ensures.table c.connection_at-held.ensures.item c.disconnection.ensures.serial c.disconnection.ensures.connection
+
+pub enqueue-requires-clause-room : goal.enqueue-requires-clause-room
+enqueue-requires-clause-room c =
+    room-left c.args.partition.0 c.loop-place.place c.args.tables.now c.loop-place.tables c.connection_at-held.result c.loop-place.invariant c.connection_at-held.ensures.at
+    (same c.connection_at-held.result.item.client.0 c.args.partition.0 c.if-held-partition.false) (sym c.is_dead.ensures ∙ c.if-is_dead.false)
+    (omega (arith, c.requires.room, length-map c.args.tables.now.waiting.held held_message))
+
+pub enqueue-requires-clause-few : goal.enqueue-requires-clause-few
+enqueue-requires-clause-few c =
+    takes-left c.args.partition.0 c.loop-place.place c.args.tables.now c.loop-place.tables c.connection_at-held.result c.loop-place.invariant c.connection_at-held.ensures.at
+    (same c.connection_at-held.result.item.client.0 c.args.partition.0 c.if-held-partition.false) (sym c.is_dead.ensures ∙ c.if-is_dead.false) c.requires.few
+
+pub set_connection_phase-requires : goal.set_connection_phase-requires
+set_connection_phase-requires c = subst (λ (d : Desk). IsSome (item_at d.linked c.connection_at-held.result.slot)) (sym c.enqueue.ensures.after) c.connection_at-held.ensures.live
+
+pub loop-place-smaller : goal.loop-place-smaller
+loop-place-smaller c =
+    let same_length : length c.set_connection_phase.new.self.linked.held ≡ length c.loop-place.tables.linked.held =
+    closing-length c.loop-place.tables c.set_connection_phase.new.self (taken c.loop-place.tables.waiting c.enqueue.result c.disconnection.result) c.connection_at-held.result.slot c.connection_at-held.result.item
+    (closing-both c.loop-place.tables c.enqueue.new.self c.set_connection_phase.new.self (taken c.loop-place.tables.waiting c.enqueue.result c.disconnection.result) c.connection_at-held.result.slot c.connection_at-held.result.item c.enqueue.ensures.after c.connection_at-held.ensures.item c.set_connection_phase.ensures.item) in
+    omega (arith, same_length, c.live.ensures, c.loop-place-test.true, ap (λ (q : Places OpenConnection). length q.held) c.connections.ensures)
+
+pub loop-place-preserved : goal.loop-place-preserved
+loop-place-preserved c =
+    let sent : map held_message (taken c.loop-place.tables.waiting c.enqueue.result c.disconnection.result).held ≡ messages_of c.loop-place.tables ++ goodbye c.connection_at-held.result.item ∷ [] =
+    sym (ap (λ (d : Desk). messages_of d) c.enqueue.ensures.after) ∙ ap (λ (b : SpmState). b.messages) c.enqueue.ensures.state ∙ ap (λ (m : PendingMessage). messages_of c.loop-place.tables ++ m ∷ []) c.disconnection.ensures.message in
+    leaves-closing c.args.partition.0 c.loop-place.place c.args.tables.now c.loop-place.tables c.set_connection_phase.new.self c.connection_at-held.result c.enqueue.result c.disconnection.result c.loop-place.invariant c.connection_at-held.ensures.kept c.connection_at-held.ensures.at
+    c.connection_at-held.ensures.item c.enqueue.ensures.slot (same c.connection_at-held.result.item.client.0 c.args.partition.0 c.if-held-partition.false) (sym c.is_dead.ensures ∙ c.if-is_dead.false) sent
+    (closing-both c.loop-place.tables c.enqueue.new.self c.set_connection_phase.new.self (taken c.loop-place.tables.waiting c.enqueue.result c.disconnection.result) c.connection_at-held.result.slot c.connection_at-held.result.item c.enqueue.ensures.after c.connection_at-held.ensures.item c.set_connection_phase.ensures.item)
+
+pub returns-clause-connections : goal.returns-clause-connections
+returns-clause-connections c =
+    left-linked c.args.partition.0 c.loop-place.place c.args.tables.now c.loop-place.tables c.loop-place.invariant
+    (omega (arith, c.live.ensures, c.loop-place-test.false, ap (λ (q : Places OpenConnection). length q.held) c.connections.ensures))
+
+pub returns-clause-messages : goal.returns-clause-messages
+returns-clause-messages c =
+    left-messages c.args.partition.0 c.loop-place.place c.args.tables.now c.loop-place.tables c.loop-place.invariant
+    (omega (arith, c.live.ensures, c.loop-place-test.false, ap (λ (q : Places OpenConnection). length q.held) c.connections.ensures))
+
+pub returns-clause-takes : goal.returns-clause-takes
+returns-clause-takes c =
+    left-takes c.args.partition.0 c.loop-place.place c.args.tables.now c.loop-place.tables c.loop-place.invariant
+    (omega (arith, c.live.ensures, c.loop-place-test.false, ap (λ (q : Places OpenConnection). length q.held) c.connections.ensures))
+
+pub returns-clause-names : goal.returns-clause-names
+returns-clause-names c =
+    left-names c.args.partition.0 c.loop-place.place c.args.tables.now c.loop-place.tables c.loop-place.invariant
+    (omega (arith, c.live.ensures, c.loop-place-test.false, ap (λ (q : Places OpenConnection). length q.held) c.connections.ensures))

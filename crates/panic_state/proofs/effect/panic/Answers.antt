@@ -1,0 +1,65 @@
+use Rattle.std.proofs.Common.{◌<◌, ◌+◌, length, arith, ap, sym, subst}
+use Rattle.std.specs.Prelude.{All}
+use Rattle.spm_tables.specs.Desk.{Desk, Shape}
+use Rattle.panic_state.specs.Losses.{goodbyes}
+use Rattle.panic_state.proofs.EffectLemmas.{effect-is, names-are, shape-is, room-of, services-of, few-goodbyes}
+use Rattle.panic_state.proofs.effect.panic.Goals as goal
+
+pub leave_services-requires-clause-services : goal.leave_services-requires-clause-services
+leave_services-requires-clause-services c =
+    let s = c.args.system.now in
+    let p = c.args.partition.0 in
+    subst (λ (d : Desk). All (λ h. h.item.service < length d.services) d.linked.held) (sym c.end_services.ensures) (services-of s p c.args.tables.now c.requires.made c.requires.fits)
+
+pub leave_services-requires-clause-room : goal.leave_services-requires-clause-room
+leave_services-requires-clause-room c =
+    let s = c.args.system.now in
+    let p = c.args.partition.0 in
+    omega (
+      arith,
+      room-of s p c.args.tables.now c.requires.made c.requires.partition c.requires.fits,
+      ap (λ (x : Shape). x.messages) c.requires.made,
+      ap (λ (d : Desk). length d.waiting.held + length (goodbyes p d.linked)) c.end_services.ensures,
+      ap (λ (d : Desk). length d.waiting.generations) c.end_services.ensures,
+    )
+
+pub leave_services-requires-clause-few : goal.leave_services-requires-clause-few
+leave_services-requires-clause-few c =
+    let s = c.args.system.now in
+    let p = c.args.partition.0 in
+    omega (
+      arith,
+      few-goodbyes s p c.args.tables.now c.requires.made c.requires.partition c.requires.fits,
+      c.requires.few,
+      ap (λ (d : Desk). d.waiting.takes + length (goodbyes p d.linked)) c.end_services.ensures,
+    )
+
+pub returns-clause-state : goal.returns-clause-state
+returns-clause-state c =
+    let s = c.args.system.now in
+    let p = c.args.partition.0 in
+    effect-is s p c.args.tables.now c.end_services.new.tables c.leave_services.new.tables c.end_services.ensures c.leave_services.ensures.connections c.leave_services.ensures.messages c.leave_services.ensures.rest
+
+pub returns-clause-names : goal.returns-clause-names
+returns-clause-names c =
+    let s = c.args.system.now in
+    let p = c.args.partition.0 in
+    let effect = effect-is s p c.args.tables.now c.end_services.new.tables c.leave_services.new.tables c.end_services.ensures c.leave_services.ensures.connections c.leave_services.ensures.messages c.leave_services.ensures.rest in
+    names-are s p c.args.tables.now c.end_services.new.tables c.leave_services.new.tables c.requires.made c.requires.fits c.end_services.ensures effect c.leave_services.ensures.names
+
+pub returns-clause-shape : goal.returns-clause-shape
+returns-clause-shape c =
+    let s = c.args.system.now in
+    let p = c.args.partition.0 in
+    shape-is s p c.args.tables.now c.end_services.new.tables c.leave_services.new.tables c.end_services.ensures c.leave_services.ensures.connections c.leave_services.ensures.size c.leave_services.ensures.rest
+
+pub returns-clause-message_takes : goal.returns-clause-message_takes
+returns-clause-message_takes c =
+    let s = c.args.system.now in
+    let p = c.args.partition.0 in
+    omega (
+      arith,
+      few-goodbyes s p c.args.tables.now c.requires.made c.requires.partition c.requires.fits,
+      c.leave_services.ensures.takes,
+      ap (λ (d : Desk). d.waiting.takes + length (goodbyes p d.linked)) c.end_services.ensures,
+    )

@@ -1,0 +1,71 @@
+//! A partition that panicked, as a client.
+
+ghost use Rattle.std.specs.Prelude.{◌≡◌, ◌<◌, ◌≤◌, ◌+◌, ◌++◌, List, length, false, All, Some};
+ghost use Rattle.ffm_model.specs.Panic.{is_dead};
+ghost use Rattle.ffm_model.specs.Names.{SlotName};
+ghost use Rattle.spm_tables.specs.Desk.{Desk, spm_of, fresh_message};
+ghost use Rattle.slot_names.specs.Changes.{TakesOn};
+ghost use Rattle.panic_state.specs.Losses.{left_by, held_without_client, goodbye, goodbyes};
+
+use crate::places::connection_at;
+use ffm_model::{ActorId, ConnPhase, OpenConnection, PSA_IPC_DISCONNECT, Span, Vectors};
+use object_pools::Held;
+use spm_tables::{MessageItem, Tables};
+
+// The message that closes a connection, for which nobody waits.
+fn disconnection(held: Held<OpenConnection>) -> MessageItem
+    ensures message { fresh_message result ≡ goodbye held.item }
+    ensures serial { result.serial ≡ held.item.serial }
+    ensures connection { result.connection ≡ Some held.slot }
+    ensures undelivered { result.delivered ≡ false }
+{
+    let none = Span::default();
+    MessageItem {
+        service: held.item.service,
+        client: held.item.client,
+        connection: Some(held.slot),
+        serial: held.item.serial,
+        kind: PSA_IPC_DISCONNECT,
+        vectors: Vectors {
+            input: [none; 4],
+            output: [none; 4],
+            out_vec: 0,
+            out_len: 0,
+        },
+        delivered: false,
+    }
+}
+
+fn is_dead(phase: ConnPhase) -> bool
+    ensures { result ≡ is_dead phase }
+{
+    matches!(phase, ConnPhase::Dead)
+}
+
+// The partition's own connections, in the order of their making: a Dead one is freed; of any other a disconnection goes last, and it is Closing.
+pub(crate) fn leave_services(tables: &mut Tables, partition: ActorId)
+    requires services { All (λ h. h.item.service < length tables.old.services) tables.old.linked.held }
+    requires room { length tables.old.waiting.held + length (goodbyes partition.0 tables.old.linked) ≤ length tables.old.waiting.generations }
+    requires few { tables.old.waiting.takes + length (goodbyes partition.0 tables.old.linked) ≤ 1048575 }
+    ensures connections { tables.new.linked ≡ left_by (held_without_client partition.0) tables.old.linked }
+    ensures messages { (spm_of tables.new).messages ≡ (spm_of tables.old).messages ++ goodbyes partition.0 tables.old.linked }
+    ensures rest { tables.new ≡ record tables.old { linked = tables.new.linked; waiting = tables.new.waiting } }
+    ensures size { length tables.new.waiting.generations ≡ length tables.old.waiting.generations }
+    ensures takes { tables.new.waiting.takes ≡ tables.old.waiting.takes + length (goodbyes partition.0 tables.old.linked) }
+    ensures names { (first : Desk) (kept : List SlotName) → TakesOn (length tables.old.waiting.generations) first kept 0 tables.old
+        → TakesOn (length tables.old.waiting.generations) first kept (length (goodbyes partition.0 tables.old.linked)) tables.new }
+{
+    let mut place = 0;
+    while place < tables.connections().live() {
+        let held = connection_at(tables, place);
+        if held.item.client.0 != partition.0 {
+            place += 1;
+        } else if is_dead(held.item.phase) {
+            tables.free(held.slot);
+        } else {
+            tables.enqueue(disconnection(held));
+            tables.set_connection_phase(held.slot, ConnPhase::Closing);
+            place += 1;
+        }
+    }
+}

@@ -1,0 +1,47 @@
+//! The panic of a partition.
+
+ghost use Rattle.std.specs.Prelude.{◌≡◌, ◌<◌, ◌≤◌, ◌+◌, length};
+ghost use Rattle.ffm_model.specs.declared.objects.ActorPhase.TheVariants as phase;
+ghost use Rattle.ffm_model.specs.State.{with_phase};
+ghost use Rattle.ffm_model.specs.Panic.{panic_effect};
+ghost use Rattle.counting_law.specs.Objects.{ObjectsFit};
+ghost use Rattle.spm_tables.specs.Desk.{spm_of, shape_of, MadeFor};
+ghost use Rattle.slot_names.specs.Named.{KeepsNames};
+ghost use Rattle.panic_state.specs.Losses.{as_client};
+
+use crate::client::leave_services;
+use crate::services::{drop_messages, lose_services};
+use ffm_model::{ActorId, ActorPhase, System};
+use spm_tables::Tables;
+
+// The partition is Panicked, and its services are gone.
+fn end_services(system: &System, tables: &mut Tables, partition: ActorId)
+    ensures { tables.new ≡ as_client system.now partition.0 tables.old }
+{
+    tables.set_phase(partition, ActorPhase::Panicked);
+    lose_services(system, tables, partition);
+    drop_messages(system, tables, partition);
+}
+
+/// A partition panics, and stays so.
+///
+/// Of the connections to its services, those that are Opening or Closing are freed and all others are Dead, and
+/// their clients are answered where they wait. All messages to its services are gone. Then each connection of its own,
+/// in the order of their making, is freed where it is Dead, and else is Closing, with a disconnection for which nobody waits.
+///
+/// The partition awaits no answer itself: its connections have to fit it as one that runs. The disconnections take at most
+/// 256 messages in.
+pub fn panic(system: &System, tables: &mut Tables, partition: ActorId)
+    requires made { MadeFor tables.old system.now }
+    requires partition { partition.0 < length system.now.partitions }
+    requires fits { ObjectsFit system.now (with_phase (spm_of tables.old) partition.0 phase.Running) }
+    requires few { tables.old.waiting.takes + 256 ≤ 1048575 }
+    ensures state { spm_of tables.new ≡ panic_effect system.now (spm_of tables.old) partition.0 }
+    ensures names { KeepsNames system.now tables.old tables.new }
+    ensures shape { shape_of tables.new ≡ shape_of tables.old }
+    ensures message_takes { tables.new.waiting.takes ≤ tables.old.waiting.takes + 256 }
+    ensures connection_takes { tables.new.linked.takes ≡ tables.old.linked.takes }
+{
+    end_services(system, tables, partition);
+    leave_services(tables, partition);
+}

@@ -1,0 +1,33 @@
+//! The connections and messages of the tables, by their places.
+
+ghost use Rattle.std.specs.Prelude.{◌≡◌, ◌<◌, length, Some, IsSome, slice_get};
+ghost use Rattle.object_pools.specs.Pool.{item_at, IsKept};
+ghost use Rattle.handle_table.specs.Table.{IsTable};
+
+use ffm_model::OpenConnection;
+use object_pools::Held;
+use spm_tables::{MessageItem, Tables};
+
+// The connection at a place in the order of their making.
+pub(crate) fn connection_at(tables: &Tables, place: u32) -> Held<OpenConnection>
+    requires { place < length tables.now.linked.held }
+    ensures at { slice_get tables.now.linked.held place ≡ Some result }
+    ensures item { item_at tables.now.linked result.slot ≡ Some result.item }
+    ensures live { IsSome (item_at tables.now.linked result.slot) }
+    ensures kept { IsKept 256 tables.now.linked }
+    ensures table { IsTable tables.now.linked }
+{
+    tables.law();
+    tables.connections().nth(place)
+}
+
+// The message at a place in the order of their making.
+pub(crate) fn message_at(tables: &Tables, place: u32) -> Held<MessageItem>
+    requires { place < length tables.now.waiting.held }
+    ensures at { slice_get tables.now.waiting.held place ≡ Some result }
+    ensures live { IsSome (item_at tables.now.waiting result.slot) }
+    ensures kept { IsKept 256 tables.now.waiting }
+{
+    tables.law();
+    tables.messages().nth(place)
+}

@@ -1,0 +1,95 @@
+//! The services of a partition that panicked.
+
+ghost use Rattle.std.specs.Prelude.{◌≡◌, is_some, Some};
+ghost use Rattle.ffm_model.specs.Actors.{is_service_of};
+ghost use Rattle.ffm_model.specs.Panic.{client_answered, lost};
+ghost use Rattle.object_pools.specs.Pool.{item_at};
+ghost use Rattle.panic_state.specs.Losses.{with_lost, without_services, without_messages};
+
+use crate::places::{connection_at, message_at};
+use ffm_model::{
+    ActorId, ActorPhase, ConnPhase, OpenConnection, Outcome, PSA_ERROR_COMMUNICATION_FAILURE,
+    PSA_ERROR_CONNECTION_REFUSED, System,
+};
+use object_pools::Held;
+use spm_tables::Tables;
+
+fn is_service_of(system: &System, partition: ActorId, service: u32) -> bool
+    ensures { result ≡ is_service_of system.now partition.0 service }
+{
+    match system.services.as_slice().get(service as usize) {
+        Some(found) => found.owner == partition.0,
+        None => false,
+    }
+}
+
+// Answers the client of a lost connection, where it waits.
+fn answer_client(tables: &mut Tables, connection: &OpenConnection)
+    ensures { tables.new ≡ record tables.old { phases = client_answered connection.now.phase tables.old.phases connection.now.client.0 } }
+{
+    let client = connection.client;
+    match connection.phase {
+        ConnPhase::Opening => {
+            let refused = Outcome::Value(PSA_ERROR_CONNECTION_REFUSED);
+            tables.set_phase(client, ActorPhase::Ready(refused));
+        }
+        ConnPhase::Busy => {
+            let failed = Outcome::Value(PSA_ERROR_COMMUNICATION_FAILURE);
+            tables.set_phase(client, ActorPhase::Ready(failed));
+        }
+        ConnPhase::Closing => {
+            if matches!(tables.phase(client), ActorPhase::Blocked) {
+                tables.set_phase(client, ActorPhase::Ready(Outcome::Done));
+            }
+        }
+        ConnPhase::Idle | ConnPhase::Error | ConnPhase::Dead => {}
+    }
+}
+
+// The service of a connection is gone: its client is answered, and it is freed where it was opening or closing, and else Dead.
+// Whether it is still there.
+fn lose(tables: &mut Tables, held: Held<OpenConnection>) -> bool
+    requires { item_at tables.old.linked held.slot ≡ Some held.item }
+    ensures after { tables.new ≡ with_lost tables.old held }
+    ensures kept { result ≡ is_some (lost held.item.phase) }
+{
+    answer_client(tables, &held.item);
+    match held.item.phase {
+        ConnPhase::Opening | ConnPhase::Closing => {
+            tables.free(held.slot);
+            false
+        }
+        ConnPhase::Idle | ConnPhase::Busy | ConnPhase::Error | ConnPhase::Dead => {
+            tables.set_connection_phase(held.slot, ConnPhase::Dead);
+            true
+        }
+    }
+}
+
+// The connections to the partition's services are lost, in the order of their making.
+pub(crate) fn lose_services(system: &System, tables: &mut Tables, partition: ActorId)
+    ensures { tables.new ≡ without_services system.now partition.0 tables.old }
+{
+    let mut place = 0;
+    while place < tables.connections().live() {
+        let held = connection_at(tables, place);
+        if !is_service_of(system, partition, held.item.service) || lose(tables, held) {
+            place += 1;
+        }
+    }
+}
+
+// The messages to the partition's services are gone.
+pub(crate) fn drop_messages(system: &System, tables: &mut Tables, partition: ActorId)
+    ensures { tables.new ≡ without_messages system.now partition.0 tables.old }
+{
+    let mut place = 0;
+    while place < tables.messages().live() {
+        let held = message_at(tables, place);
+        if is_service_of(system, partition, held.item.service) {
+            tables.drop_message(held.slot);
+        } else {
+            place += 1;
+        }
+    }
+}

@@ -1,0 +1,6 @@
+pub mod Held
+pub mod Partners
+pub mod Kept
+pub mod TransferLemmas
+pub mod DeliveryLemmas
+pub mod ReplyLemmas

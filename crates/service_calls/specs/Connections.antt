@@ -1,0 +1,16 @@
+-- The connection of a message among a manager's connections.
+-- Source: FF-M 1.0, a message is of one connection; the slots are this manager's.
+use Rattle.std.specs.Prelude.{◌≡◌, ◌==◌, ◌⊎◌, find, Some, IsSomeAnd}
+use Rattle.ffm_model.specs.declared.objects.OpenConnection.{OpenConnection}
+use Rattle.object_pools.specs.declared.slot.Slot.{Slot}
+use Rattle.object_pools.specs.Pool.{Places, item_at, with_item, without}
+use Rattle.handle_table.specs.Table.{connections}
+use Rattle.spm_tables.specs.declared.item.MessageItem.{MessageItem}
+
+-- the slot is that of the message's connection, which is there
+abbrev pub IsConnectionOf : Places OpenConnection → MessageItem → Slot → Type 0
+IsConnectionOf linked m slot = IsSomeAnd (item_at linked slot) (λ c. (c.serial ≡ m.serial) × (find (λ d. d.serial == m.serial) (connections linked) ≡ Some c))
+
+-- the connection of a slot is another one with the same serial number, or it is gone; all else is as it was
+abbrev pub ChangesAt : Slot → Places OpenConnection → Places OpenConnection → Type 0
+ChangesAt slot old new = ((c changed : OpenConnection) × (item_at old slot ≡ Some c) × (changed.serial ≡ c.serial) × (new ≡ with_item old slot changed)) ⊎ (new ≡ without old slot)

@@ -1,0 +1,152 @@
+//! The delivery of messages.
+
+ghost use Rattle.std.specs.Prelude.{◌≡◌, ◌<◌, ◌==◌, ◌&&◌, ◌++◌, ℕ, length, List, All, IfOk, IsSome, Some, map, position, if◌then◌else◌};
+ghost use Rattle.std.specs.Option.{option_map_or};
+ghost use Rattle.std.specs.Ordering.{int_eq};
+ghost use Rattle.counting_law.specs.Objects.{ObjectsFit};
+ghost use Rattle.ffm_model.specs.declared.machine.Handle.{Handle as HandleSeen};
+ghost use Rattle.ffm_model.specs.Actors.{actor_count};
+ghost use Rattle.ffm_model.specs.declared.machine.Call.TheVariants.{Get};
+ghost use Rattle.ffm_model.specs.Names.{NamesSoFar, name_due};
+ghost use Rattle.ffm_model.specs.ServiceCalls.{message_words, service_of_signal, shown_message, sizes_of};
+ghost use Rattle.ffm_model.specs.State.{connection_by_serial};
+ghost use Rattle.handle_table.specs.declared.handles.Family.TheVariants as family;
+ghost use Rattle.handle_table.specs.Handles.{handle_at};
+ghost use Rattle.memory_image.specs.Pieces.{byte_at, ranges_of, regions_of};
+ghost use Rattle.message_vectors.specs.Vectors.{AreWithin};
+ghost use Rattle.object_pools.specs.Pool.{item_at};
+ghost use Rattle.service_calls.specs.Answers.{IsGot};
+ghost use Rattle.slot_names.specs.Named.{KeepsNames, NamesAre};
+ghost use Rattle.spm_tables.specs.Answers.{state_with};
+ghost use Rattle.spm_tables.specs.Desk.{MadeFor, message_of, shape_of, spm_of};
+
+use crate::connection::connection_of;
+use ffm_model::{ActorId, Fault, Message, PSA_IPC_CONNECT, Service, Span, System};
+use handle_table::{Family, handle_of};
+use memory_image::{Image, valid_buffer};
+use object_pools::Slot;
+use spm_tables::{MessageItem, Tables};
+
+// How many bytes a `psa_msg_t` takes.
+const MESSAGE_SIZE: u32 = 48;
+
+fn place_of(services: &[Service], partition: ActorId, signal: u32) -> Option<usize>
+    ensures { result ≡ position (λ v. (v.owner == partition.0) && (v.signal == signal)) services.now }
+{
+    services
+        .iter()
+        .position(|v| v.owner == partition.0 && v.signal == signal)
+}
+
+// The service of the partition that has the signal.
+fn service_of_signal(system: &System, partition: ActorId, signal: u32) -> Option<u32>
+    ensures { result ≡ service_of_signal system.now partition.0 signal }
+{
+    match place_of(system.services.as_slice(), partition, signal) {
+        Some(place) => Some(place as u32),
+        None => None,
+    }
+}
+
+fn sizes_of(vectors: [Span; 4]) -> [u32; 4]
+    ensures { result ≡ sizes_of vectors }
+{
+    [
+        vectors[0].len,
+        vectors[1].len,
+        vectors[2].len,
+        vectors[3].len,
+    ]
+}
+
+// Three times four words, one behind the other.
+fn joined(head: [u32; 4], input: [u32; 4], output: [u32; 4]) -> [u32; 12]
+    ensures { result ≡ head ++ (input ++ output) }
+{
+    [
+        head[0], head[1], head[2], head[3], input[0], input[1], input[2], input[3], output[0],
+        output[1], output[2], output[3],
+    ]
+}
+
+// The twelve words of a `psa_msg_t`.
+fn words_of(message: Message) -> [u32; 12]
+    ensures words { result ≡ message_words message }
+    ensures count { length result ≡ 12 }
+{
+    let head = [
+        message.kind.cast_unsigned(),
+        message.handle.0.cast_unsigned(),
+        message.client_id.cast_unsigned(),
+        message.rhandle,
+    ];
+    joined(head, message.in_size, message.out_size)
+}
+
+// The rhandle that a message carries: 0 for that of a `psa_connect`, else its connection's.
+fn rhandle_of(tables: &Tables, slot: Slot, message: MessageItem) -> u32
+    requires item { item_at tables.now.waiting slot ≡ Some message }
+    requires there { IsSome (connection_by_serial (spm_of tables.now) message.serial) }
+    ensures { result ≡ (if int_eq message.kind PSA_IPC_CONNECT then 0 else option_map_or (λ c. c.rhandle) (connection_by_serial (spm_of tables.now) message.serial) 0) }
+{
+    if message.kind == PSA_IPC_CONNECT {
+        return 0;
+    }
+    let connection = connection_of(tables, slot, message);
+    tables.connections().connection(connection).rhandle
+}
+
+// What a partition is told of a message that it gets.
+fn shown(system: &System, tables: &Tables, slot: Slot, message: MessageItem) -> Message
+    requires item { item_at tables.now.waiting slot ≡ Some message }
+    requires there { IsSome (connection_by_serial (spm_of tables.now) message.serial) }
+    requires client { message.client.0 < actor_count system.now }
+    ensures { result ≡ shown_message system.now (spm_of tables.now) (message_of slot message) (handle_at family.Message slot) }
+{
+    tables.law();
+    Message {
+        kind: message.kind,
+        handle: handle_of(Family::Message, slot),
+        client_id: system.client_id(message.client),
+        rhandle: rhandle_of(tables, slot, message),
+        in_size: sizes_of(message.vectors.input),
+        out_size: sizes_of(message.vectors.output),
+    }
+}
+
+/// `psa_get`: the oldest message that waits for the service with the signal is delivered, and its 48 bytes are stored at `msg`.
+/// `Fault` exactly where the signal isn't one service's of the partition, no message waits for that service, or the 48 bytes at `msg`
+/// aren't a valid buffer of the partition; then nothing changed.
+pub fn get(
+    system: &System,
+    tables: &mut Tables,
+    image: &mut Image,
+    actor: ActorId,
+    signal: u32,
+    msg: u32,
+) -> Result<Message, Fault>
+    requires made { MadeFor tables.old system.now }
+    requires fits { ObjectsFit system.now (spm_of tables.old) }
+    requires regions { regions_of image.old ≡ ranges_of system.now.regions }
+    ensures answer { (given : List HandleSeen) → IsGot system.now tables.old given image.old actor.0 signal msg result tables.new image.new }
+    ensures name { IfOk result (λ m. (k : NamesSoFar) → NamesAre tables.old k → (given : List HandleSeen) → name_due system.now (state_with tables.old given (byte_at image.old)) actor.0 (Get signal msg) k ≡ Some m.handle) }
+    ensures within { (ranges : List (ℕ × ℕ)) → All (λ m. AreWithin ranges m.vectors) (spm_of tables.old).messages → All (λ m. AreWithin ranges m.vectors) (spm_of tables.new).messages }
+    ensures shape { shape_of tables.new ≡ shape_of tables.old }
+    ensures regions { regions_of image.new ≡ regions_of image.old }
+    ensures names { KeepsNames system.now tables.old tables.new }
+{
+    tables.law();
+    let Some(service) = service_of_signal(system, actor, signal) else {
+        return Err(Fault);
+    };
+    if !valid_buffer(system, actor, msg, MESSAGE_SIZE) {
+        return Err(Fault);
+    }
+    let Some(slot) = tables.dequeue(service) else {
+        return Err(Fault);
+    };
+    let message = tables.message(slot);
+    let shown = shown(system, tables, slot, message);
+    image.store_words(msg, &words_of(shown));
+    Ok(shown)
+}

@@ -1,0 +1,220 @@
+//! Replies to messages, and the rhandles of their connections.
+
+ghost use Rattle.std.specs.Prelude.{◌≡◌, ◌<◌, ◌&&◌, length, All, IsSome, IfSome, IfOk, List, Some, None, option_and_then, if◌then◌else◌, int_lt, take};
+ghost use Rattle.std.specs.Option.{option_map};
+ghost use Rattle.std.specs.Ordering.{int_eq};
+ghost use Rattle.counting_law.specs.Objects.{ObjectsFit};
+ghost use Rattle.ffm_model.specs.declared.machine.Handle.{Handle as HandleSeen};
+ghost use Rattle.ffm_model.specs.declared.machine.Outcome.TheVariants.{Done};
+ghost use Rattle.ffm_model.specs.declared.system.System.{System as SystemSeen};
+ghost use Rattle.ffm_model.specs.Actors.{is_partition, kind_of};
+ghost use Rattle.ffm_model.specs.ClientCalls.{effect};
+ghost use Rattle.ffm_model.specs.Memory.{lengths_written};
+ghost use Rattle.ffm_model.specs.ServiceCalls.{answered, close_answered, connect_answered, is_connect_status, owes_panic, psa_reply, psa_set_rhandle, reply_on, reply_to, request_answered};
+ghost use Rattle.ffm_model.specs.State.{with_phase};
+ghost use Rattle.memory_image.specs.Pieces.{byte_at, ranges_of, regions_of};
+ghost use Rattle.message_vectors.specs.Vectors.{AreWithin};
+ghost use Rattle.object_pools.specs.Pool.{item_at};
+ghost use Rattle.service_calls.specs.Answers.{LeavesReply, once_panicked};
+ghost use Rattle.service_calls.specs.Connections.{ChangesAt, IsConnectionOf};
+ghost use Rattle.slot_names.specs.Named.{KeepsNames};
+ghost use Rattle.spm_tables.specs.Answers.{Answers, state_with};
+ghost use Rattle.spm_tables.specs.Desk.{MadeFor, fresh_message, message_at, shape_of, spm_of};
+
+use crate::connection::connection_of;
+use ffm_model::{
+    ActorId, ActorPhase, ConnPhase, Fault, Handle, Outcome, PSA_ERROR_CONNECTION_BUSY,
+    PSA_ERROR_CONNECTION_REFUSED, PSA_ERROR_PROGRAMMER_ERROR, PSA_IPC_CALL, PSA_IPC_CONNECT,
+    PSA_SUCCESS, Status, System,
+};
+use memory_image::Image;
+use object_pools::Slot;
+use spm_tables::{MessageItem, Tables};
+
+/// `psa_set_rhandle`: the connection of a message that the partition holds has the rhandle from now on. `Fault` exactly where the
+/// handle isn't that of such a message; then nothing changed.
+pub fn set_rhandle(
+    tables: &mut Tables,
+    actor: ActorId,
+    handle: Handle,
+    rhandle: u32,
+) -> Result<(), Fault>
+    requires fits { (s : SystemSeen) × (MadeFor tables.old s × ObjectsFit s (spm_of tables.old)) }
+    ensures answer { (s : SystemSeen) → MadeFor tables.old s → Answers (λ u. Done) (psa_set_rhandle s (spm_of tables.old) actor.0 handle rhandle) tables.old result tables.new }
+    ensures shape { shape_of tables.new ≡ shape_of tables.old }
+    ensures names { (s : SystemSeen) → MadeFor tables.old s → KeepsNames s tables.old tables.new }
+{
+    tables.law();
+    let Some(slot) = tables.find_message(actor, handle) else {
+        return Err(Fault);
+    };
+    let message = tables.message(slot);
+    let connection = connection_of(tables, slot, message);
+    tables.set_rhandle(connection, rhandle);
+    Ok(())
+}
+
+// What a service may answer to `psa_connect`.
+fn is_connect_status(status: Status) -> bool
+    ensures { result ≡ is_connect_status status.0 }
+{
+    status.0 == PSA_SUCCESS
+        || status.0 == PSA_ERROR_CONNECTION_REFUSED
+        || status.0 == PSA_ERROR_CONNECTION_BUSY
+}
+
+fn is_partition(system: &System, actor: ActorId) -> bool
+    ensures { result ≡ is_partition (kind_of system.now actor.0) }
+{
+    (actor.0 as usize) < system.partitions.len()
+}
+
+// The message that the partition holds by the handle, where it may be answered so.
+fn answerable(tables: &Tables, actor: ActorId, handle: Handle, status: Status) -> Option<Slot>
+    ensures message { (s : SystemSeen) → MadeFor tables.now s → option_and_then (message_at tables.now) result ≡ reply_to s (spm_of tables.now) actor.0 handle status.0 }
+    ensures live { IfSome result (λ slot. IsSome (item_at tables.now.waiting slot)) }
+{
+    let Some(slot) = tables.find_message(actor, handle) else {
+        return None;
+    };
+    if tables.message(slot).kind == PSA_IPC_CONNECT && !is_connect_status(status) {
+        None
+    } else {
+        Some(slot)
+    }
+}
+
+// Tells the client of a request how many bytes were written of its output vectors.
+fn tell_lengths(image: &mut Image, message: MessageItem)
+    requires { AreWithin (regions_of image.old) message.vectors }
+    ensures bytes { byte_at image.new ≡ (if int_lt message.kind PSA_IPC_CALL then byte_at image.old else lengths_written (byte_at image.old) message.vectors.out_vec (take message.vectors.out_len message.vectors.output)) }
+    ensures regions { regions_of image.new ≡ regions_of image.old }
+{
+    if message.kind >= PSA_IPC_CALL {
+        message_vectors::finish(image, &message.vectors);
+    }
+}
+
+fn answer_connect(tables: &mut Tables, connection: Slot, message: MessageItem, status: Status)
+    requires connection { IsConnectionOf tables.old.linked message connection }
+    ensures state { spm_of tables.new ≡ connect_answered (spm_of tables.old) (fresh_message message) status.0 }
+    ensures linked { ChangesAt connection tables.old.linked tables.new.linked }
+    ensures waiting { tables.new.waiting ≡ tables.old.waiting }
+    ensures shape { shape_of tables.new ≡ shape_of tables.old }
+{
+    if status.0 == PSA_SUCCESS {
+        tables.set_connection_phase(connection, ConnPhase::Idle);
+        tables.set_phase(message.client, ActorPhase::Connected(message.serial));
+    } else {
+        tables.free(connection);
+        tables.set_phase(message.client, ActorPhase::Ready(Outcome::Value(status.0)));
+    }
+}
+
+fn answer_close(tables: &mut Tables, connection: Slot, message: MessageItem)
+    requires connection { IsConnectionOf tables.old.linked message connection }
+    ensures state { spm_of tables.new ≡ close_answered (spm_of tables.old) (fresh_message message) }
+    ensures linked { ChangesAt connection tables.old.linked tables.new.linked }
+    ensures waiting { tables.new.waiting ≡ tables.old.waiting }
+    ensures shape { shape_of tables.new ≡ shape_of tables.old }
+{
+    tables.free(connection);
+    if let ActorPhase::Blocked = tables.phase(message.client) {
+        tables.set_phase(message.client, ActorPhase::Ready(Outcome::Done));
+    }
+}
+
+// The partition that has to panic, if one has.
+fn answer_request(
+    system: &System,
+    tables: &mut Tables,
+    connection: Slot,
+    message: MessageItem,
+    status: Status,
+) -> Option<ActorId>
+    requires connection { IsConnectionOf tables.old.linked message connection }
+    ensures state { spm_of tables.new ≡ request_answered system.now (spm_of tables.old) (fresh_message message) status.0 }
+    ensures owing { option_map (λ p. p.0) result ≡ (if int_eq status.0 PSA_ERROR_PROGRAMMER_ERROR && is_partition (kind_of system.now message.client.0) then Some message.client.0 else None) }
+    ensures linked { ChangesAt connection tables.old.linked tables.new.linked }
+    ensures waiting { tables.new.waiting ≡ tables.old.waiting }
+    ensures shape { shape_of tables.new ≡ shape_of tables.old }
+{
+    if status.0 != PSA_ERROR_PROGRAMMER_ERROR {
+        tables.set_connection_phase(connection, ConnPhase::Idle);
+        tables.set_phase(message.client, ActorPhase::Ready(Outcome::Value(status.0)));
+        return None;
+    }
+    tables.set_connection_phase(connection, ConnPhase::Error);
+    if is_partition(system, message.client) {
+        return Some(message.client);
+    }
+    tables.set_phase(
+        message.client,
+        ActorPhase::Ready(Outcome::Value(PSA_ERROR_PROGRAMMER_ERROR)),
+    );
+    None
+}
+
+// Answers the client of a message that is gone; the partition that has to panic, if one has.
+fn answer(
+    system: &System,
+    tables: &mut Tables,
+    connection: Slot,
+    message: MessageItem,
+    status: Status,
+) -> Option<ActorId>
+    requires connection { IsConnectionOf tables.old.linked message connection }
+    ensures state { spm_of tables.new ≡ answered system.now (spm_of tables.old) (fresh_message message) status.0 }
+    ensures owing { option_map (λ p. p.0) result ≡ (if owes_panic system.now (fresh_message message) status.0 then Some message.client.0 else None) }
+    ensures linked { ChangesAt connection tables.old.linked tables.new.linked }
+    ensures waiting { tables.new.waiting ≡ tables.old.waiting }
+    ensures shape { shape_of tables.new ≡ shape_of tables.old }
+{
+    if message.kind == PSA_IPC_CONNECT {
+        answer_connect(tables, connection, message, status);
+        None
+    } else if message.kind < PSA_IPC_CALL {
+        answer_close(tables, connection, message);
+        None
+    } else {
+        answer_request(system, tables, connection, message, status)
+    }
+}
+
+/// `psa_reply`: the message is gone, and its client is answered; that of a request is told how many bytes were written of each output
+/// vector. Some(client) exactly where a partition's request was answered with PROGRAMMER ERROR: the caller then makes that partition
+/// panic. `Fault` exactly where the handle isn't that of a message that the partition holds, or the status is none for `psa_connect`;
+/// then nothing changed.
+pub fn reply(
+    system: &System,
+    tables: &mut Tables,
+    image: &mut Image,
+    actor: ActorId,
+    handle: Handle,
+    status: Status,
+) -> Result<Option<ActorId>, Fault>
+    requires made { MadeFor tables.old system.now }
+    requires fits { ObjectsFit system.now (spm_of tables.old) }
+    requires regions { regions_of image.old ≡ ranges_of system.now.regions }
+    requires vectors { All (λ m. AreWithin (regions_of image.old) m.vectors) (spm_of tables.old).messages }
+    ensures left { LeavesReply (reply_on system.now (spm_of tables.old) actor.0 handle status.0) tables.old image.old result tables.new image.new }
+    ensures answer { IfOk result (λ owing. (given : List HandleSeen) → psa_reply system.now (state_with tables.old given (byte_at image.old)) actor.0 handle status.0
+        ≡ Some (effect Done (record { spm = once_panicked system.now (spm_of tables.new) owing; handles_given = given; memory = byte_at image.new }))) }
+    ensures owed { IfOk result (λ owing. IfSome owing (λ p. ObjectsFit system.now (with_phase (spm_of tables.new) p.0 ActorPhase.Running))) }
+    ensures partition { IfOk result (λ owing. IfSome owing (λ p. p.0 < length system.now.partitions)) }
+    ensures shape { shape_of tables.new ≡ shape_of tables.old }
+    ensures regions { regions_of image.new ≡ regions_of image.old }
+    ensures vectors { All (λ m. AreWithin (regions_of image.new) m.vectors) (spm_of tables.new).messages }
+    ensures takes { tables.new.waiting.takes ≡ tables.old.waiting.takes }
+    ensures names { KeepsNames system.now tables.old tables.new }
+{
+    tables.law();
+    let Some(slot) = answerable(tables, actor, handle, status) else {
+        return Err(Fault);
+    };
+    let message = tables.message(slot);
+    let connection = connection_of(tables, slot, message);
+    tell_lengths(image, message);
+    tables.drop_message(slot);
+    Ok(answer(system, tables, connection, message, status))
+}

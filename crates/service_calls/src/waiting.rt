@@ -1,0 +1,68 @@
+//! Waiting for signals.
+
+ghost use Rattle.std.specs.Prelude.{◌≡◌, map, filter, ◌==◌};
+ghost use Rattle.ffm_model.specs.ServiceCalls.{psa_wait};
+ghost use Rattle.ffm_model.specs.Signals.{assigned_to, union_of};
+ghost use Rattle.slot_names.specs.Named.{KeepsNames};
+ghost use Rattle.spm_tables.specs.Answers.{Answers};
+ghost use Rattle.spm_tables.specs.Desk.{MadeFor, shape_of, spm_of};
+
+use ffm_model::{
+    ActorId, ActorPhase, Fault, Outcome, PSA_BLOCK, PSA_DOORBELL, Service, Source, System,
+};
+use spm_tables::Tables;
+
+// The signals of a partition's services.
+fn service_signals(services: &[Service], partition: ActorId) -> u32
+    ensures { result ≡ union_of (map (λ v. v.signal) (filter (λ v. v.owner == partition.0) services.now)) }
+{
+    services
+        .iter()
+        .filter(|v| v.owner == partition.0)
+        .map(|v| v.signal)
+        .fold(0, |word, signal| word | signal)
+}
+
+// The signals of a partition's interrupt sources.
+fn source_signals(sources: &[Source], partition: ActorId) -> u32
+    ensures { result ≡ union_of (map (λ v. v.signal) (filter (λ v. v.owner == partition.0) sources.now)) }
+{
+    sources
+        .iter()
+        .filter(|v| v.owner == partition.0)
+        .map(|v| v.signal)
+        .fold(0, |word, signal| word | signal)
+}
+
+// The signals that a partition has at all.
+fn assigned_to(system: &System, partition: ActorId) -> u32
+    ensures { result ≡ assigned_to system.now partition.0 }
+{
+    let services = service_signals(system.services.as_slice(), partition);
+    let sources = source_signals(system.sources.as_slice(), partition);
+    PSA_DOORBELL | (services | sources)
+}
+
+/// `psa_wait`: which signals of the mask are asserted, if the time-out doesn't say to block; else the partition waits for one of
+/// them. `Fault` exactly where the mask has no signal of the partition; then nothing changed.
+pub fn wait(
+    system: &System,
+    tables: &mut Tables,
+    actor: ActorId,
+    mask: u32,
+    timeout: u32,
+) -> Result<Outcome, Fault>
+    requires made { MadeFor tables.old system.now }
+    ensures answer { Answers (λ o. o) (psa_wait system.now (spm_of tables.old) actor.0 mask timeout) tables.old result tables.new }
+    ensures shape { shape_of tables.new ≡ shape_of tables.old }
+    ensures names { KeepsNames system.now tables.old tables.new }
+{
+    if assigned_to(system, actor) & mask == 0 {
+        return Err(Fault);
+    }
+    if timeout < PSA_BLOCK {
+        return Ok(Outcome::Signals(tables.signals(actor) & mask));
+    }
+    tables.set_phase(actor, ActorPhase::Waiting { mask });
+    Ok(Outcome::Blocked)
+}
