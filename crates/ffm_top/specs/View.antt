@@ -6,7 +6,6 @@ use Rattle.ffm_model.specs.declared.scenario.Scenario.{Scenario}
 use Rattle.ffm_model.specs.declared.system.System.{System}
 use Rattle.ffm_model.specs.Actors.{actor_count}
 use Rattle.ffm_model.specs.Scenarios.{IsScenarioOf}
-use Rattle.ffm_model.specs.ScriptRuns.{CallsBuilt, only_part}
 use Rattle.ffm_top.specs.declared.work.Work as code
 use Rattle.ffm_top.specs.declared.work.Work.TheVariants as code_work
 use Rattle.ffm_top.specs.declared.work.RunWork.{RunWork}
@@ -16,9 +15,9 @@ abbrev pub work : code.Work → Work
 work (code_work.Listing system) = listing_of system
 work (code_work.Run run) = run_of run.system run.scenario run.scripts
 
--- a scenario of the system, and one script for each actor that calls what the manager makes
+-- a scenario of the system, and one script for each actor
 abbrev pub IsRun : RunWork → Type 0
-IsRun run = IsScenarioOf run.system run.scenario × (length run.scripts ≡ actor_count run.system) × All (λ script. CallsBuilt (only_part script)) run.scripts
+IsRun run = IsScenarioOf run.system run.scenario × (length run.scripts ≡ actor_count run.system)
 
 abbrev pub IsWork : code.Work → Type 0
 IsWork (code_work.Listing system) = Unit {0}

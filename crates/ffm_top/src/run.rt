@@ -4,7 +4,6 @@ ghost use Rattle.std.specs.Prelude.{◌≡◌, true, IfOk, length};
 ghost use Rattle.std.specs.List.{All};
 ghost use Rattle.ffm_model.specs.Actors.{actor_count};
 ghost use Rattle.ffm_model.specs.Scenarios.{IsScenarioOf};
-ghost use Rattle.ffm_model.specs.ScriptRuns.{CallsBuilt, only_part};
 ghost use Rattle.ffm_model.specs.Memory.{opening_memory};
 ghost use Rattle.memory_image.specs.Pieces.{byte_at, regions_of, ranges_of, open_within};
 ghost use Rattle.ffm_top.specs.Due.{RanBy};
@@ -48,7 +47,6 @@ pub fn run(
 ) -> Result<Ran, Memory>
     requires scenario { IsScenarioOf system scenario.now }
     requires scripts { length scripts.now ≡ actor_count system }
-    requires built { All (λ script. CallsBuilt (only_part script)) scripts.now }
     ensures system { IfOk result (λ ran. ran.spm.opening.system ≡ system) }
     ensures ran { IfOk result (λ ran. RanBy system scenario.now scripts.now ran.spm.history ran.verdict) }
 {

@@ -6,7 +6,6 @@ ghost use Rattle.outside_io.specs.Count.{Rose};
 ghost use Rattle.ffm_model.specs.Actors.{actor_count};
 ghost use Rattle.ffm_model.specs.Reading.{Gives, Reads, file_at};
 ghost use Rattle.ffm_model.specs.Scenarios.{IsScenarioOf};
-ghost use Rattle.ffm_model.specs.ScriptRuns.{CallsBuilt, only_part};
 ghost use Rattle.ffm_top.specs.Words.{order};
 ghost use Rattle.ffm_top.specs.Work.{empty_script, script_of_actor, scripts_of, system_in, system_at, scenario_at, run_in, list_in, run_at, work_of};
 ghost use Rattle.ffm_top.specs.View.{work, IsWork};
@@ -118,7 +117,6 @@ fn scenario_at<F: Files>(
 // An empty script for each actor.
 fn empty_scripts(alloc: Global, count: u32) -> Result<Vec<Script>, Memory>
     ensures scripts { IfOk result (λ scripts. scripts.items ≡ replicate count empty_script) }
-    ensures built { IfOk result (λ scripts. All (λ script. CallsBuilt (only_part script)) scripts.items) }
 {
     let mut scripts = Vec::new(alloc);
     for _ in 0..count {
@@ -140,7 +138,6 @@ fn script_of_actor(
     requires place { place < length scenario.now.order }
     requires actor { actor.0 < actor_count system.now }
     ensures reads { Reads (λ script. script) result (script_of_actor system.now scenario.now place actor) }
-    ensures built { IfOk result (λ script. CallsBuilt (only_part script)) }
 {
     let kind = system.actor_kind(actor);
     let lines = &scenario.lines.as_slice()[actor.0 as usize];
@@ -157,7 +154,6 @@ fn scripts_of(
     requires { IsScenarioOf system.now scenario.now }
     ensures reads { Reads (λ scripts. scripts) result (scripts_of system.now scenario.now) }
     ensures long { IfOk result (λ scripts. length scripts ≡ actor_count system.now) }
-    ensures built { IfOk result (λ scripts. All (λ script. CallsBuilt (only_part script)) scripts) }
 {
     let mut scripts = empty_scripts(alloc, system.actor_count())?;
     let order = scenario.order.as_slice();

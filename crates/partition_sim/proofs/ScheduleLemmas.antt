@@ -11,7 +11,6 @@ use Rattle.ffm_model.specs.declared.machine.ActorId.{ActorId}
 use Rattle.ffm_model.specs.declared.machine.Entry.{Entry}
 use Rattle.ffm_model.specs.declared.script.Instruction.{Instruction}
 use Rattle.ffm_model.specs.Actors.{actor_count}
-use Rattle.ffm_model.specs.Records.{ends_blocked}
 use Rattle.ffm_model.specs.ScriptRuns.{script_at}
 use Rattle.ffm_model.specs.Schedule.{turn_at, enabled_in, IsNext, Turns}
 use Rattle.ffm_model.specs.Signals.{enabled}
@@ -19,7 +18,7 @@ use Rattle.ffm_model.specs.State.{State, opening}
 use Rattle.ffm_model.specs.Step.{step_on}
 use Rattle.ffm_model.specs.Verdicts.{verdict_of, verdict_at, some_enabled, some_blocked}
 use Rattle.memory_image.specs.Pieces.{byte_at}
-use Rattle.spm_core.specs.Manager.{Opening, Managed, awaits_return, state_after, state_of}
+use Rattle.spm_core.specs.Manager.{Opening, Managed, state_after, state_of}
 use Rattle.partition_sim.specs.Standing.{Standing, Follows}
 use Rattle.partition_sim.specs.Driving.{Driving, MadeOne, PassedOne, Turned, InOrder, Underway, IsDriven, AreNew, first_standing}
 use Rattle.partition_sim.proofs.TurnLemmas.{verdict-off}
@@ -244,10 +243,6 @@ new-push count rs r new all = record {
   ];
 }
 
-none-open : (a : ℕ) → awaits_return [] a ≡ false
-unfolding ends_blocked
-none-open a = refl
-
 pub underway-start : (scripts : List (List (List Instruction))) (schedule : List ActorId) (m : Managed) (rs : List Standing) → length scripts ≡ actor_count m.opening.system → m.history ≡ []
     → AreNew (actor_count m.opening.system) rs → Underway scripts schedule m.opening m rs 0
 underway-start scripts schedule m rs long empty new = record {
@@ -257,7 +252,6 @@ underway-start scripts schedule m rs long empty new = record {
     runners_long = new.long;
     follows = λ a below. rw empty (new.each a below (script_at scripts a));
     runs = λ a below. rw empty tt;
-    returned = λ a. rw empty (none-open a);
   };
   in_order = in_order-start schedule m.opening m.history empty;
   is_state = rw empty refl;

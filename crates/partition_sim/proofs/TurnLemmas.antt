@@ -1,7 +1,6 @@
 -- One turn.
 use Rattle.std.proofs.Common.{ℕ, ◌≡◌, ◌≢◌, ◌<◌, ◌≤◌, Bool, true, false, not, List, [], ◌∷◌, ◌++◌, length, refl, ap, sym, ◌∙◌, arith, subst, get_or, get_or-set_same, get_or-set_other, length-set, append_assoc, inl, inr, eq-eqb, ne_eqb, append-nil, true≢false}
 use Rattle.std.specs.Prelude.{Option, Some, None, option_and_then, slice_set, nat_le, if◌then◌else◌, ◌==◌, IsSome, ◌⊎◌}
-use Rattle.std.specs.List.{All}
 use Rattle.std.proofs.lemmas.Bool.Decides.{eqb_tells}
 use Rattle.std.proofs.lemmas.List.Elements.{filter-append}
 use Rattle.std.proofs.lemmas.List.{map-append, get_or_read, get_or_default}
@@ -18,15 +17,15 @@ use Rattle.ffm_model.specs.Actors.{actor_count}
 use Rattle.ffm_model.specs.State.{State, phase_of}
 use Rattle.ffm_model.specs.Signals.{enabled, can_go_on, signals_of}
 use Rattle.ffm_model.specs.Verdicts.{some_enabled, some_blocked, verdict_at}
-use Rattle.ffm_model.specs.Records.{entries_of, outcomes_of, is_blocked_outcome}
+use Rattle.ffm_model.specs.Records.{entries_of, outcomes_of}
 use Rattle.ffm_model.specs.Schedule.{enabled_in}
 use Rattle.ffm_model.specs.declared.script.Instruction.{Instruction}
-use Rattle.ffm_model.specs.ScriptRuns.{next_call, only_part, script_at, RunFrom, ScriptRun, CallsBuilt}
-use Rattle.spm_core.specs.Manager.{Opening, IsMade, IsRefused, refusal_at, is_gone, is_built, is_resume, state_after, awaits_return, CallDue}
+use Rattle.ffm_model.specs.ScriptRuns.{next_call, only_part, script_at, RunFrom, ScriptRun}
+use Rattle.spm_core.specs.Manager.{Opening, IsMade, IsRefused, refusal_at, is_gone, is_resume, state_after, CallDue}
 use Rattle.partition_sim.specs.Standing.{Standing, Follows, Asked}
 use Rattle.partition_sim.specs.Driving.{Driving, MadeOne, PassedOne, IsOver, runner_at, outcomes_at, first_standing}
-use Rattle.partition_sim.proofs.StepLemmas.{asked-follows, ends_blocked-push}
-use Rattle.partition_sim.proofs.CallLemmas.{next_call-resume, next_call-built, made-unblocked}
+use Rattle.partition_sim.proofs.StepLemmas.{asked-follows}
+use Rattle.partition_sim.proofs.CallLemmas.{next_call-resume}
 
 -- one entry more
 pub RunFrom-push : (script : List Instruction) (os : List Outcome) (es : List Entry) (e : Entry) → RunFrom script os es → e.call ≡ next_call script (os ++ outcomes_of es)
@@ -72,7 +71,6 @@ driving-asked scripts o history runners a r below d asked =
       runners_long = length-set runners a r ∙ d.runners_long;
       follows = λ b h. put-at P runners a b r inside (asked-follows _ _ _ asked) (d.follows b h) (same_or_not a b);
       runs = d.runs;
-      returned = d.returned;
     }
 
 follows-made : (script : List Instruction) (es : List Entry) (e : Entry) (b : ℕ) (x : Standing) → (e.actor.0 ≡ b) ⊎ (e.actor.0 ≢ b)
@@ -86,19 +84,12 @@ runs-made : (script : List Instruction) (es : List Entry) (e : Entry) (b : ℕ) 
 runs-made script es e b (inl h) run own = rw (entries-own b es e h) (RunFrom-push script [] (entries_of b es) e run (own h))
 runs-made script es e b (inr n) run own = rw (entries-other b es e n) run
 
-returned-made : (es : List Entry) (e : Entry) (b : ℕ) → (e.actor.0 ≡ b) ⊎ (e.actor.0 ≢ b) → is_blocked_outcome e.outcome ≡ false → awaits_return es b ≡ false
-    → awaits_return (es ++ e ∷ []) b ≡ false
-returned-made es e b (inl h) unblocked before =
-    rw (entries-own b es e h, outcomes-push (entries_of b es) e) (ends_blocked-push (outcomes_of (entries_of b es)) e.outcome ∙ unblocked)
-returned-made es e b (inr n) unblocked before = rw (entries-other b es e n) before
-
 -- an entry more
 driving-made : (scripts : List (List (List Instruction))) (o : Opening) (history : List Entry) (runners : List Standing) (a : ℕ) (r : Standing) (e : Entry) → a < actor_count o.system
     → Driving scripts o history runners → e.actor.0 ≡ a → e.call ≡ next_call (script_at scripts a) (outcomes_at history a)
-    → is_blocked_outcome e.outcome ≡ false
     → Follows (script_at scripts a) (outcomes_at history a ++ e.outcome ∷ []) r
     → Driving scripts o (history ++ e ∷ []) (slice_set runners a r)
-driving-made scripts o history runners a r e below d actor call unblocked follows =
+driving-made scripts o history runners a r e below d actor call follows =
     let inside : a < length runners = omega (arith, d.runners_long) in
     record {
       scripts_long = d.scripts_long;
@@ -116,7 +107,6 @@ driving-made scripts o history runners a r e below d actor call unblocked follow
           let same : a ≡ b = sym actor ∙ q in
           let R : ℕ → Type 0 = λ n. e.call ≡ next_call (script_at scripts n) (outcomes_at history n) in
           subst R same call);
-      returned = λ b. returned-made history e b (same_or_not e.actor.0 b) unblocked (d.returned b);
     }
 
 -- ---- what an answer says of the turn
@@ -263,18 +253,12 @@ asked-in scripts o history runners a parts old new c below d is calls asks =
 pub call-is-due : (scripts : List (List (List Instruction))) (o : Opening) (history : List Entry) (a : ℕ) (c : Call) (r : Standing) → IsNextOf scripts history a c r → CallDue o history a c
 call-is-due scripts o history a c r n = inl (ap is_resume n.call ∙ next_call-resume (script_at scripts a) (outcomes_at history a))
 
-pub call-is-built : (scripts : List (List (List Instruction))) (o : Opening) (history : List Entry) (runners : List Standing) (a : ℕ) (c : Call) (r : Standing)
-    → All (λ s. CallsBuilt (only_part s)) scripts → Driving scripts o history runners → IsNextOf scripts history a c r → is_built c ≡ true
-call-is-built scripts o history runners a c r built d n = ap is_built n.call ∙ next_call-built scripts a (outcomes_at history a) built (d.returned a)
-
 -- a turn that changes nothing
 pub driving-still : (scripts : List (List (List Instruction))) (o : Opening) (old new : List Entry) (runners : List Standing) (a : ℕ) (c : Call) (r : Standing) → a < actor_count o.system
     → Driving scripts o old runners → IsNextOf scripts old a c r → new ≡ old → Driving scripts o new (slice_set runners a r)
 driving-still scripts o old new runners a c r below d n e = rw e (driving-asked scripts o old runners a r below d n.asked)
 
 pub driving-step : (scripts : List (List (List Instruction))) (o : Opening) (old new : List Entry) (runners : List Standing) (a : ℕ) (c : Call) (asked r : Standing) (place : ℕ) (e : Entry)
-    → a < actor_count o.system → All (λ s. CallsBuilt (only_part s)) scripts → Driving scripts o old runners → IsNextOf scripts old a c asked → IsMade o old a c place e new
+    → a < actor_count o.system → Driving scripts o old runners → IsNextOf scripts old a c asked → IsMade o old a c place e new
     → Follows (script_at scripts a) (outcomes_at old a ++ e.outcome ∷ []) r → Driving scripts o new (slice_set runners a r)
-driving-step scripts o old new runners a c asked r place e below built d n m follows =
-    let unblocked : is_blocked_outcome e.outcome ≡ false = made-unblocked o old new a c place e m (call-is-built scripts o old runners a c asked built d n) in
-    rw m.added (driving-made scripts o old runners a r e below d m.actor (m.called ∙ n.call) unblocked follows)
+driving-step scripts o old new runners a c asked r place e below d n m follows = rw m.added (driving-made scripts o old runners a r e below d m.actor (m.called ∙ n.call) follows)

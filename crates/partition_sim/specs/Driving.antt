@@ -12,7 +12,7 @@ use Rattle.ffm_model.specs.ScriptRuns.{ScriptRun, script_at, start}
 use Rattle.ffm_model.specs.State.{opening}
 use Rattle.ffm_model.specs.Verdicts.{verdict_of}
 use Rattle.memory_image.specs.Pieces.{byte_at}
-use Rattle.spm_core.specs.Manager.{Opening, Managed, awaits_return, state_after}
+use Rattle.spm_core.specs.Manager.{Opening, Managed, state_after}
 use Rattle.partition_sim.specs.declared.drive.Over.{Over}
 use Rattle.partition_sim.specs.Standing.{Standing, Follows}
 
@@ -33,13 +33,12 @@ pub record AreNew (count : ℕ) (runners : List Standing) : Type 0 where
 
 -- ---- one turn
 
--- each runner has seen its actor's outcomes, each actor's entries are a run of its script, and no call waits for its return
+-- each runner has seen its actor's outcomes, and each actor's entries are a run of its script
 pub record Driving (scripts : List (List (List Instruction))) (o : Opening) (history : List Entry) (runners : List Standing) : Type 0 where
   pub scripts_long : length scripts ≡ actor_count o.system
   pub runners_long : length runners ≡ actor_count o.system
   pub follows : (a : ℕ) → a < actor_count o.system → Follows (script_at scripts a) (outcomes_at history a) (runner_at runners a)
   pub runs : (a : ℕ) → a < actor_count o.system → ScriptRun (script_at scripts a) (entries_of a history)
-  pub returned : (a : ℕ) → awaits_return history a ≡ false
 
 -- an enabled actor made an entry
 pub record MadeOne (o : Opening) (old : List Entry) (a : ℕ) (new : List Entry) (e : Entry) : Type 0 where

@@ -4,7 +4,7 @@ ghost use Rattle.std.specs.List.{All};
 ghost use Rattle.ffm_model.specs.Actors.{actor_count};
 ghost use Rattle.ffm_model.specs.Records.{entries_of};
 ghost use Rattle.ffm_model.specs.Schedule.{Scheduled};
-ghost use Rattle.ffm_model.specs.ScriptRuns.{CallsBuilt, ScriptRun, only_part, script_at};
+ghost use Rattle.ffm_model.specs.ScriptRuns.{ScriptRun, script_at};
 ghost use Rattle.ffm_model.specs.Verdicts.{verdict_of};
 ghost use Rattle.memory_image.specs.Pieces.{byte_at};
 ghost use Rattle.partition_sim.specs.Driving.{AreNew, Driving, IsDriven, Turned, Underway};
@@ -27,7 +27,6 @@ fn take_turn(
 ) -> Result<bool, Over>
     requires exists { actor.0 < actor_count spm.old.opening.system }
     requires short { length spm.old.history ≤ spm.old.opening.limit }
-    requires built { All (λ s. CallsBuilt (only_part s)) scripts.now }
     requires driving { Driving scripts.now spm.old.opening spm.old.history runners.old }
     ensures opening { spm.new.opening ≡ spm.old.opening }
     ensures driving { Driving scripts.now spm.old.opening spm.new.history runners.new }
@@ -57,7 +56,6 @@ fn run_turns(
     count: u32,
 )
     requires underway { Underway scripts.now schedule.now spm.old.opening spm.old runners.old 0 }
-    requires built { All (λ s. CallsBuilt (only_part s)) scripts.now }
     requires known { All (λ a. a.0 < actor_count spm.old.opening.system) schedule.now }
     requires counted { count ≡ actor_count spm.old.opening.system }
     ensures opening { spm.new.opening ≡ spm.old.opening }
@@ -106,7 +104,6 @@ pub fn drive_scheduled(
     schedule: &List<ActorId>,
 ) -> Result<(), Memory>
     requires scripts { length scripts.now ≡ actor_count spm.old.opening.system }
-    requires built { All (λ s. CallsBuilt (only_part s)) scripts.now }
     requires known { All (λ a. a.0 < actor_count spm.old.opening.system) schedule.now }
     requires empty { spm.old.history ≡ [] }
     ensures opening { spm.new.opening ≡ spm.old.opening }

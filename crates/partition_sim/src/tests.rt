@@ -1,7 +1,6 @@
 //! A script's calls after given outcomes, and a scheduled run of one system.
 ghost use Rattle.std.specs.Prelude.{◌≡◌, ◌<◌, [], IfOk, length};
 ghost use Rattle.std.specs.List.{All};
-ghost use Rattle.ffm_model.specs.ScriptRuns.{CallsBuilt, only_part};
 
 use crate::{Runner, drive_scheduled};
 use ffm_model::{
@@ -15,9 +14,7 @@ use std::alloc::{AllocError, Global};
 use std::process::Abort;
 use std::test::Fail;
 
-fn script(rt: &impl Abort, alloc: Global, text: &str) -> Result<Script, Fail>
-    ensures { IfOk result (λ s. CallsBuilt (only_part s)) }
-{
+fn script(rt: &impl Abort, alloc: Global, text: &str) -> Result<Script, Fail> {
     let mut lines = Vec::new(alloc);
     for line in text.split('\n') {
         lines.push(Name::of(String::from_str(alloc, line)?))?;
@@ -158,7 +155,6 @@ fn manager(alloc: Global) -> Result<Spm, Fail>
 
 // The scripts of the partition and of the client.
 fn scripts(rt: &impl Abort, alloc: Global) -> Result<List<Script>, Fail>
-    ensures built { IfOk result (λ v. All (λ s. CallsBuilt (only_part s)) v) }
     ensures two { IfOk result (λ v. length v ≡ 2) }
 {
     let text = "framework_version\nversion 0x40\nversion 0x99\nversion 0x41";

@@ -1,1 +1,4 @@
-pub mod ManagerLemmas
+pub mod Accepted
+pub mod Attempted
+pub mod Kept
+pub mod Made

@@ -1,3 +1,4 @@
+pub mod Groups
 pub mod Manager
-pub mod Views
 pub mod Performed
+pub mod Views

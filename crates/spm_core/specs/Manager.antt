@@ -105,10 +105,3 @@ Answers o old a c answer.Gone new = IsRefused o old a answer.Gone new
 Answers o old a c answer.Over new = IsRefused o old a answer.Over new
 Answers o old a c answer.Full new = IsRefused o old a answer.Full new
 Answers o old a c answer.NotYet new = IsRefused o old a answer.NotYet new
-
--- the calls that the manager makes
-abbrev pub is_built : Call → Bool
-is_built call.FrameworkVersion = true
-is_built (call.Version sid) = true
-is_built (call.Stop spent) = true
-is_built _ = false

@@ -1,7 +1,12 @@
 //! The Secure Partition Manager: it makes the actors' events one by one, and keeps their history.
 #![tactic(auto)]
 
-mod phases;
+mod accesses;
+mod actors;
+mod calls;
+mod groups;
+mod perform;
+mod returns;
 mod spm;
 #[cfg(test)]
 mod tests;

@@ -1,16 +1,12 @@
 //! The manager.
 ghost use Rattle.std.specs.Prelude.{◌≡◌, ◌<◌, ◌≤◌, ◌-◌, length, true, Some, None, IfOk, [], slice_get};
 ghost use Rattle.ffm_model.specs.Actors.{actor_count};
-ghost use Rattle.spm_core.specs.Manager.{refusal_at};
-ghost use Rattle.spm_core.specs.Performed.{ArePlain, spm_with};
 
-use crate::phases::{
-    all_running, is_enabled, is_gone, is_pending, is_some_enabled, perform, phase_at, shown,
-};
-use ffm_model::{
-    ActorId, ActorPhase, Answer, Call, Entry, MAX_ENTRIES, Memory, Phase, System, Verdict,
-};
+use crate::actors::{is_enabled, is_pending, is_some_blocked, is_some_enabled, refused, shown};
+use crate::perform::perform;
+use ffm_model::{ActorId, Answer, Call, Entry, MAX_ENTRIES, Memory, Phase, System, Verdict};
 use memory_image::Image;
+use spm_tables::Tables;
 use std::alloc::Global;
 use std::marker::Model;
 use std::snapshot::Snapshot;
@@ -28,7 +24,7 @@ pub struct Spm {
     opening: Snapshot<Image>,
     memory: Image,
     history: Vec<Entry>,
-    phases: Vec<ActorPhase>,
+    tables: Tables,
 }
 
 impl Model for Spm {
@@ -40,44 +36,18 @@ impl Model for Spm {
 
     ghost view = { λ m. record { opening = record { system = m.system; memory = m.opening.value; limit = m.limit }; history = m.history.items; bytes = m.memory } };
 
-    ghost invariant = { λ m. Keeps (record { system = m.system; memory = m.opening.value; limit = m.limit }) m.history.items m.memory m.phases.items (vec_capacity m.history) };
-}
-
-// The first of the four refusals that holds.
-fn refused(
-    system: &System,
-    phases: &[ActorPhase],
-    limit: u32,
-    count: usize,
-    actor: ActorId,
-) -> Option<Answer>
-    requires plain { ArePlain phases.now }
-    ensures { result ≡ refusal_at system.now limit count (spm_with system.now phases.now) actor.0 }
-{
-    if is_gone(phase_at(phases, actor)) {
-        return Some(Answer::Gone);
-    }
-    if !is_some_enabled(system, phases) {
-        return Some(Answer::Over);
-    }
-    if limit as usize <= count {
-        return Some(Answer::Full);
-    }
-    if is_enabled(phases, actor) {
-        None
-    } else {
-        Some(Answer::NotYet)
-    }
+    ghost invariant = { λ m. Keeps (record { system = m.system; memory = m.opening.value; limit = m.limit }) m.history.items m.memory m.tables (vec_capacity m.history) };
 }
 
 impl Spm {
-    ghost use Rattle.std.specs.Prelude.{◌≡◌, ◌≢◌, ◌<◌, ◌≤◌, ◌-◌, length, true, false, Some, None, IfOk, [], slice_get};
+    ghost use Rattle.std.specs.Prelude.{◌≡◌, ◌≢◌, ◌<◌, ◌≤◌, ◌-◌, ℕ, length, true, false, Some, None, IfOk, IfSome, [], slice_get};
     ghost use Rattle.ffm_model.specs.Actors.{actor_count};
     ghost use Rattle.ffm_model.specs.Step.{Run};
     ghost use Rattle.ffm_model.specs.Names.{names};
     ghost use Rattle.ffm_model.specs.Verdicts.{verdict_of};
     ghost use Rattle.memory_image.specs.Pieces.{byte_at, regions_of, ranges_of};
-    ghost use Rattle.spm_core.specs.Manager.{Answers, CallDue, refusal, is_built, is_actor_gone, awaits_return};
+    ghost use Rattle.spm_core.specs.Manager.{Answers, CallDue, refusal, is_actor_gone, awaits_return, state_of};
+    ghost use Rattle.ffm_model.specs.Reach.{write_reach};
     ghost use Rattle.spm_core.specs.Views.{phase_in, pending_in, enabled_in, memory_in};
 
     /// A manager with an empty history, over an image of the system's regions. The history may have
@@ -89,7 +59,8 @@ impl Spm {
         requires limited { limit ≤ MAX_ENTRIES }
         ensures { IfOk result (λ m. m ≡ record { opening = record { system = system; memory = memory; limit = limit }; history = []; bytes = memory }) }
     {
-        let phases = all_running(alloc, system.actor_count())?;
+        let tables = Tables::new(alloc, &system)?;
+        tables.law();
         let history = Vec::with_capacity(alloc, limit as usize)?;
         let opening = Snapshot::of(&memory);
         Ok(Spm {
@@ -98,37 +69,39 @@ impl Spm {
             opening,
             memory,
             history,
-            phases,
+            tables,
         })
     }
 
     /// Makes an event of an actor, or says why it isn't made. The actor is one of the system's, and
     /// the call is `Resume` exactly where the actor's last entry is Blocked, or the actor is gone.
-    /// Today the calls are FrameworkVersion, Version and Stop. The answer is the first of these that
-    /// holds: `Gone` where the actor has ended or panicked; `Over` where no actor can go on; `Full`
-    /// where the history has as many entries as it may have; `NotYet` where this actor waits; and
-    /// else `Made`, with the entry that the history now ends with and its place, counted from 1.
-    /// It takes no memory. A step that isn't made changes nothing.
+    /// The answer is the first of these that holds: `Gone` where the actor has ended or panicked;
+    /// `Over` where no actor can go on; `Full` where the history has as many entries as it may
+    /// have; `NotYet` where this actor waits; and else `Made`, with the entry that the history now
+    /// ends with and its place, counted from 1. It takes no memory, and no connection or message
+    /// lacks a slot. A step that isn't made changes nothing, and one that is made changes bytes
+    /// within its actor's reach alone.
     pub fn step(&mut self, actor: ActorId, call: Call) -> Answer
         requires exists { actor.0 < actor_count self.old.opening.system }
         requires due { CallDue self.old.opening self.old.history actor.0 call }
-        requires built { is_built call ≡ true }
         ensures opening { self.new.opening ≡ self.old.opening }
         ensures answer { Answers self.old.opening self.old.history actor.0 call result self.new.history }
         ensures unchanged { refusal self.old.opening self.old.history actor.0 ≢ None → self.new ≡ self.old }
+        ensures reach { IfSome (state_of self.old) (λ st. (x : ℕ) → write_reach self.old.opening.system st.spm actor.0 x ≡ false → byte_at self.new.bytes x ≡ byte_at self.old.bytes x) }
         ensures short { length self.new.history ≤ self.new.opening.limit }
         ensures limited { self.new.opening.limit ≤ MAX_ENTRIES }
     {
-        if let Some(answer) = refused(
-            &self.system,
-            self.phases.as_slice(),
-            self.limit,
-            self.history.len(),
-            actor,
-        ) {
+        let count = self.history.len();
+        if let Some(answer) = refused(&self.system, &self.tables, self.limit, count, actor) {
             return answer;
         }
-        let outcome = perform(&self.system, &mut self.phases, actor, call);
+        let outcome = perform(
+            &self.system,
+            &mut self.tables,
+            &mut self.memory,
+            actor,
+            call,
+        );
         let entry = Entry {
             actor,
             call,
@@ -148,7 +121,7 @@ impl Spm {
         ensures phase { pending_in self.now actor.0 ≡ Some result }
         ensures last { is_actor_gone self.now.opening self.now.history actor.0 ≡ false → result ≡ awaits_return self.now.history actor.0 }
     {
-        is_pending(phase_at(self.phases.as_slice(), actor))
+        is_pending(self.tables.phase(actor))
     }
 
     /// What the actor does. A client whose connection was accepted is ready to be told its handle.
@@ -156,7 +129,7 @@ impl Spm {
         requires { actor.0 < actor_count self.now.opening.system }
         ensures { phase_in self.now actor.0 ≡ Some result }
     {
-        shown(phase_at(self.phases.as_slice(), actor))
+        shown(&self.system, &self.tables, actor)
     }
 
     /// Whether the actor can go on: it runs, its answer is there, or a signal came that it waits for.
@@ -164,7 +137,7 @@ impl Spm {
         requires { actor.0 < actor_count self.now.opening.system }
         ensures { enabled_in self.now actor.0 ≡ Some result }
     {
-        is_enabled(self.phases.as_slice(), actor)
+        is_enabled(&self.tables, actor)
     }
 
     /// How the run ended: Quiet where no actor can go on and none is blocked, Stalled where none can
@@ -172,12 +145,16 @@ impl Spm {
     pub fn verdict(&self) -> Option<Verdict>
         ensures { result ≡ verdict_of self.now.opening.system (byte_at self.now.opening.memory) self.now.opening.limit self.now.history }
     {
-        if !is_some_enabled(&self.system, self.phases.as_slice()) {
-            Some(Verdict::Quiet)
-        } else if self.history.len() == self.limit as usize {
-            Some(Verdict::Full)
+        if is_some_enabled(&self.system, &self.tables) {
+            if self.history.len() == self.limit as usize {
+                Some(Verdict::Full)
+            } else {
+                None
+            }
+        } else if is_some_blocked(&self.system, &self.tables) {
+            Some(Verdict::Stalled)
         } else {
-            None
+            Some(Verdict::Quiet)
         }
     }
 

@@ -1,7 +1,6 @@
 //! Runs by hand over one system: a partition with two services, a client, and an interrupt source.
 ghost use Rattle.std.specs.Prelude.{◌≡◌, ◌≤◌, length, IfOk};
 ghost use Rattle.ffm_model.specs.declared.constants.TheConstants.{MAX_ENTRIES};
-ghost use Rattle.spm_core.specs.Manager.{is_built, is_resume};
 
 use crate::Spm;
 use ffm_model::{
@@ -108,19 +107,10 @@ fn manager(alloc: Global, limit: u32) -> Result<Spm, Fail>
     Ok(Spm::new(alloc, system, image, limit)?)
 }
 
-fn is_made_now(call: Call) -> bool
-    ensures { result ≡ is_built call }
-{
-    matches!(
-        call,
-        Call::FrameworkVersion | Call::Version { .. } | Call::Stop { .. }
-    )
-}
-
 fn ask(rt: &impl Abort, spm: &mut Spm, actor: ActorId, call: Call) -> Answer {
     assert!(rt; actor.0 < spm.actor_count());
     assert!(rt; !spm.pending(actor));
-    assert!(rt; is_made_now(call));
+    assert!(rt; !matches!(call, Call::Resume));
     spm.step(actor, call)
 }
 
@@ -175,5 +165,24 @@ fn full_at_the_limit(rt: HostRuntime) -> Result<(), Fail> {
     assert_eq!(rt; spm.length(), 2);
     assert_eq!(rt; spm.system().level, 3);
     let _image = spm.image();
+    Ok(())
+}
+
+#[test]
+fn stalled_while_a_client_waits(rt: HostRuntime) -> Result<(), Fail> {
+    let mut spm = manager(rt.alloc(), 10)?;
+    let connect = Call::Connect {
+        sid: Sid(0x40),
+        version: 1,
+    };
+    let _ = ask(&rt, &mut spm, CLIENT, connect);
+    let _ = ask(&rt, &mut spm, DEVICE, STOP);
+    let _ = ask(&rt, &mut spm, VAULT, STOP);
+    assert_eq!(rt; spm.verdict(), Some(Verdict::Stalled));
+    assert!(rt; CLIENT.0 < spm.actor_count());
+    assert!(rt; spm.pending(CLIENT));
+    assert_eq!(rt; spm.phase(CLIENT), Phase::Blocked);
+    assert_eq!(rt; spm.step(CLIENT, Call::Resume), Answer::Over);
+    assert_eq!(rt; spm.length(), 3);
     Ok(())
 }

@@ -1,9 +1,7 @@
 use Rattle.std.proofs.Common.{arith, ◌<◌, ◌≤◌, ◌∙◌, length, sym, ap, get_or, Ok, refl}
-use Rattle.std.proofs.lemmas.List.Elements.{All-set}
 use Rattle.std.proofs.lemmas.Result.{err_from_is_err_and}
 use Rattle.std.proofs.Math.ListN.{length-set}
 use Rattle.ffm_model.specs.declared.machine.ActorId.{ActorId}
-use Rattle.ffm_model.specs.ScriptRuns.{CallsBuilt, only_part}
 use Rattle.ffm_top.specs.Work.{script_of_actor}
 use Rattle.ffm_top.proofs.ScriptLemmas.{scripts_from-next, scripts_from-wrong, scripts_from-end, same_refusal}
 use Rattle.ffm_top.proofs.work.scripts_of.Goals as goal
@@ -32,5 +30,4 @@ loop-place-preserved c =
           sym (scripts_from-next c.args.system.now c.args.scenario.now c.loop-place.place c.as_slice-order.result.now c.loop-place.scripts.items c.in_ok-script.script no_actor lt c.in_ok-script.ensures.reads)
           ∙ c.loop-place.invariant.leads;
       long = length-set _ _ _ ∙ c.loop-place.invariant.long;
-      built = All-set (λ script. CallsBuilt (only_part script)) c.loop-place.scripts.items _ c.in_ok-script.script c.in_ok-script.ensures.built c.loop-place.invariant.built;
     }

@@ -6,9 +6,6 @@ use Rattle.partition_sim.proofs.tests.whole_run.Goals as goal
 pub drive_scheduled-requires-clause-scripts : goal.drive_scheduled-requires-clause-scripts
 drive_scheduled-requires-clause-scripts g c = c.in_ok-scripts.ensures.two ∙ sym c.if-count-ne2.false ∙ c.actor_count-count.ensures.exact
 
-pub drive_scheduled-requires-clause-built : goal.drive_scheduled-requires-clause-built
-drive_scheduled-requires-clause-built g c = c.in_ok-scripts.ensures.built
-
 pub drive_scheduled-requires-clause-known : goal.drive_scheduled-requires-clause-known
 drive_scheduled-requires-clause-known g c =
     let P : ℕ → Type 0 = λ n. All (λ (a : ActorId). a.0 < n) c.in_ok-schedule.schedule in

@@ -1,13 +1,17 @@
-use Rattle.std.proofs.Common.{◌≡◌, ◌<◌, length, sym, ◌∙◌, ap, false}
-use Rattle.ffm_model.specs.Actors.{actor_count}
+use Rattle.std.proofs.Common.{◌≡◌, Bool, ap, sym, ◌∙◌}
+use Rattle.std.specs.Prelude.{Some}
+use Rattle.ffm_model.specs.State.{phase_of}
+use Rattle.spm_tables.specs.Desk.{spm_of}
 use Rattle.spm_core.specs.Views.{is_pending}
-use Rattle.spm_core.proofs.ManagerLemmas.{awaits_none, pending_none}
+use Rattle.spm_core.proofs.Kept.{last-kept, pending-kept}
 use Rattle.spm_core.proofs.spm.Spm.pending.Goals as goal
 
+pub returns-clause-phase : goal.returns-clause-phase
+returns-clause-phase c =
+    let is : c.is_pending.result ≡ is_pending (phase_of (spm_of c.self.inside.tables) c.args.actor.0) = c.is_pending.ensures ∙ ap is_pending c.phase.ensures in
+    rw (← c.self.view_is) (pending-kept _ _ _ _ _ c.args.actor.0 c.self.invariant ∙ ap (λ (b : Bool). Some b) (sym is))
+
 pub returns-clause-last : goal.returns-clause-last
-returns-clause-last c here =
-    let below : c.args.actor.0 < actor_count c.self.inside.system = rw (← c.self.view_is) at c.requires in
-    let inside : c.args.actor.0 < length c.self.inside.phases.items = rw c.self.invariant.actors below in
-    let none : c.is_pending.result ≡ false =
-    c.is_pending.ensures ∙ ap is_pending (rw c.as_slice.ensures.value at c.phase_at.ensures) ∙ pending_none _ _ c.self.invariant.plain inside in
-    rw (← c.self.view_is) (none ∙ sym (awaits_none _ _ c.self.invariant.answered))
+returns-clause-last c stays =
+    let is : c.is_pending.result ≡ is_pending (phase_of (spm_of c.self.inside.tables) c.args.actor.0) = c.is_pending.ensures ∙ ap is_pending c.phase.ensures in
+    rw (← c.self.view_is) (is ∙ last-kept _ _ _ _ _ c.args.actor.0 c.self.invariant (rw (← c.self.view_is) at stays))

@@ -1,0 +1,138 @@
+-- The connection that a client is still to be told of, and the returns of calls that waited.
+use Rattle.std.proofs.Common.{ℕ, ◌≡◌, ◌<◌, ◌≤◌, Bool, true, false, List, [], ◌∷◌, refl, ap, sym, subst, ◌∙◌, arith, All}
+use Rattle.std.specs.Prelude.{Option, Some, None, IsNone, IfSome, IsSomeAnd, IsTrue, ◌&&◌, ◌==◌, nat_le, find, count_by, option_and_then, cond, get_or, bit_and, pos}
+use Rattle.std.proofs.lemmas.Bool.Decides.{nat_tests}
+use Rattle.ffm_model.specs.declared.system.System.{System}
+use Rattle.ffm_model.specs.declared.objects.ActorPhase.{ActorPhase}
+use Rattle.ffm_model.specs.declared.objects.ActorPhase.TheVariants as phase
+use Rattle.ffm_model.specs.declared.objects.OpenConnection.{OpenConnection}
+use Rattle.ffm_model.specs.declared.machine.Call.TheVariants as call
+use Rattle.ffm_model.specs.declared.machine.Handle.{Handle}
+use Rattle.ffm_model.specs.declared.machine.Outcome.TheVariants.{Value, Signals}
+use Rattle.ffm_model.specs.Memory.{ByteMap}
+use Rattle.ffm_model.specs.ClientCalls.{returned}
+use Rattle.ffm_model.specs.Names.{name_at_return}
+use Rattle.ffm_model.specs.Signals.{signals_of}
+use Rattle.ffm_model.specs.State.{phase_of, with_phase}
+use Rattle.counting_law.specs.Objects.{ObjectsFit, PhaseFits, accepted_as, awaited_of, asking_of}
+use Rattle.counting_law.proofs.Counts.{some-found, find-passes}
+use Rattle.counting_law.proofs.Parts.{left_true, right_true, equal_from}
+use Rattle.ffm_model.specs.Names.{NamesSoFar, name_of, no_slot}
+use Rattle.handle_table.specs.Handles.{IsNameable, handle_at}
+use Rattle.handle_table.specs.declared.handles.Family.TheVariants.{Connection}
+use Rattle.slot_names.specs.Named.{NamesAre, KeepsNames}
+use Rattle.slot_names.proofs.Changes.{names-connection}
+use Rattle.slot_names.proofs.Due.{named-connection}
+use Rattle.handle_table.specs.Table.{is_owned_from}
+use Rattle.handle_table.proofs.SlotLemmas.{nameable-at}
+use Rattle.std.proofs.lemmas.List.Elements.{All-head, All-tail}
+use Rattle.object_pools.specs.declared.slot.Slot.{Slot}
+use Rattle.object_pools.specs.Pool.{Places, IsKept, item_at, with_item}
+use Rattle.spm_tables.specs.Answers.{state_with}
+use Rattle.spm_tables.specs.Desk.{Desk, spm_of}
+use Rattle.spm_core.specs.Performed.{IsEffect, IsReturned, ShowsName}
+use Rattle.spm_core.proofs.Attempted.{shows-due}
+
+both : (b d : Bool) → b ≡ true → d ≡ true → (b && d) ≡ true
+both b d h k = rw (h, k) refl
+
+here-or-later : {X : Type 0} (P : X → Type 0) (b : Bool) (y x : X) (rest : Option X) → P y → (rest ≡ Some x → P x) → cond b (Some y) rest ≡ Some x → P x
+here-or-later P true y x rest here later h = let it : y ≡ x = cc in subst P it here
+here-or-later P false y x rest here later h = later h
+
+-- what holds of all holds of what is found
+found-all : {X : Type 0} (P : X → Type 0) (p : X → Bool) (xs : List X) (x : X) → find p xs ≡ Some x → All P xs → P x
+found-all P p [] x h all = absurd (cc)
+found-all P p (y ∷ ys) x h all = here-or-later P (p y) y x (find p ys) (All-head P y ys all) (λ k. found-all P p ys x k (All-tail P y ys all)) h
+
+-- an accepted connection is its client's, from its own serial number on
+owned-accepted : (a n : ℕ) (c : OpenConnection) → accepted_as a n c ≡ true → (is_owned_from a n c ≡ true) × (c.serial ≡ n)
+owned-accepted a n c h =
+    let serial : c.serial ≡ n = equal_from c.serial n (left_true _ _ h) in
+    let client : (c.client.0 == a) ≡ true = left_true _ _ (right_true _ _ h) in
+    let from : nat_le n c.serial ≡ true = grind (arith, nat_tests) in
+    (both _ _ client from, serial)
+
+none-found : {X : Type 0} (p q : X → Bool) (xs : List X) (x : X) → find p xs ≡ Some x → q x ≡ true → find q xs ≡ None → ⊥
+none-found p q [] x is passes none = cc
+none-found {X = X} p q (y ∷ ys) x is passes none =
+    let go : (b d : Bool) → p y ≡ b → q y ≡ d → cond b (Some y) (find p ys) ≡ Some x → cond d (Some y) (find q ys) ≡ None → ⊥ =
+    λ b. elim [
+      | true ↦ λ e f g h. cc
+      | false ↦ λ e f. (
+          let inner : (b' : Bool) → p y ≡ b' → cond b' (Some y) (find p ys) ≡ Some x → find q ys ≡ None → ⊥ = elim [
+            | true ↦ λ e' g h. let it : y ≡ x = cc in let wrong : q y ≡ true = rw it passes in cc
+            | false ↦ λ e' g h. none-found p q ys x g passes h
+          ] in
+          inner b e)
+    ] in
+    go (p y) (q y) refl refl is none
+
+-- where a connection of this serial number was accepted, the owner's first connection from that number on is it
+pub accepted-first : (a n : ℕ) (cs : List OpenConnection) (found : Option OpenConnection) → count_by (accepted_as a n) cs ≡ 1 → found ≡ find (is_owned_from a n) cs
+    → IfSome found (λ c. All (λ d. IsTrue (is_owned_from a n d) → c.serial ≤ d.serial) cs) → IsSomeAnd found (λ c. c.serial ≡ n)
+accepted-first a n cs None one is least =
+    let it = some-found (accepted_as a n) cs (omega (arith, one)) in
+    none-found (accepted_as a n) (is_owned_from a n) cs it.0 it.1 (owned-accepted a n it.0 (find-passes _ cs it.0 it.1)).0 (sym is)
+accepted-first a n cs (Some c) one is least =
+    let it = some-found (accepted_as a n) cs (omega (arith, one)) in
+    let own = owned-accepted a n it.0 (find-passes _ cs it.0 it.1) in
+    let below : c.serial ≤ it.0.serial = found-all (λ d. IsTrue (is_owned_from a n d) → c.serial ≤ d.serial) (accepted_as a n) cs it.0 it.1 least own.0 in
+    let passes : is_owned_from a n c ≡ true = find-passes (is_owned_from a n) cs c (sym is) in
+    let from : nat_le n c.serial ≡ true = right_true _ _ passes in
+    let above : n ≤ c.serial = grind (arith, nat_tests) in
+    omega (arith, below, above, own.1)
+
+-- a client that is still to be told has an accepted connection
+pub joined-accepted : (s : System) (d : Desk) (a n : ℕ) → ObjectsFit s (spm_of d) → phase_of (spm_of d) a ≡ phase.Connected n → count_by (accepted_as a n) (spm_of d).connections ≡ 1
+joined-accepted s d a n fits is =
+    let cs : List OpenConnection = (spm_of d).connections in
+    let fit : PhaseFits (phase.Connected n) (count_by (awaited_of a) cs) (count_by (asking_of a) cs) (λ m. count_by (accepted_as a m) cs) =
+    subst (λ (p : ActorPhase). PhaseFits p (count_by (awaited_of a) cs) (count_by (asking_of a) cs) (λ m. count_by (accepted_as a m) cs)) is (fits.phases a) in
+    fit.1
+
+-- a live slot with this serial number can be named
+pub live-nameable : (p : Places OpenConnection) (s : Slot) (n : ℕ) → IsKept 256 p → IsSomeAnd (item_at p s) (λ c. c.serial ≡ n) → IsNameable s
+live-nameable p s n kept live =
+    let go : (o : Option OpenConnection) → item_at p s ≡ o → IsSomeAnd o (λ c. c.serial ≡ n) → IsNameable s = elim [
+      | None ↦ λ is h. absurd h
+      | Some c ↦ λ is h. nameable-at p s c kept is
+    ] in
+    go (item_at p s) refl live
+
+-- the handle of its slot is the name of the connection
+pub accepted-name : (d : Desk) (k : NamesSoFar) (slot : Slot) (n : ℕ) → NamesAre d k → IsSomeAnd (item_at d.linked slot) (λ c. c.serial ≡ n)
+    → name_of 0 (get_or k.connections n no_slot) ≡ handle_at Connection slot
+accepted-name d k slot n are live =
+    let go : (o : Option OpenConnection) → item_at d.linked slot ≡ o → IsSomeAnd o (λ c. c.serial ≡ n) → name_of 0 (get_or k.connections n no_slot) ≡ handle_at Connection slot = elim [
+      | None ↦ λ is h. absurd h
+      | Some c ↦ λ is h. subst (λ (m : ℕ). name_of 0 (get_or k.connections m no_slot) ≡ handle_at Connection slot) h (named-connection d k slot c are is)
+    ] in
+    go (item_at d.linked slot) refl live
+
+-- the return of a call that waited for a signal
+pub returned-waiting : (s : System) (a mask word : ℕ) (old new : Desk) → phase_of (spm_of old) a ≡ phase.Waiting mask → spm_of new ≡ with_phase (spm_of old) a phase.Running → word ≡ signals_of s (spm_of old) a
+    → IsReturned s a old (Signals (bit_and word mask)) new
+returned-waiting s a mask word old new waits is asserted given m =
+    subst (λ (p : ActorPhase). IsEffect (returned s (state_with old given m) a p (record { 0 = pos 0 })) (Signals (bit_and word mask)) new m) (sym waits)
+    (record { outcome = ap (λ (w : ℕ). Signals (bit_and w mask)) (sym asserted); spm = sym is; memory = refl })
+
+-- the handle that is told is the name due
+pub told-name : (s : System) (a n : ℕ) (old : Desk) (m : ByteMap) (slot : Slot) (h : Handle) → phase_of (spm_of old) a ≡ phase.Connected n
+    → IsSomeAnd (item_at old.linked slot) (λ c. c.serial ≡ n) → h ≡ handle_at Connection slot → ShowsName s a call.Resume old m (Value h.0)
+told-name s a n old m slot h waits live is =
+    shows-due s a call.Resume old m (Value h.0)
+    (λ given k are. ap (name_at_return k) waits ∙ ap (λ (x : Handle). Some x) (accepted-name old k slot n are live ∙ sym is))
+
+-- and the telling keeps the names
+pub told-names : (s : System) (old mid new : Desk) (slot : Slot) (n : ℕ) (h : Handle) → IsKept 256 mid.linked → mid.linked ≡ old.linked → mid.waiting ≡ old.waiting
+    → IsSomeAnd (item_at mid.linked slot) (λ c. c.serial ≡ n) → IfSome (item_at mid.linked slot) (λ c. new ≡ record mid { linked = with_item mid.linked slot (record c { handle = Some h }) })
+    → KeepsNames s old new
+told-names s old mid new slot n h kept linked waiting live told =
+    let go : (o : Option OpenConnection) → item_at mid.linked slot ≡ o → IsSomeAnd o (λ c. c.serial ≡ n) → IfSome o (λ c. new ≡ record mid { linked = with_item mid.linked slot (record c { handle = Some h }) }) → KeepsNames s old new = elim [
+      | None ↦ λ is l t. absurd l
+      | Some c ↦ λ is l t.
+          names-connection s old new slot c (record c { handle = Some h }) (subst (IsKept 256) linked kept) (sym (ap (λ (p : Places OpenConnection). item_at p slot) linked) ∙ is) refl
+          (ap (λ (d : Desk). d.linked) t ∙ ap (λ (p : Places OpenConnection). with_item p slot (record c { handle = Some h })) linked) (ap (λ (d : Desk). d.waiting) t ∙ waiting)
+    ] in
+    go (item_at mid.linked slot) refl live told

@@ -1,0 +1,12 @@
+use Rattle.std.proofs.Common.{◌≡◌, refl, rules, subst}
+use Rattle.std.specs.Prelude.{Result, Ok, Some}
+use Rattle.ffm_model.specs.ServiceCalls.{reply_on}
+use Rattle.slot_names.proofs.Owed.{names-owed}
+use Rattle.spm_tables.specs.Desk.{spm_of}
+use Rattle.spm_core.proofs.calls.answer.Goals as goal
+
+pub returns-in-Some-clause-names : goal.returns-in-Some-clause-names
+returns-in-Some-clause-names c =
+    let left : reply_on c.args.system.now (spm_of c.args.tables.now) c.args.actor.0 c.args.handle c.args.status.0 ≡ Some (record { spm = spm_of c.reply.new.tables; owing = Some c.in-Some.client.0 }) = search rules in
+    names-owed c.args.system.now c.args.tables.now c.reply.new.tables c.panic.new.tables c.args.actor.0 c.in-Some.client.0 c.args.handle c.args.status.0
+    c.requires.fits left c.panic.ensures.state c.reply.ensures.names c.panic.ensures.names

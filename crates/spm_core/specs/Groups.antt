@@ -1,0 +1,37 @@
+-- Calls that belong together.
+-- Source: `psa/client.h` and `psa/service.h`; loads, stores, interrupts and stops are this simulator's.
+use Rattle.std.specs.Prelude.{Bool, true, false}
+use Rattle.ffm_model.specs.declared.machine.Call.{Call}
+use Rattle.ffm_model.specs.declared.machine.Call.TheVariants as call
+use Rattle.spm_core.specs.declared.groups.Group.{Group}
+use Rattle.spm_core.specs.declared.groups.Group.TheVariants.{Client, Service, Signal, Memory, Actor}
+
+abbrev pub group_of : Call → Group
+group_of call.FrameworkVersion = Client
+group_of (call.Version sid) = Client
+group_of (call.Connect sid version) = Client
+group_of (call.Invoke h kind in_vec in_len out_vec out_len) = Client
+group_of (call.Close h) = Client
+group_of (call.Wait mask timeout) = Service
+group_of (call.Get signal msg) = Service
+group_of (call.SetRhandle m rhandle) = Service
+group_of (call.Read m index buffer len) = Service
+group_of (call.Skip m index len) = Service
+group_of (call.Write m index buffer len) = Service
+group_of (call.Reply m status) = Service
+group_of (call.Notify partition) = Signal
+group_of call.Clear = Signal
+group_of (call.Eoi signal) = Signal
+group_of (call.Raise source) = Signal
+group_of (call.Load address size) = Memory
+group_of (call.Store address size value) = Memory
+group_of call.Panic = Actor
+group_of (call.Stop spent) = Actor
+group_of call.Resume = Actor
+
+-- calls that move bytes of a request
+abbrev pub is_transfer : Call → Bool
+is_transfer (call.Read m index buffer len) = true
+is_transfer (call.Skip m index len) = true
+is_transfer (call.Write m index buffer len) = true
+is_transfer _ = false

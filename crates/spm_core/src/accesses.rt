@@ -1,0 +1,54 @@
+//! Loads and stores of an actor.
+ghost use Rattle.std.specs.Prelude.{◌≡◌, List, true};
+ghost use Rattle.ffm_model.specs.declared.machine.Handle.{Handle as HandleSeen};
+ghost use Rattle.ffm_model.specs.declared.machine.Outcome.TheVariants as outcome;
+ghost use Rattle.ffm_model.specs.Accesses.{is_access_size, load, store};
+ghost use Rattle.ffm_model.specs.ClientCalls.{effect};
+ghost use Rattle.memory_image.specs.Pieces.{byte_at, regions_of, ranges_of};
+ghost use Rattle.spm_core.specs.Performed.{Loads, Stores};
+
+use ffm_model::{ActorId, Fault, System};
+use memory_image::{Image, may_read, may_write};
+
+fn is_access_size(size: u32) -> bool
+    ensures { result ≡ is_access_size size }
+{
+    matches!(size, 1 | 2 | 4)
+}
+
+/// The number at an address, the lowest byte first.
+pub(crate) fn load(
+    system: &System,
+    image: &Image,
+    actor: ActorId,
+    address: u32,
+    size: u32,
+) -> Result<u32, Fault>
+    requires { regions_of image.now ≡ ranges_of system.now.regions }
+    ensures { Loads system.now actor.0 address size image.now result }
+{
+    if !is_access_size(size) || !may_read(system, actor, address, size) {
+        return Err(Fault);
+    }
+    Ok(image.load(address, size))
+}
+
+/// Puts the low bytes of a value at an address.
+pub(crate) fn store(
+    system: &System,
+    image: &mut Image,
+    actor: ActorId,
+    address: u32,
+    size: u32,
+    value: u32,
+) -> Result<(), Fault>
+    requires { regions_of image.old ≡ ranges_of system.now.regions }
+    ensures stores { Stores system.now actor.0 address size value image.old result image.new }
+    ensures regions { regions_of image.new ≡ regions_of image.old }
+{
+    if !is_access_size(size) || !may_write(system, actor, address, size) {
+        return Err(Fault);
+    }
+    image.store(address, size, value);
+    Ok(())
+}

@@ -1,0 +1,171 @@
+//! One event: a call of an actor that can go on.
+ghost use Rattle.std.specs.Prelude.{◌≡◌, ◌<◌, ◌≤◌, ◌+◌, All, IfOk, List, true, false};
+ghost use Rattle.ffm_model.specs.declared.scenario.Bytes.{Bytes as BytesSeen};
+ghost use Rattle.ffm_model.specs.declared.system.System.{System as SystemSeen};
+ghost use Rattle.ffm_model.specs.declared.objects.ActorPhase.{ActorPhase as PhaseSeen};
+ghost use Rattle.ffm_model.specs.Actors.{actor_count, kind_of};
+ghost use Rattle.ffm_model.specs.Calls.{refusal_of};
+ghost use Rattle.ffm_model.specs.Signals.{may_resume};
+ghost use Rattle.ffm_model.specs.State.{phase_of};
+ghost use Rattle.ffm_model.specs.Step.{may_call};
+ghost use Rattle.counting_law.specs.Objects.{ObjectsFit};
+ghost use Rattle.memory_image.specs.Pieces.{byte_at, regions_of, ranges_of};
+ghost use Rattle.message_vectors.specs.Vectors.{AreWithin};
+ghost use Rattle.slot_names.specs.Named.{KeepsNames};
+ghost use Rattle.spm_tables.specs.Desk.{spm_of, shape_of, MadeFor};
+ghost use Rattle.spm_core.specs.Groups.{group_of};
+ghost use Rattle.spm_core.specs.declared.groups.Group.TheVariants as group;
+ghost use Rattle.spm_core.specs.Manager.{is_resume};
+ghost use Rattle.spm_core.specs.Performed.{Attempts, Does, IsRefusedCall, ShowsName};
+
+use crate::calls::{client_call, memory_call, service_call, signal_call};
+use crate::groups::{Group, group_of, has_call};
+use crate::returns::resume;
+use ffm_model::{
+    ActorId, ActorKind, ActorPhase, Call, Fault, Outcome, PSA_ERROR_CONNECTION_REFUSED,
+    PSA_ERROR_PROGRAMMER_ERROR, System,
+};
+use memory_image::Image;
+use panic_state::panic;
+use spm_tables::Tables;
+
+// Makes a call that its actor has, or finds it a PROGRAMMER ERROR.
+fn attempt(
+    system: &System,
+    tables: &mut Tables,
+    image: &mut Image,
+    actor: ActorId,
+    call: Call,
+) -> Result<Outcome, Fault>
+    requires made { MadeFor tables.old system.now }
+    requires running { phase_of (spm_of tables.old) actor.0 ≡ PhaseSeen.Running }
+    requires no_return { is_resume call ≡ false }
+    requires fits { ObjectsFit system.now (spm_of tables.old) }
+    requires few_connections { tables.old.linked.takes + 256 ≤ 1048575 }
+    requires few_messages { tables.old.waiting.takes + 256 ≤ 1048575 }
+    requires regions { regions_of image.old ≡ ranges_of system.now.regions }
+    requires vectors { All (λ m. AreWithin (regions_of image.old) m.vectors) (spm_of tables.old).messages }
+    ensures attempts { Attempts system.now actor.0 call tables.old image.old result tables.new image.new }
+    ensures shown { IfOk result (ShowsName system.now actor.0 call tables.old (byte_at image.old)) }
+    ensures regions { regions_of image.new ≡ regions_of image.old }
+    ensures shape { shape_of tables.new ≡ shape_of tables.old }
+    ensures names { KeepsNames system.now tables.old tables.new }
+{
+    match group_of(call) {
+        Group::Client => client_call(system, tables, image, actor, call),
+        Group::Service => service_call(system, tables, image, actor, call),
+        Group::Signal => signal_call(system, tables, actor, call),
+        Group::Memory => memory_call(system, image, actor, call),
+        Group::Actor => end(tables, actor, call),
+    }
+}
+
+// Ends the actor by its own stop. Its own panic is a PROGRAMMER ERROR.
+fn end(tables: &mut Tables, actor: ActorId, call: Call) -> Result<Outcome, Fault>
+    requires group { group_of call ≡ group.Actor }
+    requires no_return { is_resume call ≡ false }
+    ensures attempts { (s : SystemSeen) (bytes : List BytesSeen) → Attempts s actor.0 call tables.old bytes result tables.new bytes }
+    ensures shape { shape_of tables.new ≡ shape_of tables.old }
+    ensures names { (s : SystemSeen) → KeepsNames s tables.old tables.new }
+{
+    match call {
+        Call::Stop { .. } => {
+            tables.set_phase(actor, ActorPhase::Ended);
+            Ok(Outcome::Done)
+        }
+        Call::Panic => Err(Fault),
+        _ => unreachable!(),
+    }
+}
+
+// What a non-secure client is answered at a PROGRAMMER ERROR.
+fn refusal_of(call: Call) -> Outcome
+    ensures { result ≡ refusal_of call }
+{
+    match call {
+        Call::Connect { .. } => Outcome::Value(PSA_ERROR_CONNECTION_REFUSED),
+        Call::Close { .. } => Outcome::Done,
+        _ => Outcome::Value(PSA_ERROR_PROGRAMMER_ERROR),
+    }
+}
+
+// A PROGRAMMER ERROR: a partition panics, and to others nothing happens.
+fn refuse(system: &System, tables: &mut Tables, actor: ActorId, call: Call) -> Outcome
+    requires exists { actor.0 < actor_count system.now }
+    requires made { MadeFor tables.old system.now }
+    requires running { phase_of (spm_of tables.old) actor.0 ≡ PhaseSeen.Running }
+    requires fits { ObjectsFit system.now (spm_of tables.old) }
+    requires few_messages { tables.old.waiting.takes + 256 ≤ 1048575 }
+    ensures refused { IsRefusedCall system.now actor.0 call tables.old result tables.new }
+    ensures shape { shape_of tables.new ≡ shape_of tables.old }
+    ensures names { KeepsNames system.now tables.old tables.new }
+{
+    match system.actor_kind(actor) {
+        ActorKind::Partition => {
+            panic(system, tables, actor);
+            Outcome::Panicked
+        }
+        ActorKind::Client => refusal_of(call),
+        ActorKind::Device => Outcome::Value(PSA_ERROR_PROGRAMMER_ERROR),
+    }
+}
+
+// Makes a new call of an actor that runs.
+fn issue(
+    system: &System,
+    tables: &mut Tables,
+    image: &mut Image,
+    actor: ActorId,
+    call: Call,
+) -> Outcome
+    requires exists { actor.0 < actor_count system.now }
+    requires made { MadeFor tables.old system.now }
+    requires running { phase_of (spm_of tables.old) actor.0 ≡ PhaseSeen.Running }
+    requires no_return { is_resume call ≡ false }
+    requires fits { ObjectsFit system.now (spm_of tables.old) }
+    requires few_connections { tables.old.linked.takes + 256 ≤ 1048575 }
+    requires few_messages { tables.old.waiting.takes + 256 ≤ 1048575 }
+    requires regions { regions_of image.old ≡ ranges_of system.now.regions }
+    requires vectors { All (λ m. AreWithin (regions_of image.old) m.vectors) (spm_of tables.old).messages }
+    ensures does { Does system.now actor.0 call tables.old image.old result tables.new image.new }
+    ensures shown { ShowsName system.now actor.0 call tables.old (byte_at image.old) result }
+    ensures regions { regions_of image.new ≡ regions_of image.old }
+    ensures shape { shape_of tables.new ≡ shape_of tables.old }
+    ensures names { KeepsNames system.now tables.old tables.new }
+{
+    if !has_call(system.actor_kind(actor), call) {
+        return refuse(system, tables, actor, call);
+    }
+    match attempt(system, tables, image, actor, call) {
+        Ok(outcome) => outcome,
+        Err(Fault) => refuse(system, tables, actor, call),
+    }
+}
+
+/// Makes the call of an actor that can go on, and says what it answers.
+pub(crate) fn perform(
+    system: &System,
+    tables: &mut Tables,
+    image: &mut Image,
+    actor: ActorId,
+    call: Call,
+) -> Outcome
+    requires may { may_call system.now (spm_of tables.old) actor.0 call ≡ true }
+    requires made { MadeFor tables.old system.now }
+    requires fits { ObjectsFit system.now (spm_of tables.old) }
+    requires few_connections { tables.old.linked.takes + 256 ≤ 1048575 }
+    requires few_messages { tables.old.waiting.takes + 256 ≤ 1048575 }
+    requires regions { regions_of image.old ≡ ranges_of system.now.regions }
+    requires vectors { All (λ m. AreWithin (regions_of image.old) m.vectors) (spm_of tables.old).messages }
+    ensures does { Does system.now actor.0 call tables.old image.old result tables.new image.new }
+    ensures shown { ShowsName system.now actor.0 call tables.old (byte_at image.old) result }
+    ensures regions { regions_of image.new ≡ regions_of image.old }
+    ensures shape { shape_of tables.new ≡ shape_of tables.old }
+    ensures names { KeepsNames system.now tables.old tables.new }
+{
+    if let Call::Resume = call {
+        resume(system, tables, actor)
+    } else {
+        issue(system, tables, image, actor, call)
+    }
+}
