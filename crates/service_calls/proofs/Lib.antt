@@ -1,6 +1,7 @@
 pub mod Held
 pub mod Partners
 pub mod Kept
+pub mod AskedLemmas
 pub mod TransferLemmas
 pub mod DeliveryLemmas
 pub mod ReplyLemmas
