@@ -4,4 +4,5 @@ pub mod Opened
 pub mod Systems
 pub mod Copied
 pub mod Numbers
+pub mod Words
 pub mod Indexed

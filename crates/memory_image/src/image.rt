@@ -5,10 +5,20 @@ ghost use Rattle.ffm_model.specs.Memory.{bytes_at, write_bytes, copy_bytes, numb
 ghost use Rattle.memory_image.specs.Pieces.{byte_at, regions_of, ranges_of, is_inside, fit_an_image, open_within, zero_piece, IsPlaceOf};
 
 use crate::index::{Start, index_of, piece_with};
-use crate::pieces::{bytes_among, copy_among, copy_pieces, store_among, zero_pieces};
+use crate::pieces::{
+    bytes_among, copy_among, copy_pieces, store_among, store_words_among, zero_pieces,
+};
 use ffm_model::{Bytes, List, Memory, Region};
 use std::alloc::Global;
 use std::marker::Model;
+
+// The number in four bytes, the lowest first.
+fn word_of(bytes: &[u8]) -> u32
+    requires { length bytes.now ≡ 4 }
+    ensures { result ≡ number_of bytes.now }
+{
+    bytes[0] as u32 + 256 * (bytes[1] as u32 + 256 * (bytes[2] as u32 + 256 * bytes[3] as u32))
+}
 
 // The number in bytes, the lowest first.
 fn number_of(bytes: &[u8]) -> u32
@@ -16,6 +26,9 @@ fn number_of(bytes: &[u8]) -> u32
     ensures small { result < 256 ^ length bytes.now }
     ensures number { result ≡ number_of bytes.now }
 {
+    if bytes.len() == 4 {
+        return word_of(bytes);
+    }
     match bytes {
         [] => 0,
         [first, rest @ ..] => *first as u32 + 256 * number_of(rest),
@@ -127,14 +140,22 @@ impl Image {
 
     /// Puts words of four bytes at an address, one behind the other, as the twelve words of a
     /// `psa_msg_t`. The range lies whole in one region.
+    #[tactic(auto, using(crate::proofs::Stored::stay_apart))]
     pub fn store_words(&mut self, address: u32, words: &[u32])
         requires { is_inside address (4 * length words.now) (regions_of self.old) ≡ true }
         ensures stored { byte_at self.new ≡ words_stored (byte_at self.old) address words.now }
         ensures regions { regions_of self.new ≡ regions_of self.old }
     {
         self.keeps_its_limits();
-        for (k, word) in words.iter().enumerate() {
-            self.store(address + 4 * k as u32, 4, *word);
+        let place = piece_with(
+            self.pieces.as_slice(),
+            self.starts.as_slice(),
+            address,
+            4 * words.len(),
+        );
+        // Only an empty range lies in no piece.
+        if let Some(place) = place {
+            store_words_among(self.pieces.as_mut_slice(), place, address, words);
         }
     }
 

@@ -1,6 +1,6 @@
 //! Work on the pieces of an image, one for each region.
-ghost use Rattle.std.specs.Prelude.{◌≡◌, ◌≢◌, ℕ, ◌<◌, ◌≤◌, ◌+◌, ◌-◌, length, slice_index, true, get_or, map, take, drop, IfOk};
-ghost use Rattle.ffm_model.specs.Memory.{write_bytes, bytes_at, copy_bytes};
+ghost use Rattle.std.specs.Prelude.{◌≡◌, ◌≢◌, ℕ, ◌<◌, ◌≤◌, ◌+◌, ◌-◌, ◌*◌, ◌^◌, length, slice_index, true, get_or, map, take, drop, IfOk};
+ghost use Rattle.ffm_model.specs.Memory.{write_bytes, bytes_at, copy_bytes, store_number, words_stored};
 ghost use Rattle.ffm_model.specs.WellFormed.{each_pair};
 ghost use Rattle.memory_image.specs.Pieces.{byte_at, range_of, has_range, share_no_byte, no_piece, zero_piece, IsPut, regions_of};
 
@@ -65,6 +65,31 @@ pub fn store_among(pieces: &mut [Bytes], place: usize, address: u32, bytes: &[u8
 {
     let piece = &mut pieces[place];
     put_in(piece, address, bytes);
+}
+
+// Puts a word of four bytes into the piece at a place.
+fn store_word_among(pieces: &mut [Bytes], place: usize, address: u32, word: u32)
+    requires exists { place < length pieces.old }
+    requires inside { has_range address 4 (range_of (get_or pieces.old place no_piece)) ≡ true }
+    requires apart { each_pair share_no_byte (regions_of pieces.old) ≡ true }
+    ensures stored { (x : ℕ) → byte_at pieces.new x ≡ store_number (byte_at pieces.old) address 4 word x }
+    ensures regions { regions_of pieces.new ≡ regions_of pieces.old }
+{
+    store_among(pieces, place, address, &word.to_le_bytes());
+}
+
+/// Puts words of four bytes into the piece at a place, one behind the other.
+pub fn store_words_among(pieces: &mut [Bytes], place: usize, address: u32, words: &[u32])
+    requires exists { place < length pieces.old }
+    requires inside { has_range address (4 * length words.now) (range_of (get_or pieces.old place no_piece)) ≡ true }
+    requires apart { each_pair share_no_byte (regions_of pieces.old) ≡ true }
+    requires end { address + 4 * length words.now ≤ 2 ^ 32 }
+    ensures stored { (x : ℕ) → byte_at pieces.new x ≡ words_stored (byte_at pieces.old) address words.now x }
+    ensures regions { regions_of pieces.new ≡ regions_of pieces.old }
+{
+    for (k, word) in words.iter().enumerate() {
+        store_word_among(pieces, place, address + 4 * k as u32, *word);
+    }
 }
 
 fn copy_piece(alloc: Global, piece: &Bytes) -> Result<Bytes, Memory>

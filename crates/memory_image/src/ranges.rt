@@ -1,5 +1,5 @@
 //! Which ranges an actor may name, read and write: the memory isolation of FF-M 1.0.
-ghost use Rattle.std.specs.Prelude.{◌≡◌, ◌&&◌, length};
+ghost use Rattle.std.specs.Prelude.{◌≡◌, ◌&&◌, length, true};
 ghost use Rattle.std.specs.List.{list_any};
 ghost use Rattle.ffm_model.specs.declared.system.Class.TheVariants.{Ram};
 ghost use Rattle.ffm_model.specs.Actors.{kind_of, is_client};
@@ -62,11 +62,43 @@ fn is_writable_mmio_of(actor: ActorId, class: Class) -> bool
     }
 }
 
-fn is_in_ram(system: &System, actor: ActorId, base: u32, len: u32) -> bool
+// Whether the range lies in the region, and that is RAM of the actor.
+fn is_ram_with(system: &System, actor: ActorId, region: &Region, base: u32, len: u32) -> bool
+    ensures { result ≡ (is_ram_of system.now actor.0 region.now.class && lies_in base len region.now) }
+{
+    is_ram_of(system, actor, region.class) && lies_in(base, len as usize, region)
+}
+
+// Where to look first: the place of a partition's own RAM, and for a client the place behind the
+// partitions' RAM, where the non-secure RAM of a compiled system is.
+fn first_place(system: &System, actor: ActorId) -> usize {
+    match system.partitions.as_slice().get(actor.0 as usize) {
+        Some(partition) => partition.ram as usize,
+        None => system.partitions.len(),
+    }
+}
+
+fn is_in_first_ram(system: &System, actor: ActorId, base: u32, len: u32) -> bool
+    ensures { result ≡ true → list_any (λ r. is_ram_of system.now actor.0 r.class && lies_in base len r) system.now.regions ≡ true }
+{
+    match system.regions.as_slice().get(first_place(system, actor)) {
+        Some(region) => is_ram_with(system, actor, region, base, len),
+        None => false,
+    }
+}
+
+fn is_in_some_ram(system: &System, actor: ActorId, base: u32, len: u32) -> bool
     ensures { result ≡ list_any (λ r. is_ram_of system.now actor.0 r.class && lies_in base len r) system.now.regions }
 {
     let mut regions = system.regions.as_slice().iter();
-    regions.any(|r| is_ram_of(system, actor, r.class) && lies_in(base, len as usize, r))
+    regions.any(|r| is_ram_with(system, actor, r, base, len))
+}
+
+// The region that is mostly the right one is looked at before all others.
+fn is_in_ram(system: &System, actor: ActorId, base: u32, len: u32) -> bool
+    ensures { result ≡ list_any (λ r. is_ram_of system.now actor.0 r.class && lies_in base len r) system.now.regions }
+{
+    is_in_first_ram(system, actor, base, len) || is_in_some_ram(system, actor, base, len)
 }
 
 fn is_in_mmio(system: &System, actor: ActorId, base: u32, len: u32) -> bool

@@ -117,6 +117,14 @@ pub keeps-leave : (services sources : List OwnedSignal) (ends : List Ends) (bell
 keeps-leave services sources ends bells flags words v e true k = keeps-again services sources ends bells flags words (owner_at services v) k
 keeps-leave services sources ends bells flags words v e false k = keeps-ends services sources ends bells flags words v e k
 
+-- a message is gone; the words of one that was delivered stay
+pub keeps-drop : (services sources : List OwnedSignal) (ends : List Ends) (bells : List Bool) (flags : List SourceFlags) (words : List ℕ) (v : ℕ) (e : Ends) (delivered : Bool)
+    → KeepsWords services ends bells sources flags words
+    → KeepsWords services (if delivered then ends else set ends v e) bells sources flags
+    (if delivered then words else with_word (owner_at services v) (word_of services (if delivered then ends else set ends v e) bells sources flags) words)
+keeps-drop services sources ends bells flags words v e true k = k
+keeps-drop services sources ends bells flags words v e false k = keeps-ends services sources ends bells flags words v e k
+
 -- one doorbell changes
 pub keeps-bells : (services sources : List OwnedSignal) (ends : List Ends) (bells : List Bool) (flags : List SourceFlags) (words : List ℕ) (v : ℕ) (b : Bool)
     → KeepsWords services ends bells sources flags words

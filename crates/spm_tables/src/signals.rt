@@ -139,3 +139,21 @@ pub(crate) fn refresh(
         }
     }
 }
+
+// As `refresh`, but for a message that was delivered, and so waits in no queue, nothing is to be done.
+pub(crate) fn refresh_unless(
+    delivered: bool,
+    words: &mut Vec<u32>,
+    partition: Option<u32>,
+    services: &[OwnedSignal],
+    ends: &[Ends],
+    doorbells: &[bool],
+    sources: &[OwnedSignal],
+    flags: &[SourceFlags],
+)
+    ensures { words.new.items ≡ (if delivered then words.old.items else with_word partition (word_of services.now ends.now doorbells.now sources.now flags.now) words.old.items) }
+{
+    if !delivered {
+        refresh(words, partition, services, ends, doorbells, sources, flags);
+    }
+}
