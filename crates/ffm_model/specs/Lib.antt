@@ -4,8 +4,6 @@ pub mod Keys
 pub mod Counts
 pub mod TraceText
 pub mod Scripts
-pub mod ScriptWords
-pub mod ScriptLines
 pub mod ScriptRuns
 pub mod WellFormed
 pub mod Parts

@@ -23,6 +23,7 @@ use Rattle.ffm_model.specs.declared.system.Region.{Region}
 use Rattle.ffm_model.specs.declared.system.Source.{Source}
 use Rattle.ffm_model.specs.declared.system.System.{System}
 use Rattle.ffm_model.specs.Actors.{actor_count}
+use Rattle.ffm_model.specs.Manifests.{source_of}
 use Rattle.ffm_model.specs.Memory.{lies_in}
 use Rattle.ffm_model.specs.Attributes.{◌>>=◌, refuse, or_refuse, within, placed, required, optional, list_of, list_after, text_as, name_of, number_of, object_of}
 use Rattle.ffm_model.specs.SystemAttributes.{whole_between, list_up_to}
@@ -76,9 +77,15 @@ turn_of s d = do
   text ← or_refuse WRONG_TYPE (as_str d)
   or_refuse UNKNOWN_ACTOR (actor_named s text)
 
--- interrupts aren't raised yet: their list has to be empty
-abbrev pub raises_of : Data → Result (List ℕ) PartRefusal
-raises_of = list_up_to 0 number_of
+-- the place of the source with a name
+abbrev pub source_named : System → List ℕ → Option ℕ
+source_named s text = position (λ x. bytes_eq text x.name) s.sources
+
+-- an interrupt, by the name of its source
+unfoldable pub raise_of : System → Data → Result ℕ PartRefusal
+raise_of s d = do
+  name ← source_of d
+  or_refuse UNKNOWN_ACTOR (source_named s name)
 
 -- ---- the memory at the beginning
 
@@ -101,7 +108,7 @@ bytes_of regions d = do
 
 -- ---- the file
 
--- what a scenario keeps, for its system: the limits, few enough lines for each actor, at most one script for each and none for others, and memory in regions
+-- what a scenario keeps, for its system: the limits, few enough lines for each actor, at most one script for each and none for others, sources of the system, and memory in regions
 pub record IsScenarioOf (s : System) (c : Scenario) : Type 0 where
   pub limit : 0 < c.limit
   pub limit_end : c.limit ≤ 262144
@@ -110,6 +117,7 @@ pub record IsScenarioOf (s : System) (c : Scenario) : Type 0 where
   pub order : AllByRecursion (λ actor. actor.0 < actor_count s) c.order
   pub few : length c.order ≤ actor_count s
   pub schedule : AllByRecursion (λ actor. actor.0 < actor_count s) c.schedule
+  pub raises : AllByRecursion (λ source. source < length s.sources) c.raises
   pub memory : AllByRecursion (λ bytes. IsTrue (list_any (lies_in bytes.address (length bytes.content)) s.regions)) c.memory
 
 abbrev pub scenario_with : System → ℕ → List ScriptItem → List ActorId → List ℕ → List Bytes → Scenario
@@ -129,7 +137,7 @@ scenario_of s d = do
   limit ← optional (whole_between 1 262144) 4096 key.EventLimit d
   scripts ← optional (list_after (script_of s)) [] key.Scripts d
   schedule ← optional (list_of (turn_of s)) [] key.Schedule d
-  raises ← optional raises_of [] key.Interrupts d
+  raises ← optional (list_of (raise_of s)) [] key.Interrupts d
   memory ← optional (list_of (bytes_of s.regions)) [] key.Memory d
   Ok (scenario_with s limit scripts schedule raises memory)
 

@@ -1,7 +1,6 @@
 -- What a script calls next, after the outcomes so far, and when an actor's entries are a run of its script.
 -- Source: this simulator's script language.
 use Rattle.std.specs.Prelude.{ℕ, zero, suc, ◌+◌, ◌-◌, ◌%◌, ◌^◌, ◌≡◌, List, [], ◌∷◌, ◌++◌, length, Bool, not, ◌==◌, true, false, nat_lt, Option, Some, None, option_and_then, if◌then◌else◌, replicate, get_or, slice_get, slice_set, bit_and, bit_or, bit_xor}
-use Rattle.std.specs.List.{AllByRecursion}
 use Rattle.std.specs.Option.{option_map_or}
 use Rattle.std.specs.Int.{w32, cast_unsigned, cast_signed}
 use Rattle.ffm_model.specs.declared.machine.Entry.{Entry}
@@ -163,23 +162,6 @@ point_after script p (o ∷ os) = point_after script (answered script o p) os
 -- the call that the script makes after the outcomes: where the last one is Blocked, its return
 unfoldable pub next_call : List Instruction → List Outcome → Call
 next_call script os = if ends_blocked os then call.Resume else call_at script (arrived script (point_after script start os))
-
--- the calls that the manager makes today
-abbrev pub is_built_name : CallName → Bool
-is_built_name name.FrameworkVersion = true
-is_built_name name.Version = true
-is_built_name name.Stop = true
-is_built_name _ = false
-
-abbrev pub IsBuilt : Instruction → Type 0
-IsBuilt (Make n operands) = is_built_name n ≡ true
-IsBuilt (Change o r v) = Unit {0}
-IsBuilt (Jump target) = Unit {0}
-IsBuilt (JumpIf c r v target) = Unit {0}
-
--- a script that makes such calls alone
-abbrev pub CallsBuilt : List Instruction → Type 0
-CallsBuilt script = AllByRecursion IsBuilt script
 
 -- ---- runs
 

@@ -113,7 +113,6 @@ pub use scenario::Lines;
 pub use scenario::Scenario;
 pub use script::CallName;
 pub use script::Comparison;
-pub use script::Head;
 pub use script::Instruction;
 pub use script::Operand;
 pub use script::Operation;

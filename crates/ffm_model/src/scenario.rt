@@ -25,7 +25,7 @@ pub struct Scenario {
     pub order: List<ActorId>,
     /// The actors of the first turns.
     pub schedule: List<ActorId>,
-    /// The interrupt sources that the device raises, in this order.
+    /// The interrupts that the device raises, in this order, by the places of their sources.
     pub raises: List<u32>,
     /// The bytes that the memory begins with, in this order; all others are 0.
     pub memory: List<Bytes>,

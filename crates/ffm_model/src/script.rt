@@ -56,15 +56,6 @@ pub enum CallName {
     Stop,
 }
 
-/// What the first word of a line asks for; a call with the number of its operands.
-#[derive(Clone, Copy, Debug, PartialEq, Eq)]
-pub enum Head {
-    Change(Operation),
-    Jump,
-    JumpIf(Comparison),
-    Make(CallName, usize),
-}
-
 /// One instruction. A target is the place of an instruction of the same part, or their number.
 #[derive(Clone, Copy, Debug, PartialEq, Eq)]
 pub enum Instruction {

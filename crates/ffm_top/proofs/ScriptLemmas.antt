@@ -1,5 +1,5 @@
 -- The scripts of a scenario, one after the other.
-use Rattle.std.proofs.Common.{ℕ, ◌≡◌, ◌<◌, ◌≤◌, ◌+◌, List, [], ◌∷◌, length, drop, get_or, ap, ◌∙◌, refl, arith}
+use Rattle.std.proofs.Common.{ℕ, ◌≡◌, ◌<◌, ◌≤◌, ◌+◌, List, length, drop, get_or, ap, ◌∙◌}
 use Rattle.std.specs.Prelude.{Result, Ok, Err, slice_set}
 use Rattle.std.proofs.lemmas.List.{drop_more, drop_all}
 use Rattle.ffm_model.specs.declared.machine.ActorId.{ActorId}

@@ -1,6 +1,6 @@
 -- The lines of a trace, and the pieces of a text, one after the other.
-use Rattle.std.proofs.Common.{ℕ, ◌≡◌, ◌<◌, ◌≤◌, ◌+◌, List, [], ◌∷◌, ◌++◌, length, take, drop, append_assoc, get_or, ap, ◌∙◌, subst, sym, arith}
-use Rattle.std.specs.Prelude.{Option, Some, IfSome, slice_get, Result, Ok, Err}
+use Rattle.std.proofs.Common.{ℕ, ◌≡◌, ◌<◌, ◌≤◌, ◌+◌, List, [], ◌∷◌, ◌++◌, length, take, drop, append_assoc, get_or, ap, ◌∙◌, subst, sym}
+use Rattle.std.specs.Prelude.{Option, None, IfSome, OnErr, slice_get, Result, Ok, Err}
 use Rattle.std.specs.List.{flat_map}
 use Rattle.std.proofs.lemmas.List.{append-nil, take_more, take_all, take-append-drop}
 use Rattle.std.proofs.lemmas.List.Concat.{flat_map-append, flat_map-cons}
@@ -37,3 +37,8 @@ piece_cut xs i n a b c p q =
     let whole : (take i xs ++ take n (drop i xs)) ++ drop n (drop i xs) ≡ xs =
     append_assoc (take i xs) (take n (drop i xs)) (drop n (drop i xs)) ∙ (ap (λ (t : List ℕ). take i xs ++ t) (take-append-drop n (drop i xs)) ∙ take-append-drop i xs) in
     part_as a c _ xs whole (part_of_first a c _ _ (part_of_second a b c _ _ p q))
+
+-- a whole text, and then a flush
+pub flushed : {T E : Type 0} (a b c : Option (List ℕ)) (r : Result T E) (text : List ℕ) → 0 < length text → Takes a b text → Takes b c [] → OnErr r (c ≡ None) → Puts a c r text
+flushed a b c (Ok x) text some p q untold = subst (λ (t : List ℕ). Takes a c t) (append-nil text) (Takes-then a b c text [] p q)
+flushed a b c (Err e) text some p q untold = (0, some, rw untold tt)

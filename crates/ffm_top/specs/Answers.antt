@@ -1,6 +1,6 @@
 -- The answers of the top call, and their causes.
 -- Source: this simulator's exit statuses.
-use Rattle.std.specs.Prelude.{ℕ, ◌≡◌, ◌<◌, ◌≤◌, ◌⊎◌, List, Option, IfSome, IsSomeAnd, Contains}
+use Rattle.std.specs.Prelude.{ℕ, ◌≡◌, ◌≤◌, ◌⊎◌, List, Option}
 use Rattle.outside_io.specs.Told.{Takes, TakesPart}
 use Rattle.ffm_model.specs.Reading.{Contents, FailedAmong}
 use Rattle.ffm_top.specs.Due.{Due, asked}

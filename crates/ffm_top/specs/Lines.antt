@@ -5,7 +5,6 @@ use Rattle.std.specs.List.{flat_map}
 use Rattle.std.specs.Fmt.{decimal}
 use Rattle.ffm_model.specs.declared.codes.TheConstants.{JSON, MISSING_ATTRIBUTE, WRONG_TYPE, BAD_VALUE, DUPLICATE_PARTITION, DUPLICATE_SERVICE, DUPLICATE_SID, UNKNOWN_DEPENDENCY, SELF_DEPENDENCY, DEPENDENCY_CYCLE, TOO_MANY_SIGNALS, REGION_UNKNOWN, REGION_OVERLAP, TOO_MANY_PARTITIONS, TOO_MANY_CONNECTIONS, BUDGET_WITHOUT_PERMISSION, DUPLICATE_IRQ_SOURCE, MEMORY_TOO_LARGE, SCRIPT_SYNTAX, UNKNOWN_ACTOR, FILE_TOO_LONG, TRACE_SYNTAX}
 use Rattle.ffm_model.specs.declared.place.Refusal.{Refusal}
-use Rattle.ffm_model.specs.declared.place.Place.{Place}
 use Rattle.ffm_model.specs.declared.place.PathStep.{PathStep}
 use Rattle.ffm_model.specs.declared.place.PathStep.TheVariants as step
 use Rattle.ffm_model.specs.declared.place.Root.{Root}

@@ -1,9 +1,6 @@
 -- The code's work as contracts see it, and what it keeps.
 -- Source: this simulator's.
 use Rattle.std.specs.Prelude.{◌≡◌, length}
-use Rattle.std.specs.List.{All}
-use Rattle.ffm_model.specs.declared.scenario.Scenario.{Scenario}
-use Rattle.ffm_model.specs.declared.system.System.{System}
 use Rattle.ffm_model.specs.Actors.{actor_count}
 use Rattle.ffm_model.specs.Scenarios.{IsScenarioOf}
 use Rattle.ffm_top.specs.declared.work.Work as code

@@ -1,19 +1,21 @@
 -- The work that an order asks for: what is read of the files, in which order, until the first refusal.
 -- Source: this simulator's order of work: the system file and its manifests, the compiler, the scenario, its scripts.
-use Rattle.std.specs.Prelude.{ℕ, ◌+◌, List, [], ◌∷◌, get_or, slice_set, replicate, Result, Ok, Err}
+use Rattle.std.specs.Prelude.{ℕ, ◌+◌, List, [], ◌∷◌, ◌++◌, length, get_or, slice_set, replicate, Result, Ok, Err}
 use Rattle.ffm_model.specs.declared.constants.TheConstants.{MAX_FILE_BYTES}
 use Rattle.ffm_model.specs.declared.machine.ActorId.{ActorId}
 use Rattle.ffm_model.specs.declared.place.Place.{Place}
 use Rattle.ffm_model.specs.declared.place.Root.TheVariants as root
 use Rattle.ffm_model.specs.declared.scenario.Scenario.{Scenario}
 use Rattle.ffm_model.specs.declared.script.Instruction.{Instruction}
+use Rattle.ffm_model.specs.declared.system.Source.{Source}
 use Rattle.ffm_model.specs.declared.system.System.{System}
-use Rattle.ffm_model.specs.Actors.{actor_count, kind_of}
+use Rattle.ffm_model.specs.Actors.{kind_of}
 use Rattle.ffm_model.specs.Reading.{Contents, Reading, Stop, ◌>>=◌, asks_nothing, file_at}
 use Rattle.ffm_model.specs.Scenarios.{scenario_in}
-use Rattle.ffm_model.specs.ScriptLines.{script_read}
 use Rattle.ffm_model.specs.Systems.{system_of, stopped}
 use Rattle.ffm_model.specs.Compiled.{compiled}
+use Rattle.script_asm.specs.Device.{device_script}
+use Rattle.script_asm.specs.Lines.{script_read}
 use Rattle.ffm_top.specs.Words.{Order, compile, run}
 
 -- a script, as the list of its parts
@@ -34,14 +36,23 @@ and_script (Err e) f = Err e
 abbrev pub script_of_actor : System → Scenario → ℕ → ActorId → Result Parts Stop
 script_of_actor s c number actor = script_read (kind_of s actor.0) number (get_or c.lines actor.0 [])
 
+-- the device, where there is one, raises the interrupts in order
+abbrev pub device_scripts : List Source → List ℕ → List Parts
+device_scripts [] raises = []
+device_scripts (x ∷ xs) raises = device_script raises ∷ []
+
+-- the scripts before one of the file is put in: empty ones, and the device's
+unfoldable pub first_scripts : System → Scenario → List Parts
+first_scripts s c = replicate (length s.partitions + length s.clients) empty_script ++ device_scripts s.sources c.raises
+
 -- the scripts from that number on, each put at its actor's place
 unfoldable pub scripts_from : System → Scenario → ℕ → List ActorId → List Parts → Result (List Parts) Stop
 scripts_from s c number [] scripts = Ok scripts
 scripts_from s c number (actor ∷ actors) scripts = and_script (script_of_actor s c number actor) (λ script. scripts_from s c (number + 1) actors (slice_set scripts actor.0 script))
 
--- the script of each actor, or the refusal of the first wrong line in the file's order of scripts; an actor without a script has the empty one
+-- the script of each actor, or the refusal of the first wrong line in the file's order of scripts; an actor without one in the file has the empty one, and the device its own
 unfoldable pub scripts_of : System → Scenario → Result (List Parts) Stop
-scripts_of s c = scripts_from s c 0 c.order (replicate (actor_count s) empty_script)
+scripts_of s c = scripts_from s c 0 c.order (first_scripts s c)
 
 -- ---- files
 

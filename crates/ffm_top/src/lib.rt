@@ -1,6 +1,7 @@
 //! The top call: what the words of the command line ask for, done over any files and any sink.
 #![tactic(auto)]
 
+mod command_line;
 #[cfg(test)]
 mod compile_tests;
 mod lines;

@@ -104,9 +104,9 @@ fn put_lines<S: Sink>(out: &mut S, text: &[u8]) -> Result<(), Failed>
     Ok(())
 }
 
-/// Writes a report. Everything that it says is known by now, and no memory is taken.
+// Puts the lines of a report.
 #[tactic(auto, unfolding(crate::specs::Report::text_of))]
-pub fn put_report<S: Sink>(out: &mut S, report: &Report) -> Result<(), Failed>
+fn put_report<S: Sink>(out: &mut S, report: &Report) -> Result<(), Failed>
     ensures puts { Puts (S.taken out.old) (S.taken out.new) result (text_of report.now) }
     ensures later { S.faults out.old ≤ S.faults out.new }
     ensures failed { OnErr result (Rose (S.faults out.old) (S.faults out.new)) }
@@ -117,6 +117,18 @@ pub fn put_report<S: Sink>(out: &mut S, report: &Report) -> Result<(), Failed>
         Report::Listed(text) => put_lines(out, text.as_slice()),
         Report::Ran(ran) => put_trace(out, &ran.spm, ran.verdict),
     }
+}
+
+/// Writes a report whole. Everything that it says is known by now, and no memory is taken.
+#[tactic(auto, using(crate::proofs::Traces::flushed))]
+pub fn write_report<S: Sink>(out: &mut S, report: &Report) -> Result<(), Failed>
+    requires some { 0 < length (text_of report.now) }
+    ensures puts { Puts (S.taken out.old) (S.taken out.new) result (text_of report.now) }
+    ensures later { S.faults out.old ≤ S.faults out.new }
+    ensures failed { OnErr result (Rose (S.faults out.old) (S.faults out.new)) }
+{
+    put_report(out, report)?;
+    out.flush()
 }
 
 fn verdict_status(verdict: Verdict) -> u8

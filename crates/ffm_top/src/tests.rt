@@ -23,7 +23,7 @@ struct Worked {
     text: &'static str,
 }
 
-static WORKED: [Worked; 15] = [
+static WORKED: [Worked; 17] = [
     Worked {
         system: ONE_CLIENT,
         scenario: ASKING,
@@ -53,6 +53,18 @@ static WORKED: [Worked; 15] = [
         scenario: r#"{"scripts":[{"actor":"NS","lines":["again:","set r1 2","jmp again"]}]}"#,
         status: 0,
         text: "p1 stop end -> done\nn1 stop spent -> done\nquiet 2\n",
+    },
+    Worked {
+        system: r#"{"isolation_level":1,"manifests":[{"psa_framework_version":1.0,"name":"DRIVER","type":"PSA-ROT","priority":"NORMAL","entry_point":"main","stack_size":0,"irqs":[{"source":17,"signal":"TICK_SIGNAL"},{"source":"DMA","signal":"DMA_SIGNAL"}]}]}"#,
+        scenario: r#"{"interrupts":["DMA",17],"scripts":[{"actor":"DRIVER","lines":["wait 0x30 0x80000000","eoi 0x20"]}]}"#,
+        status: 0,
+        text: "p1 wait 0x00000030 0x80000000 -> blocked\ndev raise 1 -> done\np1 resume -> signals 0x00000020\ndev raise 0 -> done\np1 eoi 0x00000020 -> done\ndev stop end -> done\np1 stop end -> done\nquiet 7\n",
+    },
+    Worked {
+        system: ONE_CLIENT,
+        scenario: r#"{"scripts":[{"actor":"NS","lines":["connect 0x40 1"]}]}"#,
+        status: 4,
+        text: "p1 stop end -> done\nn1 connect 0x00000040 1 -> blocked\nstalled 2\n",
     },
     Worked {
         system: r#"{"isolation_level":"#,
@@ -98,15 +110,15 @@ static WORKED: [Worked; 15] = [
     },
     Worked {
         system: ONE_CLIENT,
-        scenario: r#"{"scripts":[{"actor":"VAULT","lines":["version 0x40","wait 1 0"]}]}"#,
+        scenario: r#"{"scripts":[{"actor":"NS","lines":["connect 0x40 1","set r5 r0","call r5 0"]}]}"#,
         status: 1,
-        text: "refused 4 BadValue scenario /scripts/0/lines/1\n",
+        text: "refused 19 ScriptSyntax scenario /scripts/0/lines/2\n",
     },
     Worked {
         system: ONE_CLIENT,
         scenario: r#"{"interrupts":[1]}"#,
         status: 1,
-        text: "refused 4 BadValue scenario /interrupts\n",
+        text: "refused 20 UnknownActor scenario /interrupts/0\n",
     },
     Worked {
         system: ONE_CLIENT,

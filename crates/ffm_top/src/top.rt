@@ -1,6 +1,6 @@
 //! The top call.
 
-ghost use Rattle.std.specs.Prelude.{◌≡◌, ◌<◌, ◌≤◌, ◌≢◌, ◌↔◌, [], ◌⊎◌, None, Ok, IfOk, IfSome, IsErrOf, IsOk, map, string_bytes};
+ghost use Rattle.std.specs.Prelude.{◌≡◌, ◌<◌, ◌≤◌, ◌≢◌, ◌↔◌, [], ◌⊎◌, None, Ok, IfOk, IfSome, IsErrOf, IsOk, length, map, string_bytes};
 ghost use Rattle.outside_io.specs.Count.{Rose};
 ghost use Rattle.outside_io.specs.Told.{Puts, Takes};
 ghost use Rattle.ffm_model.specs.Reading.{FailedAmong};
@@ -12,8 +12,9 @@ ghost use Rattle.ffm_top.specs.View.{work as work_seen, IsRun, IsWork};
 ghost use Rattle.ffm_top.specs.Words.{order, order_of};
 ghost use Rattle.ffm_top.specs.Work.{work_of};
 
+use crate::command_line::confirmed;
 use crate::lines::refusal_line;
-use crate::report::{Report, put_report};
+use crate::report::{Report, write_report};
 use crate::run::run;
 use crate::words::{Command, command_of};
 use crate::work::{RunWork, Work, work_of};
@@ -33,6 +34,7 @@ enum Halt {
 #[tactic(auto, unfolding(crate::specs::Report::text_of))]
 fn usage() -> Report
     ensures text { text_of result ≡ usage_line }
+    ensures some { 0 < length (text_of result) }
     ensures status { status_of result ≡ 2 }
 {
     Report::Usage
@@ -42,6 +44,7 @@ fn usage() -> Report
 #[tactic(auto, unfolding(crate::specs::Report::text_of))]
 fn refused(alloc: Global, refusal: &Refusal) -> Result<Report, Halt>
     ensures text { IfOk result (λ report. text_of report ≡ refusal_line refusal.now) }
+    ensures some { IfOk result (λ report. 0 < length (text_of report)) }
     ensures status { IfOk result (λ report. status_of report ≡ 1) }
     ensures memory { IsErrOf result Halt.Files → ⊥ }
 {
@@ -55,6 +58,7 @@ fn refused(alloc: Global, refusal: &Refusal) -> Result<Report, Halt>
 #[tactic(auto, unfolding(crate::specs::Report::text_of))]
 fn listed(alloc: Global, system: &System) -> Result<Report, Halt>
     ensures due { IfOk result (λ report. ListingDue system.now (text_of report) (status_of report)) }
+    ensures some { IfOk result (λ report. 0 < length (text_of report)) }
     ensures status { IfOk result (λ report. IsRunStatus (status_of report)) }
     ensures memory { IsErrOf result Halt.Files → ⊥ }
 {
@@ -69,6 +73,7 @@ fn listed(alloc: Global, system: &System) -> Result<Report, Halt>
 fn ran(alloc: Global, work: RunWork) -> Result<Report, Halt>
     requires { IsRun work }
     ensures due { IfOk result (λ report. RunDue work.system work.scenario work.scripts (text_of report) (status_of report)) }
+    ensures some { IfOk result (λ report. 0 < length (text_of report)) }
     ensures status { IfOk result (λ report. IsRunStatus (status_of report)) }
     ensures memory { IsErrOf result Halt.Files → ⊥ }
 {
@@ -87,6 +92,7 @@ fn ran(alloc: Global, work: RunWork) -> Result<Report, Halt>
 fn done(alloc: Global, work: Work) -> Result<Report, Halt>
     requires { IsWork work }
     ensures due { IfOk result (λ report. WorkDue (work_seen work) (text_of report) (status_of report)) }
+    ensures some { IfOk result (λ report. 0 < length (text_of report)) }
     ensures status { IfOk result (λ report. IsRunStatus (status_of report)) }
     ensures memory { IsErrOf result Halt.Files → ⊥ }
 {
@@ -106,6 +112,7 @@ fn report_of_command<F: Files>(
         DueBy (work_of of (order command.entry)).gives (text_of report) (status_of report))) }
     ensures valid { IfSome (F.held files.old) (λ of. IsOk (work_of of (order command.entry)).gives →
         IfOk result (λ report. IsRunStatus (status_of report))) }
+    ensures some { IfOk result (λ report. 0 < length (text_of report)) }
     ensures status { IfOk result (λ report. (status_of report ≡ 1) ⊎ IsRunStatus (status_of report)) }
     ensures keeps { F.held files.new ≡ F.held files.old }
     ensures later { F.faults files.old ≤ F.faults files.new }
@@ -129,6 +136,7 @@ fn report_of<F: Files>(alloc: Global, words: &Vec<String>, files: &mut F) -> Res
         IfOk result (λ report. IsRunStatus (status_of report))) }
     ensures usage { IfOk result (λ report. (status_of report ≡ 2) ↔ (order_of (map string_bytes words.now.items) ≡ None)) }
     ensures no_words { order_of (map string_bytes words.now.items) ≡ None → IsOk result }
+    ensures some { IfOk result (λ report. 0 < length (text_of report)) }
     ensures status { IfOk result (λ report. (status_of report ≤ 2) ⊎ IsRunStatus (status_of report)) }
     ensures keeps { F.held files.new ≡ F.held files.old }
     ensures later { F.faults files.old ≤ F.faults files.new }
@@ -138,7 +146,10 @@ fn report_of<F: Files>(alloc: Global, words: &Vec<String>, files: &mut F) -> Res
 {
     match command_of(words) {
         None => Ok(usage()),
-        Some(command) => report_of_command(alloc, command, files),
+        Some(command) => match confirmed(alloc, words.as_slice(), command) {
+            Ok(command) => report_of_command(alloc, command, files),
+            Err(_) => Err(Halt::Memory),
+        },
     }
 }
 
@@ -195,7 +206,7 @@ pub fn ffm<R, F: Files, S: Sink, G: Gate>(
     let _ = rt;
     let _ = gate;
     match report_of(alloc, words, files) {
-        Ok(report) => match put_report(out, &report) {
+        Ok(report) => match write_report(out, &report) {
             Ok(()) => report.status(),
             Err(Failed) => 8,
         },

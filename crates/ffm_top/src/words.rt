@@ -5,7 +5,7 @@ ghost use Rattle.std.specs.Option.{option_map};
 ghost use Rattle.ffm_top.specs.Words.{is_file_word, order_of, compile_words, run_words, order};
 
 /// What an accepted list of words asks for, by the names of the files.
-#[derive(Clone, Copy, Debug)]
+#[derive(Clone, Copy, Debug, PartialEq, Eq)]
 pub enum Command<'a> {
     /// The listing of a system.
     Compile { system: &'a str },

@@ -7,7 +7,7 @@ ghost use Rattle.ffm_model.specs.Actors.{actor_count};
 ghost use Rattle.ffm_model.specs.Reading.{Gives, Reads, file_at};
 ghost use Rattle.ffm_model.specs.Scenarios.{IsScenarioOf};
 ghost use Rattle.ffm_top.specs.Words.{order};
-ghost use Rattle.ffm_top.specs.Work.{empty_script, script_of_actor, scripts_of, system_in, system_at, scenario_at, run_in, list_in, run_at, work_of};
+ghost use Rattle.ffm_top.specs.Work.{empty_script, first_scripts, script_of_actor, scripts_of, system_in, system_at, scenario_at, run_in, list_in, run_at, work_of};
 ghost use Rattle.ffm_top.specs.View.{work, IsWork};
 
 use crate::words::Command;
@@ -17,7 +17,7 @@ use ffm_model::{
 };
 use manifest_compile::compile;
 use outside_io::{FileError, Files};
-use script_asm::assemble;
+use script_asm::{assemble, device_script};
 use std::alloc::Global;
 use system_json::{read_scenario, read_system};
 
@@ -114,13 +114,27 @@ fn scenario_at<F: Files>(
     Ok(read_scenario(alloc, &bytes, system)?)
 }
 
-// An empty script for each actor.
+// So many empty scripts.
 fn empty_scripts(alloc: Global, count: u32) -> Result<Vec<Script>, Memory>
     ensures scripts { IfOk result (λ scripts. scripts.items ≡ replicate count empty_script) }
 {
     let mut scripts = Vec::new(alloc);
     for _ in 0..count {
         scripts.push(Script::plain(alloc, Vec::new(alloc))?)?;
+    }
+    Ok(scripts)
+}
+
+// The scripts before one of the file is put in.
+#[tactic(auto, unfolding(crate::specs::Work::first_scripts), using(ffm_model::proofs::ActorLemmas::actor_count_le))]
+fn first_scripts(alloc: Global, system: &System, scenario: &Scenario) -> Result<Vec<Script>, Memory>
+    ensures scripts { IfOk result (λ scripts. scripts.items ≡ first_scripts system.now scenario.now) }
+    ensures long { IfOk result (λ scripts. length scripts.items ≡ actor_count system.now) }
+{
+    let counts = system.counts();
+    let mut scripts = empty_scripts(alloc, counts.partitions + counts.clients)?;
+    if counts.device {
+        scripts.push(device_script(alloc, &scenario.raises)?)?;
     }
     Ok(scripts)
 }
@@ -155,7 +169,7 @@ fn scripts_of(
     ensures reads { Reads (λ scripts. scripts) result (scripts_of system.now scenario.now) }
     ensures long { IfOk result (λ scripts. length scripts ≡ actor_count system.now) }
 {
-    let mut scripts = empty_scripts(alloc, system.actor_count())?;
+    let mut scripts = first_scripts(alloc, system, scenario)?;
     let order = scenario.order.as_slice();
     for (place, actor) in order.iter().enumerate() {
         let script = script_of_actor(alloc, system, scenario, place, *actor)?;

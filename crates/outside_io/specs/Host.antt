@@ -2,12 +2,16 @@
 -- Source: this project's rule for its trusted edge.
 use Rattle.std.specs.Prelude.{ℕ}
 use Rattle.outside_io.specs.declared.host.HostFiles.{HostFiles}
+use Rattle.outside_io.specs.declared.host.Output.{Output}
 use Rattle.outside_io.specs.declared.host.StdoutSink.{StdoutSink}
 
 -- how many reads of real files failed
 abbrev pub files_faults : {R : Type 0} → HostFiles R → ℕ
 files_faults files = files.faults
 
--- how many puts to the standard output failed
+-- how many writes to the standard output failed
+abbrev pub output_faults : {R : Type 0} → Output R → ℕ
+output_faults output = output.faults
+
 abbrev pub stdout_faults : {R : Type 0} → StdoutSink R → ℕ
-stdout_faults sink = sink.faults
+stdout_faults sink = output_faults sink.output

@@ -1,10 +1,12 @@
 //! Real files and the standard output: the trusted edge. No clause knows what the operating system
 //! does; what these adapters add is that each of its errors but want of memory is counted.
 
-ghost use Rattle.std.specs.Prelude.{◌≡◌, None, Ok, Err, ◌<◌, ◌≤◌, vec_len};
+ghost use Rattle.std.specs.Prelude.{◌≡◌, None, Ok, Err, OnErr, ◌<◌, ◌≤◌, vec_len};
+ghost use Rattle.outside_io.specs.Count.{Rose};
 
 use crate::files::{FileError, Files};
-use crate::sink::{Failed, Sink};
+use crate::sink::{Failed, Sink, put_all};
+use arrayvec::ArrayVec;
 use std::alloc::Global;
 use std::fs::File;
 use std::io::{ErrorKind, Read};
@@ -72,32 +74,19 @@ impl<'a, R: rt::Files> Files for HostFiles<'a, R> {
     }
 }
 
-/// The standard output. Each put is one write, with no buffer between.
-///
-/// It doesn't tell its bytes.
+/// The standard output with nothing between: each put is one write.
 #[derive(Drop)]
-pub struct StdoutSink<'a, R> {
+struct Output<'a, R> {
     rt: &'a R,
     faults: u64,
 }
 
-impl<'a, R: Print> StdoutSink<'a, R> {
-    ghost use Rattle.outside_io.specs.Host.{stdout_faults};
-
-    /// The standard output, which didn't fail yet. It keeps the runtime value.
-    pub fn new(rt: &'a R) -> Self
-        ensures no_fault { stdout_faults result ≡ 0 }
-    {
-        StdoutSink { rt, faults: 0 }
-    }
-}
-
-impl<'a, R: Print> Sink for StdoutSink<'a, R> {
-    ghost use Rattle.outside_io.specs.Host.{stdout_faults};
+impl<'a, R: Print> Sink for Output<'a, R> {
+    ghost use Rattle.outside_io.specs.Host.{output_faults};
 
     ghost taken = { λ _. None };
 
-    ghost faults = { stdout_faults };
+    ghost faults = { output_faults };
 
     /// A write that takes no byte counts as an error.
     fn put(&mut self, piece: &[u8]) -> Result<usize, Failed> {
@@ -108,5 +97,69 @@ impl<'a, R: Print> Sink for StdoutSink<'a, R> {
                 Err(Failed)
             }
         }
+    }
+
+    /// It gathers nothing.
+    fn flush(&mut self) -> Result<(), Failed> {
+        Ok(())
+    }
+}
+
+// As many bytes are gathered before they are written.
+const GATHERED_BYTES: usize = 8192;
+
+/// The standard output. Pieces are gathered, and written where the next one finds no room and at
+/// each `flush`; so a text is written whole only once `flush` answered `Ok`.
+///
+/// It doesn't tell its bytes. What was gathered is gone after a write that failed.
+#[derive(Drop)]
+pub struct StdoutSink<'a, R> {
+    output: Output<'a, R>,
+    gathered: ArrayVec<u8, GATHERED_BYTES>,
+}
+
+impl<'a, R: Print> StdoutSink<'a, R> {
+    ghost use Rattle.outside_io.specs.Host.{stdout_faults};
+
+    /// The standard output, which didn't fail yet. It keeps the runtime value.
+    pub fn new(rt: &'a R) -> Self
+        ensures no_fault { stdout_faults result ≡ 0 }
+    {
+        StdoutSink {
+            output: Output { rt, faults: 0 },
+            gathered: ArrayVec::new(),
+        }
+    }
+
+    // Writes what was gathered.
+    fn write_gathered(&mut self) -> Result<(), Failed>
+        ensures later { stdout_faults self.old ≤ stdout_faults self.new }
+        ensures failed { OnErr result (Rose (stdout_faults self.old) (stdout_faults self.new)) }
+    {
+        let written = put_all(&mut self.output, self.gathered.as_slice());
+        self.gathered.clear();
+        written
+    }
+}
+
+impl<'a, R: Print> Sink for StdoutSink<'a, R> {
+    ghost use Rattle.outside_io.specs.Host.{stdout_faults};
+
+    ghost taken = { λ _. None };
+
+    ghost faults = { stdout_faults };
+
+    fn put(&mut self, piece: &[u8]) -> Result<usize, Failed> {
+        if piece.len() > self.gathered.remaining_capacity() {
+            self.write_gathered()?;
+        }
+        match self.gathered.try_extend_from_slice(piece) {
+            Ok(()) => Ok(piece.len()),
+            Err(_) => self.output.put(piece),
+        }
+    }
+
+    fn flush(&mut self) -> Result<(), Failed> {
+        self.write_gathered()
     }
 }

@@ -1,6 +1,6 @@
 //! A sink in memory, with a room, some of whose puts fail.
 
-ghost use Rattle.std.specs.Prelude.{◌≡◌, ◌↔◌, ◌<◌, ◌≤◌, ◌++◌, [], Some, IfOk, OnOk, OnErr, IsErr};
+ghost use Rattle.std.specs.Prelude.{◌≡◌, ◌↔◌, ◌<◌, ◌≤◌, ◌++◌, [], Some, IfOk, OnOk, OnErr, IsErr, IsOk};
 ghost use Rattle.std.specs.Prelude.{vec_len, vec_capacity, length, take};
 ghost use Rattle.outside_io.specs.Count.{one_more};
 
@@ -100,5 +100,13 @@ impl Sink for MemorySink {
         }
         self.bytes.extend_from_slice(&piece[..count]).unwrap();
         Ok(count)
+    }
+
+    /// It gathers nothing.
+    fn flush(&mut self) -> Result<(), Failed>
+        ensures fine { IsOk result }
+        ensures same { self.new ≡ self.old }
+    {
+        Ok(())
     }
 }

@@ -1,6 +1,6 @@
 //! Where bytes are written.
 
-ghost use Rattle.std.specs.Prelude.{◌≡◌, ℕ, ◌<◌, ◌≤◌, List, [], IfOk, OnErr, Option, length, take};
+ghost use Rattle.std.specs.Prelude.{◌≡◌, ℕ, ◌<◌, ◌≤◌, List, [], IfOk, None, OnErr, Option, length, take};
 ghost use Rattle.outside_io.specs.Count.{Rose};
 ghost use Rattle.outside_io.specs.Told.{Takes, Puts};
 
@@ -27,6 +27,16 @@ pub trait Sink {
         ensures within { IfOk result (λ count. count ≤ length piece.now) }
         ensures takes { IfOk result (λ count. Takes (taken self.old) (taken self.new) (take count piece.now)) }
         ensures none { OnErr result (Takes (taken self.old) (taken self.new) []) }
+        ensures later { faults self.old ≤ faults self.new }
+        ensures failed { OnErr result (Rose (faults self.old) (faults self.new)) };
+
+    /// Hands on what was taken and only gathered so far. It takes nothing more.
+    ///
+    /// `Failed` comes only where the count of faults rose in this call; a sink that tells its bytes
+    /// gathers none and never fails here.
+    fn flush(&mut self) -> Result<(), Failed>
+        ensures takes { Takes (taken self.old) (taken self.new) [] }
+        ensures untold { OnErr result (taken self.new ≡ None) }
         ensures later { faults self.old ≤ faults self.new }
         ensures failed { OnErr result (Rose (faults self.old) (faults self.new)) };
 }

@@ -81,4 +81,5 @@ fn a_sink_in_memory(rt: HostRuntime) -> Result<(), Fail> {
 fn the_standard_output(rt: HostRuntime) {
     let mut sink = StdoutSink::new(&rt);
     assert_eq!(rt; put_all(&mut sink, b"a line\n"), Ok(()));
+    assert_eq!(rt; sink.flush(), Ok(()));
 }

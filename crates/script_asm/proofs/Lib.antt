@@ -1,3 +1,4 @@
 pub mod SlotLemmas
 pub mod MadeLemmas
-pub mod BuiltLemmas
+pub mod LabelLemmas
+pub mod DeviceLemmas

@@ -4,14 +4,13 @@ use Rattle.std.specs.Prelude.{Option, Some, None, Result, Ok, Err}
 use Rattle.ffm_model.specs.declared.system.ActorKind.{ActorKind}
 use Rattle.ffm_model.specs.declared.script.Instruction.{Instruction}
 use Rattle.std.specs.Prelude.{option_map, Bool, true, false, IfSome, is_some, take, if◌then◌else◌}
-use Rattle.std.proofs.lemmas.List.{take-map, map_more}
+use Rattle.std.proofs.lemmas.List.{map_more}
 use Rattle.std.proofs.lemmas.List.Sums.{sum_by-append}
-use Rattle.ffm_model.specs.ScriptWords.{Word}
 use Rattle.std.specs.List.{AllByRecursion}
 use Rattle.ffm_model.specs.Scripts.{FitsIn, IsPart}
 use Rattle.script_asm.specs.Made.{listed}
 use Rattle.std.proofs.lemmas.Grind.{common_steps}
-use Rattle.ffm_model.specs.ScriptLines.{Line, passed, label, order, width, assembled_lines, instruction_of, place_of, made_of, made_from, line_then}
+use Rattle.script_asm.specs.Lines.{Line, passed, label, order, width, assembled_lines, instruction_of, place_of, made_of, made_from, line_then}
 use Rattle.script_asm.specs.declared.lines.Line as code
 use Rattle.script_asm.specs.Views.{line_view, lines_view}
 
@@ -36,11 +35,6 @@ made-wrong k all front i l ls e = rw (← e) refl
 pub made-end : (k : ActorKind) (all : List Line) (front : List Instruction) (i : ℕ) → with_made front (made_from k all i []) ≡ Ok front
 unfolding made_from
 made-end k all front i = ap Ok (append-nil front)
-
-pub made-label : (k : ActorKind) (n : Word) (ls : List code.Line) (i : ℕ) (b : Bool) → is_some (place_of n (lines_view (take i ls))) ≡ b
-    → made_of k (lines_view ls) i (label n) ≡ (if b then None else Some [])
-unfolding made_of
-made-label k n ls i b e = rw (take-map line_view i ls, e) refl
 
 pub made-next-at : (k : ActorKind) (ls : List code.Line) (front xs : List Instruction) (i : ℕ) (l : code.Line) → i < length ls → l ≡ get_or ls i l → Some xs ≡ made_of k (lines_view ls) i (line_view l)
     → with_made (front ++ xs) (made_from k (lines_view ls) (i + 1) (lines_view (drop (i + 1) ls))) ≡ with_made front (made_from k (lines_view ls) i (lines_view (drop i ls)))

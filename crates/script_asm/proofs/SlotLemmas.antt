@@ -7,8 +7,8 @@ use Rattle.std.proofs.lemmas.List.{drop-set-lt, drop-replicate, take_more_set}
 use Rattle.std.proofs.lemmas.Grind.{common_steps}
 use Rattle.ffm_model.specs.declared.script.Operand.{Operand}
 use Rattle.ffm_model.specs.declared.script.Operand.TheVariants.{Number}
-use Rattle.ffm_model.specs.ScriptWords.{Word, operand_of}
-use Rattle.ffm_model.specs.ScriptLines.{operands_of, filled}
+use Rattle.script_asm.specs.Words.{Word, operand_of}
+use Rattle.script_asm.specs.Lines.{operands_of, filled}
 
 pub unused-set : (xs : List Operand) (i : ℕ) (x : Operand) → i < 6 → drop i xs ≡ replicate (6 - i) (Number 0) → drop (i + 1) (slice_set xs i x) ≡ replicate (6 - (i + 1)) (Number 0)
 unused-set xs i x h e =

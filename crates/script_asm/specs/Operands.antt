@@ -1,8 +1,8 @@
 -- An instruction has room for six operands.
 -- Source: this simulator's script language.
 use Rattle.std.specs.Prelude.{◌≤◌, nat_le, Bool, true}
-use Rattle.ffm_model.specs.declared.script.Head.{Head}
-use Rattle.ffm_model.specs.declared.script.Head.TheVariants.{Change, Jump, JumpIf, Make}
+use Rattle.script_asm.specs.declared.first_words.Head.{Head}
+use Rattle.script_asm.specs.declared.first_words.Head.TheVariants.{Change, Jump, JumpIf, Make}
 
 abbrev pub has_room : Head → Bool
 has_room (Make name count) = nat_le count 6

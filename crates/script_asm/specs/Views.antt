@@ -1,7 +1,7 @@
 -- The lines of the code, as the definitions of scripts have them.
 -- Source: this simulator's script language.
 use Rattle.std.specs.Prelude.{List, map}
-use Rattle.ffm_model.specs.ScriptLines as model
+use Rattle.script_asm.specs.Lines as model
 use Rattle.script_asm.specs.declared.lines.Line.{Line}
 use Rattle.script_asm.specs.declared.lines.Line.TheVariants.{Passed, Label, Order}
 

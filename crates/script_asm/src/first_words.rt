@@ -1,12 +1,21 @@
 //! First words, and what they ask for.
 ghost use Rattle.std.specs.Prelude.{◌≡◌, IfSome, map, true};
 ghost use Rattle.std.specs.List.{list_all};
-ghost use Rattle.ffm_model.specs.ScriptWords.{head_of, look_up};
+ghost use Rattle.script_asm.specs.Words.{head_of, look_up};
 ghost use Rattle.script_asm.specs.Operands.{has_room, HasRoom};
 
-use ffm_model::{CallName, Comparison, Head, Operation};
+use ffm_model::{CallName, Comparison, Operation};
 
-const FIRST_WORDS: [(&str, Head); 13] = [
+/// What the first word of a line asks for; a call with the number of its operands.
+#[derive(Clone, Copy, Debug, PartialEq, Eq)]
+pub enum Head {
+    Change(Operation),
+    Jump,
+    JumpIf(Comparison),
+    Make(CallName, usize),
+}
+
+const FIRST_WORDS: [(&str, Head); 29] = [
     ("set", Head::Change(Operation::Set)),
     ("add", Head::Change(Operation::Add)),
     ("sub", Head::Change(Operation::Sub)),
@@ -22,6 +31,22 @@ const FIRST_WORDS: [(&str, Head); 13] = [
         Head::Make(CallName::FrameworkVersion, 0),
     ),
     ("version", Head::Make(CallName::Version, 1)),
+    ("connect", Head::Make(CallName::Connect, 2)),
+    ("call", Head::Make(CallName::Invoke, 6)),
+    ("close", Head::Make(CallName::Close, 1)),
+    ("wait", Head::Make(CallName::Wait, 2)),
+    ("get", Head::Make(CallName::Get, 2)),
+    ("set_rhandle", Head::Make(CallName::SetRhandle, 2)),
+    ("read", Head::Make(CallName::Read, 4)),
+    ("skip", Head::Make(CallName::Skip, 3)),
+    ("write", Head::Make(CallName::Write, 4)),
+    ("reply", Head::Make(CallName::Reply, 2)),
+    ("notify", Head::Make(CallName::Notify, 1)),
+    ("clear", Head::Make(CallName::Clear, 0)),
+    ("eoi", Head::Make(CallName::Eoi, 1)),
+    ("panic", Head::Make(CallName::Panic, 0)),
+    ("load", Head::Make(CallName::Load, 2)),
+    ("store", Head::Make(CallName::Store, 3)),
     ("end", Head::Make(CallName::Stop, 0)),
 ];
 

@@ -1,16 +1,16 @@
 //! The instruction of a line's words.
-ghost use Rattle.std.specs.Prelude.{◌≡◌, ◌≤◌, ◌<◌, ◌^◌, ℕ, IfSome, length, map, option_map, sum_by};
+ghost use Rattle.std.specs.Prelude.{◌≡◌, ◌≤◌, ℕ, IfSome, length, map, option_map, sum_by};
 ghost use Rattle.std.specs.List.{AllByRecursion};
-ghost use Rattle.ffm_model.specs.ScriptLines.{change_of, filled, has_line, instruction_of, jump_if_of, jump_of, make_of, one_word, operands_of, three_words, two_words, width};
+ghost use Rattle.script_asm.specs.Lines.{change_of, filled, has_line, instruction_of, jump_if_of, jump_of, make_of, one_word, operands_of, three_words, two_words, width};
 ghost use Rattle.ffm_model.specs.Scripts.{FitsIn, IsOperand};
 ghost use Rattle.script_asm.specs.Views.{lines_view};
 
-use crate::first_words::head_of;
-use crate::lines::{Line, place_of};
+use crate::first_words::{Head, head_of};
+use crate::labels::LabelledLines;
 use crate::words::{operand_of, register_of};
-use ffm_model::{ActorKind, CallName, Comparison, Head, Instruction, Operand, Operation};
+use ffm_model::{ActorKind, CallName, Comparison, Instruction, Operand, Operation};
 
-#[tactic(auto, unfolding(ffm_model::specs::ScriptLines::operands_of))]
+#[tactic(auto, unfolding(crate::specs::Lines::operands_of))]
 fn operands_of(words: &[&[u8]]) -> Option<[Operand; 6]>
     requires { length words.now ≤ 6 }
     ensures gives { result ≡ option_map filled (operands_of (map (λ w. w.now) words.now)) }
@@ -24,7 +24,7 @@ fn operands_of(words: &[&[u8]]) -> Option<[Operand; 6]>
 }
 
 // Whether a script of this kind may have the call's line.
-#[tactic(auto, unfolding(ffm_model::specs::ScriptLines::has_line))]
+#[tactic(auto, unfolding(crate::specs::Lines::has_line))]
 fn has_line(kind: ActorKind, name: CallName) -> bool
     ensures { result ≡ has_line kind name }
 {
@@ -82,25 +82,27 @@ fn change_of(operation: Operation, words: &[&[u8]]) -> Option<Instruction>
     })
 }
 
-fn jump_of(lines: &[Line<'_>], words: &[&[u8]]) -> Option<Instruction>
-    requires { length lines.now < 2 ^ 31 }
-    ensures gives { result ≡ jump_of (lines_view lines.now) (map (λ w. w.now) words.now) }
-    ensures fits { IfSome result (FitsIn (sum_by width (lines_view lines.now))) }
+fn jump_of(lines: &LabelledLines<'_>, words: &[&[u8]]) -> Option<Instruction>
+    ensures gives { result ≡ jump_of (lines_view lines.now.lines.items) (map (λ w. w.now) words.now) }
+    ensures fits { IfSome result (FitsIn (sum_by width (lines_view lines.now.lines.items))) }
 {
     let label = one_word(words)?;
-    let target = place_of(lines, label)?;
+    let target = lines.place_of(label)?;
     Some(Instruction::Jump { target })
 }
 
-fn jump_if_of(comparison: Comparison, lines: &[Line<'_>], words: &[&[u8]]) -> Option<Instruction>
-    requires { length lines.now < 2 ^ 31 }
-    ensures gives { result ≡ jump_if_of comparison (lines_view lines.now) (map (λ w. w.now) words.now) }
-    ensures fits { IfSome result (FitsIn (sum_by width (lines_view lines.now))) }
+fn jump_if_of(
+    comparison: Comparison,
+    lines: &LabelledLines<'_>,
+    words: &[&[u8]],
+) -> Option<Instruction>
+    ensures gives { result ≡ jump_if_of comparison (lines_view lines.now.lines.items) (map (λ w. w.now) words.now) }
+    ensures fits { IfSome result (FitsIn (sum_by width (lines_view lines.now.lines.items))) }
 {
     let (register, (operand, label)) = three_words(words)?;
     let register = register_of(register)?;
     let operand = operand_of(operand)?;
-    let target = place_of(lines, label)?;
+    let target = lines.place_of(label)?;
     Some(Instruction::JumpIf {
         comparison,
         register,
@@ -122,11 +124,14 @@ fn make_of(kind: ActorKind, name: CallName, count: usize, words: &[&[u8]]) -> Op
 }
 
 /// The instruction of these words in a script of these lines; None where they are wrong.
-#[tactic(auto, unfolding(ffm_model::specs::ScriptLines::instruction_of))]
-pub fn instruction_of(kind: ActorKind, lines: &[Line<'_>], words: &[&[u8]]) -> Option<Instruction>
-    requires { length lines.now < 2 ^ 31 }
-    ensures gives { result ≡ instruction_of kind (lines_view lines.now) (map (λ w. w.now) words.now) }
-    ensures fits { IfSome result (FitsIn (sum_by width (lines_view lines.now))) }
+#[tactic(auto, unfolding(crate::specs::Lines::instruction_of))]
+pub fn instruction_of(
+    kind: ActorKind,
+    lines: &LabelledLines<'_>,
+    words: &[&[u8]],
+) -> Option<Instruction>
+    ensures gives { result ≡ instruction_of kind (lines_view lines.now.lines.items) (map (λ w. w.now) words.now) }
+    ensures fits { IfSome result (FitsIn (sum_by width (lines_view lines.now.lines.items))) }
 {
     let (first, words) = words.split_first()?;
     match head_of(first)? {

@@ -1,12 +1,16 @@
-//! The assembler: makes a script of its lines.
+//! The assembler: makes the script of a partition or a client of its lines, and that of the device
+//! of its raises.
 #![tactic(auto)]
 
+mod device;
 mod first_words;
 mod instructions;
+mod labels;
 mod lines;
 mod scripts;
 #[cfg(test)]
 mod tests;
 mod words;
 
+pub use device::device_script;
 pub use scripts::assemble;

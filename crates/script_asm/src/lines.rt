@@ -1,6 +1,6 @@
-//! Lines and labels.
-ghost use Rattle.std.specs.Prelude.{◌≡◌, ◌≤◌, ◌<◌, ◌^◌, ◌==◌, IfOk, IfSome, length, map, option_map, slice_index, sum_by};
-ghost use Rattle.ffm_model.specs.ScriptLines.{label_of, line_of, lines_of, place_of, width};
+//! Lines.
+ghost use Rattle.std.specs.Prelude.{◌≡◌, ◌==◌, IfOk, map, option_map, slice_index};
+ghost use Rattle.script_asm.specs.Lines.{label_of, line_of, lines_of};
 ghost use Rattle.script_asm.specs.Views.{line_view, lines_view};
 
 use crate::words::{is_name, words_of};
@@ -19,7 +19,7 @@ pub enum Line<'a> {
 }
 
 // The name before the `:` that ends a word.
-#[tactic(auto, unfolding(ffm_model::specs::ScriptLines::label_of))]
+#[tactic(auto, unfolding(crate::specs::Lines::label_of))]
 fn label_of(word: &[u8]) -> Option<&[u8]>
     ensures { option_map (λ n. n.now) result ≡ label_of word.now }
 {
@@ -44,7 +44,7 @@ fn starts_comment(word: &[u8]) -> bool
     }
 }
 
-#[tactic(auto, unfolding(ffm_model::specs::ScriptLines::line_of))]
+#[tactic(auto, unfolding(crate::specs::Lines::line_of))]
 fn line_of<'a>(alloc: Global, text: &'a [u8]) -> Result<Line<'a>, AllocError>
     ensures { IfOk result (λ l. line_view l ≡ line_of text.now) }
 {
@@ -73,26 +73,4 @@ pub fn lines_of<'a>(alloc: Global, texts: &'a [Name]) -> Result<Vec<Line<'a>>, A
         lines.push(line_of(alloc, text.as_str().as_bytes())?)?;
     }
     Ok(lines)
-}
-
-/// The number of instructions before the first label of this name; None where there is none.
-#[tactic(auto, unfolding(ffm_model::specs::ScriptLines::place_of))]
-pub fn place_of(lines: &[Line<'_>], name: &[u8]) -> Option<u32>
-    requires { length lines.now < 2 ^ 31 }
-    ensures gives { result ≡ place_of name.now (lines_view lines.now) }
-    ensures within { IfSome result (λ k. k ≤ sum_by width (lines_view lines.now)) }
-{
-    let mut place: u32 = 0;
-    for line in lines {
-        match line {
-            Line::Passed => {}
-            Line::Label(label) => {
-                if *label == name {
-                    return Some(place);
-                }
-            }
-            Line::Order(_) => place += 1,
-        }
-    }
-    None
 }

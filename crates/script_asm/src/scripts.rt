@@ -1,17 +1,18 @@
 //! Scripts: all lines together.
 ghost use Rattle.std.specs.Prelude.{◌≡◌, ◌≤◌, ◌<◌, ◌^◌, ◌++◌, [], IfOk, IfSome, OnOk, length, option_map, sum_by};
+ghost use Rattle.ffm_model.specs.declared.codes.TheConstants.{SCRIPT_SYNTAX};
 ghost use Rattle.ffm_model.specs.Reading.{Reads};
-ghost use Rattle.ffm_model.specs.ScriptLines.{assembled, assembled_lines, line_place, made_of, script_read, width, wrong_line_code};
-ghost use Rattle.ffm_model.specs.ScriptRuns.{CallsBuilt, only_part};
+ghost use Rattle.script_asm.specs.Lines.{assembled, assembled_lines, line_place, made_of, script_read, width};
 ghost use Rattle.ffm_model.specs.Scripts.{FitsIn, IsPart};
 ghost use Rattle.script_asm.specs.Made.{Gives, listed};
 ghost use Rattle.script_asm.specs.Views.{line_view, lines_view};
 
 use crate::instructions::instruction_of;
-use crate::lines::{Line, lines_of, place_of};
+use crate::labels::{LabelledLines, labelled_lines};
+use crate::lines::Line;
 use ffm_model::{
-    ActorKind, BAD_VALUE, Instruction, Key, Lines, List, Name, PathStep, Place, ReadError, Refusal,
-    Root, Script,
+    ActorKind, Instruction, Key, Lines, List, Name, PathStep, Place, ReadError, Refusal, Root,
+    SCRIPT_SYNTAX, Script,
 };
 use std::alloc::{AllocError, AllocFailed, Global};
 
@@ -44,22 +45,20 @@ impl<T: Drop> From<AllocFailed<T>> for LineError {
 }
 
 // What a line adds to the instructions; None where it is wrong.
-#[tactic(auto, unfolding(ffm_model::specs::ScriptLines::made_of))]
+#[tactic(auto, unfolding(crate::specs::Lines::made_of))]
 fn made_of(
     kind: ActorKind,
-    lines: &[Line<'_>],
+    lines: &LabelledLines<'_>,
     at: usize,
     line: &Line<'_>,
 ) -> Option<Option<Instruction>>
-    requires few { length lines.now < 2 ^ 31 }
-    requires inside { at ≤ length lines.now }
-    ensures gives { option_map listed result ≡ made_of kind (lines_view lines.now) at (line_view line.now) }
-    ensures fits { IfSome result (λ made. IfSome made (FitsIn (sum_by width (lines_view lines.now)))) }
+    ensures gives { option_map listed result ≡ made_of kind (lines_view lines.now.lines.items) at (line_view line.now) }
+    ensures fits { IfSome result (λ made. IfSome made (FitsIn (sum_by width (lines_view lines.now.lines.items)))) }
 {
     match line {
         Line::Passed => Some(None),
         Line::Label(name) => {
-            if place_of(&lines[..at], name).is_some() {
+            if lines.is_labelled_before(name, at) {
                 return None;
             }
             Some(None)
@@ -84,14 +83,14 @@ fn add(instructions: &mut Vec<Instruction>, made: Option<Instruction>) -> Result
 fn instructions_of(
     alloc: Global,
     kind: ActorKind,
-    lines: &[Line<'_>],
+    lines: &LabelledLines<'_>,
 ) -> Result<Vec<Instruction>, LineError>
-    requires { length lines.now < 2 ^ 31 }
-    ensures gives { Gives (λ v. v.items) result (assembled_lines kind (lines_view lines.now)) }
+    requires { length lines.now.lines.items < 2 ^ 31 }
+    ensures gives { Gives (λ v. v.items) result (assembled_lines kind (lines_view lines.now.lines.items)) }
     ensures part { IfOk result (λ v. IsPart v.items) }
 {
     let mut instructions = Vec::new(alloc);
-    for (i, line) in lines.iter().enumerate() {
+    for (i, line) in lines.lines.iter().enumerate() {
         let Some(made) = made_of(kind, lines, i, line) else {
             return Err(LineError::Wrong(i as u32));
         };
@@ -100,21 +99,18 @@ fn instructions_of(
     Ok(instructions)
 }
 
-#[tactic(auto, unfolding(ffm_model::specs::ScriptLines::assembled))]
+#[tactic(auto, unfolding(crate::specs::Lines::assembled))]
 fn assembled(alloc: Global, kind: ActorKind, texts: &[Name]) -> Result<Vec<Instruction>, LineError>
     requires { length texts.now < 2 ^ 31 }
     ensures gives { Gives (λ v. v.items) result (assembled kind texts.now) }
     ensures part { IfOk result (λ v. IsPart v.items) }
 {
-    let lines = lines_of(alloc, texts)?;
-    instructions_of(alloc, kind, lines.as_slice())
+    let lines = labelled_lines(alloc, texts)?;
+    instructions_of(alloc, kind, &lines)
 }
 
-// The code of a wrong line.
-const WRONG_LINE: u8 = BAD_VALUE;
-
 fn refusal(alloc: Global, number: u32, line: u32) -> Result<Refusal, AllocError>
-    ensures { IfOk result (λ r. r ≡ record { code = wrong_line_code; place = line_place number line; cycle = [] }) }
+    ensures { IfOk result (λ r. r ≡ record { code = SCRIPT_SYNTAX; place = line_place number line; cycle = [] }) }
 {
     let steps = vec![in alloc;
         PathStep::Key(Key::Scripts),
@@ -123,7 +119,7 @@ fn refusal(alloc: Global, number: u32, line: u32) -> Result<Refusal, AllocError>
         PathStep::Index(line),
     ]?;
     Ok(Refusal {
-        code: WRONG_LINE,
+        code: SCRIPT_SYNTAX,
         place: Place {
             root: Root::Scenario,
             steps: List::of(steps),
@@ -135,10 +131,10 @@ fn refusal(alloc: Global, number: u32, line: u32) -> Result<Refusal, AllocError>
 /// The script of these lines, for an actor of this kind. `number` is the script's place in the
 /// scenario file, from 0.
 ///
-/// The first line that is no line of such a script is refused as a bad value, code 4, at its place:
-/// a word that begins no line of this kind of actor, operands of a wrong number or form, a label
-/// that stands twice or is no name, and a jump to a label that isn't there. Memory where no memory
-/// was found.
+/// The first line that is no line of such a script is refused at its place, with the code
+/// SCRIPT_SYNTAX: a first word that begins no line, a call that this kind of actor doesn't have,
+/// operands of a wrong number or form, a label that stands before it too, and a jump to a label
+/// that isn't there. Memory where no memory was found.
 pub fn assemble(
     alloc: Global,
     lines: &Lines,
@@ -147,7 +143,6 @@ pub fn assemble(
 ) -> Result<Script, ReadError>
     requires { length lines.now < 2 ^ 31 }
     ensures read { Reads (λ s. s) result (script_read kind number lines.now) }
-    ensures built { IfOk result (λ s. CallsBuilt (only_part s)) }
 {
     match assembled(alloc, kind, lines.as_slice()) {
         Ok(instructions) => Ok(Script::plain(alloc, instructions)?),

@@ -2,7 +2,7 @@
 ghost use Rattle.std.specs.Prelude.{◌≡◌, ◌<◌, IfOk, IfSome, codes, map, slice_index};
 ghost use Rattle.std.specs.List.{list_all, slice_split};
 ghost use Rattle.std.specs.Str.{bytes_eq};
-ghost use Rattle.ffm_model.specs.ScriptWords.{words_of, is_blank, decimal_number, negative_number, number_of, register_of, operand_of};
+ghost use Rattle.script_asm.specs.Words.{words_of, is_blank, decimal_number, negative_number, number_of, register_of, operand_of};
 ghost use Rattle.ffm_model.specs.Texts.{is_word_byte, is_name, hex_number};
 ghost use Rattle.ffm_model.specs.Scripts.{IsOperand};
 
@@ -23,7 +23,7 @@ fn parts_of<'a>(alloc: Global, line: &'a [u8]) -> Result<Vec<&'a [u8]>, AllocErr
 }
 
 /// The words of a line. Err where no memory was found.
-#[tactic(auto, unfolding(ffm_model::specs::ScriptWords::words_of))]
+#[tactic(auto, unfolding(crate::specs::Words::words_of))]
 pub fn words_of<'a>(alloc: Global, line: &'a [u8]) -> Result<Vec<&'a [u8]>, AllocError>
     ensures { IfOk result (λ v. map (λ w. w.now) v.items ≡ words_of line.now) }
 {
@@ -82,7 +82,7 @@ fn hex_number(word: &[u8]) -> Option<u32>
 }
 
 // The number that one or more decimal digits spell, where it is at most the limit.
-#[tactic(auto, unfolding(ffm_model::specs::ScriptWords::decimal_number))]
+#[tactic(auto, unfolding(crate::specs::Words::decimal_number))]
 fn decimal_number(limit: u32, digits: &[u8]) -> Option<u32>
     ensures { result ≡ decimal_number limit digits.now }
 {
@@ -101,7 +101,7 @@ fn decimal_number(limit: u32, digits: &[u8]) -> Option<u32>
 }
 
 // The two's complement of the negative number that a word spells.
-#[tactic(auto, unfolding(ffm_model::specs::ScriptWords::negative_number))]
+#[tactic(auto, unfolding(crate::specs::Words::negative_number))]
 fn negative_number(word: &[u8]) -> Option<u32>
     ensures { result ≡ negative_number word.now }
 {
@@ -126,7 +126,7 @@ fn byte_at(word: &[u8], at: usize) -> u8
     }
 }
 
-#[tactic(auto, unfolding(ffm_model::specs::ScriptWords::number_of))]
+#[tactic(auto, unfolding(crate::specs::Words::number_of))]
 fn number_of(word: &[u8]) -> Option<u32>
     ensures { result ≡ number_of word.now }
 {
@@ -140,7 +140,7 @@ fn number_of(word: &[u8]) -> Option<u32>
 }
 
 /// The register that a word names; None where it names none.
-#[tactic(auto, unfolding(ffm_model::specs::ScriptWords::register_of))]
+#[tactic(auto, unfolding(crate::specs::Words::register_of))]
 pub fn register_of(word: &[u8]) -> Option<u32>
     ensures gives { result ≡ register_of word.now }
     ensures below { IfSome result (λ r. r < 16) }
@@ -164,7 +164,7 @@ pub fn register_of(word: &[u8]) -> Option<u32>
 }
 
 /// The register or the number that a word stands for; None where it is no value.
-#[tactic(auto, unfolding(ffm_model::specs::ScriptWords::operand_of))]
+#[tactic(auto, unfolding(crate::specs::Words::operand_of))]
 pub fn operand_of(word: &[u8]) -> Option<Operand>
     ensures gives { result ≡ operand_of word.now }
     ensures operand { IfSome result IsOperand }

@@ -6,7 +6,7 @@ ghost use Rattle.serde_json.specs.View.{view};
 ghost use Rattle.ffm_model.specs.declared.constants.TheConstants.{MAX_SCRIPT_LINES};
 ghost use Rattle.ffm_model.specs.Actors.{actor_count};
 ghost use Rattle.ffm_model.specs.Reading.{Reads};
-ghost use Rattle.ffm_model.specs.Scenarios.{actor_named, has_script, line_of, new_actor_of, script_of, turn_of, lines_by_actor, scenario_of, scenario_in, IsScenarioOf};
+ghost use Rattle.ffm_model.specs.Scenarios.{actor_named, has_script, line_of, new_actor_of, script_of, turn_of, lines_by_actor, source_named, raise_of, scenario_of, scenario_in, IsScenarioOf};
 ghost use Rattle.ffm_model.specs.Systems.{stopped};
 ghost use Rattle.manifest_json.specs.Gives.{Gives};
 
@@ -14,10 +14,10 @@ use crate::lists::{ListUpTo, WholeReader};
 use crate::text_bytes::BytesReader;
 use ffm_model::{
     ActorId, BAD_VALUE, Key, Lines, List, MAX_ENTRIES, MAX_SCRIPT_LINES, Name, Partition, Place,
-    ReadError, Root, Scenario, ScriptItem, System, UNKNOWN_ACTOR, WRONG_TYPE,
+    ReadError, Root, Scenario, ScriptItem, Source, System, UNKNOWN_ACTOR, WRONG_TYPE,
 };
 use manifest_json::{
-    ListAfter, ListOf, NameReader, NumberReader, PartError, Reader, ReaderAfter, object, optional,
+    ListAfter, ListOf, NameReader, PartError, Reader, ReaderAfter, SourceReader, object, optional,
     optional_list, placed, read_tree, refused, required,
 };
 use serde_json::Value;
@@ -168,6 +168,44 @@ impl Reader for TurnReader<'_> {
     }
 }
 
+fn place_of_source(sources: &[Source], text: &str) -> Option<usize>
+    ensures { result ≡ position (λ x. bytes_eq text.now x.name) sources.now }
+{
+    sources
+        .iter()
+        .position(|source| text == source.name.as_str())
+}
+
+/// The place of the source with a name.
+#[tactic(auto, using(crate::proofs::SourceCount::few_sources))]
+fn source_named(system: &System, text: &str) -> Option<u32>
+    ensures named { result ≡ source_named system.now text.now }
+    ensures kept { IfSome result (λ source. source < length system.now.sources) }
+{
+    let place = place_of_source(system.sources.as_slice(), text)?;
+    Some(place as u32)
+}
+
+/// An interrupt source, named as an irq item names it, as its place among the system's sources.
+#[derive(Clone, Copy)]
+struct RaiseReader<'a> {
+    system: &'a System,
+}
+
+impl Reader for RaiseReader<'_> {
+    type Out = u32;
+
+    ghost gives = { λ r. raise_of r.system.now };
+
+    ghost keeps = { λ r source. source < length r.system.now.sources };
+
+    #[tactic(auto, unfolding(ffm_model::specs::Scenarios::raise_of))]
+    fn read(&self, alloc: Global, tree: &Value) -> Result<u32, PartError> {
+        let name = SourceReader.read(alloc, tree)?;
+        source_named(self.system, name.as_str()).ok_or_else(|| refused(alloc, UNKNOWN_ACTOR))
+    }
+}
+
 /// No lines, for each of so many actors.
 fn no_lines(alloc: Global, count: u32) -> Result<Vec<Lines>, AllocError>
     ensures { IfOk result (λ lines. lines.items ≡ replicate count []) }
@@ -219,12 +257,7 @@ fn scenario(alloc: Global, system: &System, tree: &Value) -> Result<Scenario, Pa
     let scripts = ListAfter(ScriptReader { system });
     let scripts = optional(alloc, &scripts, none, tree, Key::Scripts)?;
     let schedule = optional_list(alloc, TurnReader { system }, tree, Key::Schedule)?;
-    let none = List::of(Vec::new(alloc));
-    let raises = ListUpTo {
-        reader: ListOf(NumberReader),
-        most: 0,
-    };
-    let raises = optional(alloc, &raises, none, tree, Key::Interrupts)?;
+    let raises = optional_list(alloc, RaiseReader { system }, tree, Key::Interrupts)?;
     let regions = system.regions.as_slice();
     let memory = optional_list(alloc, BytesReader { regions }, tree, Key::Memory)?;
     let order = order_of(alloc, scripts.as_slice())?;
@@ -242,14 +275,16 @@ fn scenario(alloc: Global, system: &System, tree: &Value) -> Result<Scenario, Pa
 /// What a scenario file's bytes say to this system, with the defaults filled in.
 ///
 /// `lines` has one list for each actor, in actor order, and `order` the actor of each script in the
-/// file's order. Until interrupts are raised `raises` is empty, and a list of interrupts that isn't
-/// is a bad value.
+/// file's order. `raises` has the place of each interrupt's source among the system's sources, in the
+/// file's order: where two sources have the name, the first one's.
 ///
 /// # Errors
 ///
 /// `Refused` exactly where the file is no JSON text, misses an attribute, has a value of a wrong
-/// type or a bad value, or names an actor that the system doesn't have: the first of these in the
-/// order of the attributes, with its place. `Memory` where no memory is found.
+/// type or a bad value, or names an actor or an interrupt source that the system doesn't have: the
+/// first of these in the order of the attributes, with its place. An unknown source is refused as an
+/// unknown actor, code 20, at its item; in a system without sources, which has no device, each source
+/// is unknown. `Memory` where no memory is found.
 pub fn read_scenario(alloc: Global, bytes: &[u8], system: &System) -> Result<Scenario, ReadError>
     ensures given { Reads (λ scenario. scenario) result (stopped (scenario_in system.now bytes.now)) }
     ensures kept { IfOk result (IsScenarioOf system.now) }

@@ -166,18 +166,24 @@ fn region(base: u32, class: Class) -> Region {
     }
 }
 
-/// Partitions VAULT and SPY, client NS, and a device where there is a source.
+fn source(alloc: Global, text: &str, signal_text: &str, signal: u32) -> Result<Source, AllocError> {
+    Ok(Source {
+        name: name(alloc, text)?,
+        signal_name: name(alloc, signal_text)?,
+        owner: 0,
+        signal,
+    })
+}
+
+/// Partitions VAULT and SPY, client NS, and where there is a device the sources TICK and 17. The
+/// signal of 17 is named as the other source is.
 fn system(alloc: Global, with_device: bool) -> Result<System, Fail> {
     let vault = partition(alloc, "VAULT", 0)?;
     let partitions = vec![in alloc; vault, partition(alloc, "SPY", 1)?]?;
     let mut sources = Vec::new(alloc);
     if with_device {
-        sources.push(Source {
-            name: name(alloc, "17")?,
-            signal_name: name(alloc, "TICK")?,
-            owner: 0,
-            signal: 16,
-        })?;
+        sources.push(source(alloc, "TICK", "TOCK", 16)?)?;
+        sources.push(source(alloc, "17", "TICK", 32)?)?;
     }
     let regions = vec![in alloc;
         region(0x3000_0000, Class::Ram { domain: 1 }),
@@ -236,7 +242,18 @@ ok|{"scripts":[{"actor":"NS","lines":["","?"]},{"actor":"SPY","lines":[]}]}
 ok|{"schedule":["NS","NS","device","SPY"]}
 ok|{"interrupts":[]}
 3 /interrupts|{"interrupts":{}}
-4 /interrupts|{"interrupts":[17]}
+ok|{"interrupts":[17]}
+ok|{"interrupts":["TICK"]}
+ok|{"interrupts":[17,"TICK",17]}
+20 /interrupts/0|{"interrupts":[18]}
+20 /interrupts/0|{"interrupts":["TOCK"]}
+20 /interrupts/1|{"interrupts":[17,"VAULT",true]}
+3 /interrupts/0|{"interrupts":[true]}
+4 /interrupts/1|{"interrupts":["TICK",17.0]}
+4 /interrupts/0|{"interrupts":[4294967296]}
+4 /interrupts/0|{"interrupts":["17"]}
+4 /interrupts/0|{"interrupts":["9a"]}
+4 /interrupts/0|{"interrupts":["device"]}
 3 /memory|{"memory":7}
 3 /memory/0|{"memory":["00"]}
 2 /memory/0/address|{"memory":[{"bytes":"00"}]}
@@ -273,8 +290,23 @@ fn scenario_files(rt: HostRuntime) -> Result<(), Fail> {
         let found = answer_of_scenario(alloc, &with_device, row)?;
         assert_eq!(rt; found.as_str(), answer, "{row}");
     }
-    let found = answer_of_scenario(alloc, &system(alloc, false)?, "{\"schedule\":[\"device\"]}")?;
-    assert_eq!(rt; found.as_str(), "20 /schedule/0");
+    Ok(())
+}
+
+/// A system without interrupt sources has no device.
+#[test]
+fn scenario_files_without_a_device(rt: HostRuntime) -> Result<(), Fail> {
+    let alloc = rt.alloc();
+    let without_device = system(alloc, false)?;
+    let rows = [
+        ("{\"schedule\":[\"device\"]}", "20 /schedule/0"),
+        ("{\"interrupts\":[17]}", "20 /interrupts/0"),
+        ("{\"interrupts\":[]}", "ok"),
+    ];
+    for (text, answer) in rows {
+        let found = answer_of_scenario(alloc, &without_device, text)?;
+        assert_eq!(rt; found.as_str(), answer, "{text}");
+    }
     Ok(())
 }
 
@@ -342,7 +374,11 @@ fn shown_scenario(alloc: Global, scenario: &Scenario) -> Result<String, AllocErr
     for actor in scenario.schedule.as_slice() {
         write!(text, " {}", actor.0)?;
     }
-    write!(text, " raises {} memory", scenario.raises.len())?;
+    text.push_str(" raises")?;
+    for source in scenario.raises.as_slice() {
+        write!(text, " {source}")?;
+    }
+    text.push_str(" memory")?;
     for bytes in scenario.memory.as_slice() {
         write!(text, " {:x}={:?}", bytes.address, bytes.content.as_slice())?;
     }
@@ -356,11 +392,11 @@ fn a_scenario(rt: HostRuntime) -> Result<(), Fail> {
     let rows = [
         (
             "{}",
-            "limit 4096 lines 0 0 0 0 order schedule raises 0 memory",
+            "limit 4096 lines 0 0 0 0 order schedule raises memory",
         ),
         (
-            r#"{"event_limit":8,"scripts":[{"actor":"NS","lines":["a","b"]},{"actor":"VAULT","lines":["c"]}],"schedule":["device","SPY","NS","VAULT"],"memory":[{"address":"0x20000004","bytes":"0aFf"}]}"#,
-            "limit 8 lines 1 0 2 0 order 2 0 schedule 3 1 2 0 raises 0 memory 20000004=[10, 255]",
+            r#"{"event_limit":8,"scripts":[{"actor":"NS","lines":["a","b"]},{"actor":"VAULT","lines":["c"]}],"schedule":["device","SPY","NS","VAULT"],"interrupts":[17,"TICK",17],"memory":[{"address":"0x20000004","bytes":"0aFf"}]}"#,
+            "limit 8 lines 1 0 2 0 order 2 0 schedule 3 1 2 0 raises 1 0 1 memory 20000004=[10, 255]",
         ),
     ];
     for (text, answer) in rows {

@@ -1,5 +1,5 @@
 -- The two tables agree by computing.
-use Rattle.ffm_top.specs.Lines.{code_name, code_names, name_in}
+use Rattle.ffm_top.specs.Lines.{code_name, code_names}
 use Rattle.ffm_top.proofs.lines.code_name.Goals as goal
 
 pub returns : goal.returns

@@ -1,5 +1,4 @@
 -- The actors of a run are its system's.
-use Rattle.std.proofs.Common.{◌-◌}
 use Rattle.ffm_model.proofs.RunLemmas.{run_actor}
 use Rattle.memory_image.specs.Pieces.{byte_at}
 use Rattle.ffm_top.proofs.report.put_entry.Goals as goal

@@ -1,4 +1,4 @@
-use Rattle.std.proofs.Common.{arith, ◌≤◌, ◌<◌, length, [], pos}
+use Rattle.std.proofs.Common.{arith, ◌≤◌, ◌<◌, length}
 use Rattle.std.proofs.lemmas.Result.{err_from_is_err_and}
 use Rattle.ffm_model.specs.declared.machine.Call.TheVariants.{Clear}
 use Rattle.ffm_model.specs.declared.machine.Entry.{Entry}

@@ -1,4 +1,4 @@
-use Rattle.std.proofs.Common.{arith, ◌<◌, ◌≤◌, ◌∙◌, length, sym, ap, get_or, Ok, refl}
+use Rattle.std.proofs.Common.{arith, ◌<◌, ◌≤◌, ◌∙◌, length, sym, ap, get_or, Ok}
 use Rattle.std.proofs.lemmas.Result.{err_from_is_err_and}
 use Rattle.std.proofs.Math.ListN.{length-set}
 use Rattle.ffm_model.specs.declared.machine.ActorId.{ActorId}

@@ -1,5 +1,5 @@
 use Rattle.std.proofs.Common.{◌≡◌, drop, map}
-use Rattle.ffm_model.specs.ScriptWords.{look_up}
+use Rattle.script_asm.specs.Words.{look_up}
 use Rattle.script_asm.proofs.first_words.head_in.Given as goal
 
 abbrev pub invariant-loop-name : goal.invariant-loop-name

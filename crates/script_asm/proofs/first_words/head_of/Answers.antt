@@ -1,4 +1,4 @@
-use Rattle.ffm_model.specs.ScriptWords.{head_of, first_words}
+use Rattle.script_asm.specs.Words.{head_of, first_words}
 use Rattle.script_asm.proofs.first_words.head_of.Goals as goal
 
 pub returns-clause-gives : goal.returns-clause-gives

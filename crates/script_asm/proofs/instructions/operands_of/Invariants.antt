@@ -1,6 +1,6 @@
 use Rattle.std.proofs.Common.{◌≡◌, ◌-◌, drop, take, map, replicate, length}
 use Rattle.ffm_model.specs.declared.script.Operand.TheVariants.{Number}
-use Rattle.ffm_model.specs.ScriptLines.{operands_of}
+use Rattle.script_asm.specs.Lines.{operands_of}
 use Rattle.std.specs.List.{AllByRecursion}
 use Rattle.ffm_model.specs.Scripts.{IsOperand}
 use Rattle.script_asm.proofs.SlotLemmas.{with_front}

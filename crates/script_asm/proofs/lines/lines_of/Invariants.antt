@@ -1,5 +1,5 @@
 use Rattle.std.proofs.Common.{◌≡◌, take}
-use Rattle.ffm_model.specs.ScriptLines.{lines_of}
+use Rattle.script_asm.specs.Lines.{lines_of}
 use Rattle.script_asm.specs.Views.{lines_view}
 use Rattle.script_asm.proofs.lines.lines_of.Given as goal
 

@@ -1,4 +1,4 @@
-use Rattle.std.proofs.Common.{sym, ◌∙◌, arith}
+use Rattle.std.proofs.Common.{◌≡◌, ◌<◌, ◌≤◌, length, get_or, sym, ◌∙◌}
 use Rattle.script_asm.proofs.MadeLemmas.{made-next-at, made-wrong-at, made-start, fitting-next, fitting-end, finished, fitting-start}
 use Rattle.script_asm.proofs.scripts.instructions_of.Goals as goal
 
@@ -9,17 +9,24 @@ loop-i-init c = record {
 }
 
 pub loop-i-preserved : goal.loop-i-preserved
-loop-i-preserved c = rw c.in_ok-add.ensures (record {
-  rest = made-next-at _ _ _ _ _ _ c.loop-i-test.true c.index-lines-i.is c.in-Some.ensures.gives ∙ c.loop-i.invariant.rest;
-  fitting = fitting-next _ _ _ _ _ _ c.loop-i-test.true c.index-lines-i.is c.in-Some.ensures.gives c.in-Some.ensures.fits c.loop-i.invariant.fitting;
-})
+loop-i-preserved c =
+    let inside : c.loop-i.i < length c.args.lines.now.lines.items = rw c.deref-line-items.ensures.value at c.loop-i-test.true in
+    let is : c.line-item.result ≡ get_or c.args.lines.now.lines.items c.loop-i.i c.line-item.result = rw c.deref-line-items.ensures.value at c.line-item.is in
+    rw c.in_ok-add.ensures (record {
+      rest = made-next-at _ c.args.lines.now.lines.items _ _ _ _ inside is c.in-Some.ensures.gives ∙ c.loop-i.invariant.rest;
+      fitting = fitting-next _ c.args.lines.now.lines.items _ _ _ _ inside is c.in-Some.ensures.gives c.in-Some.ensures.fits c.loop-i.invariant.fitting;
+    })
 
 pub returns-in_default-clause-gives : goal.returns-in_default-clause-gives
 returns-in_default-clause-gives c =
-    sym c.loop-i.invariant.rest ∙ made-wrong-at _ _ _ _ _ c.loop-i-test.true c.index-lines-i.is c.in_default.ensures.gives
+    let inside : c.loop-i.i < length c.args.lines.now.lines.items = rw c.deref-line-items.ensures.value at c.loop-i-test.true in
+    let is : c.line-item.result ≡ get_or c.args.lines.now.lines.items c.loop-i.i c.line-item.result = rw c.deref-line-items.ensures.value at c.line-item.is in
+    sym c.loop-i.invariant.rest ∙ made-wrong-at _ c.args.lines.now.lines.items _ _ _ inside is c.in_default.ensures.gives
 
 pub returns : goal.returns
-returns c = record {
-  gives = sym c.loop-i.invariant.rest ∙ finished _ _ _ _ (omega arith);
-  part = fitting-end _ _ _ (omega arith) c.loop-i.invariant.fitting;
-}
+returns c =
+    let past : length c.args.lines.now.lines.items ≤ c.loop-i.i = rw c.deref-line-items.ensures.value at c.loop-i-test.false in
+    record {
+      gives = sym c.loop-i.invariant.rest ∙ finished _ c.args.lines.now.lines.items _ _ past;
+      part = fitting-end c.args.lines.now.lines.items _ _ past c.loop-i.invariant.fitting;
+    }

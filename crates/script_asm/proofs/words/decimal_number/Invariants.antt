@@ -1,5 +1,5 @@
 use Rattle.std.proofs.Common.{◌≡◌, ◌<◌, ◌^◌, drop}
-use Rattle.ffm_model.specs.ScriptWords.{decimal_behind}
+use Rattle.script_asm.specs.Words.{decimal_behind}
 use Rattle.script_asm.proofs.words.decimal_number.Given as goal
 
 abbrev pub invariant-loop-digit : goal.invariant-loop-digit

@@ -34,5 +34,6 @@ returns-clause-kept c =
       order = rw (c.of-2.ensures, c.in_ok-order.ensures, c.as_slice.ensures) (all_actors n scripts actors);
       few = rw (c.of-2.ensures, c.in_ok-order.ensures, c.as_slice.ensures) (few_scripts c.args.system.now n (view c.args.tree.now) scripts given actors);
       schedule = c.in_ok-schedule.ensures.kept;
+      raises = c.in_ok-raises.ensures.kept;
       memory = rw c.as_slice-regions.ensures at c.in_ok-memory.ensures.kept;
     }

@@ -10,8 +10,8 @@ use Rattle.ffm_model.specs.declared.script.Operand.TheVariants.{Register, Number
 use Rattle.ffm_model.specs.declared.script.Operation.TheVariants.{Set, Add, Sub, And, Or, Xor}
 use Rattle.ffm_model.specs.declared.script.Comparison.TheVariants.{Equal, Different, Less}
 use Rattle.ffm_model.specs.declared.script.CallName.TheVariants as name
-use Rattle.ffm_model.specs.declared.script.Head.{Head}
-use Rattle.ffm_model.specs.declared.script.Head.TheVariants.{Change, Jump, JumpIf, Make}
+use Rattle.script_asm.specs.declared.first_words.Head.{Head}
+use Rattle.script_asm.specs.declared.first_words.Head.TheVariants.{Change, Jump, JumpIf, Make}
 use Rattle.ffm_model.specs.Texts.{hex_number}
 
 abbrev pub Word : Type 0
@@ -73,7 +73,7 @@ operand_of w = if slice_index w 0 == 114 then option_map Register (register_of w
 abbrev pub asks : Word → Head → Word × Head
 asks word head = (word, head)
 
--- each first word with what it asks for; a call with the number of its operands
+-- each first word with what it asks for; a call with the number of its operands, which stand in the order of the call's fields
 unfoldable pub first_words : List (Word × Head)
 first_words =
     asks (codes "set") (Change Set)
@@ -88,8 +88,24 @@ first_words =
     ∷ (asks (codes "jlt") (JumpIf Less)
     ∷ (asks (codes "framework_version") (Make name.FrameworkVersion 0)
     ∷ (asks (codes "version") (Make name.Version 1)
+    ∷ (asks (codes "connect") (Make name.Connect 2)
+    ∷ (asks (codes "call") (Make name.Invoke 6)
+    ∷ (asks (codes "close") (Make name.Close 1)
+    ∷ (asks (codes "wait") (Make name.Wait 2)
+    ∷ (asks (codes "get") (Make name.Get 2)
+    ∷ (asks (codes "set_rhandle") (Make name.SetRhandle 2)
+    ∷ (asks (codes "read") (Make name.Read 4)
+    ∷ (asks (codes "skip") (Make name.Skip 3)
+    ∷ (asks (codes "write") (Make name.Write 4)
+    ∷ (asks (codes "reply") (Make name.Reply 2)
+    ∷ (asks (codes "notify") (Make name.Notify 1)
+    ∷ (asks (codes "clear") (Make name.Clear 0)
+    ∷ (asks (codes "eoi") (Make name.Eoi 1)
+    ∷ (asks (codes "panic") (Make name.Panic 0)
+    ∷ (asks (codes "load") (Make name.Load 2)
+    ∷ (asks (codes "store") (Make name.Store 3)
     ∷ (asks (codes "end") (Make name.Stop 0)
-    ∷ []))))))))))))
+    ∷ []))))))))))))))))))))))))))))
 
 -- what a word asks for by a table
 abbrev pub look_up : List (Word × Head) → Word → Option Head

@@ -3,7 +3,7 @@
 use Rattle.std.specs.Prelude.{ℕ, ◌+◌, ◌-◌, List, [], ◌∷◌, ◌++◌, length, take, Bool, true, false, ◌&&◌, ◌==◌, Option, Some, None, option_and_then, Result, Ok, Err, is_some, if◌then◌else◌, replicate, slice_index, map}
 use Rattle.std.specs.Str.{bytes_eq}
 use Rattle.std.specs.Option.{option_map, option_map_or}
-use Rattle.ffm_model.specs.declared.codes.TheConstants.{BAD_VALUE}
+use Rattle.ffm_model.specs.declared.codes.TheConstants.{SCRIPT_SYNTAX}
 use Rattle.ffm_model.specs.declared.key.Key.TheVariants as key
 use Rattle.ffm_model.specs.declared.place.Root.TheVariants as root
 use Rattle.ffm_model.specs.declared.place.PathStep.TheVariants as step
@@ -16,12 +16,12 @@ use Rattle.ffm_model.specs.declared.script.Operation.{Operation}
 use Rattle.ffm_model.specs.declared.script.Comparison.{Comparison}
 use Rattle.ffm_model.specs.declared.script.CallName.{CallName}
 use Rattle.ffm_model.specs.declared.script.CallName.TheVariants as name
-use Rattle.ffm_model.specs.declared.script.Head.{Head}
-use Rattle.ffm_model.specs.declared.script.Head.TheVariants as head
+use Rattle.script_asm.specs.declared.first_words.Head.{Head}
+use Rattle.script_asm.specs.declared.first_words.Head.TheVariants as head
 use Rattle.ffm_model.specs.declared.script.Instruction.{Instruction}
 use Rattle.ffm_model.specs.declared.script.Instruction.TheVariants.{Change, Jump, JumpIf, Make}
 use Rattle.ffm_model.specs.Reading.{Stop, refused_at}
-use Rattle.ffm_model.specs.ScriptWords.{Word, words_of, register_of, operand_of, head_of}
+use Rattle.script_asm.specs.Words.{Word, words_of, register_of, operand_of, head_of}
 use Rattle.ffm_model.specs.Texts.{is_name}
 
 -- `x ← o` in a `do` goes on with the value that is there, and gives nothing where there is none
@@ -185,10 +185,6 @@ assembled kind texts = assembled_lines kind (lines_of texts)
 
 -- ---- refusals
 
--- the code of a wrong line
-abbrev pub wrong_line_code : ℕ
-wrong_line_code = BAD_VALUE
-
 -- the place of a line of the scenario's script with this number: `/scripts/NUMBER/lines/LINE`
 abbrev pub line_place : ℕ → ℕ → Place
 line_place number line = record {
@@ -198,7 +194,7 @@ line_place number line = record {
 
 abbrev pub script_or_refusal : ℕ → Result (List Instruction) ℕ → Result (List (List Instruction)) Stop
 script_or_refusal number (Ok instructions) = Ok (instructions ∷ [])
-script_or_refusal number (Err line) = Err (refused_at wrong_line_code (line_place number line))
+script_or_refusal number (Err line) = Err (refused_at SCRIPT_SYNTAX (line_place number line))
 
 -- what comes of the lines of the script with this number: its one part, or the refusal of its first wrong line
 abbrev pub script_read : ActorKind → ℕ → List (List ℕ) → Result (List (List Instruction)) Stop

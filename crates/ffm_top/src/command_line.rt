@@ -1,0 +1,60 @@
+//! The words of an accepted list, read by `clap`.
+ghost use Rattle.std.specs.Prelude.{◌≡◌, IfOk};
+ghost use Rattle.ffm_top.specs.Words.{order};
+
+use crate::words::Command;
+use clap::{Arg, ArgAction, ArgMatches, Error};
+use std::alloc::{AllocError, Global};
+
+// The name of a file.
+fn file_argument(alloc: Global, id: &str) -> Arg<'_> {
+    Arg::new(alloc, id).required(true).action(ArgAction::Set)
+}
+
+// The commands and their arguments.
+fn command_line<'a>(alloc: Global) -> Result<clap::Command<'a>, Error> {
+    let compile = clap::Command::new(alloc, "compile").arg(file_argument(alloc, "system"))?;
+    let run = clap::Command::new(alloc, "run")
+        .arg(file_argument(alloc, "system"))?
+        .arg(file_argument(alloc, "scenario"))?;
+    let commands = clap::Command::new(alloc, "ffm")
+        .subcommand(compile)?
+        .subcommand(run)?;
+    Ok(commands)
+}
+
+fn compile_of<'a>(found: &ArgMatches<'a>) -> Option<Command<'a>> {
+    let system = found.get_str("system")?;
+    Some(Command::Compile { system })
+}
+
+fn run_of<'a>(found: &ArgMatches<'a>) -> Option<Command<'a>> {
+    let system = found.get_str("system")?;
+    let scenario = found.get_str("scenario")?;
+    Some(Command::Run { system, scenario })
+}
+
+// The command as `clap` reads it.
+fn read<'a>(alloc: Global, words: &'a [String]) -> Result<Option<Command<'a>>, Error> {
+    let matches = command_line(alloc)?.try_get_matches_from(words)?;
+    Ok(match matches.subcommand() {
+        Some(("compile", found)) => compile_of(found),
+        Some(("run", found)) => run_of(found),
+        _ => None,
+    })
+}
+
+/// The command of an accepted list of words, with the values that `clap` reads. Err where `clap`
+/// reads no such command, or no memory was found.
+pub fn confirmed<'a>(
+    alloc: Global,
+    words: &'a [String],
+    command: Command<'a>,
+) -> Result<Command<'a>, AllocError>
+    ensures { IfOk result (λ read. order read ≡ order command.entry) }
+{
+    match read(alloc, words) {
+        Ok(Some(found)) if found == command => Ok(found),
+        _ => Err(AllocError),
+    }
+}
