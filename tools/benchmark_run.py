@@ -1,0 +1,110 @@
+#!/usr/bin/env python3
+"""Times whole runs of the program. Run by hand; no test uses it.
+
+    python3 tools/benchmark_run.py crates/ffm/out/ffm
+
+Makes a system of 16 partitions with a service each and 16 clients, each of which sends requests with
+a vector of four bytes each way to its own service without end, and runs it for 65,536, 131,072 and
+262,144 events, several times each, into a file. Prints one row for each: the events, the bytes of the
+trace, the least and the middle time in milliseconds, the most memory in MB, and the last line."""
+
+import argparse
+import json
+import os
+import resource
+import subprocess
+import tempfile
+import time
+
+ACTORS = 16
+EVENTS = (65_536, 131_072, 262_144)
+
+
+def hexadecimal(number):
+    return f"0x{number:08x}"
+
+
+def system():
+    manifests = [
+        {
+            "psa_framework_version": "1.0",
+            "name": f"P{i}",
+            "type": "APPLICATION-ROT",
+            "priority": "NORMAL",
+            "entry_point": "main",
+            "stack_size": "0x400",
+            "services": [{"name": f"S{i}", "sid": hexadecimal(0x1000 + i), "non_secure_clients": True}],
+        }
+        for i in range(1, ACTORS + 1)
+    ]
+    return {"isolation_level": 3, "manifests": manifests, "clients": [f"N{i}" for i in range(1, ACTORS + 1)]}
+
+
+def client_lines(i, base):
+    vectors = f"{hexadecimal(base)} 1 {hexadecimal(base + 8)} 1"
+    return [f"connect {hexadecimal(0x1000 + i)} 1", "set r5 r0", "again:", f"call r5 0 {vectors}", "jmp again"]
+
+
+def partition_lines(base):
+    return [
+        "top:",
+        "wait 0xffffffff 0x80000000",
+        f"get r0 {hexadecimal(base)}",
+        "jeq r1 0 request",
+        "reply r2 0",
+        "jmp top",
+        "request:",
+        f"read r2 0 {hexadecimal(base + 0x100)} 4",
+        f"write r2 0 {hexadecimal(base + 0x100)} 4",
+        "reply r2 0",
+        "jmp top",
+    ]
+
+
+def little_endian(*words):
+    return "".join(word.to_bytes(4, "little").hex() for word in words)
+
+
+def scenario(events):
+    scripts, memory = [], []
+    for i in range(1, ACTORS + 1):
+        base = 0x20000000 + 0x100 * (i - 1)
+        scripts.append({"actor": f"N{i}", "lines": client_lines(i, base)})
+        scripts.append({"actor": f"P{i}", "lines": partition_lines(0x30000000 + 0x400 * (i - 1))})
+        memory.append({"address": base, "bytes": little_endian(base + 0x20, 4, base + 0x30, 4)})
+    return {"event_limit": events, "scripts": scripts, "memory": memory}
+
+
+def timed(program, folder, repeats):
+    """The times of some runs in milliseconds, the bytes that one writes, and its last line."""
+    times = []
+    command = [program, "run", os.path.join(folder, "system.json"), os.path.join(folder, "scenario.json")]
+    trace = os.path.join(folder, "trace")
+    for _ in range(repeats):
+        with open(trace, "wb") as out:
+            start = time.perf_counter()
+            subprocess.run(command, stdout=out, check=False)
+            times.append((time.perf_counter() - start) * 1000)
+    with open(trace, "rb") as text:
+        lines = text.read()
+    return sorted(times), len(lines), lines.splitlines()[-1].decode()
+
+
+def main():
+    arguments = argparse.ArgumentParser(description=__doc__.splitlines()[0])
+    arguments.add_argument("program")
+    arguments.add_argument("--repeats", type=int, default=9)
+    options = arguments.parse_args()
+    with tempfile.TemporaryDirectory() as folder:
+        with open(os.path.join(folder, "system.json"), "w", encoding="utf-8") as file:
+            json.dump(system(), file)
+        for events in EVENTS:
+            with open(os.path.join(folder, "scenario.json"), "w", encoding="utf-8") as file:
+                json.dump(scenario(events), file)
+            times, size, last = timed(options.program, folder, options.repeats)
+            memory = resource.getrusage(resource.RUSAGE_CHILDREN).ru_maxrss / 1000
+            print(f"{events:>8} {size:>10} {times[0]:8.1f} {times[len(times) // 2]:8.1f} {memory:6.1f}  {last}")
+
+
+if __name__ == "__main__":
+    main()
