@@ -4,7 +4,11 @@ ghost use Rattle.ffm_top.specs.Words.{order};
 
 use crate::words::Command;
 use clap::{Arg, ArgAction, ArgMatches, Error};
-use std::alloc::{AllocError, Global};
+use std::alloc::Global;
+
+/// `clap` read no such command: it reads an accepted list otherwise, or no memory was found.
+#[derive(Clone, Copy, Debug)]
+pub struct Unread;
 
 // The name of a file.
 fn file_argument(alloc: Global, id: &str) -> Arg<'_> {
@@ -44,17 +48,16 @@ fn read<'a>(alloc: Global, words: &'a [String]) -> Result<Option<Command<'a>>, E
     })
 }
 
-/// The command of an accepted list of words, with the values that `clap` reads. Err where `clap`
-/// reads no such command, or no memory was found.
+/// The command of an accepted list of words, with the values that `clap` reads.
 pub fn confirmed<'a>(
     alloc: Global,
     words: &'a [String],
     command: Command<'a>,
-) -> Result<Command<'a>, AllocError>
+) -> Result<Command<'a>, Unread>
     ensures { IfOk result (λ read. order read ≡ order command.entry) }
 {
     match read(alloc, words) {
         Ok(Some(found)) if found == command => Ok(found),
-        _ => Err(AllocError),
+        _ => Err(Unread),
     }
 }

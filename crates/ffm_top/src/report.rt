@@ -1,6 +1,6 @@
 //! What is written at the end.
 
-ghost use Rattle.std.specs.Prelude.{◌≡◌, ◌<◌, ◌≤◌, IfSome, OnErr, ◌+◌, drop, length, slice_get, take};
+ghost use Rattle.std.specs.Prelude.{◌≡◌, ◌<◌, ◌≤◌, IfSome, OnErr, OnOk, ◌+◌, drop, length, slice_get, take};
 ghost use Rattle.outside_io.specs.Count.{Rose};
 ghost use Rattle.outside_io.specs.Told.{Puts};
 ghost use Rattle.ffm_model.specs.Actors.{counts_of};
@@ -123,6 +123,7 @@ fn put_report<S: Sink>(out: &mut S, report: &Report) -> Result<(), Failed>
 #[tactic(auto, using(crate::proofs::Traces::flushed))]
 pub fn write_report<S: Sink>(out: &mut S, report: &Report) -> Result<(), Failed>
     requires some { 0 < length (text_of report.now) }
+    ensures handed_on { OnOk result (S.is_handed_on out.new) }
     ensures puts { Puts (S.taken out.old) (S.taken out.new) result (text_of report.now) }
     ensures later { S.faults out.old ≤ S.faults out.new }
     ensures failed { OnErr result (Rose (S.faults out.old) (S.faults out.new)) }

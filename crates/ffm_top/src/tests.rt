@@ -2,7 +2,7 @@
 
 use crate::ffm;
 use ffm_model::{List, OpenGate};
-use outside_io::{MemoryFiles, MemorySink};
+use outside_io::{Failed, MemoryFiles, MemorySink, Sink};
 use std::alloc::Global;
 use std::test::Fail;
 
@@ -252,5 +252,40 @@ fn faults_and_words(rt: HostRuntime) -> Result<(), Fail> {
         assert_eq!(rt; status, case.status, "{}", case.text);
         assert_eq!(rt; sink.bytes(), case.text.as_bytes());
     }
+    Ok(())
+}
+
+/// A sink that gathers everything and can hand nothing on.
+#[derive(Drop)]
+struct Lost {
+    faults: u64,
+}
+
+impl Sink for Lost {
+    ghost use Rattle.std.specs.Prelude.{None, ⊥};
+
+    ghost taken = { λ _. None };
+
+    ghost faults = { λ s. s.faults };
+
+    ghost is_handed_on = { λ _. ⊥ };
+
+    fn put(&mut self, piece: &[u8]) -> Result<usize, Failed> {
+        Ok(piece.len())
+    }
+
+    fn flush(&mut self) -> Result<(), Failed> {
+        self.faults = self.faults.saturating_add(1);
+        Err(Failed)
+    }
+}
+
+#[test]
+fn lost_output(rt: HostRuntime) -> Result<(), Fail> {
+    let words = words_of(rt.alloc(), RUN)?;
+    let mut files = files_of(rt.alloc(), ONE_CLIENT, ASKING)?;
+    let mut sink = Lost { faults: 0 };
+    let status = ffm(&rt, rt.alloc(), &words, &mut files, &mut sink, &OpenGate);
+    assert_eq!(rt; status, 8);
     Ok(())
 }

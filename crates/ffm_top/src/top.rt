@@ -12,7 +12,7 @@ ghost use Rattle.ffm_top.specs.View.{work as work_seen, IsRun, IsWork};
 ghost use Rattle.ffm_top.specs.Words.{order, order_of};
 ghost use Rattle.ffm_top.specs.Work.{work_of};
 
-use crate::command_line::confirmed;
+use crate::command_line::{Unread, confirmed};
 use crate::lines::refusal_line;
 use crate::report::{Report, write_report};
 use crate::run::run;
@@ -148,7 +148,7 @@ fn report_of<F: Files>(alloc: Global, words: &Vec<String>, files: &mut F) -> Res
         None => Ok(usage()),
         Some(command) => match confirmed(alloc, words.as_slice(), command) {
             Ok(command) => report_of_command(alloc, command, files),
-            Err(_) => Err(Halt::Memory),
+            Err(Unread) => Err(Halt::Memory),
         },
     }
 }
@@ -158,7 +158,8 @@ fn report_of<F: Files>(alloc: Global, words: &Vec<String>, files: &mut F) -> Res
 ///
 /// 0: a system is listed, or a run is quiet. 4 and 5: a run is stalled, full. 1: a file is refused, by the line written. 2: the
 /// words are no command, by the usage line. 7: a file that is asked for can't be read, and nothing
-/// is written. 8: the text can't be written whole. 9: no memory was found, and nothing is written.
+/// is written. 8: the text can't be written whole. 9: no memory was found, or `clap` reads accepted words
+/// otherwise, and nothing is written.
 pub fn ffm<R, F: Files, S: Sink, G: Gate>(
     rt: &R,
     alloc: Global,
@@ -175,6 +176,9 @@ pub fn ffm<R, F: Files, S: Sink, G: Gate>(
     ensures due { result < 7 → IfSome (F.held files.old) (λ of.
         WritesDue (map string_bytes words.now.items) of (S.taken out.old) (S.taken out.new) result) }
 
+    // What the sink only gathered was handed on.
+    ensures handed_on { result < 7 → S.is_handed_on out.new }
+
     // 2: the words alone decide it, whatever the files tell.
     ensures usage { result ≡ 2 → order_of (map string_bytes words.now.items) ≡ None }
     ensures no_words { order_of (map string_bytes words.now.items) ≡ None → (result ≡ 2) ⊎ (result ≡ 8) }
@@ -184,7 +188,7 @@ pub fn ffm<R, F: Files, S: Sink, G: Gate>(
     ensures failed { result ≡ 7 → IfSome (F.held files.old) (λ of.
         FailedAsked (map string_bytes words.now.items) of (F.last_failed files.new)) }
 
-    // 8: a put failed in this call, and a proper prefix of a text that is due was written.
+    // 8: a put or the flush failed in this call, and a proper prefix of a text that is due was written.
     ensures sink { result ≡ 8 → Rose (S.faults out.old) (S.faults out.new) }
     ensures part { result ≡ 8 → IfSome (F.held files.old) (λ of.
         WritesPart (map string_bytes words.now.items) of (S.taken out.old) (S.taken out.new)) }

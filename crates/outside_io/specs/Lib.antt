@@ -3,3 +3,4 @@ pub mod Told
 pub mod MemoryFiles
 pub mod MemorySink
 pub mod Host
+pub mod Gathered

@@ -1,11 +1,11 @@
 //! Real files and the standard output: the trusted edge. No clause knows what the operating system
 //! does; what these adapters add is that each of its errors but want of memory is counted.
 
-ghost use Rattle.std.specs.Prelude.{◌≡◌, None, Ok, Err, OnErr, ◌<◌, ◌≤◌, vec_len};
-ghost use Rattle.outside_io.specs.Count.{Rose};
+ghost use Rattle.std.specs.Prelude.{◌≡◌, None, Ok, Err, ◌<◌, ◌≤◌, vec_len};
 
 use crate::files::{FileError, Files};
-use crate::sink::{Failed, Sink, put_all};
+use crate::gathered::{Gathered, gather, hand_on};
+use crate::sink::{Failed, Sink};
 use arrayvec::ArrayVec;
 use std::alloc::Global;
 use std::fs::File;
@@ -88,6 +88,8 @@ impl<'a, R: Print> Sink for Output<'a, R> {
 
     ghost faults = { output_faults };
 
+    ghost is_handed_on = { λ _. Unit {0} };
+
     /// A write that takes no byte counts as an error.
     fn put(&mut self, piece: &[u8]) -> Result<usize, Failed> {
         match self.rt.write_some(piece) {
@@ -105,9 +107,6 @@ impl<'a, R: Print> Sink for Output<'a, R> {
     }
 }
 
-// As many bytes are gathered before they are written.
-const GATHERED_BYTES: usize = 8192;
-
 /// The standard output. Pieces are gathered, and written where the next one finds no room and at
 /// each `flush`; so a text is written whole only once `flush` answered `Ok`.
 ///
@@ -115,7 +114,7 @@ const GATHERED_BYTES: usize = 8192;
 #[derive(Drop)]
 pub struct StdoutSink<'a, R> {
     output: Output<'a, R>,
-    gathered: ArrayVec<u8, GATHERED_BYTES>,
+    gathered: Gathered,
 }
 
 impl<'a, R: Print> StdoutSink<'a, R> {
@@ -130,36 +129,22 @@ impl<'a, R: Print> StdoutSink<'a, R> {
             gathered: ArrayVec::new(),
         }
     }
-
-    // Writes what was gathered.
-    fn write_gathered(&mut self) -> Result<(), Failed>
-        ensures later { stdout_faults self.old ≤ stdout_faults self.new }
-        ensures failed { OnErr result (Rose (stdout_faults self.old) (stdout_faults self.new)) }
-    {
-        let written = put_all(&mut self.output, self.gathered.as_slice());
-        self.gathered.clear();
-        written
-    }
 }
 
 impl<'a, R: Print> Sink for StdoutSink<'a, R> {
-    ghost use Rattle.outside_io.specs.Host.{stdout_faults};
+    ghost use Rattle.outside_io.specs.Host.{stdout_faults, has_written};
 
     ghost taken = { λ _. None };
 
     ghost faults = { stdout_faults };
 
+    ghost is_handed_on = { has_written };
+
     fn put(&mut self, piece: &[u8]) -> Result<usize, Failed> {
-        if piece.len() > self.gathered.remaining_capacity() {
-            self.write_gathered()?;
-        }
-        match self.gathered.try_extend_from_slice(piece) {
-            Ok(()) => Ok(piece.len()),
-            Err(_) => self.output.put(piece),
-        }
+        gather(&mut self.output, &mut self.gathered, piece)
     }
 
     fn flush(&mut self) -> Result<(), Failed> {
-        self.write_gathered()
+        hand_on(&mut self.output, &mut self.gathered)
     }
 }

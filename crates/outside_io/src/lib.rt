@@ -2,6 +2,7 @@
 #![tactic(auto)]
 
 mod files;
+mod gathered;
 mod host;
 mod listed;
 mod memory_files;

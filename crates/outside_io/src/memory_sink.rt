@@ -71,6 +71,8 @@ impl Sink for MemorySink {
 
     ghost faults = { faults_of };
 
+    ghost is_handed_on = { λ _. Unit {0} };
+
     fn put(&mut self, piece: &[u8]) -> Result<usize, Failed>
         requires { 0 < length piece.now }
         ensures some { IfOk result (λ count. 0 < count) }

@@ -1,10 +1,10 @@
 //! Where bytes are written.
 
-ghost use Rattle.std.specs.Prelude.{◌≡◌, ℕ, ◌<◌, ◌≤◌, List, [], IfOk, None, OnErr, Option, length, take};
+ghost use Rattle.std.specs.Prelude.{◌≡◌, ℕ, ◌<◌, ◌≤◌, List, [], IfOk, None, OnErr, OnOk, Option, length, take};
 ghost use Rattle.outside_io.specs.Count.{Rose};
 ghost use Rattle.outside_io.specs.Told.{Takes, Puts};
 
-/// A put failed: it took nothing, and the count of faults rose.
+/// A put or a flush failed, and the count of faults rose. A put that failed took nothing.
 #[derive(Clone, Copy, Debug, PartialEq, Eq)]
 pub struct Failed;
 
@@ -13,8 +13,11 @@ pub trait Sink {
     /// The bytes taken so far, where they are told.
     ghost taken: { Self → Option (List ℕ) };
 
-    /// How often a put has failed, up to 2^64 - 1.
+    /// How often a put or a flush has failed, up to 2^64 - 1.
     ghost faults: { Self → ℕ };
+
+    /// Nothing that was taken is only gathered, and waits to be handed on.
+    ghost is_handed_on: { Self → Type 0 };
 
     /// Takes a front of the piece, at least one byte of it, and answers how many bytes it took. The
     /// piece may not be empty.
@@ -35,6 +38,7 @@ pub trait Sink {
     /// `Failed` comes only where the count of faults rose in this call; a sink that tells its bytes
     /// gathers none and never fails here.
     fn flush(&mut self) -> Result<(), Failed>
+        ensures handed_on { OnOk result (is_handed_on self.new) }
         ensures takes { Takes (taken self.old) (taken self.new) [] }
         ensures untold { OnErr result (taken self.new ≡ None) }
         ensures later { faults self.old ≤ faults self.new }

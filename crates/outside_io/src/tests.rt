@@ -1,6 +1,8 @@
 //! What the operating system answers, and that calls succeed where there is memory.
 
 use super::*;
+use crate::gathered::{gather, hand_on};
+use arrayvec::ArrayVec;
 use ffm_model::List;
 use std::fs;
 use std::test::Fail;
@@ -74,6 +76,33 @@ fn a_sink_in_memory(rt: HostRuntime) -> Result<(), Fail> {
         assert_eq!(rt; put_all(&mut sink, text), want);
         assert_eq!(rt; sink.bytes(), taken);
     }
+    Ok(())
+}
+
+// Pieces of so many bytes, how many of them are taken, and how many bytes the sink has then.
+const PIECES: [(usize, usize, usize); 4] = [
+    (3000, 3000, 0),
+    (3000, 3000, 0),
+    (3000, 3000, 6000),
+    (9000, 5000, 14000),
+];
+
+// The sink takes five thousand bytes at a time, and its fifth put fails.
+#[test]
+fn gathered_pieces(rt: HostRuntime) -> Result<(), Fail> {
+    let fail = List::of(vec![in rt.alloc(); 5u32]?);
+    let mut sink = MemorySink::new(rt.alloc(), 20000, 5000, fail)?;
+    let mut gathered = ArrayVec::new();
+    for (size, taken, put) in PIECES {
+        let piece = vec![in rt.alloc(); b'a'; size]?;
+        assert!(rt; !piece.is_empty());
+        assert_eq!(rt; gather(&mut sink, &mut gathered, &piece), Ok(taken));
+        assert_eq!(rt; sink.bytes().len(), put);
+    }
+    assert_eq!(rt; hand_on(&mut sink, &mut gathered), Ok(()));
+    assert_eq!(rt; gather(&mut sink, &mut gathered, b"last"), Ok(4));
+    assert_eq!(rt; hand_on(&mut sink, &mut gathered), Err(Failed));
+    assert_eq!(rt; sink.bytes().len(), 14000);
     Ok(())
 }
 

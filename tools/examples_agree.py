@@ -1,0 +1,48 @@
+#!/usr/bin/env python3
+"""Compares the copies of the examples: those that a reader sees in examples/, and those that the gate runs.
+
+    python3 tools/examples_agree.py
+
+Run at the top of the repository. Prints each file that differs, and ends with the status 1 where one does."""
+
+import pathlib
+import sys
+
+EXAMPLES = pathlib.Path("examples")
+CRATES = pathlib.Path("crates")
+STORED = CRATES / "guided_examples"
+
+
+def guided():
+    """The names of the guided examples with their traces, as the stored run has them."""
+    traces, name = {}, None
+    for line in (STORED / "stdout").read_text().splitlines(keepends=True):
+        if " " not in line:
+            name = line.strip()
+            traces[name] = ""
+        elif not line.startswith("status "):
+            traces[name] += line
+    return traces
+
+
+def pairs():
+    """Pairs of texts that have to be the same, each with what it is."""
+    for name, trace in guided().items():
+        yield f"{name}/trace.txt", (EXAMPLES / name / "trace.txt").read_text(), trace
+        for file in ("system.json", "scenario.json"):
+            yield f"{name}/{file}", (EXAMPLES / name / file).read_text(), (STORED / "data" / f"{name}_{file}").read_text()
+    for folder, crate in (("first", "ffm"), ("firmware", "firmware_listing")):
+        for path in sorted((EXAMPLES / folder).glob("*.json")):
+            yield f"{folder}/{path.name}", path.read_text(), (CRATES / crate / "data" / path.name).read_text()
+    yield "firmware/listing.txt", (EXAMPLES / "firmware" / "listing.txt").read_text(), (CRATES / "firmware_listing" / "stdout").read_text()
+
+
+def main():
+    different = [name for name, seen, run in pairs() if seen != run]
+    for name in different:
+        print(f"{name} differs")
+    sys.exit(1 if different else 0)
+
+
+if __name__ == "__main__":
+    main()
