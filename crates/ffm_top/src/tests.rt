@@ -262,7 +262,7 @@ struct Lost {
 }
 
 impl Sink for Lost {
-    ghost use Rattle.std.specs.Prelude.{None, ⊥};
+    ghost use Rattle.std.specs.Prelude.{None};
 
     ghost taken = { λ _. None };
 
