@@ -1,2 +1,13 @@
 pub mod Digits
 pub mod Messages
+pub mod Counting
+pub mod Parts
+pub mod Numbers
+pub mod Again
+pub mod Plain
+pub mod Entries
+pub mod Verdicts
+pub mod Traces
+pub mod FirstLine
+pub mod WholeTrace
+pub mod OneWrong

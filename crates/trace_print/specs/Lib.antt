@@ -1,1 +1,6 @@
 pub mod Fields
+pub mod Numbers
+pub mod Reading
+pub mod View
+pub mod Lines
+pub mod Answers

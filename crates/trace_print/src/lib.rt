@@ -1,10 +1,20 @@
-//! Entries of a trace, and how a run ended, as lines of text.
+//! Entries of a trace, and how a run ended, as lines of text, and the trace whose text is read.
 #![tactic(auto)]
 
+mod call;
+mod error;
 mod field;
 mod line;
+mod number;
+mod outcome;
+mod read;
+#[cfg(test)]
+mod read_tests;
 #[cfg(test)]
 mod tests;
+mod whole;
 
+pub use error::TraceError;
 pub use field::{LINE_CAPACITY, Line, hexadecimal};
 pub use line::{LONGEST_LINE, print, print_verdict};
+pub use whole::{one_wrong_line, read_trace, texts_differ};

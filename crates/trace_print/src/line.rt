@@ -224,9 +224,9 @@ fn append_outcome(line: &mut Line, outcome: Outcome)
     }
 }
 
-// The text of an entry, without the line feed.
+/// The text of an entry, without the line feed.
 #[tactic(auto, unfolding(ffm_model::specs::TraceText::entry_text))]
-fn entry_text(counts: Counts, entry: &Entry) -> Line
+pub fn entry_text(counts: Counts, entry: &Entry) -> Line
     requires { IsActorOf counts entry.now.actor.0 }
     ensures text { result.items ≡ entry_text counts entry.now }
     ensures short { array_vec_len result < LONGEST_LINE }
@@ -265,9 +265,9 @@ fn verdict_word(verdict: Verdict) -> &'static [u8]
     }
 }
 
-// The text of a verdict, without the line feed.
+/// The text of a verdict, without the line feed.
 #[tactic(auto, unfolding(ffm_model::specs::TraceText::verdict_text))]
-fn verdict_text(verdict: Verdict, count: u32) -> Line
+pub fn verdict_text(verdict: Verdict, count: u32) -> Line
     ensures text { result.items ≡ verdict_text verdict count }
     ensures short { array_vec_len result ≤ 18 }
 {

@@ -1,0 +1,170 @@
+-- An entry that was printed is read again, and what is read is printed so.
+use Rattle.std.proofs.Common.{◌≡◌, ℕ, ◌+◌, ◌-◌, ◌<◌, ◌≤◌, Bool, true, false, ◌&&◌, cond, nat_lt, List, [], ◌∷◌, ◌++◌, Option, None, Some, refl, sym, ap, ◌∙◌, arith, inl, inr, lit<}
+use Rattle.std.specs.Prelude.{codes, decimal}
+use Rattle.std.specs.Str.{bytes_eq}
+use Rattle.std.specs.List.{flat_map}
+use Rattle.std.proofs.lemmas.List.Concat.{flat_map-append}
+use Rattle.std.proofs.lemmas.List.{append-nil}
+use Rattle.std.proofs.lemmas.Bool.{lt-ltb, le-ltb, cases_lt}
+use Rattle.std.proofs.lemmas.Bool.Decides.{nat_tests}
+use Rattle.std.proofs.lemmas.Slice.Eq.{bytes_eq-Decides}
+use Rattle.ffm_model.specs.Counts.{ActorCounts}
+use Rattle.ffm_model.specs.declared.machine.Call.{Call}
+use Rattle.ffm_model.specs.declared.machine.Call.TheVariants as call
+use Rattle.ffm_model.specs.declared.machine.Entry.{Entry}
+use Rattle.ffm_model.specs.declared.machine.Outcome.{Outcome}
+use Rattle.ffm_model.specs.declared.machine.Outcome.TheVariants as outcome
+use Rattle.ffm_model.specs.TraceText.{Word, call_phrase, outcome_phrase, message_phrase, actor_word, entry_text, EntryFits, OutcomeFits, IsActorOf, spaced}
+use Rattle.trace_print.specs.Numbers.{◌>>=◌}
+use Rattle.trace_print.specs.View.{parts}
+use Rattle.trace_print.specs.Lines.{IsEntryText}
+use Rattle.trace_print.specs.Reading.{outcome_at, small_number_of, actor_of, entry_at, is_actor_of, checked, entry_of}
+use Rattle.trace_print.proofs.Numbers.{unsigned_again}
+use Rattle.trace_print.proofs.Again.{phrase_words, call_again, outcome_again}
+use Rattle.trace_print.proofs.Plain.{IsText, text_append, text_from_plain, text_spaced, IsPlain, AllPlain, plain_tests, plain_from_test, plain_decimal_word, plain_phrase, all_plain_append, all_plain_cons, split_words, spaced_phrase_is}
+
+call_names : (c : Call) → plain_tests (call_phrase c).names ≡ true
+call_names call.FrameworkVersion = refl
+call_names (call.Version sid) = refl
+call_names (call.Connect sid version) = refl
+call_names (call.Invoke handle kind in_vec in_len out_vec out_len) = refl
+call_names (call.Close handle) = refl
+call_names (call.Wait mask timeout) = refl
+call_names (call.Get signal msg) = refl
+call_names (call.SetRhandle handle rhandle) = refl
+call_names (call.Read handle index buffer len) = refl
+call_names (call.Skip handle index len) = refl
+call_names (call.Write handle index buffer len) = refl
+call_names (call.Reply handle status) = refl
+call_names (call.Notify partition) = refl
+call_names call.Clear = refl
+call_names (call.Eoi signal) = refl
+call_names call.Panic = refl
+call_names (call.Load address size) = refl
+call_names (call.Store address size value) = refl
+call_names (call.Raise source) = refl
+call_names (call.Stop false) = refl
+call_names (call.Stop true) = refl
+call_names call.Resume = refl
+
+outcome_names : (o : Outcome) → plain_tests (outcome_phrase o).names ≡ true
+unfolding message_phrase
+outcome_names (outcome.Value z) = refl
+outcome_names (outcome.Number n) = refl
+outcome_names (outcome.Signals n) = refl
+outcome_names (outcome.Got m) = refl
+outcome_names outcome.Blocked = refl
+outcome_names outcome.Done = refl
+outcome_names outcome.Panicked = refl
+
+entry_words : ActorCounts → Entry → List Word
+entry_words counts e = phrase_words (call_phrase e.call) ++ (codes "->" ∷ phrase_words (outcome_phrase e.outcome))
+
+text_is : (counts : ActorCounts) (e : Entry) → entry_text counts e ≡ actor_word counts e.actor.0 ++ flat_map spaced (entry_words counts e)
+unfolding entry_text entry_words
+text_is counts e =
+    rw (spaced_phrase_is (call_phrase e.call), spaced_phrase_is (outcome_phrase e.outcome), flat_map-append spaced (phrase_words (call_phrase e.call)) (codes "->" ∷ phrase_words (outcome_phrase e.outcome))) refl
+
+plain_words : (counts : ActorCounts) (e : Entry) → AllPlain (entry_words counts e)
+unfolding entry_words
+plain_words counts e =
+    all_plain_append (phrase_words (call_phrase e.call)) (codes "->" ∷ phrase_words (outcome_phrase e.outcome)) (plain_phrase (call_phrase e.call) (call_names e.call))
+    (all_plain_cons (codes "->") (phrase_words (outcome_phrase e.outcome)) (plain_from_test (codes "->") refl) (plain_phrase (outcome_phrase e.outcome) (outcome_names e.outcome)))
+
+plain_actor : (counts : ActorCounts) (a : ℕ) → IsPlain (actor_word counts a)
+unfolding actor_word
+plain_actor counts a =
+    elim (nat_lt a counts.partitions) as (λ t. IsPlain (cond t (112 ∷ decimal (a + 1)) (cond (nat_lt a (counts.partitions + counts.clients)) (110 ∷ decimal (a - counts.partitions + 1)) (codes "dev")))) [
+      | true ↦ plain_decimal_word 112 (a + 1) (lit< tt)
+      | false ↦ elim (nat_lt a (counts.partitions + counts.clients)) as (λ t. IsPlain (cond t (110 ∷ decimal (a - counts.partitions + 1)) (codes "dev"))) [
+        | true ↦ plain_decimal_word 110 (a - counts.partitions + 1) (lit< tt)
+        | false ↦ plain_from_test (codes "dev") refl
+      ]
+    ]
+
+split_again : (counts : ActorCounts) (e : Entry) → parts 32 (entry_text counts e) ≡ actor_word counts e.actor.0 ∷ entry_words counts e
+split_again counts e = rw text_is (split_words (actor_word counts e.actor.0) (entry_words counts e) (plain_actor counts e.actor.0) (plain_words counts e))
+
+small_again : (k : ℕ) → 1 ≤ k → k ≤ 32 → small_number_of (decimal k) ≡ Some k
+small_again k lo hi = rw (unsigned_again k (omega arith)) (grind (arith, nat_tests))
+
+-- how many actors of each kind there may be
+abbrev pub FewActors : ActorCounts → Type 0
+FewActors counts = (counts.partitions ≤ 32) × (counts.clients ≤ 16)
+
+last_actor : (n a : ℕ) (device : Bool) → a < n + cond device 1 0 → n ≤ a → n ≡ a
+last_actor n a true lt le = omega arith
+last_actor n a false lt le = absurd (omega arith)
+
+actor_again : (counts : ActorCounts) (a : ℕ) → FewActors counts → IsActorOf counts a → actor_of counts (actor_word counts a) ≡ Some a
+unfolding actor_word actor_of
+actor_again counts a few named =
+    let few_partitions : counts.partitions ≤ 32 = few.0 in
+    let few_clients : counts.clients ≤ 16 = few.1 in
+    elim (cases_lt a counts.partitions) [
+      | inl lt ↦
+          let e : a + 1 - 1 ≡ a = omega arith in
+          rw (lt-ltb a counts.partitions lt, small_again (a + 1) (omega arith) (omega arith)) (ap Some e)
+      | inr le ↦ elim (cases_lt a (counts.partitions + counts.clients)) [
+        | inl lt ↦
+            let e : counts.partitions + (a - counts.partitions + 1 - 1) ≡ a = omega arith in
+            rw (le-ltb a counts.partitions le, lt-ltb a (counts.partitions + counts.clients) lt, small_again (a - counts.partitions + 1) (omega arith) (omega arith)) (ap Some e)
+        | inr past ↦
+            let e : counts.partitions + counts.clients ≡ a = last_actor (counts.partitions + counts.clients) a counts.device named past in
+            rw (le-ltb a counts.partitions le, le-ltb a (counts.partitions + counts.clients) past) (ap Some e)
+      ]
+    ]
+
+ended : (e : Entry) → OutcomeFits e.outcome → outcome_at (phrase_words (outcome_phrase e.outcome)) ≡ Some (e.outcome, [])
+ended e fits = ap outcome_at (sym (append-nil (phrase_words (outcome_phrase e.outcome)))) ∙ outcome_again e.outcome [] fits
+
+read_words : (counts : ActorCounts) (e : Entry) → FewActors counts → EntryFits counts e → entry_at counts (actor_word counts e.actor.0 ∷ entry_words counts e) ≡ Some e
+unfolding entry_at entry_words
+read_words counts e few fits =
+    rw (actor_again counts e.actor.0 few fits.actor, call_again e.call (codes "->" ∷ phrase_words (outcome_phrase e.outcome)) fits.call, ended e fits.outcome) refl
+
+pub entry_again : (counts : ActorCounts) (e : Entry) → FewActors counts → EntryFits counts e → entry_of counts (entry_text counts e) ≡ Some e
+unfolding entry_of
+entry_again counts e few fits =
+    let same : bytes_eq (entry_text counts e) (entry_text counts e) ≡ true = (bytes_eq-Decides (entry_text counts e) (entry_text counts e)).1 refl in
+    let named : is_actor_of counts e.actor.0 ≡ true = lt-ltb e.actor.0 (counts.partitions + counts.clients + cond counts.device 1 0) fits.actor in
+    rw (split_again counts e, read_words counts e few fits, named, same) refl
+
+guard : (b : Bool) (d e : Entry) → cond b (Some d) None ≡ Some e → (b ≡ true) × (d ≡ e)
+guard true d e h = (refl, cc)
+guard false d e h = absurd cc
+
+and_true : (a b : Bool) → (a && b) ≡ true → (a ≡ true) × (b ≡ true)
+and_true true b e = (refl, e)
+and_true false b e = absurd cc
+
+checked_is : (counts : ActorCounts) (text : List ℕ) (d e : Entry) → checked counts text d ≡ Some e → text ≡ entry_text counts e
+checked_is counts text d e h =
+    let g = guard (is_actor_of counts d.actor.0 && bytes_eq (entry_text counts d) text) d e h in
+    let both = and_true (is_actor_of counts d.actor.0) (bytes_eq (entry_text counts d) text) g.0 in
+    rw (← g.1) (sym ((bytes_eq-Decides (entry_text counts d) text).0 both.1))
+
+bound_is : (counts : ActorCounts) (text : List ℕ) (o : Option Entry) (e : Entry) → (o >>= checked counts text) ≡ Some e → text ≡ entry_text counts e
+bound_is counts text None e h = absurd cc
+bound_is counts text (Some d) e h = checked_is counts text d e h
+
+-- what is read is printed so
+pub text_of : (counts : ActorCounts) (text : List ℕ) (e : Entry) → entry_of counts text ≡ Some e → text ≡ entry_text counts e
+unfolding entry_of
+text_of counts text e h = bound_is counts text (entry_at counts (parts 32 text)) e h
+
+-- where nothing is read, it is no entry's text
+pub no_entry : (counts : ActorCounts) (text : List ℕ) → FewActors counts → entry_of counts text ≡ None → IsEntryText counts text → ⊥
+no_entry counts text few none (e, fits, same) = let some = ap (entry_of counts) same ∙ entry_again counts e few fits in absurd cc
+
+some_is : (d e : Entry) → Some d ≡ Some e → d ≡ e
+some_is d e h = cc
+
+-- different entries have different texts
+pub same_entry : (counts : ActorCounts) (d e : Entry) → FewActors counts → EntryFits counts d → EntryFits counts e → entry_text counts d ≡ entry_text counts e → d ≡ e
+same_entry counts d e few p q same = some_is d e (sym (entry_again counts d few p) ∙ (ap (entry_of counts) same ∙ entry_again counts e few q))
+
+-- an entry's text holds no line feed
+pub text_of_entry : (counts : ActorCounts) (e : Entry) → IsText (entry_text counts e)
+text_of_entry counts e =
+    rw text_is (text_append (actor_word counts e.actor.0) (flat_map spaced (entry_words counts e)) (text_from_plain (actor_word counts e.actor.0) (plain_actor counts e.actor.0)) (text_spaced (entry_words counts e) (plain_words counts e)))

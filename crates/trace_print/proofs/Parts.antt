@@ -1,0 +1,19 @@
+-- The parts of a text between separators.
+use Rattle.std.proofs.Common.{◌≡◌, ◌≢◌, ℕ, ◌+◌, ◌<◌, ◌==◌, false, List, [], ◌∷◌, take, drop, length, get_or, arith}
+use Rattle.std.specs.List.{All, position_or_len, before_first, after_first}
+use Rattle.std.proofs.lemmas.Bool.{ne_eqb, eq-eqb}
+use Rattle.std.proofs.lemmas.List.Sums.{position_or_len_is}
+use Rattle.std.proofs.lemmas.List.Splits.{slice_split_first, slice_split_none}
+use Rattle.trace_print.specs.View.{parts}
+
+-- the first separator stands at a place
+pub cut_at : (s : ℕ) (xs : List ℕ) (i : ℕ) → i < length xs → get_or xs i 0 ≡ s → ((k : ℕ) → k < i → get_or xs k 0 ≢ s) → parts s xs ≡ take i xs ∷ parts s (drop (i + 1) xs)
+cut_at s xs i inside here before =
+    let place : position_or_len (λ b. b == s) xs ≡ i = position_or_len_is {X = ℕ} (λ b. b == s) xs i 0 (omega arith) (λ k lt. ne_eqb (get_or xs k 0) s (before k lt)) (λ lt. eq-eqb (get_or xs i 0) s here) in
+    let some : position_or_len (λ b. b == s) xs < length xs = omega arith in
+    let first : parts s xs ≡ before_first (λ b. b == s) xs ∷ parts s (after_first (λ b. b == s) xs) = slice_split_first (λ b. b == s) xs 0 some in
+    rw place at first
+
+-- there is no separator
+pub not_cut : (s : ℕ) (xs : List ℕ) → All (λ b. (b == s) ≡ false) xs → parts s xs ≡ xs ∷ []
+not_cut s xs none = slice_split_none (λ b. b == s) xs none

@@ -1,0 +1,120 @@
+//! Words of a line, and the numbers that they spell. What a line says is printed again and compared
+//! with it, so more is read here than is ever printed, as leading zeros.
+
+ghost use Rattle.std.specs.Prelude.{◌≡◌, ◌∷◌, ◌++◌, IfSome};
+ghost use Rattle.std.specs.Option.{option_map};
+ghost use Rattle.trace_print.specs.Numbers.{digit_at, more, with_digit, number_after, unsigned_of, signed_of, hexadecimal_of, negative, positive};
+ghost use Rattle.trace_print.specs.Reading.{word_at, unsigned_at, hexadecimal_at, signed_at};
+ghost use Rattle.trace_print.specs.View.{parts, parts_left, words_of, seen, seen_word};
+
+/// The words that are left of a line, as text. `None` is no word, and an empty text is an empty
+/// word.
+pub type Words<'a> = Option<&'a [u8]>;
+
+/// The bytes before the first separator, and those behind it where there is one.
+pub fn split_once(separator: u8, text: &[u8]) -> (&[u8], Option<&[u8]>)
+    ensures parts { parts separator text.now ≡ result.0.now ∷ parts_left separator result.1 }
+    ensures joined { IfSome result.1 (λ rest. text.now ≡ result.0.now ++ separator ∷ rest.now) }
+{
+    match text.iter().position(|byte| *byte == separator) {
+        Some(end) => (&text[..end], Some(&text[end + 1..])),
+        None => (text, None),
+    }
+}
+
+/// The first word, and the words behind it.
+pub fn word<'a>(words: Words<'a>) -> Option<(&'a [u8], Words<'a>)>
+    ensures { option_map seen_word result ≡ word_at (words_of words.entry) }
+{
+    let text = words?;
+    Some(split_once(b' ', text))
+}
+
+fn digit_at(byte: u8) -> Option<u8>
+    ensures { result ≡ digit_at byte }
+{
+    match byte {
+        b'0'..=b'9' => Some(byte - b'0'),
+        b'a'..=b'f' => Some(byte - b'a' + 10),
+        _ => None,
+    }
+}
+
+fn more(base: u8, n: u32, digit: u8) -> Option<u32>
+    ensures { result ≡ more base n digit }
+{
+    u32::try_from(u64::from(n) * u64::from(base) + u64::from(digit)).ok()
+}
+
+fn with_digit(base: u8, n: u32, byte: u8) -> Option<u32>
+    ensures { result ≡ with_digit base n byte }
+{
+    more(base, n, digit_at(byte)?)
+}
+
+/// The number below 2^32 that digits spell.
+#[tactic(auto, unfolding(crate::specs::Numbers::number_after), using(crate::proofs::Counting::goes_on, crate::proofs::Counting::stops, crate::proofs::Counting::ends))]
+pub fn number(base: u8, digits: &[u8]) -> Option<u32>
+    ensures { result ≡ number_after base 0 digits.now }
+{
+    let mut n = 0;
+    for byte in digits {
+        n = with_digit(base, n, *byte)?;
+    }
+    Some(n)
+}
+
+fn hexadecimal_of(word: &[u8]) -> Option<u32>
+    ensures { result ≡ hexadecimal_of word.now }
+{
+    let (_zero, word) = word.split_first()?;
+    let (_x, digits) = word.split_first()?;
+    number(16, digits)
+}
+
+fn negative(n: u32) -> Option<i32>
+    ensures { result ≡ negative n }
+{
+    i32::try_from(-i64::from(n)).ok()
+}
+
+fn positive(n: u32) -> Option<i32>
+    ensures { result ≡ positive n }
+{
+    i32::try_from(n).ok()
+}
+
+fn signed_of(word: &[u8]) -> Option<i32>
+    ensures { result ≡ signed_of word.now }
+{
+    let (first, digits) = word.split_first()?;
+    if *first == b'-' {
+        negative(number(10, digits)?)
+    } else {
+        positive(number(10, word)?)
+    }
+}
+
+/// The first word as an unsigned number, and the words behind it.
+pub fn unsigned<'a>(words: Words<'a>) -> Option<(u32, Words<'a>)>
+    ensures { option_map seen result ≡ unsigned_at (words_of words.entry) }
+{
+    let (word, words) = word(words)?;
+    Some((number(10, word)?, words))
+}
+
+/// The first word as a hexadecimal number, and the words behind it.
+pub fn hexadecimal<'a>(words: Words<'a>) -> Option<(u32, Words<'a>)>
+    ensures { option_map seen result ≡ hexadecimal_at (words_of words.entry) }
+{
+    let (word, words) = word(words)?;
+    Some((hexadecimal_of(word)?, words))
+}
+
+/// The first word as a signed number, and the words behind it.
+pub fn signed<'a>(words: Words<'a>) -> Option<(i32, Words<'a>)>
+    ensures { option_map seen result ≡ signed_at (words_of words.entry) }
+{
+    let (word, words) = word(words)?;
+    Some((signed_of(word)?, words))
+}
