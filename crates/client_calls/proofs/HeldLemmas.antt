@@ -24,7 +24,7 @@ use Rattle.counting_law.specs.Objects.{ObjectsFit}
 use Rattle.counting_law.proofs.Counts.{find-passes}
 use Rattle.counting_law.proofs.Rooms.{request-room}
 use Rattle.spm_tables.specs.Desk.{Desk, MadeFor, spm_of}
-use Rattle.client_calls.proofs.PoolLemmas.{item-put}
+use Rattle.spm_tables.proofs.PoolLemmas.{item-put}
 use Rattle.client_calls.proofs.ServiceLemmas.{connection-service, made-services}
 use Rattle.client_calls.proofs.SendLemmas.{at-item, has-item, room-for-message}
 

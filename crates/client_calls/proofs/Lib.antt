@@ -1,4 +1,3 @@
-mod PoolLemmas
 mod ServiceLemmas
 mod SendLemmas
 mod ConnectLemmas

@@ -9,12 +9,12 @@ use Rattle.ffm_model.specs.declared.objects.ConnPhase.{ConnPhase}
 use Rattle.object_pools.specs.declared.slot.Slot.{Slot}
 use Rattle.object_pools.specs.Pool.{Places, IsKept, free_slot, item_at, taken, with_item, without}
 use Rattle.handle_table.specs.Table.{IsTable}
-use Rattle.spm_tables.specs.declared.item.MessageItem.{MessageItem}
+use Rattle.spm_tables.specs.declared.item.QueuedMessage.{QueuedMessage}
 use Rattle.spm_tables.specs.Desk.{Desk, MadeFor}
 use Rattle.slot_names.specs.Named.{KeepsNames}
 use Rattle.slot_names.proofs.Changes.{names-same, names-freed, names-asked, names-connected}
 use Rattle.client_calls.specs.Sending.{message_on}
-use Rattle.client_calls.proofs.PoolLemmas.{item-taken}
+use Rattle.spm_tables.proofs.PoolLemmas.{item-taken}
 use Rattle.client_calls.proofs.SendLemmas.{at-item}
 use Rattle.client_calls.proofs.HeldLemmas.{IsHeld, Phased, after-phase, item-phased}
 
@@ -26,10 +26,10 @@ pub names_gone : (y : System) (d new : Desk) (s : Slot) → new ≡ record d { l
 names_gone y d new s after = names-freed y d new s (ap (λ (x : Desk). x.linked) after) (ap (λ (x : Desk). x.waiting) after)
 
 -- the place of a message that was sent
-abbrev Placed : Places MessageItem → MessageItem → Places MessageItem → Type 0
+abbrev Placed : Places QueuedMessage → QueuedMessage → Places QueuedMessage → Type 0
 Placed w x v = (place : Slot) × (free_slot w ≡ Some place) × (v ≡ taken w place x)
 
-placed : (w v : Places MessageItem) (x : MessageItem) → IsSomeAnd (free_slot w) (λ place. v ≡ taken w place x) → Placed w x v
+placed : (w v : Places QueuedMessage) (x : QueuedMessage) → IsSomeAnd (free_slot w) (λ place. v ≡ taken w place x) → Placed w x v
 placed w v x h =
     let go : (o : Option Slot) → free_slot w ≡ o → IsSomeAnd o (λ place. v ≡ taken w place x) → Placed w x v =
     elim [ None ↦ λ e n. absurd n | Some place ↦ λ e i. (place, e, i) ] in
@@ -48,7 +48,7 @@ names-connect y d m new s c kind v made table free serial started same sent =
     let P : OpenConnection → Type 0 = λ x. IsSomeAnd (free_slot m.waiting) (λ place. new.waiting ≡ taken m.waiting place (message_on s x kind v)) in
     let at = placed m.waiting new.waiting (message_on s c kind v) (at-item (item_at m.linked s) c P live sent) in
     names-connected y d new s at.0 c (message_on s c kind v) made table free serial (same ∙ ap (λ (x : Desk). x.linked) started)
-    (ap (λ (w : Places MessageItem). free_slot w) (sym waiting) ∙ at.1) (at.2 ∙ ap (λ (w : Places MessageItem). taken w at.0 (message_on s c kind v)) waiting)
+    (ap (λ (w : Places QueuedMessage). free_slot w) (sym waiting) ∙ at.1) (at.2 ∙ ap (λ (w : Places QueuedMessage). taken w at.0 (message_on s c kind v)) waiting)
 
 -- psa_call, and psa_close of a connection that isn't dead
 pub names-held : (y : System) (d m new : Desk) (a : ℕ) (k : Handle) (s : Slot) (c : OpenConnection) (ph : ConnPhase) (kind : ℤ) (v : Vectors) → IsHeld d a k s c → Phased d s ph m → MadeFor d y
@@ -60,4 +60,4 @@ names-held y d m new a k s c ph kind v h phased made kept same sent =
     let P : OpenConnection → Type 0 = λ x. IsSomeAnd (free_slot m.waiting) (λ place. new.waiting ≡ taken m.waiting place (message_on s x kind v)) in
     let at = placed m.waiting new.waiting (message_on s changed kind v) (at-item (item_at m.linked s) changed P (item-phased d m a k s c ph h phased) sent) in
     names-asked y d new s at.0 c changed (message_on s changed kind v) made kept h.live refl (same ∙ ap (λ (x : Desk). x.linked) after)
-    (ap (λ (w : Places MessageItem). free_slot w) (sym waiting) ∙ at.1) (at.2 ∙ ap (λ (w : Places MessageItem). taken w at.0 (message_on s changed kind v)) waiting)
+    (ap (λ (w : Places QueuedMessage). free_slot w) (sym waiting) ∙ at.1) (at.2 ∙ ap (λ (w : Places QueuedMessage). taken w at.0 (message_on s changed kind v)) waiting)

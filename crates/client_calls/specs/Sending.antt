@@ -5,7 +5,13 @@ use Rattle.ffm_model.specs.declared.objects.OpenConnection.{OpenConnection}
 use Rattle.ffm_model.specs.declared.objects.Vectors.{Vectors}
 use Rattle.object_pools.specs.declared.slot.Slot.{Slot}
 use Rattle.spm_tables.specs.declared.item.MessageItem.{MessageItem}
+use Rattle.spm_tables.specs.declared.item.QueuedMessage.{QueuedMessage}
+use Rattle.spm_tables.specs.Desk.{queued_as}
 
 -- a message of the connection in that slot, before its delivery
-abbrev pub message_on : Slot → OpenConnection → ℤ → Vectors → MessageItem
-message_on s c kind v = record { service = c.service; client = c.client; connection = Some s; serial = c.serial; kind = kind; vectors = v; delivered = false }
+abbrev pub item_on : Slot → OpenConnection → ℤ → Vectors → MessageItem
+item_on s c kind v = record { service = c.service; client = c.client; connection = Some s; kind = kind; vectors = v; delivered = false }
+
+-- that message in its queue
+abbrev pub message_on : Slot → OpenConnection → ℤ → Vectors → QueuedMessage
+message_on s c kind v = queued_as c.serial (item_on s c kind v)

@@ -1,11 +1,12 @@
 //! Messages of connections.
-ghost use Rattle.std.specs.Prelude.{◌≡◌, ◌<◌, length, IsSomeAnd, IfSome};
+ghost use Rattle.std.specs.Prelude.{◌≡◌, ◌<◌, length, false, IsSome, IsSomeAnd, IfSome};
 ghost use Rattle.ffm_model.specs.State.{with_phase, with_message};
 ghost use Rattle.object_pools.specs.Pool.{free_slot, item_at, taken};
 ghost use Rattle.spm_tables.specs.Desk.{spm_of, shape_of};
-ghost use Rattle.client_calls.specs.Sending.{message_on};
+ghost use Rattle.client_calls.specs.Sending.{item_on, message_on};
 
 use ffm_model::{ActorPhase, Span, Vectors};
+use handle_table::Connections;
 use object_pools::Slot;
 use spm_tables::{MessageItem, Tables};
 
@@ -23,6 +24,23 @@ pub(crate) const NO_VECTORS: Vectors = Vectors {
     out_len: 0,
 };
 
+// A message of the connection in that slot, before its delivery.
+fn item_on(connections: &Connections, slot: Slot, kind: i32, vectors: Vectors) -> MessageItem
+    requires { IsSome (item_at connections.now slot) }
+    ensures item { IfSome (item_at connections.now slot) (λ c. result ≡ item_on slot c kind vectors) }
+    ensures undelivered { result.delivered ≡ false }
+{
+    let connection = connections.connection(slot);
+    MessageItem {
+        service: connection.service,
+        client: connection.owner,
+        connection: Some(slot),
+        kind,
+        vectors,
+        delivered: false,
+    }
+}
+
 /// Sends a message of a connection to its service. The connection's client is Blocked from then on.
 pub(crate) fn send(tables: &mut Tables, slot: Slot, kind: i32, vectors: Vectors)
     requires connection { IsSomeAnd (item_at tables.old.linked slot) (λ c. c.service < length tables.old.services) }
@@ -33,16 +51,7 @@ pub(crate) fn send(tables: &mut Tables, slot: Slot, kind: i32, vectors: Vectors)
     ensures state { IfSome (item_at tables.old.linked slot) (λ c. spm_of tables.new ≡ with_phase (with_message (spm_of tables.old) c kind vectors) c.client.0 ActorPhase.Blocked) }
     ensures shape { shape_of tables.new ≡ shape_of tables.old }
 {
-    tables.law();
-    let connection = tables.connections().connection(slot);
-    tables.enqueue(MessageItem {
-        service: connection.service,
-        client: connection.owner,
-        connection: Some(slot),
-        serial: connection.serial,
-        kind,
-        vectors,
-        delivered: false,
-    });
-    tables.set_phase(connection.owner, ActorPhase::Blocked);
+    let item = item_on(tables.connections(), slot, kind, vectors);
+    tables.enqueue(item);
+    tables.set_phase(item.client, ActorPhase::Blocked);
 }

@@ -13,7 +13,7 @@ use Rattle.ffm_model.specs.Panic.{is_dead, disconnection}
 use Rattle.object_pools.specs.declared.slot.Slot.{Slot}
 use Rattle.object_pools.specs.declared.slot.Held.{Held}
 use Rattle.object_pools.specs.Pool.{Places, IsKept, free_slot, item_at, item_put, with_item, without, taken}
-use Rattle.spm_tables.specs.declared.item.MessageItem.{MessageItem}
+use Rattle.spm_tables.specs.declared.item.QueuedMessage.{QueuedMessage}
 use Rattle.spm_tables.specs.Desk.{Desk, held_message}
 use Rattle.slot_names.specs.Changes.{TakesOn}
 use Rattle.slot_names.proofs.Moves.{relinks-item, relinks-without}
@@ -164,7 +164,7 @@ pub service-known : (p n : ℕ) (old d : Desk) (h : Held OpenConnection) → Lea
 service-known p n old d h l here = omega (arith, (served-next n old d h here l.services).0, ap (λ (x : Desk). length x.services) l.rest)
 
 -- its disconnection is taken in, and then it is closing
-pub closing-both : (d mid new : Desk) (w : Places MessageItem) (s : Slot) (c : OpenConnection) → mid ≡ record d { waiting = w } → item_at d.linked s ≡ Some c
+pub closing-both : (d mid new : Desk) (w : Places QueuedMessage) (s : Slot) (c : OpenConnection) → mid ≡ record d { waiting = w } → item_at d.linked s ≡ Some c
     → IfSome (item_at mid.linked s) (λ x. new ≡ record mid { linked = with_item mid.linked s (record x { phase = Closing }) })
     → new ≡ record d { linked = with_item d.linked s (record c { phase = Closing }); waiting = w }
 closing-both d mid new w s c after live change =
@@ -172,10 +172,10 @@ closing-both d mid new w s c after live change =
     subst (λ (e : Desk). IfSome (item_at e.linked s) (λ x. new ≡ record e { linked = with_item e.linked s (record x { phase = Closing }) })) after change in
     subst (λ (o : Option OpenConnection). IfSome o (λ x. new ≡ record d { linked = with_item d.linked s (record x { phase = Closing }); waiting = w })) live there
 
-pub closing-length : (d new : Desk) (w : Places MessageItem) (s : Slot) (c : OpenConnection) → new ≡ record d { linked = with_item d.linked s (record c { phase = Closing }); waiting = w } → length new.linked.held ≡ length d.linked.held
+pub closing-length : (d new : Desk) (w : Places QueuedMessage) (s : Slot) (c : OpenConnection) → new ≡ record d { linked = with_item d.linked s (record c { phase = Closing }); waiting = w } → length new.linked.held ≡ length d.linked.held
 closing-length d new w s c after = ap (λ (x : Desk). length x.linked.held) after ∙ length-map d.linked.held (item_put s (record c { phase = Closing }))
 
-pub leaves-closing : (p n : ℕ) (old d new : Desk) (h : Held OpenConnection) (place : Slot) (m : MessageItem) → Leaves p old n d → IsKept 256 d.linked → slice_get d.linked.held n ≡ Some h
+pub leaves-closing : (p n : ℕ) (old d new : Desk) (h : Held OpenConnection) (place : Slot) (m : QueuedMessage) → Leaves p old n d → IsKept 256 d.linked → slice_get d.linked.held n ≡ Some h
     → item_at d.linked h.slot ≡ Some h.item → free_slot d.waiting ≡ Some place → (h.item.client.0 == p) ≡ true → is_dead h.item.phase ≡ false → map held_message (taken d.waiting place m).held ≡ messages_of d ++ goodbye h.item ∷ []
     → new ≡ record d { linked = with_item d.linked h.slot (record h.item { phase = Closing }); waiting = taken d.waiting place m } → Leaves p old (n + 1) new
 leaves-closing p n old d new h place m l k here live free own alive sent after =

@@ -11,7 +11,7 @@ use Rattle.ffm_model.specs.Actors.{is_service_of}
 use Rattle.ffm_model.specs.Panic.{lost, client_answered, clients_answered}
 use Rattle.object_pools.specs.declared.slot.Held.{Held}
 use Rattle.object_pools.specs.Pool.{IsKept, with_item, without}
-use Rattle.spm_tables.specs.declared.item.MessageItem.{MessageItem}
+use Rattle.spm_tables.specs.declared.item.QueuedMessage.{QueuedMessage}
 use Rattle.spm_tables.specs.Desk.{Desk}
 use Rattle.panic_state.specs.Losses.{with_left, in_slot, in_phase, held_without_service, with_lost, without_messages}
 use Rattle.panic_state.proofs.Lists.{left_from, left_from-same, left_from-set, left_from-out, left_from-all, length-out, drop-nth, drop-set, drop-out, drop-all}
@@ -90,7 +90,7 @@ lost-shorter n d new h kept k here after stays gone =
     ap (λ (x : Desk). length x.linked.held + 1) after ∙ go (lost h.item.phase) refl (sym stays ∙ gone)
 
 -- the messages from a place on are gone too, where they are to the partition's services
-abbrev pub is_kept : System → ℕ → Held MessageItem → Option (Held MessageItem)
+abbrev pub is_kept : System → ℕ → Held QueuedMessage → Option (Held QueuedMessage)
 is_kept s p h = if is_service_of s p h.item.service then None else Some h
 
 abbrev pub messages_from : System → ℕ → ℕ → Desk → Desk
@@ -99,29 +99,29 @@ messages_from s p n d = record d { waiting = record d.waiting { held = left_from
 pub messages_from-all : (s : System) (p n : ℕ) (d : Desk) → length d.waiting.held ≤ n → messages_from s p n d ≡ d
 messages_from-all s p n d past = λ j. record d { waiting = record d.waiting { held = left_from-all (is_kept s p) d.waiting.held n past j } }
 
-pub messages_from-other : (s : System) (p n : ℕ) (d : Desk) (h : Held MessageItem) → slice_get d.waiting.held n ≡ Some h → is_service_of s p h.item.service ≡ false → messages_from s p (n + 1) d ≡ messages_from s p n d
+pub messages_from-other : (s : System) (p n : ℕ) (d : Desk) (h : Held QueuedMessage) → slice_get d.waiting.held n ≡ Some h → is_service_of s p h.item.service ≡ false → messages_from s p (n + 1) d ≡ messages_from s p n d
 messages_from-other s p n d h here other =
     let held = left_from-same (is_kept s p) d.waiting.held n h here (ap (λ (b : Bool). if b then None else Some h) other) in
     λ j. record d { waiting = record d.waiting { held = held j } }
 
-pub messages_from-gone : (s : System) (p n : ℕ) (d new : Desk) (h : Held MessageItem) → IsKept 256 d.waiting → slice_get d.waiting.held n ≡ Some h → is_service_of s p h.item.service ≡ true
+pub messages_from-gone : (s : System) (p n : ℕ) (d new : Desk) (h : Held QueuedMessage) → IsKept 256 d.waiting → slice_get d.waiting.held n ≡ Some h → is_service_of s p h.item.service ≡ true
     → new ≡ record d { waiting = without d.waiting h.slot } → messages_from s p n new ≡ messages_from s p n d
 messages_from-gone s p n d new h k here own after =
     let held = ap (left_from (is_kept s p) n) (without-at d.waiting n h k here) ∙ left_from-out (is_kept s p) d.waiting.held n h here (ap (λ (b : Bool). if b then None else Some h) own) in
     let step : messages_from s p n (record d { waiting = without d.waiting h.slot }) ≡ messages_from s p n d = λ j. record d { waiting = record d.waiting { held = held j } } in
     ap (messages_from s p n) after ∙ step
 
-pub gone-shorter : (n : ℕ) (d new : Desk) (h : Held MessageItem) → IsKept 256 d.waiting → slice_get d.waiting.held n ≡ Some h → new ≡ record d { waiting = without d.waiting h.slot } → length new.waiting.held + 1 ≡ length d.waiting.held
+pub gone-shorter : (n : ℕ) (d new : Desk) (h : Held QueuedMessage) → IsKept 256 d.waiting → slice_get d.waiting.held n ≡ Some h → new ≡ record d { waiting = without d.waiting h.slot } → length new.waiting.held + 1 ≡ length d.waiting.held
 gone-shorter n d new h k here after =
-    ap (λ (x : Desk). length x.waiting.held + 1) after ∙ ap (λ (hs : List (Held MessageItem)). length hs + 1) (without-at d.waiting n h k here) ∙ length-out d.waiting.held n h here
+    ap (λ (x : Desk). length x.waiting.held + 1) after ∙ ap (λ (hs : List (Held QueuedMessage)). length hs + 1) (without-at d.waiting n h k here) ∙ length-out d.waiting.held n h here
 
 -- a filter, as what is left
-kept-filter : (s : System) (p : ℕ) (hs : List (Held MessageItem)) → filter_map (is_kept s p) hs ≡ filter (λ h. not (is_service_of s p h.item.service)) hs
+kept-filter : (s : System) (p : ℕ) (hs : List (Held QueuedMessage)) → filter_map (is_kept s p) hs ≡ filter (λ h. not (is_service_of s p h.item.service)) hs
 kept-filter s p [] = refl
 kept-filter s p (h ∷ hs) =
-    let rest : List (Held MessageItem) = filter (λ x. not (is_service_of s p x.item.service)) hs in
+    let rest : List (Held QueuedMessage) = filter (λ x. not (is_service_of s p x.item.service)) hs in
     let go : (b : Bool) → cons_option (if b then None else Some h) (filter_map (is_kept s p) hs) ≡ cond (not b) (h ∷ rest) rest =
-    elim [ true ↦ kept-filter s p hs | false ↦ ap (λ (xs : List (Held MessageItem)). h ∷ xs) (kept-filter s p hs) ] in
+    elim [ true ↦ kept-filter s p hs | false ↦ ap (λ (xs : List (Held QueuedMessage)). h ∷ xs) (kept-filter s p hs) ] in
     go (is_service_of s p h.item.service)
 
 pub messages_from-none : (s : System) (p : ℕ) (d : Desk) → messages_from s p 0 d ≡ without_messages s p d

@@ -3,7 +3,7 @@
 ghost use Rattle.std.specs.Prelude.{◌≡◌, ◌<◌, ◌≤◌, ◌+◌, ◌++◌, List, length, false, All, Some};
 ghost use Rattle.ffm_model.specs.Panic.{is_dead};
 ghost use Rattle.ffm_model.specs.Names.{SlotName};
-ghost use Rattle.spm_tables.specs.Desk.{Desk, spm_of, fresh_message};
+ghost use Rattle.spm_tables.specs.Desk.{Desk, spm_of, fresh_message, queued_as};
 ghost use Rattle.slot_names.specs.Changes.{TakesOn};
 ghost use Rattle.panic_state.specs.Losses.{left_by, held_without_client, goodbye, goodbyes};
 
@@ -14,8 +14,7 @@ use spm_tables::{MessageItem, Tables};
 
 // The message that closes a connection, for which nobody waits.
 fn disconnection(held: Held<OpenConnection>) -> MessageItem
-    ensures message { fresh_message result ≡ goodbye held.item }
-    ensures serial { result.serial ≡ held.item.serial }
+    ensures message { fresh_message (queued_as held.item.serial result) ≡ goodbye held.item }
     ensures connection { result.connection ≡ Some held.slot }
     ensures undelivered { result.delivered ≡ false }
 {
@@ -24,7 +23,6 @@ fn disconnection(held: Held<OpenConnection>) -> MessageItem
         service: held.item.service,
         client: held.item.client,
         connection: Some(held.slot),
-        serial: held.item.serial,
         kind: PSA_IPC_DISCONNECT,
         vectors: Vectors {
             input: [none; 4],

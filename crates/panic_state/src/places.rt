@@ -6,7 +6,7 @@ ghost use Rattle.handle_table.specs.Table.{IsTable};
 
 use ffm_model::OpenConnection;
 use object_pools::Held;
-use spm_tables::{MessageItem, Tables};
+use spm_tables::{QueuedMessage, Tables};
 
 // The connection at a place in the order of their making.
 pub(crate) fn connection_at(tables: &Tables, place: u32) -> Held<OpenConnection>
@@ -22,7 +22,7 @@ pub(crate) fn connection_at(tables: &Tables, place: u32) -> Held<OpenConnection>
 }
 
 // The message at a place in the order of their making.
-pub(crate) fn message_at(tables: &Tables, place: u32) -> Held<MessageItem>
+pub(crate) fn message_at(tables: &Tables, place: u32) -> Held<QueuedMessage>
     requires { place < length tables.now.waiting.held }
     ensures at { slice_get tables.now.waiting.held place ≡ Some result }
     ensures live { IsSome (item_at tables.now.waiting result.slot) }

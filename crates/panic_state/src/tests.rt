@@ -1,13 +1,13 @@
 //! Panics in a system of two partitions and a non-secure client.
 
-ghost use Rattle.std.specs.Prelude.{◌≡◌, false, IsTrue, length, replicate, Some, None, IfOk};
+ghost use Rattle.std.specs.Prelude.{◌≡◌, ℕ, false, IsTrue, length, replicate, Some, None, IfOk};
 ghost use Rattle.ffm_model.specs.declared.constants.TheConstants.{PSA_IPC_CONNECT};
 ghost use Rattle.ffm_model.specs.declared.objects.ActorPhase.TheVariants as actor_phase;
 ghost use Rattle.ffm_model.specs.declared.objects.ConnPhase.TheVariants as connection_phase;
 ghost use Rattle.ffm_model.specs.Actors.{actor_count};
 ghost use Rattle.ffm_model.specs.Memory.{no_vectors};
 ghost use Rattle.counting_law.specs.Objects.{ObjectsFit};
-ghost use Rattle.spm_tables.specs.Desk.{spm_of, fresh_message, MadeFor};
+ghost use Rattle.spm_tables.specs.Desk.{spm_of, fresh_message, queued_as, MadeFor};
 
 use crate::panic;
 use crate::places::{connection_at, message_at};
@@ -139,9 +139,9 @@ fn opening(alloc: Global, system: &System) -> Result<Tables, Memory>
 }
 
 // What a connection's client sends first.
-fn greeting(client: ActorId, service: u32, connection: Slot, serial: u32) -> MessageItem
-    ensures message { fresh_message result ≡ record { service = service; client = client; connection = serial; kind = PSA_IPC_CONNECT; vectors = no_vectors; handle = None } }
-    ensures serial { result.serial ≡ serial }
+fn greeting(client: ActorId, service: u32, connection: Slot) -> MessageItem
+    ensures service { result.service ≡ service }
+    ensures message { (serial : ℕ) → fresh_message (queued_as serial result) ≡ record { service = service; client = client; connection = serial; kind = PSA_IPC_CONNECT; vectors = no_vectors; handle = None } }
     ensures connection { result.connection ≡ Some connection }
     ensures undelivered { result.delivered ≡ false }
 {
@@ -150,7 +150,6 @@ fn greeting(client: ActorId, service: u32, connection: Slot, serial: u32) -> Mes
         service,
         client,
         connection: Some(connection),
-        serial,
         kind: PSA_IPC_CONNECT,
         vectors: Vectors {
             input: [none; 4],
@@ -177,10 +176,8 @@ fn connect(rt: &impl Abort, system: &System, tables: &mut Tables, client: ActorI
     assert!(rt; tables.connections().made() < 1000);
     assert!(rt; tables.messages().live() < tables.messages().size());
     assert!(rt; tables.messages().takes() < 1000);
-    tables.law();
-    let serial = tables.connections().made();
     let slot = tables.start(client, service);
-    tables.enqueue(greeting(client, service, slot, serial));
+    tables.enqueue(greeting(client, service, slot));
     tables.set_phase(client, ActorPhase::Blocked);
 }
 

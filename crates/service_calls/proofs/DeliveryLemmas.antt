@@ -25,7 +25,7 @@ use Rattle.handle_table.proofs.SlotLemmas.{both, slot-is}
 use Rattle.slot_names.specs.Named.{KeepsNames, NamesAre}
 use Rattle.slot_names.proofs.Changes.{names-message}
 use Rattle.slot_names.proofs.Due.{due-at-get}
-use Rattle.spm_tables.specs.declared.item.MessageItem.{MessageItem}
+use Rattle.spm_tables.specs.declared.item.QueuedMessage.{QueuedMessage}
 use Rattle.spm_tables.specs.Answers.{state_with}
 use Rattle.spm_tables.specs.Desk.{Desk, held_message, message_at, message_of, spm_of, waits_for}
 use Rattle.spm_tables.proofs.MessageLemmas.{find-map, live-put}
@@ -33,17 +33,17 @@ use Rattle.service_calls.proofs.Held.{holds-at}
 use Rattle.service_calls.proofs.Kept.{all-put}
 
 -- a message was delivered: m before, n since
-pub record IsDelivered (d new : Desk) (service : ℕ) (t : Slot) (n : MessageItem) : Type 0 where
-  pub item : MessageItem
+pub record IsDelivered (d new : Desk) (service : ℕ) (t : Slot) (n : QueuedMessage) : Type 0 where
+  pub item : QueuedMessage
   pub live : item_at d.waiting t ≡ Some item
   pub since : n ≡ record item { delivered = true }
   pub first : find (is_undelivered service) (spm_of d).messages ≡ Some (message_of t item)
   pub after : new ≡ record d { waiting = with_item d.waiting t n }
 
-pub was-delivered : (d new : Desk) (service : ℕ) (t : Slot) (n : MessageItem) → IsSome (item_at d.waiting t) → message_at d t ≡ find (is_undelivered service) (spm_of d).messages
+pub was-delivered : (d new : Desk) (service : ℕ) (t : Slot) (n : QueuedMessage) → IsSome (item_at d.waiting t) → message_at d t ≡ find (is_undelivered service) (spm_of d).messages
     → IfSome (item_at d.waiting t) (λ m. new ≡ record d { waiting = with_item d.waiting t (record m { delivered = true }) }) → item_at new.waiting t ≡ Some n → IsDelivered d new service t n
 was-delivered d new service t n some oldest =
-    let go : (o : Option MessageItem) → item_at d.waiting t ≡ o → IsSome o → option_map (message_of t) o ≡ find (is_undelivered service) (spm_of d).messages
+    let go : (o : Option QueuedMessage) → item_at d.waiting t ≡ o → IsSome o → option_map (message_of t) o ≡ find (is_undelivered service) (spm_of d).messages
     → IfSome o (λ m. new ≡ record d { waiting = with_item d.waiting t (record m { delivered = true }) }) → item_at new.waiting t ≡ Some n → IsDelivered d new service t n =
     elim [
       | None ↦ λ e x f g h. cc
@@ -52,22 +52,22 @@ was-delivered d new service t n some oldest =
           ap (λ (y : Desk). item_at y.waiting t) g ∙ live-put d.waiting t m (record m { delivered = true }) e in
           let same : Some n ≡ Some (record m { delivered = true }) = sym h ∙ put in
           let is : n ≡ record m { delivered = true } = cc in
-          record { item = m; live = e; since = is; first = sym f; after = g ∙ ap (λ (y : MessageItem). record d { waiting = with_item d.waiting t y }) (sym is) }
+          record { item = m; live = e; since = is; first = sym f; after = g ∙ ap (λ (y : QueuedMessage). record d { waiting = with_item d.waiting t y }) (sym is) }
     ] in
     go (item_at d.waiting t) refl some oldest
 
-pub get-due : (s : System) (d new : Desk) (given : List Handle) (bytes after : List Bytes) (a signal msg service : ℕ) (t : Slot) (n : MessageItem) (shown : ShownMessage)
+pub get-due : (s : System) (d new : Desk) (given : List Handle) (bytes after : List Bytes) (a signal msg service : ℕ) (t : Slot) (n : QueuedMessage) (shown : ShownMessage)
     → service_of_signal s a signal ≡ Some service → valid_buffer s a msg 48 ≡ true → IsDelivered d new service t n
     → shown ≡ shown_message s (spm_of new) (message_of t n) (handle_at Message t)
     → spm_of new ≡ record (spm_of d) { messages = delivered service (handle_at Message t) (spm_of d).messages }
     → byte_at after ≡ words_stored (byte_at bytes) msg (message_words shown)
     → psa_get s (state_with d given (byte_at bytes)) a signal msg shown.handle ≡ Some (effect (Got shown) (state_with new (given ++ shown.handle ∷ []) (byte_at after)))
 get-due s d new given bytes after a signal msg service t n shown owner valid it shown_is state stored =
-    let m : MessageItem = it.item in
+    let m : QueuedMessage = it.item in
     let h : Handle = handle_at Message t in
     let told : ShownMessage = shown_message s (spm_of d) (message_of t m) h in
     let is_told : shown ≡ told =
-    shown_is ∙ ap (λ (b : SpmState). shown_message s b (message_of t n) h) state ∙ ap (λ (x : MessageItem). shown_message s (spm_of d) (message_of t x) h) it.since in
+    shown_is ∙ ap (λ (b : SpmState). shown_message s b (message_of t n) h) state ∙ ap (λ (x : QueuedMessage). shown_message s (spm_of d) (message_of t x) h) it.since in
     let here : ℕ → PendingMessage → Effect = λ i x. get_of s (state_with d given (byte_at bytes)) i msg h x in
     let computed : psa_get s (state_with d given (byte_at bytes)) a signal msg h ≡ Some (here service (message_of t m)) =
     ap (option_and_then (λ i. option_and_then (λ x. cond (valid_buffer s a msg 48) (Some (here i x)) None) (find (is_undelivered i) (spm_of d).messages))) owner
@@ -82,14 +82,14 @@ get-due s d new given bytes after a signal msg service t n shown owner valid it 
 
 -- ---- the name that is due
 
-first-waits : (d : Desk) (v : ℕ) (n : PendingMessage) → find (is_undelivered v) (spm_of d).messages ≡ Some n → (h : Held MessageItem) × (find (waits_for v) d.waiting.held ≡ Some h)
+first-waits : (d : Desk) (v : ℕ) (n : PendingMessage) → find (is_undelivered v) (spm_of d).messages ≡ Some n → (h : Held QueuedMessage) × (find (waits_for v) d.waiting.held ≡ Some h)
 first-waits d v n f =
-    let go : (o : Option (Held MessageItem)) → find (waits_for v) d.waiting.held ≡ o → option_map held_message o ≡ Some n → (h : Held MessageItem) × (find (waits_for v) d.waiting.held ≡ Some h) =
+    let go : (o : Option (Held QueuedMessage)) → find (waits_for v) d.waiting.held ≡ o → option_map held_message o ≡ Some n → (h : Held QueuedMessage) × (find (waits_for v) d.waiting.held ≡ Some h) =
     elim [ None ↦ λ e g. cc | Some h ↦ λ e g. (h, e) ] in
     go (find (waits_for v) d.waiting.held) refl (sym (find-map held_message (is_undelivered v) d.waiting.held) ∙ f)
 
 -- what the delivery gives a handle is in the slot of that handle
-delivered-slot : (v : ℕ) (t : Slot) (n : MessageItem) (held : List (Held MessageItem)) (h : Held MessageItem) → find (waits_for v) held ≡ Some h
+delivered-slot : (v : ℕ) (t : Slot) (n : QueuedMessage) (held : List (Held QueuedMessage)) (h : Held QueuedMessage) → find (waits_for v) held ≡ Some h
     → map held_message (map (item_put t n) held) ≡ delivered v (handle_at Message t) (map held_message held) → has_slot t h ≡ true
 delivered-slot v t n [] h f e = cc
 delivered-slot v t n (x ∷ xs) h f e =
@@ -99,7 +99,7 @@ delivered-slot v t n (x ∷ xs) h f e =
     let here : is_undelivered v (held_message x) ≡ true → held_message (item_put t n x) ≡ record (held_message x) { handle = Some k } → has_slot t x ≡ true =
     λ waits same.
     let none : is_none (held_message x).handle ≡ true = (both (is_none (held_message x).handle) ((held_message x).service == v) waits).0 in
-    let in_slot : (c : Bool) → held_message (cond {A = Held MessageItem} c (record x { item = n }) x) ≡ record (held_message x) { handle = Some k } → c ≡ true =
+    let in_slot : (c : Bool) → held_message (cond {A = Held QueuedMessage} c (record x { item = n }) x) ≡ record (held_message x) { handle = Some k } → c ≡ true =
     elim [
       | true ↦ λ g. refl
       | false ↦ λ g.
@@ -113,12 +113,12 @@ delivered-slot v t n (x ∷ xs) h f e =
       | true ↦ λ waits g same.
           let it : x ≡ h = cc in
           let head : held_message (item_put t n x) ≡ record (held_message x) { handle = Some k } = cc in
-          subst (λ (y : Held MessageItem). has_slot t y ≡ true) it (here waits head)
+          subst (λ (y : Held QueuedMessage). has_slot t y ≡ true) it (here waits head)
       | false ↦ λ waits g same. let tail : put ≡ delivered v k rest = cc in delivered-slot v t n xs h g tail
     ] in
     go (is_undelivered v (held_message x)) refl f e
 
-pub due-name : (s : System) (d new : Desk) (given : List Handle) (m : ByteMap) (a signal msg service : ℕ) (t : Slot) (n : MessageItem) (k : NamesSoFar)
+pub due-name : (s : System) (d new : Desk) (given : List Handle) (m : ByteMap) (a signal msg service : ℕ) (t : Slot) (n : QueuedMessage) (k : NamesSoFar)
     → service_of_signal s a signal ≡ Some service → IsDelivered d new service t n
     → spm_of new ≡ record (spm_of d) { messages = delivered service (handle_at Message t) (spm_of d).messages }
     → NamesAre d k → name_due s (state_with d given m) a (Get signal msg) k ≡ Some (handle_at Message t)
@@ -131,13 +131,13 @@ due-name s d new given m a signal msg service t n k owner it state named =
 
 -- ---- what else is kept
 
-pub delivered-names : (s : System) (d new : Desk) (service : ℕ) (t : Slot) (n : MessageItem) → IsKept 256 d.waiting → IsDelivered d new service t n → KeepsNames s d new
+pub delivered-names : (s : System) (d new : Desk) (service : ℕ) (t : Slot) (n : QueuedMessage) → IsKept 256 d.waiting → IsDelivered d new service t n → KeepsNames s d new
 delivered-names s d new service t n kept it =
-    names-message s d new t it.item n kept it.live (ap (λ (m : MessageItem). m.serial) it.since) (ap (λ (m : MessageItem). m.kind) it.since) (ap (λ (e : Desk). e.linked) it.after)
+    names-message s d new t it.item n kept it.live (ap (λ (m : QueuedMessage). m.serial) it.since) (ap (λ (m : QueuedMessage). m.kind) it.since) (ap (λ (e : Desk). e.linked) it.after)
     (ap (λ (e : Desk). e.waiting) it.after)
 
-pub delivered-within : (regions : List (ℕ × ℕ)) (d new : Desk) (service : ℕ) (t : Slot) (n : MessageItem) → IsDelivered d new service t n → All (λ m. AreWithin regions m.vectors) (spm_of d).messages
+pub delivered-within : (regions : List (ℕ × ℕ)) (d new : Desk) (service : ℕ) (t : Slot) (n : QueuedMessage) → IsDelivered d new service t n → All (λ m. AreWithin regions m.vectors) (spm_of d).messages
     → All (λ m. AreWithin regions m.vectors) (spm_of new).messages
 delivered-within regions d new service t n it all =
     let own : AreWithin regions it.item.vectors = holds-at (λ m. AreWithin regions m.vectors) d t it.item all it.live in
-    all-put (AreWithin regions) d new t n (ap (λ (e : Desk). e.waiting) it.after) (subst (λ (m : MessageItem). AreWithin regions m.vectors) (sym it.since) own) all
+    all-put (AreWithin regions) d new t n (ap (λ (e : Desk). e.waiting) it.after) (subst (λ (m : QueuedMessage). AreWithin regions m.vectors) (sym it.since) own) all

@@ -18,42 +18,42 @@ use Rattle.handle_table.specs.declared.handles.Family.TheVariants.{Message}
 use Rattle.handle_table.specs.Handles.{handle_at}
 use Rattle.handle_table.proofs.SlotLemmas.{both, held-of}
 use Rattle.handle_table.proofs.Twins.{find-passes}
-use Rattle.spm_tables.specs.declared.item.MessageItem.{MessageItem}
+use Rattle.spm_tables.specs.declared.item.QueuedMessage.{QueuedMessage}
 use Rattle.spm_tables.specs.Desk.{Desk, spm_of, message_of, message_at, held_message, shown_handle}
 
 -- ---- what holds of all messages holds of a live one
 
-holds-among : (P : PendingMessage → Type 0) (t : Slot) (h : Held MessageItem) (held : List (Held MessageItem)) → All P (map held_message held) → find (has_slot t) held ≡ Some h → P (held_message h)
+holds-among : (P : PendingMessage → Type 0) (t : Slot) (h : Held QueuedMessage) (held : List (Held QueuedMessage)) → All P (map held_message held) → find (has_slot t) held ≡ Some h → P (held_message h)
 holds-among P t h [] all f = cc
 holds-among P t h (x ∷ xs) all f =
     let go : (b : Bool) → cond b (Some x) (find (has_slot t) xs) ≡ Some h → P (held_message h) =
     elim [
-      | true ↦ λ g. let it : x ≡ h = cc in subst (λ (y : Held MessageItem). P (held_message y)) it (All-head P (held_message x) (map held_message xs) all)
+      | true ↦ λ g. let it : x ≡ h = cc in subst (λ (y : Held QueuedMessage). P (held_message y)) it (All-head P (held_message x) (map held_message xs) all)
       | false ↦ λ g. holds-among P t h xs (All-tail P (held_message x) (map held_message xs) all) g
     ] in
     go (has_slot t x) f
 
-pub holds-at : (P : PendingMessage → Type 0) (d : Desk) (t : Slot) (m : MessageItem) → All P (spm_of d).messages → item_at d.waiting t ≡ Some m → P (message_of t m)
+pub holds-at : (P : PendingMessage → Type 0) (d : Desk) (t : Slot) (m : QueuedMessage) → All P (spm_of d).messages → item_at d.waiting t ≡ Some m → P (message_of t m)
 holds-at P d t m all live =
     let it = held-of d.waiting t m live in
-    subst (λ (u : Slot). P (message_of u m)) it.3 (subst (λ (i : MessageItem). P (message_of (it.0).slot i)) it.2 (holds-among P t it.0 d.waiting.held all it.1))
+    subst (λ (u : Slot). P (message_of u m)) it.3 (subst (λ (i : QueuedMessage). P (message_of (it.0).slot i)) it.2 (holds-among P t it.0 d.waiting.held all it.1))
 
 -- ---- a message that is held was delivered, under the handle of its slot
 
-pub record IsTold (t : Slot) (m : MessageItem) (k : Handle) : Type 0 where
+pub record IsTold (t : Slot) (m : QueuedMessage) (k : Handle) : Type 0 where
   pub delivered : m.delivered ≡ true
   pub handle : handle_at Message t ≡ k
 
 same-handle : (h k : Handle) → has_handle (Some h) k ≡ true → h ≡ k
 same-handle h k e = let same : h.0 ≡ k.0 = (Decides-int_eq h.0 k.0).0 e in ap (λ (n : ℤ). record { 0 = n }) same
 
-told-by : (t : Slot) (m : MessageItem) (k : Handle) → has_handle (shown_handle m.delivered t) k ≡ true → IsTold t m k
+told-by : (t : Slot) (m : QueuedMessage) (k : Handle) → has_handle (shown_handle m.delivered t) k ≡ true → IsTold t m k
 told-by t m k e =
     let go : (b : Bool) → m.delivered ≡ b → has_handle (shown_handle b t) k ≡ true → IsTold t m k =
     elim [ true ↦ λ on f. record { delivered = on; handle = same-handle (handle_at Message t) k f } | false ↦ λ on f. cc ] in
     go m.delivered refl e
 
-pub held-told : (s : System) (b : SpmState) (a : ℕ) (k : Handle) (t : Slot) (m : MessageItem) → message_held s b a k ≡ Some (message_of t m) → IsTold t m k
+pub held-told : (s : System) (b : SpmState) (a : ℕ) (k : Handle) (t : Slot) (m : QueuedMessage) → message_held s b a k ≡ Some (message_of t m) → IsTold t m k
 held-told s b a k t m held =
     told-by t m k (both (is_service_of s a m.service) (has_handle (shown_handle m.delivered t) k) (find-passes (λ n. is_service_of s a n.service && has_handle n.handle k) b.messages (message_of t m) held)).1
 
@@ -69,5 +69,5 @@ pub request-held : (s : System) (b : SpmState) (a : ℕ) (k : Handle) (index : �
 request-held s b a k index n e = kept-held (message_held s b a k) (λ m. int_le PSA_IPC_CALL m.kind && nat_lt index PSA_MAX_IOVEC) n e
 
 -- the message of a live slot
-pub message-is : (d : Desk) (t : Slot) (m : MessageItem) (o : Option PendingMessage) → item_at d.waiting t ≡ Some m → message_at d t ≡ o → o ≡ Some (message_of t m)
+pub message-is : (d : Desk) (t : Slot) (m : QueuedMessage) (o : Option PendingMessage) → item_at d.waiting t ≡ Some m → message_at d t ≡ o → o ≡ Some (message_of t m)
 message-is d t m o live e = sym e ∙ ap (option_map (message_of t)) live

@@ -16,13 +16,13 @@ use Rattle.slot_names.specs.Changes.{OneMessageEach}
 use Rattle.slot_names.specs.Named.{KeepsNames}
 use Rattle.slot_names.proofs.Changes.{names-same, names-connection, names-message}
 use Rattle.slot_names.proofs.Removals.{fitting-messages, names-answered, names-ended}
-use Rattle.spm_tables.specs.declared.item.MessageItem.{MessageItem}
+use Rattle.spm_tables.specs.declared.item.QueuedMessage.{QueuedMessage}
 use Rattle.spm_tables.specs.Desk.{Desk, held_message, spm_of}
 use Rattle.service_calls.specs.Connections.{ChangesAt, IsConnectionOf}
 
 -- ---- the vectors of the messages
 
-put-among : (P : Vectors → Type 0) (t : Slot) (n : MessageItem) (held : List (Held MessageItem)) → All (λ m. P m.vectors) (map held_message held) → P n.vectors
+put-among : (P : Vectors → Type 0) (t : Slot) (n : QueuedMessage) (held : List (Held QueuedMessage)) → All (λ m. P m.vectors) (map held_message held) → P n.vectors
     → All (λ m. P m.vectors) (map held_message (map (item_put t n) held))
 put-among P t n [] all new = all
 put-among P t n (x ∷ xs) all new =
@@ -32,10 +32,10 @@ put-among P t n (x ∷ xs) all new =
     (put-among P t n xs (All-tail (λ (m : PendingMessage). P m.vectors) (held_message x) (map held_message xs) all) new)
 
 -- the message of a slot is another one
-pub all-put : (P : Vectors → Type 0) (d new : Desk) (t : Slot) (n : MessageItem) → new.waiting ≡ with_item d.waiting t n → P n.vectors → All (λ m. P m.vectors) (spm_of d).messages → All (λ m. P m.vectors) (spm_of new).messages
-all-put P d new t n put own all = subst (λ (w : Places MessageItem). All (λ m. P m.vectors) (map held_message w.held)) (sym put) (put-among P t n d.waiting.held all own)
+pub all-put : (P : Vectors → Type 0) (d new : Desk) (t : Slot) (n : QueuedMessage) → new.waiting ≡ with_item d.waiting t n → P n.vectors → All (λ m. P m.vectors) (spm_of d).messages → All (λ m. P m.vectors) (spm_of new).messages
+all-put P d new t n put own all = subst (λ (w : Places QueuedMessage). All (λ m. P m.vectors) (map held_message w.held)) (sym put) (put-among P t n d.waiting.held all own)
 
-out-among : (P : PendingMessage → Type 0) (p : Held MessageItem → Bool) (held : List (Held MessageItem)) → All P (map held_message held) → All P (map held_message (filter p held))
+out-among : (P : PendingMessage → Type 0) (p : Held QueuedMessage → Bool) (held : List (Held QueuedMessage)) → All P (map held_message held) → All P (map held_message (filter p held))
 out-among P p [] all = all
 out-among P p (x ∷ xs) all =
     let rest : All P (map held_message (filter p xs)) = out-among P p xs (All-tail P (held_message x) (map held_message xs) all) in
@@ -45,19 +45,19 @@ out-among P p (x ∷ xs) all =
 
 -- the message of a slot is gone
 pub all-out : (P : PendingMessage → Type 0) (d new : Desk) (t : Slot) → new.waiting ≡ without d.waiting t → All P (spm_of d).messages → All P (spm_of new).messages
-all-out P d new t gone all = subst (λ (w : Places MessageItem). All P (map held_message w.held)) (sym gone) (out-among P (λ h. not (has_slot t h)) d.waiting.held all)
+all-out P d new t gone all = subst (λ (w : Places QueuedMessage). All P (map held_message w.held)) (sym gone) (out-among P (λ h. not (has_slot t h)) d.waiting.held all)
 
 -- ---- moved vectors
 
 -- the vectors of a message were moved
 pub record IsMoved (d new : Desk) (t : Slot) (v : Vectors) : Type 0 where
-  pub item : MessageItem
+  pub item : QueuedMessage
   pub live : item_at d.waiting t ≡ Some item
   pub after : new ≡ record d { waiting = with_item d.waiting t (record item { vectors = v }) }
 
 pub was-moved : (d new : Desk) (t : Slot) (v : Vectors) → IsSome (item_at d.waiting t) → IfSome (item_at d.waiting t) (λ m. new ≡ record d { waiting = with_item d.waiting t (record m { vectors = v }) }) → IsMoved d new t v
 was-moved d new t v some after =
-    let go : (o : Option MessageItem) → item_at d.waiting t ≡ o → IsSome o → IfSome o (λ m. new ≡ record d { waiting = with_item d.waiting t (record m { vectors = v }) }) → IsMoved d new t v =
+    let go : (o : Option QueuedMessage) → item_at d.waiting t ≡ o → IsSome o → IfSome o (λ m. new ≡ record d { waiting = with_item d.waiting t (record m { vectors = v }) }) → IsMoved d new t v =
     elim [ None ↦ λ e x f. cc | Some m ↦ λ e x f. record { item = m; live = e; after = f } ] in
     go (item_at d.waiting t) refl some after
 
@@ -76,7 +76,7 @@ unchanged-names s d new same = names-same s d new (ap (λ (e : Desk). e.linked) 
 pub phase-names : (s : System) (d new : Desk) (phases : List ActorPhase) → new ≡ record d { phases = phases } → KeepsNames s d new
 phase-names s d new phases after = names-same s d new (ap (λ (e : Desk). e.linked) after) (ap (λ (e : Desk). e.waiting) after)
 
-pub rhandle-names : (s : System) (d new : Desk) (u : Slot) (m : MessageItem) (r : ℕ) → IsKept 256 d.linked → IsConnectionOf d.linked m u
+pub rhandle-names : (s : System) (d new : Desk) (u : Slot) (m : QueuedMessage) (r : ℕ) → IsKept 256 d.linked → IsConnectionOf d.linked m u
     → IfSome (item_at d.linked u) (λ c. new ≡ record d { linked = with_item d.linked u (record c { rhandle = r }) }) → KeepsNames s d new
 rhandle-names s d new u m r kept own after =
     let Own : OpenConnection → Type 0 = λ c. (c.serial ≡ m.serial) × (find (λ x. x.serial == m.serial) (connections d.linked) ≡ Some c) in

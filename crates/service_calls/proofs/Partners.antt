@@ -17,7 +17,7 @@ use Rattle.object_pools.specs.declared.slot.Slot.{Slot}
 use Rattle.object_pools.specs.Pool.{IsKept, item_at}
 use Rattle.handle_table.specs.Table.{connections}
 use Rattle.handle_table.proofs.Twins.{find-passes}
-use Rattle.spm_tables.specs.declared.item.MessageItem.{MessageItem}
+use Rattle.spm_tables.specs.declared.item.QueuedMessage.{QueuedMessage}
 use Rattle.spm_tables.specs.Desk.{Desk, MadeFor, Shape, spm_of}
 use Rattle.spm_tables.specs.Slots.{KeepSlots}
 use Rattle.spm_tables.proofs.SlotLemmas.{belongs-at, slot-of-serial}
@@ -56,7 +56,7 @@ equal : (k n : ℕ) → (k == n) ≡ true → k ≡ n
 equal k n e = grind arith
 
 -- a message names the slot of its connection
-pub connection-slot : (d : Desk) (t : Slot) (m : MessageItem) → IsKept 256 d.linked → KeepSlots d.linked d.waiting → item_at d.waiting t ≡ Some m → IsSome (connection_by_serial (spm_of d) m.serial)
+pub connection-slot : (d : Desk) (t : Slot) (m : QueuedMessage) → IsKept 256 d.linked → KeepSlots d.linked d.waiting → item_at d.waiting t ≡ Some m → IsSome (connection_by_serial (spm_of d) m.serial)
     → (u : Slot) × (m.connection ≡ Some u) × IsConnectionOf d.linked m u
 connection-slot d t m kept slots live there =
     let go : (o : Option OpenConnection) → connection_by_serial (spm_of d) m.serial ≡ o → IsSome o → (u : Slot) × (m.connection ≡ Some u) × IsConnectionOf d.linked m u =

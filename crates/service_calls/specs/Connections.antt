@@ -5,10 +5,10 @@ use Rattle.ffm_model.specs.declared.objects.OpenConnection.{OpenConnection}
 use Rattle.object_pools.specs.declared.slot.Slot.{Slot}
 use Rattle.object_pools.specs.Pool.{Places, item_at, with_item, without}
 use Rattle.handle_table.specs.Table.{connections}
-use Rattle.spm_tables.specs.declared.item.MessageItem.{MessageItem}
+use Rattle.spm_tables.specs.declared.item.QueuedMessage.{QueuedMessage}
 
 -- the slot is that of the message's connection, which is there
-abbrev pub IsConnectionOf : Places OpenConnection → MessageItem → Slot → Type 0
+abbrev pub IsConnectionOf : Places OpenConnection → QueuedMessage → Slot → Type 0
 IsConnectionOf linked m slot = IsSomeAnd (item_at linked slot) (λ c. (c.serial ≡ m.serial) × (find (λ d. d.serial == m.serial) (connections linked) ≡ Some c))
 
 -- the connection of a slot is another one with the same serial number, or it is gone; all else is as it was

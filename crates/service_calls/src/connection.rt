@@ -7,10 +7,10 @@ ghost use Rattle.service_calls.specs.Connections.{IsConnectionOf};
 ghost use Rattle.spm_tables.specs.Desk.{spm_of};
 
 use object_pools::Slot;
-use spm_tables::{MessageItem, Tables};
+use spm_tables::{QueuedMessage, Tables};
 
 // The slot of the connection of a live message. The connection has to be there.
-pub(crate) fn connection_of(tables: &Tables, slot: Slot, message: MessageItem) -> Slot
+pub(crate) fn connection_of(tables: &Tables, slot: Slot, message: QueuedMessage) -> Slot
     requires item { item_at tables.now.waiting slot ≡ Some message }
     requires there { IsSome (connection_by_serial (spm_of tables.now) message.serial) }
     ensures { IsConnectionOf tables.now.linked message result }

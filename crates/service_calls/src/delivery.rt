@@ -25,7 +25,7 @@ use ffm_model::{ActorId, Fault, Message, PSA_IPC_CONNECT, Service, Span, System}
 use handle_table::{Family, handle_of};
 use memory_image::{Image, valid_buffer};
 use object_pools::Slot;
-use spm_tables::{MessageItem, Tables};
+use spm_tables::{QueuedMessage, Tables};
 
 // How many bytes a `psa_msg_t` takes.
 const MESSAGE_SIZE: u32 = 48;
@@ -84,7 +84,7 @@ fn words_of(message: Message) -> [u32; 12]
 }
 
 // The rhandle that a message carries: 0 for that of a `psa_connect`, else its connection's.
-fn rhandle_of(tables: &Tables, slot: Slot, message: MessageItem) -> u32
+fn rhandle_of(tables: &Tables, slot: Slot, message: QueuedMessage) -> u32
     requires item { item_at tables.now.waiting slot ≡ Some message }
     requires there { IsSome (connection_by_serial (spm_of tables.now) message.serial) }
     ensures { result ≡ (if int_eq message.kind PSA_IPC_CONNECT then 0 else option_map_or (λ c. c.rhandle) (connection_by_serial (spm_of tables.now) message.serial) 0) }
@@ -97,7 +97,7 @@ fn rhandle_of(tables: &Tables, slot: Slot, message: MessageItem) -> u32
 }
 
 // What a partition is told of a message that it gets.
-fn shown(system: &System, tables: &Tables, slot: Slot, message: MessageItem) -> Message
+fn shown(system: &System, tables: &Tables, slot: Slot, message: QueuedMessage) -> Message
     requires item { item_at tables.now.waiting slot ≡ Some message }
     requires there { IsSome (connection_by_serial (spm_of tables.now) message.serial) }
     requires client { message.client.0 < actor_count system.now }
@@ -145,7 +145,7 @@ pub fn get(
     let Some(slot) = tables.dequeue(service) else {
         return Err(Fault);
     };
-    let message = tables.message(slot);
+    let message = tables.queued(slot);
     let shown = shown(system, tables, slot, message);
     image.store_words(msg, &words_of(shown));
     Ok(shown)

@@ -29,7 +29,7 @@ use ffm_model::{
 };
 use memory_image::Image;
 use object_pools::Slot;
-use spm_tables::{MessageItem, Tables};
+use spm_tables::{QueuedMessage, Tables};
 
 /// `psa_set_rhandle`: the connection of a message that the partition holds has the rhandle from now on. `Fault` exactly where the
 /// handle isn't that of such a message; then nothing changed.
@@ -48,7 +48,7 @@ pub fn set_rhandle(
     let Some(slot) = tables.find_message(actor, handle) else {
         return Err(Fault);
     };
-    let message = tables.message(slot);
+    let message = tables.queued(slot);
     let connection = connection_of(tables, slot, message);
     tables.set_rhandle(connection, rhandle);
     Ok(())
@@ -77,7 +77,7 @@ fn answerable(tables: &Tables, actor: ActorId, handle: Handle, status: Status) -
     let Some(slot) = tables.find_message(actor, handle) else {
         return None;
     };
-    if tables.message(slot).kind == PSA_IPC_CONNECT && !is_connect_status(status) {
+    if tables.queued(slot).kind == PSA_IPC_CONNECT && !is_connect_status(status) {
         None
     } else {
         Some(slot)
@@ -85,7 +85,7 @@ fn answerable(tables: &Tables, actor: ActorId, handle: Handle, status: Status) -
 }
 
 // Tells the client of a request how many bytes were written of its output vectors.
-fn tell_lengths(image: &mut Image, message: MessageItem)
+fn tell_lengths(image: &mut Image, message: QueuedMessage)
     requires { AreWithin (regions_of image.old) message.vectors }
     ensures bytes { byte_at image.new ≡ (if int_lt message.kind PSA_IPC_CALL then byte_at image.old else lengths_written (byte_at image.old) message.vectors.out_vec (take message.vectors.out_len message.vectors.output)) }
     ensures regions { regions_of image.new ≡ regions_of image.old }
@@ -95,7 +95,7 @@ fn tell_lengths(image: &mut Image, message: MessageItem)
     }
 }
 
-fn answer_connect(tables: &mut Tables, connection: Slot, message: MessageItem, status: Status)
+fn answer_connect(tables: &mut Tables, connection: Slot, message: QueuedMessage, status: Status)
     requires connection { IsConnectionOf tables.old.linked message connection }
     ensures state { spm_of tables.new ≡ connect_answered (spm_of tables.old) (fresh_message message) status.0 }
     ensures linked { ChangesAt connection tables.old.linked tables.new.linked }
@@ -111,7 +111,7 @@ fn answer_connect(tables: &mut Tables, connection: Slot, message: MessageItem, s
     }
 }
 
-fn answer_close(tables: &mut Tables, connection: Slot, message: MessageItem)
+fn answer_close(tables: &mut Tables, connection: Slot, message: QueuedMessage)
     requires connection { IsConnectionOf tables.old.linked message connection }
     ensures state { spm_of tables.new ≡ close_answered (spm_of tables.old) (fresh_message message) }
     ensures linked { ChangesAt connection tables.old.linked tables.new.linked }
@@ -129,7 +129,7 @@ fn answer_request(
     system: &System,
     tables: &mut Tables,
     connection: Slot,
-    message: MessageItem,
+    message: QueuedMessage,
     status: Status,
 ) -> Option<ActorId>
     requires connection { IsConnectionOf tables.old.linked message connection }
@@ -160,7 +160,7 @@ fn answer(
     system: &System,
     tables: &mut Tables,
     connection: Slot,
-    message: MessageItem,
+    message: QueuedMessage,
     status: Status,
 ) -> Option<ActorId>
     requires connection { IsConnectionOf tables.old.linked message connection }
@@ -212,7 +212,7 @@ pub fn reply(
     let Some(slot) = answerable(tables, actor, handle, status) else {
         return Err(Fault);
     };
-    let message = tables.message(slot);
+    let message = tables.queued(slot);
     let connection = connection_of(tables, slot, message);
     tell_lengths(image, message);
     tables.drop_message(slot);

@@ -15,7 +15,7 @@ ghost use Rattle.handle_table.specs.Handles.{handle_at};
 ghost use Rattle.memory_image.specs.Pieces.{ranges_of, regions_of};
 ghost use Rattle.message_vectors.specs.Vectors.{AreWithin};
 ghost use Rattle.service_calls.specs.Asked.{asked, first_connection, first_message, with_first};
-ghost use Rattle.spm_tables.specs.Desk.{shape_of, spm_of};
+ghost use Rattle.spm_tables.specs.Desk.{fresh_message, queued_as, shape_of, spm_of};
 
 use crate::{get, read, reply, set_rhandle, skip, wait, write};
 use ffm_model::{
@@ -151,6 +151,22 @@ fn accept(rt: &impl Abort, tables: &mut Tables, slot: Slot, phase: ConnPhase)
     tables.tell(slot);
 }
 
+// A message of the first connection, before its delivery.
+fn message_on(slot: Slot, client: ActorId, kind: i32, vectors: Vectors) -> MessageItem
+    ensures message { fresh_message (queued_as 0 result) ≡ first_message client kind vectors None }
+    ensures connection { result.connection ≡ Some slot }
+    ensures undelivered { result.delivered ≡ false }
+{
+    MessageItem {
+        service: 0,
+        client,
+        connection: Some(slot),
+        kind,
+        vectors,
+        delivered: false,
+    }
+}
+
 // Its message goes to the service, and the client waits.
 fn send(
     rt: &impl Abort,
@@ -167,18 +183,7 @@ fn send(
     assert!(rt; tables.messages().live() < tables.messages().size());
     assert!(rt; tables.messages().takes() < 1000);
     assert!(rt; tables.connections().is_live(slot));
-    let serial = tables.connections().connection(slot).serial;
-    assert!(rt; serial == 0);
-    tables.law();
-    tables.enqueue(MessageItem {
-        service: 0,
-        client,
-        connection: Some(slot),
-        serial,
-        kind,
-        vectors,
-        delivered: false,
-    });
+    tables.enqueue(message_on(slot, client, kind, vectors));
     tables.set_phase(client, ActorPhase::Blocked);
 }
 

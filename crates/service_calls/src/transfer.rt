@@ -30,7 +30,7 @@ fn request(tables: &Tables, actor: ActorId, handle: Handle, index: u32) -> Optio
     let Some(slot) = tables.find_message(actor, handle) else {
         return None;
     };
-    if tables.message(slot).kind >= PSA_IPC_CALL && index < PSA_MAX_IOVEC {
+    if tables.queued(slot).kind >= PSA_IPC_CALL && index < PSA_MAX_IOVEC {
         Some(slot)
     } else {
         None
@@ -69,7 +69,7 @@ pub fn skip(
     let Some(slot) = request(tables, actor, handle, index) else {
         return Err(Fault);
     };
-    let mut vectors = tables.message(slot).vectors;
+    let mut vectors = tables.queued(slot).vectors;
     let count = message_vectors::skip(&mut vectors, index, len);
     set_vectors(tables, slot, vectors);
     Ok(count)
@@ -103,7 +103,7 @@ pub fn read(
     if !valid_buffer(system, actor, buffer, len) {
         return Err(Fault);
     }
-    let mut vectors = tables.message(slot).vectors;
+    let mut vectors = tables.queued(slot).vectors;
     let count = message_vectors::read(image, &mut vectors, index, buffer, len);
     set_vectors(tables, slot, vectors);
     Ok(count)
@@ -137,7 +137,7 @@ pub fn write(
     if !valid_buffer(system, actor, buffer, len) {
         return Err(Fault);
     }
-    let mut vectors = tables.message(slot).vectors;
+    let mut vectors = tables.queued(slot).vectors;
     message_vectors::write(image, &mut vectors, index, buffer, len)?;
     set_vectors(tables, slot, vectors);
     Ok(())

@@ -14,7 +14,7 @@ use Rattle.object_pools.specs.Pool.{Places, IsKept, free_slot, item_at, taken, w
 use Rattle.handle_table.specs.Handles.{live_names, slot_name}
 use Rattle.handle_table.specs.Table.{IsTable}
 use Rattle.handle_table.proofs.NameLemmas.{next-name}
-use Rattle.spm_tables.specs.declared.item.MessageItem.{MessageItem}
+use Rattle.spm_tables.specs.declared.item.QueuedMessage.{QueuedMessage}
 use Rattle.spm_tables.specs.Desk.{Desk, MadeFor, Shape, held_message, spm_of}
 use Rattle.slot_names.specs.Named.{IsNamedBy, KeepsNames, NamesAre}
 use Rattle.slot_names.specs.Changes.{Relinks, Rewaits, is_like}
@@ -68,7 +68,7 @@ all-kept old new k was stay =
     ∙ sym was.messages
 
 pub names-length : (d : Desk) (k : NamesSoFar) → NamesAre d k → length k.messages ≡ length d.waiting.held
-names-length d k was = ap (λ (ts : List SlotName). length ts) was.messages ∙ length-map d.waiting.held (λ (h : Held MessageItem). slot_name h.slot)
+names-length d k was = ap (λ (ts : List SlotName). length ts) was.messages ∙ length-map d.waiting.held (λ (h : Held QueuedMessage). slot_name h.slot)
 
 -- ---- no connection or message comes, and no message goes
 
@@ -88,7 +88,7 @@ names-connection s old new slot c changed kept live serial linked waiting =
     names-changed s old new (relinks-to old.linked new.linked (with_item old.linked slot changed) linked (relinks-item 256 old.linked slot c changed kept live serial)) (rewaits-same old.waiting new.waiting waiting)
 
 -- a message changes in its slot
-pub names-message : (s : System) (old new : Desk) (slot : Slot) (m changed : MessageItem) → IsKept 256 old.waiting → item_at old.waiting slot ≡ Some m → changed.serial ≡ m.serial → changed.kind ≡ m.kind
+pub names-message : (s : System) (old new : Desk) (slot : Slot) (m changed : QueuedMessage) → IsKept 256 old.waiting → item_at old.waiting slot ≡ Some m → changed.serial ≡ m.serial → changed.kind ≡ m.kind
     → new.linked ≡ old.linked → new.waiting ≡ with_item old.waiting slot changed → KeepsNames s old new
 names-message s old new slot m changed kept live serial kind linked waiting =
     names-changed s old new (relinks-same old.linked new.linked linked) (rewaits-to old.waiting new.waiting (with_item old.waiting slot changed) waiting (rewaits-item 256 old.waiting slot m changed kept live serial kind))
@@ -106,15 +106,15 @@ connection_slots d s made = ap (λ (h : Shape). h.connections) made
 message_slots : (d : Desk) (s : System) → MadeFor d s → length d.waiting.generations ≡ capacity s
 message_slots d s made = ap (λ (h : Shape). h.messages) made
 
-stay-pushed : (old new : Desk) (slot : Slot) (x : MessageItem) → new.waiting ≡ taken old.waiting slot x → All (λ h. list_any (is_like h) new.waiting.held ≡ true) old.waiting.held
+stay-pushed : (old new : Desk) (slot : Slot) (x : QueuedMessage) → new.waiting ≡ taken old.waiting slot x → All (λ h. list_any (is_like h) new.waiting.held ≡ true) old.waiting.held
 stay-pushed old new slot x waiting =
-    subst (λ (p : Places MessageItem). All (λ h. list_any (is_like h) p.held ≡ true) old.waiting.held) (sym waiting) (stay-own old.waiting.held (record { slot = slot; item = x } ∷ []))
+    subst (λ (p : Places QueuedMessage). All (λ h. list_any (is_like h) p.held ≡ true) old.waiting.held) (sym waiting) (stay-own old.waiting.held (record { slot = slot; item = x } ∷ []))
 
-pushed-length : (old new : Desk) (k : NamesSoFar) (slot : Slot) (x : MessageItem) → NamesAre old k → new.waiting ≡ taken old.waiting slot x → length new.waiting.held ≡ length k.messages + 1
+pushed-length : (old new : Desk) (k : NamesSoFar) (slot : Slot) (x : QueuedMessage) → NamesAre old k → new.waiting ≡ taken old.waiting slot x → length new.waiting.held ≡ length k.messages + 1
 pushed-length old new k slot x was waiting =
-    ap (λ (p : Places MessageItem). length p.held) waiting ∙ omega (arith, length-append old.waiting.held (record { slot = slot; item = x } ∷ []), names-length old k was)
+    ap (λ (p : Places QueuedMessage). length p.held) waiting ∙ omega (arith, length-append old.waiting.held (record { slot = slot; item = x } ∷ []), names-length old k was)
 
-pub names-added : (s : System) (old new : Desk) (slot : Slot) (x : MessageItem) → MadeFor old s → Relinks old.linked new.linked → free_slot old.waiting ≡ Some slot → new.waiting ≡ taken old.waiting slot x → KeepsNames s old new
+pub names-added : (s : System) (old new : Desk) (slot : Slot) (x : QueuedMessage) → MadeFor old s → Relinks old.linked new.linked → free_slot old.waiting ≡ Some slot → new.waiting ≡ taken old.waiting slot x → KeepsNames s old new
 names-added s old new slot x made linked free waiting = λ k was.
     let mid : Desk = record old { linked = new.linked } in
     let between : NamesAre mid k = names-stay old mid k was linked (rewaits-same old.waiting old.waiting refl) in
@@ -122,7 +122,7 @@ names-added s old new slot x made linked free waiting = λ k was.
     (names-enqueued mid new k slot x (capacity s) between (message_slots old s made) free refl waiting)
 
 -- the message of a connection that changes in its slot
-pub names-asked : (s : System) (old new : Desk) (slot place : Slot) (c changed : OpenConnection) (x : MessageItem) → MadeFor old s → IsKept 256 old.linked → item_at old.linked slot ≡ Some c → changed.serial ≡ c.serial
+pub names-asked : (s : System) (old new : Desk) (slot place : Slot) (c changed : OpenConnection) (x : QueuedMessage) → MadeFor old s → IsKept 256 old.linked → item_at old.linked slot ≡ Some c → changed.serial ≡ c.serial
     → new.linked ≡ with_item old.linked slot changed → free_slot old.waiting ≡ Some place → new.waiting ≡ taken old.waiting place x → KeepsNames s old new
 names-asked s old new slot place c changed x made kept live serial linked free waiting =
     names-added s old new place x made (relinks-to old.linked new.linked (with_item old.linked slot changed) linked (relinks-item 256 old.linked slot c changed kept live serial)) free waiting
@@ -136,7 +136,7 @@ live-named ts (h ∷ hs) named =
     ap (λ (t : SlotName). t ∷ map (λ (c : OpenConnection). get_or ts c.serial no_slot) (map (λ (x : Held OpenConnection). x.item) hs)) (All-head (IsNamedBy ts) h hs named)
     ∙ ap (λ (us : List SlotName). slot_name h.slot ∷ us) (live-named ts hs (All-tail (IsNamedBy ts) h hs named))
 
-pub names-connected : (s : System) (old new : Desk) (slot place : Slot) (c : OpenConnection) (x : MessageItem) → MadeFor old s → IsTable old.linked → free_slot old.linked ≡ Some slot → c.serial ≡ old.linked.takes
+pub names-connected : (s : System) (old new : Desk) (slot place : Slot) (c : OpenConnection) (x : QueuedMessage) → MadeFor old s → IsTable old.linked → free_slot old.linked ≡ Some slot → c.serial ≡ old.linked.takes
     → new.linked ≡ taken old.linked slot c → free_slot old.waiting ≡ Some place → new.waiting ≡ taken old.waiting place x → KeepsNames s old new
 names-connected s old new slot place c x made table free serial linked room waiting = λ k was.
     let size : ℕ = capacity s in

@@ -20,7 +20,7 @@ use Rattle.object_pools.specs.Pool.{IsKept, has_slot, item_at}
 use Rattle.handle_table.specs.declared.handles.Family.TheVariants.{Connection, Message}
 use Rattle.handle_table.specs.Handles.{handle_at, slot_name}
 use Rattle.handle_table.proofs.SlotLemmas.{held-of}
-use Rattle.spm_tables.specs.declared.item.MessageItem.{MessageItem}
+use Rattle.spm_tables.specs.declared.item.QueuedMessage.{QueuedMessage}
 use Rattle.spm_tables.specs.Answers.{state_with}
 use Rattle.spm_tables.specs.Desk.{Desk, spm_of, waits_for}
 use Rattle.slot_names.specs.Named.{IsNamedBy, NamesAre}
@@ -71,7 +71,7 @@ due-at-return s d given m a k slot c was live phase = ap (name_at_return k) phas
 -- ---- at psa_get
 
 -- the place of the message that is found has its slot's name
-found-name : (v : ℕ) (hs : List (Held MessageItem)) (h : Held MessageItem) → find (waits_for v) hs ≡ Some h
+found-name : (v : ℕ) (hs : List (Held QueuedMessage)) (h : Held QueuedMessage) → find (waits_for v) hs ≡ Some h
     → (position_or_len (is_undelivered v) (message_list hs) < length (message_list hs)) × (get_or (name_list hs) (position_or_len (is_undelivered v) (message_list hs)) no_slot ≡ slot_name h.slot)
 found-name v [] h e = cc
 found-name v (x ∷ xs) h e =
@@ -79,7 +79,7 @@ found-name v (x ∷ xs) h e =
     let go : (b : Bool) → cond b (Some x) (find (waits_for v) xs) ≡ Some h
     → ((cond (not b) (1 + n) 0) < length (message_list (x ∷ xs))) × (get_or (name_list (x ∷ xs)) (cond (not b) (1 + n) 0) no_slot ≡ slot_name h.slot) =
     elim [
-      | true ↦ λ f. let it : x ≡ h = cc in (omega arith, ap (λ (y : Held MessageItem). slot_name y.slot) it)
+      | true ↦ λ f. let it : x ≡ h = cc in (omega arith, ap (λ (y : Held QueuedMessage). slot_name y.slot) it)
       | false ↦ λ f.
           let rest = found-name v xs h f in
           let next : 1 + n ≡ suc n = omega arith in
@@ -87,7 +87,7 @@ found-name v (x ∷ xs) h e =
     ] in
     go (waits_for v x) e
 
-pub named-message : (d : Desk) (k : NamesSoFar) (v : ℕ) (h : Held MessageItem) → NamesAre d k → find (waits_for v) d.waiting.held ≡ Some h
+pub named-message : (d : Desk) (k : NamesSoFar) (v : ℕ) (h : Held QueuedMessage) → NamesAre d k → find (waits_for v) d.waiting.held ≡ Some h
     → option_map (λ j. name_of 512 (get_or k.messages j no_slot)) (position (is_undelivered v) (spm_of d).messages) ≡ Some (handle_at Message h.slot)
 named-message d k v h was found =
     let ms = message_list d.waiting.held in
@@ -98,7 +98,7 @@ named-message d k v h was found =
     ap (λ (b : Bool). option_map (λ i. name_of 512 (get_or k.messages i no_slot)) (cond b (Some j) None)) below
     ∙ ap (λ (ts : List SlotName). Some (name_of 512 (get_or ts j no_slot))) was.messages ∙ ap (λ (t : SlotName). Some (name_of 512 t)) it.1
 
-pub due-at-get : (s : System) (d : Desk) (given : List Handle) (m : ByteMap) (a signal msg v : ℕ) (k : NamesSoFar) (h : Held MessageItem) → NamesAre d k → service_of_signal s a signal ≡ Some v → find (waits_for v) d.waiting.held ≡ Some h
+pub due-at-get : (s : System) (d : Desk) (given : List Handle) (m : ByteMap) (a signal msg v : ℕ) (k : NamesSoFar) (h : Held QueuedMessage) → NamesAre d k → service_of_signal s a signal ≡ Some v → find (waits_for v) d.waiting.held ≡ Some h
     → name_due s (state_with d given m) a (call.Get signal msg) k ≡ Some (handle_at Message h.slot)
 due-at-get s d given m a signal msg v k h was service found =
     ap (λ (o : Option ℕ). option_map (λ j. name_of 512 (get_or k.messages j no_slot)) (option_and_then (λ i. position (is_undelivered i) (spm_of d).messages) o)) service ∙ named-message d k v h was found

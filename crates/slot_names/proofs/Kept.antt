@@ -10,14 +10,14 @@ use Rattle.ffm_model.specs.declared.objects.PendingMessage.{PendingMessage}
 use Rattle.ffm_model.specs.Names.{SlotName, slots_kept, stays}
 use Rattle.object_pools.specs.declared.slot.Held.{Held}
 use Rattle.handle_table.specs.Handles.{slot_name}
-use Rattle.spm_tables.specs.declared.item.MessageItem.{MessageItem}
+use Rattle.spm_tables.specs.declared.item.QueuedMessage.{QueuedMessage}
 use Rattle.spm_tables.specs.Desk.{held_message}
 use Rattle.slot_names.specs.Changes.{is_like}
 
-abbrev pub name_list : List (Held MessageItem) → List SlotName
-name_list hs = map (λ (h : Held MessageItem). slot_name h.slot) hs
+abbrev pub name_list : List (Held QueuedMessage) → List SlotName
+name_list hs = map (λ (h : Held QueuedMessage). slot_name h.slot) hs
 
-abbrev pub message_list : List (Held MessageItem) → List PendingMessage
+abbrev pub message_list : List (Held QueuedMessage) → List PendingMessage
 message_list hs = map held_message hs
 
 any-map : {X Y : Type 0} (f : X → Y) (p : Y → Bool) (xs : List X) → list_any p (map f xs) ≡ list_any (λ x. p (f x)) xs
@@ -25,28 +25,28 @@ any-map f p [] = refl
 any-map f p (x ∷ xs) = ap (λ b. p (f x) || b) (any-map f p xs)
 
 -- whether a message stays, by the items of the tables
-pub stays-is : (ns : List (Held MessageItem)) (h : Held MessageItem) → stays (message_list ns) (held_message h) ≡ list_any (is_like h) ns
+pub stays-is : (ns : List (Held QueuedMessage)) (h : Held QueuedMessage) → stays (message_list ns) (held_message h) ≡ list_any (is_like h) ns
 stays-is ns h = any-map held_message (λ n. (n.connection == h.item.serial) && int_eq n.kind h.item.kind) ns
 
 -- the slots of the messages that pass a test are those of the items that pass it
-pub kept-where : (p : PendingMessage → Bool) (q : Held MessageItem → Bool) (hs : List (Held MessageItem)) → All (λ h. p (held_message h) ≡ q h) hs
+pub kept-where : (p : PendingMessage → Bool) (q : Held QueuedMessage → Bool) (hs : List (Held QueuedMessage)) → All (λ h. p (held_message h) ≡ q h) hs
     → slots_kept p (message_list hs) (name_list hs) ≡ name_list (filter q hs)
 kept-where p q [] same = refl
 kept-where p q (h ∷ hs) same =
     let rest : slots_kept p (message_list hs) (name_list hs) ≡ name_list (filter q hs) =
     kept-where p q hs (All-tail (λ x. p (held_message x) ≡ q x) h hs same) in
     let go : (b : Bool) → cond {A = List SlotName} b (slot_name h.slot ∷ slots_kept p (message_list hs) (name_list hs)) (slots_kept p (message_list hs) (name_list hs))
-    ≡ name_list (cond {A = List (Held MessageItem)} b (h ∷ filter q hs) (filter q hs)) =
+    ≡ name_list (cond {A = List (Held QueuedMessage)} b (h ∷ filter q hs) (filter q hs)) =
     elim [ true ↦ ap (λ (ts : List SlotName). slot_name h.slot ∷ ts) rest | false ↦ rest ] in
     ap (λ b. cond {A = List SlotName} b (slot_name h.slot ∷ slots_kept p (message_list hs) (name_list hs)) (slots_kept p (message_list hs) (name_list hs)))
     (All-head (λ x. p (held_message x) ≡ q x) h hs same) ∙ go (q h)
 
 -- where all stay
-pub kept-all : (p : PendingMessage → Bool) (hs : List (Held MessageItem)) → All (λ h. p (held_message h) ≡ true) hs → slots_kept p (message_list hs) (name_list hs) ≡ name_list hs
+pub kept-all : (p : PendingMessage → Bool) (hs : List (Held QueuedMessage)) → All (λ h. p (held_message h) ≡ true) hs → slots_kept p (message_list hs) (name_list hs) ≡ name_list hs
 kept-all p hs stay = kept-where p (λ h. true) hs stay ∙ ap name_list (filter-all hs) where
-  filter-all : (xs : List (Held MessageItem)) → filter (λ h. true) xs ≡ xs
+  filter-all : (xs : List (Held QueuedMessage)) → filter (λ h. true) xs ≡ xs
   filter-all [] = refl
-  filter-all (x ∷ xs) = ap (λ (ys : List (Held MessageItem)). x ∷ ys) (filter-all xs)
+  filter-all (x ∷ xs) = ap (λ (ys : List (Held QueuedMessage)). x ∷ ys) (filter-all xs)
 
 or_true : (b : Bool) → (b || true) ≡ true
 or_true true = refl
@@ -60,14 +60,14 @@ any-at q (x ∷ xs) (suc k) d lt e = ap (λ b. q x || b) (any-at q xs k d (omega
 number_itself : (n : ℕ) → (n == n) ≡ true
 number_itself n = grind arith
 
-pub like_itself : (h : Held MessageItem) → is_like h h ≡ true
+pub like_itself : (h : Held QueuedMessage) → is_like h h ≡ true
 like_itself h = ap (λ b. b && int_eq h.item.kind h.item.kind) (number_itself h.item.serial) ∙ (Decides-int_eq h.item.kind h.item.kind).1 refl
 
 -- each message of the first part stays
-pub stay-own : (hs rest : List (Held MessageItem)) → All (λ h. list_any (is_like h) (hs ++ rest) ≡ true) hs
+pub stay-own : (hs rest : List (Held QueuedMessage)) → All (λ h. list_any (is_like h) (hs ++ rest) ≡ true) hs
 stay-own hs rest = λ k d lt.
-    let h : Held MessageItem = get_or hs k d in
+    let h : Held QueuedMessage = get_or hs k d in
     list_any-append (is_like h) hs rest ∙ ap (λ b. b || list_any (is_like h) rest) (any-at (is_like h) hs k d lt (like_itself h))
 
-pub stay-all : (hs : List (Held MessageItem)) → All (λ h. list_any (is_like h) hs ≡ true) hs
+pub stay-all : (hs : List (Held QueuedMessage)) → All (λ h. list_any (is_like h) hs ≡ true) hs
 stay-all hs = λ k d lt. any-at (is_like (get_or hs k d)) hs k d lt (like_itself (get_or hs k d))

@@ -17,7 +17,7 @@ use Rattle.handle_table.specs.Table.{IsTable, Rises, connections}
 use Rattle.handle_table.proofs.NameLemmas.{next-name, past-after}
 use Rattle.handle_table.proofs.SlotLemmas.{held-of, one_slot}
 use Rattle.handle_table.proofs.TableLemmas.{rises-bounds}
-use Rattle.spm_tables.specs.declared.item.MessageItem.{MessageItem}
+use Rattle.spm_tables.specs.declared.item.QueuedMessage.{QueuedMessage}
 use Rattle.spm_tables.specs.Desk.{Desk}
 use Rattle.slot_names.specs.Named.{NamesAre, IsNamedBy}
 use Rattle.slot_names.specs.Changes.{Relinks, Rewaits, is_like}
@@ -118,18 +118,18 @@ relinks-some p f same = record { generations = refl; takes = refl; held = λ ts 
       ] in
       go (f h) refl
 
-pub rewaits-same : (old new : Places MessageItem) → new ≡ old → Rewaits old new
+pub rewaits-same : (old new : Places QueuedMessage) → new ≡ old → Rewaits old new
 rewaits-same old new same = record {
-  generations = ap (λ (p : Places MessageItem). p.generations) same;
-  takes = ap (λ (p : Places MessageItem). p.takes) same;
+  generations = ap (λ (p : Places QueuedMessage). p.generations) same;
+  takes = ap (λ (p : Places QueuedMessage). p.takes) same;
   names = ap live_names same;
-  alike = λ h. ap (λ (p : Places MessageItem). list_any (is_like h) p.held) same;
+  alike = λ h. ap (λ (p : Places QueuedMessage). list_any (is_like h) p.held) same;
 }
 
-pub rewaits-to : (old new changed : Places MessageItem) → new ≡ changed → Rewaits old changed → Rewaits old new
+pub rewaits-to : (old new changed : Places QueuedMessage) → new ≡ changed → Rewaits old changed → Rewaits old new
 rewaits-to old new changed same it = subst (Rewaits old) (sym same) it
 
-pub rewaits-trans : (old mid new : Places MessageItem) → Rewaits old mid → Rewaits mid new → Rewaits old new
+pub rewaits-trans : (old mid new : Places QueuedMessage) → Rewaits old mid → Rewaits mid new → Rewaits old new
 rewaits-trans old mid new one two = record {
   generations = two.generations ∙ one.generations;
   takes = two.takes ∙ one.takes;
@@ -137,27 +137,27 @@ rewaits-trans old mid new one two = record {
   alike = λ h. two.alike h ∙ one.alike h;
 }
 
-names-put : (s : Slot) (m : MessageItem) (hs : List (Held MessageItem)) → name_list (map (item_put s m) hs) ≡ name_list hs
+names-put : (s : Slot) (m : QueuedMessage) (hs : List (Held QueuedMessage)) → name_list (map (item_put s m) hs) ≡ name_list hs
 names-put s m [] = refl
 names-put s m (h ∷ hs) = ap (λ (u : Slot). slot_name u ∷ name_list (map (item_put s m) hs)) (put-slot s m h) ∙ ap (λ (ts : List SlotName). slot_name h.slot ∷ ts) (names-put s m hs)
 
-like-put : (s : Slot) (m : MessageItem) (x h : Held MessageItem) → (has_slot s h ≡ true → (h.item.serial ≡ m.serial) × (h.item.kind ≡ m.kind)) → is_like x (item_put s m h) ≡ is_like x h
+like-put : (s : Slot) (m : QueuedMessage) (x h : Held QueuedMessage) → (has_slot s h ≡ true → (h.item.serial ≡ m.serial) × (h.item.kind ≡ m.kind)) → is_like x (item_put s m h) ≡ is_like x h
 like-put s m x h same =
-    let go : (b : Bool) → has_slot s h ≡ b → is_like x (cond {A = Held MessageItem} b (record h { item = m }) h) ≡ is_like x h =
+    let go : (b : Bool) → has_slot s h ≡ b → is_like x (cond {A = Held QueuedMessage} b (record h { item = m }) h) ≡ is_like x h =
     elim [
       | true ↦ λ e. ap (λ n. (n == x.item.serial) && int_eq m.kind x.item.kind) (sym (same e).0) ∙ ap (λ (z : ℤ). (h.item.serial == x.item.serial) && int_eq z x.item.kind) (sym (same e).1)
       | false ↦ λ e. refl
     ] in
     go (has_slot s h) refl
 
-likes-put : (s : Slot) (m : MessageItem) (x : Held MessageItem) (hs : List (Held MessageItem)) → All (λ h. has_slot s h ≡ true → (h.item.serial ≡ m.serial) × (h.item.kind ≡ m.kind)) hs
+likes-put : (s : Slot) (m : QueuedMessage) (x : Held QueuedMessage) (hs : List (Held QueuedMessage)) → All (λ h. has_slot s h ≡ true → (h.item.serial ≡ m.serial) × (h.item.kind ≡ m.kind)) hs
     → list_any (is_like x) (map (item_put s m) hs) ≡ list_any (is_like x) hs
 likes-put s m x [] same = refl
 likes-put s m x (h ∷ hs) same =
-    let P : Held MessageItem → Type 0 = λ y. has_slot s y ≡ true → (y.item.serial ≡ m.serial) × (y.item.kind ≡ m.kind) in
+    let P : Held QueuedMessage → Type 0 = λ y. has_slot s y ≡ true → (y.item.serial ≡ m.serial) × (y.item.kind ≡ m.kind) in
     ap (λ b. b || list_any (is_like x) (map (item_put s m) hs)) (like-put s m x h (All-head P h hs same)) ∙ ap (λ b. is_like x h || b) (likes-put s m x hs (All-tail P h hs same))
 
-pub rewaits-item : (capacity : ℕ) (p : Places MessageItem) (s : Slot) (m changed : MessageItem) → IsKept capacity p → item_at p s ≡ Some m → changed.serial ≡ m.serial → changed.kind ≡ m.kind → Rewaits p (with_item p s changed)
+pub rewaits-item : (capacity : ℕ) (p : Places QueuedMessage) (s : Slot) (m changed : QueuedMessage) → IsKept capacity p → item_at p s ≡ Some m → changed.serial ≡ m.serial → changed.kind ≡ m.kind → Rewaits p (with_item p s changed)
 rewaits-item capacity p s m changed kept live serial kind = record {
   generations = refl;
   takes = refl;
@@ -166,7 +166,7 @@ rewaits-item capacity p s m changed kept live serial kind = record {
       likes-put s changed x p.held
       (λ k d lt e.
       let it : (get_or p.held k d).item ≡ m = only-item capacity p s m kept live k d lt e in
-      (ap (λ (y : MessageItem). y.serial) it ∙ sym serial, ap (λ (y : MessageItem). y.kind) it ∙ sym kind));
+      (ap (λ (y : QueuedMessage). y.serial) it ∙ sym serial, ap (λ (y : QueuedMessage). y.kind) it ∙ sym kind));
 }
 
 -- ---- the names of changed tables
@@ -231,7 +231,7 @@ one_more size k =
     record k { messages = k.messages ++ t ∷ []; past_messages = k.past_messages ++ t ∷ [] }
 
 -- a message is taken in
-pub names-enqueued : (old new : Desk) (k : NamesSoFar) (slot : Slot) (x : MessageItem) (size : ℕ) → NamesAre old k → length old.waiting.generations ≡ size → free_slot old.waiting ≡ Some slot
+pub names-enqueued : (old new : Desk) (k : NamesSoFar) (slot : Slot) (x : QueuedMessage) (size : ℕ) → NamesAre old k → length old.waiting.generations ≡ size → free_slot old.waiting ≡ Some slot
     → new.linked ≡ old.linked → new.waiting ≡ taken old.waiting slot x → NamesAre new (one_more size k)
 names-enqueued old new k slot x size was wide free linked waiting =
     let t : SlotName = slot_name slot in
@@ -242,7 +242,7 @@ names-enqueued old new k slot x size was wide free linked waiting =
       made = was.made;
       connections = was.connections;
       past_connections = was.past_connections;
-      messages = ap (λ (ts : List SlotName). ts ++ t ∷ []) was.messages ∙ sym (map-push (λ (h : Held MessageItem). slot_name h.slot) old.waiting.held (record { slot = slot; item = x }));
+      messages = ap (λ (ts : List SlotName). ts ++ t ∷ []) was.messages ∙ sym (map-push (λ (h : Held QueuedMessage). slot_name h.slot) old.waiting.held (record { slot = slot; item = x }));
       past_messages = past-after old.waiting k.past_messages slot x was.past_messages free;
       sent = omega (arith, length-append k.past_messages (t ∷ []), was.sent);
     } in

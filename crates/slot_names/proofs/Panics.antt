@@ -23,7 +23,7 @@ use Rattle.counting_law.proofs.Panic.{count-append}
 use Rattle.counting_law.proofs.Pairs.{count-split, member-counts}
 use Rattle.counting_law.proofs.Slots.{same-self}
 use Rattle.counting_law.proofs.Takes.{same_message}
-use Rattle.spm_tables.specs.declared.item.MessageItem.{MessageItem}
+use Rattle.spm_tables.specs.declared.item.QueuedMessage.{QueuedMessage}
 use Rattle.spm_tables.specs.Desk.{Desk, held_message, spm_of}
 use Rattle.slot_names.specs.Named.{KeepsNames, NamesAre}
 use Rattle.slot_names.specs.Changes.{OneMessageEach, PairsOff, Relinks, Rewaits, TakesOn, names_of}
@@ -45,16 +45,16 @@ pub takes-dropped : (size : ℕ) (old d new : Desk) (kept : List SlotName) → T
 takes-dropped size old d new kept so_far linked generations takes = λ k was. names-with d new (record k { messages = kept }) (live_names new.waiting) (so_far k was) linked generations takes refl
 
 -- all at once, before the first take
-pub takes-first : (size : ℕ) (old new : Desk) (q : Held MessageItem → Bool) → Relinks old.linked new.linked → new.waiting ≡ record old.waiting { held = filter q old.waiting.held }
+pub takes-first : (size : ℕ) (old new : Desk) (q : Held QueuedMessage → Bool) → Relinks old.linked new.linked → new.waiting ≡ record old.waiting { held = filter q old.waiting.held }
     → TakesOn size old (names_of q old.waiting) 0 new
 takes-first size old new q linked waiting = λ k was.
-    names-with old new k (names_of q old.waiting) was linked (ap (λ (p : Places MessageItem). p.generations) waiting) (ap (λ (p : Places MessageItem). p.takes) waiting)
+    names-with old new k (names_of q old.waiting) was linked (ap (λ (p : Places QueuedMessage). p.generations) waiting) (ap (λ (p : Places QueuedMessage). p.takes) waiting)
     (ap live_names (sym waiting))
 
 -- the message of a slot goes
 pub takes-without : (size : ℕ) (old d new : Desk) (kept : List SlotName) (place : Slot) → TakesOn size old kept 0 d → Relinks d.linked new.linked → new.waiting ≡ without d.waiting place → TakesOn size old (live_names new.waiting) 0 new
 takes-without size old d new kept place so_far linked waiting =
-    takes-dropped size old d new kept so_far linked (ap (λ (p : Places MessageItem). p.generations) waiting) (ap (λ (p : Places MessageItem). p.takes) waiting)
+    takes-dropped size old d new kept so_far linked (ap (λ (p : Places QueuedMessage). p.generations) waiting) (ap (λ (p : Places QueuedMessage). p.takes) waiting)
 
 -- connections go or change in their slots, and messages change in theirs
 pub takes-stay : (size : ℕ) (old d new : Desk) (kept : List SlotName) (n : ℕ) → TakesOn size old kept n d → Relinks d.linked new.linked → Rewaits d.waiting new.waiting → TakesOn size old kept n new
@@ -64,7 +64,7 @@ pub takes-relinked : (size : ℕ) (old d new : Desk) (kept : List SlotName) (n :
 takes-relinked size old d new kept n so_far linked waiting = takes-stay size old d new kept n so_far linked (rewaits-same d.waiting new.waiting waiting)
 
 -- a message is taken in
-pub takes-more : (size : ℕ) (old d new : Desk) (kept : List SlotName) (n : ℕ) (slot : Slot) (x : MessageItem) → TakesOn size old kept n d → length d.waiting.generations ≡ size → free_slot d.waiting ≡ Some slot
+pub takes-more : (size : ℕ) (old d new : Desk) (kept : List SlotName) (n : ℕ) (slot : Slot) (x : QueuedMessage) → TakesOn size old kept n d → length d.waiting.generations ≡ size → free_slot d.waiting ≡ Some slot
     → Relinks d.linked new.linked → new.waiting ≡ taken d.waiting slot x → TakesOn size old kept (n + 1) new
 takes-more size old d new kept n slot x so_far wide free linked waiting = λ k was.
     let k' : NamesSoFar = record k { messages = kept } in
@@ -88,13 +88,13 @@ pub names-closed : (s : System) (old new : Desk) (r : PendingMessage → Bool) (
     → kept ≡ names_of (λ h. r (held_message h)) old.waiting → new.linked.takes ≡ old.linked.takes → (spm_of new).messages ≡ filter r (spm_of old).messages ++ added
     → OneMessageEach (spm_of old) → All (λ m. r m ≡ false → stays added m ≡ false) (spm_of old).messages → KeepsNames s old new
 names-closed s old new r added kept n so_far names made messages one apart = λ k was.
-    let hs : List (Held MessageItem) = old.waiting.held in
+    let hs : List (Held QueuedMessage) = old.waiting.held in
     let ms : List PendingMessage = message_list hs in
     let now : NamesAre new (with_messages (capacity s) n (record k { messages = kept })) = so_far k was in
     let part : All (λ m. stays (filter r ms ++ added) m ≡ r m) ms = like-kept same_message (λ m. m.connection) same-self same-narrow r ms added one apart in
     let stay : All (λ h. stays (message_list new.waiting.held) (held_message h) ≡ r (held_message h)) hs =
     λ i d lt.
-    let h : Held MessageItem = get_or hs i d in
+    let h : Held QueuedMessage = get_or hs i d in
     let at : get_or ms i (held_message d) ≡ held_message h = get_or-map held_message hs i d (held_message d) lt in
     ap (λ (ns : List PendingMessage). stays ns (held_message h)) messages
     ∙ subst (λ (m : PendingMessage). stays (filter r ms ++ added) m ≡ r m) at (part i (held_message d) (omega (arith, lt, length-map hs held_message))) in

@@ -16,7 +16,7 @@ use Rattle.handle_table.proofs.Twins.{count-map}
 use Rattle.counting_law.specs.Objects.{ObjectsFit, Mark, is_awaited, connection_marked}
 use Rattle.counting_law.proofs.Counts.{bit, count-le}
 use Rattle.counting_law.proofs.Parts.{both-le-left, both-le-right, unique}
-use Rattle.spm_tables.specs.declared.item.MessageItem.{MessageItem}
+use Rattle.spm_tables.specs.declared.item.QueuedMessage.{QueuedMessage}
 use Rattle.spm_tables.specs.Desk.{Desk, held_message, spm_of}
 use Rattle.slot_names.specs.Named.{KeepsNames, NamesAre}
 use Rattle.slot_names.specs.Changes.{OneMessageEach, PairsOff, Relinks, is_like}
@@ -46,27 +46,27 @@ fitting-messages s b h = one-message b (fitting-pairs-off s b h)
 pub one-item : (d : Desk) → OneMessageEach (spm_of d) → (n : ℕ) → count_by (λ h. h.item.serial == n) d.waiting.held ≤ 1
 one-item d one n = omega (arith, one n, count-map held_message (λ m. m.connection == n) d.waiting.held)
 
-pub like-narrow : (h x : Held MessageItem) → bit (is_like h x) ≤ bit (x.item.serial == h.item.serial)
+pub like-narrow : (h x : Held QueuedMessage) → bit (is_like h x) ≤ bit (x.item.serial == h.item.serial)
 like-narrow h x = both-le-left (x.item.serial == h.item.serial) (int_eq x.item.kind h.item.kind)
 
 -- the messages that pass the test stay, and the others go
-pub names-removed : (s : System) (old new : Desk) (q : Held MessageItem → Bool) → OneMessageEach (spm_of old) → Relinks old.linked new.linked
+pub names-removed : (s : System) (old new : Desk) (q : Held QueuedMessage → Bool) → OneMessageEach (spm_of old) → Relinks old.linked new.linked
     → new.waiting ≡ record old.waiting { held = filter q old.waiting.held } → KeepsNames s old new
 names-removed s old new q one linked waiting = λ k was.
-    let hs : List (Held MessageItem) = old.waiting.held in
+    let hs : List (Held QueuedMessage) = old.waiting.held in
     let ts = name_list (filter q hs) in
-    let held : new.waiting.held ≡ filter q hs = ap (λ (p : Places MessageItem). p.held) waiting in
+    let held : new.waiting.held ≡ filter q hs = ap (λ (p : Places QueuedMessage). p.held) waiting in
     let apart : All (λ h. list_any (is_like h) (filter q hs ++ []) ≡ q h) hs =
     like-kept is_like (λ h. h.item.serial) like_itself like-narrow q hs [] (one-item old one) (λ i d lt e. refl) in
     let stay : All (λ h. stays (message_list new.waiting.held) (held_message h) ≡ q h) hs =
     λ i d lt.
-    let h : Held MessageItem = get_or hs i d in
-    ap (λ (ns : List (Held MessageItem)). stays (message_list ns) (held_message h)) (held ∙ sym (append-nil (filter q hs))) ∙ stays-is (filter q hs ++ []) h ∙ apart i d lt in
+    let h : Held QueuedMessage = get_or hs i d in
+    ap (λ (ns : List (Held QueuedMessage)). stays (message_list ns) (held_message h)) (held ∙ sym (append-nil (filter q hs))) ∙ stays-is (filter q hs ++ []) h ∙ apart i d lt in
     let kept : kept_names old new k.messages ≡ ts = ap (kept_names old new) was.messages ∙ kept-where (stays (message_list new.waiting.held)) q hs stay in
     let longer : length new.waiting.held ≡ length ts + 0 =
-    ap (λ (ns : List (Held MessageItem)). length ns) held ∙ omega (arith, length-map (filter q hs) (λ (h : Held MessageItem). slot_name h.slot)) in
+    ap (λ (ns : List (Held QueuedMessage)). length ns) held ∙ omega (arith, length-map (filter q hs) (λ (h : Held QueuedMessage). slot_name h.slot)) in
     subst (NamesAre new) (sym (after-is s old new k ts 0 kept longer linked.takes))
-    (names-with old new k ts was linked (ap (λ (p : Places MessageItem). p.generations) waiting) (ap (λ (p : Places MessageItem). p.takes) waiting) (ap name_list (sym held)))
+    (names-with old new k ts was linked (ap (λ (p : Places QueuedMessage). p.generations) waiting) (ap (λ (p : Places QueuedMessage). p.takes) waiting) (ap name_list (sym held)))
 
 -- ---- a reply
 

@@ -10,7 +10,7 @@ use Rattle.object_pools.specs.declared.slot.Held.{Held}
 use Rattle.object_pools.specs.Pool.{Places}
 use Rattle.handle_table.specs.Handles.{live_names, slot_name}
 use Rattle.counting_law.specs.Objects.{Mark, RisesTo, connection_marked, message_marked}
-use Rattle.spm_tables.specs.declared.item.MessageItem.{MessageItem}
+use Rattle.spm_tables.specs.declared.item.QueuedMessage.{QueuedMessage}
 use Rattle.spm_tables.specs.Desk.{Desk}
 use Rattle.slot_names.specs.Named.{IsNamedBy, NamesAre}
 
@@ -21,19 +21,19 @@ pub record Relinks (old new : Places OpenConnection) : Type 0 where
   pub held : (ts : List SlotName) → All (IsNamedBy ts) old.held → All (IsNamedBy ts) new.held
 
 -- a message of the same connection and kind
-abbrev pub is_like : Held MessageItem → Held MessageItem → Bool
+abbrev pub is_like : Held QueuedMessage → Held QueuedMessage → Bool
 is_like h n = (n.item.serial == h.item.serial) && int_eq n.item.kind h.item.kind
 
 -- no message comes or goes, and each has the slot, connection and kind that it had
-pub record Rewaits (old new : Places MessageItem) : Type 0 where
+pub record Rewaits (old new : Places QueuedMessage) : Type 0 where
   pub generations : new.generations ≡ old.generations
   pub takes : new.takes ≡ old.takes
   pub names : live_names new ≡ live_names old
-  pub alike : (h : Held MessageItem) → list_any (is_like h) new.held ≡ list_any (is_like h) old.held
+  pub alike : (h : Held QueuedMessage) → list_any (is_like h) new.held ≡ list_any (is_like h) old.held
 
 -- the slots of the messages that pass the test
-abbrev pub names_of : (Held MessageItem → Bool) → Places MessageItem → List SlotName
-names_of q p = map (λ (h : Held MessageItem). slot_name h.slot) (filter q p.held)
+abbrev pub names_of : (Held QueuedMessage → Bool) → Places QueuedMessage → List SlotName
+names_of q p = map (λ (h : Held QueuedMessage). slot_name h.slot) (filter q p.held)
 
 -- since the tables `old`, only the messages whose slots are `kept` stayed, and then n more were taken in
 abbrev pub TakesOn : ℕ → Desk → List SlotName → ℕ → Desk → Type 0

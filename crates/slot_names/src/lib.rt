@@ -24,7 +24,7 @@ ghost use Rattle.handle_table.specs.declared.handles.Family.TheVariants as famil
 ghost use Rattle.handle_table.specs.Handles.{handle_at};
 ghost use Rattle.handle_table.specs.Table.{IsTable};
 ghost use Rattle.counting_law.specs.Objects.{ObjectsFit};
-ghost use Rattle.spm_tables.specs.declared.item.MessageItem.{MessageItem};
+ghost use Rattle.spm_tables.specs.declared.item.QueuedMessage.{QueuedMessage};
 ghost use Rattle.spm_tables.specs.Answers.{state_with};
 ghost use Rattle.spm_tables.specs.Desk.{Desk, MadeFor, spm_of, waits_for};
 ghost use Rattle.slot_names.specs.Named.{KeepsNames, NamesAre};
@@ -36,16 +36,16 @@ pub fn slots_follow_names()
     ensures untouched { (s : System) (old new : Desk) → new.linked ≡ old.linked → new.waiting ≡ old.waiting → KeepsNames s old new }
     ensures connection_changes { (s : System) (old new : Desk) (slot : Slot) (c changed : OpenConnection) → IsKept 256 old.linked → item_at old.linked slot ≡ Some c → changed.serial ≡ c.serial
         → new.linked ≡ with_item old.linked slot changed → new.waiting ≡ old.waiting → KeepsNames s old new }
-    ensures message_changes { (s : System) (old new : Desk) (place : Slot) (m changed : MessageItem) → IsKept 256 old.waiting → item_at old.waiting place ≡ Some m → changed.serial ≡ m.serial → changed.kind ≡ m.kind
+    ensures message_changes { (s : System) (old new : Desk) (place : Slot) (m changed : QueuedMessage) → IsKept 256 old.waiting → item_at old.waiting place ≡ Some m → changed.serial ≡ m.serial → changed.kind ≡ m.kind
         → new.linked ≡ old.linked → new.waiting ≡ with_item old.waiting place changed → KeepsNames s old new }
 
     // psa_connect
-    ensures connection_is_made { (s : System) (old new : Desk) (slot place : Slot) (c : OpenConnection) (m : MessageItem) → MadeFor old s → IsTable old.linked
+    ensures connection_is_made { (s : System) (old new : Desk) (slot place : Slot) (c : OpenConnection) (m : QueuedMessage) → MadeFor old s → IsTable old.linked
         → free_slot old.linked ≡ Some slot → c.serial ≡ old.linked.takes → new.linked ≡ taken old.linked slot c
         → free_slot old.waiting ≡ Some place → new.waiting ≡ taken old.waiting place m → KeepsNames s old new }
 
     // psa_call, and psa_close of a connection that isn't dead
-    ensures message_is_sent { (s : System) (old new : Desk) (slot place : Slot) (c changed : OpenConnection) (m : MessageItem) → MadeFor old s → IsKept 256 old.linked
+    ensures message_is_sent { (s : System) (old new : Desk) (slot place : Slot) (c changed : OpenConnection) (m : QueuedMessage) → MadeFor old s → IsKept 256 old.linked
         → item_at old.linked slot ≡ Some c → changed.serial ≡ c.serial → new.linked ≡ with_item old.linked slot changed
         → free_slot old.waiting ≡ Some place → new.waiting ≡ taken old.waiting place m → KeepsNames s old new }
 
@@ -62,10 +62,10 @@ pub fn slots_follow_names()
 /// An event that first removes connections and messages and then takes messages in, one after another, keeps the
 /// names: so does a panic. A reply and the panic that it owes are one event.
 pub fn panics_follow_names()
-    ensures messages_go { (size : ℕ) (old new : Desk) (stay : Held MessageItem → Bool) → Relinks old.linked new.linked → new.waiting ≡ record old.waiting { held = filter stay old.waiting.held }
+    ensures messages_go { (size : ℕ) (old new : Desk) (stay : Held QueuedMessage → Bool) → Relinks old.linked new.linked → new.waiting ≡ record old.waiting { held = filter stay old.waiting.held }
         → TakesOn size old (names_of stay old.waiting) 0 new }
     ensures connections_go { (size : ℕ) (old mid new : Desk) (kept : List SlotName) (n : ℕ) → TakesOn size old kept n mid → Relinks mid.linked new.linked → new.waiting ≡ mid.waiting → TakesOn size old kept n new }
-    ensures message_comes { (size : ℕ) (old mid new : Desk) (kept : List SlotName) (n : ℕ) (place : Slot) (m : MessageItem) → TakesOn size old kept n mid → length mid.waiting.generations ≡ size
+    ensures message_comes { (size : ℕ) (old mid new : Desk) (kept : List SlotName) (n : ℕ) (place : Slot) (m : QueuedMessage) → TakesOn size old kept n mid → length mid.waiting.generations ≡ size
         → free_slot mid.waiting ≡ Some place → Relinks mid.linked new.linked → new.waiting ≡ taken mid.waiting place m → TakesOn size old kept (n + 1) new }
     ensures panic { (s : System) (old new : Desk) (partition : ℕ) (kept : List SlotName) (n : ℕ) → PairsOff (spm_of old) → spm_of new ≡ panic_effect s (spm_of old) partition
         → kept ≡ names_of (λ h. not (is_service_of s partition h.item.service)) old.waiting → TakesOn (capacity s) old kept n new → KeepsNames s old new }
@@ -82,6 +82,6 @@ pub fn handles_are_names()
     ensures opening { (s : System) (d : Desk) → IsKept 256 d.linked → IsKept 256 d.waiting → spm_of d ≡ opening_spm s → d.waiting.takes ≡ 0 → NamesAre d no_names }
     ensures at_return { (s : System) (d : Desk) (given : List Handle) (m : ByteMap) (a : ℕ) (k : NamesSoFar) (slot : Slot) (c : OpenConnection) → NamesAre d k → item_at d.linked slot ≡ Some c
         → phase_of (spm_of d) a ≡ actor.Connected c.serial → name_due s (state_with d given m) a call.Resume k ≡ Some (handle_at family.Connection slot) }
-    ensures at_get { (s : System) (d : Desk) (given : List Handle) (m : ByteMap) (a signal msg service : ℕ) (k : NamesSoFar) (h : Held MessageItem) → NamesAre d k → service_of_signal s a signal ≡ Some service
+    ensures at_get { (s : System) (d : Desk) (given : List Handle) (m : ByteMap) (a signal msg service : ℕ) (k : NamesSoFar) (h : Held QueuedMessage) → NamesAre d k → service_of_signal s a signal ≡ Some service
         → find (waits_for service) d.waiting.held ≡ Some h → name_due s (state_with d given m) a (call.Get signal msg) k ≡ Some (handle_at family.Message h.slot) }
 {}

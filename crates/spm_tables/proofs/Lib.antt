@@ -6,3 +6,4 @@ pub mod QueueUpdates
 pub mod QueueMessages
 pub mod WordLemmas
 pub mod SlotLemmas
+pub mod PoolLemmas

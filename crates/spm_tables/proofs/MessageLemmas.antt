@@ -20,7 +20,7 @@ use Rattle.handle_table.specs.declared.handles.Family.TheVariants.{Message}
 use Rattle.handle_table.specs.Handles.{handle_at, IsNameable}
 use Rattle.handle_table.proofs.SlotLemmas.{both, has_own, one_slot, slot-is, held-of, nameable, nameable-at}
 use Rattle.handle_table.proofs.Twins.{find-passes, count-found, twin-put, twin-out, twin-find, find-all_fail}
-use Rattle.spm_tables.specs.declared.item.MessageItem.{MessageItem}
+use Rattle.spm_tables.specs.declared.item.QueuedMessage.{QueuedMessage}
 use Rattle.spm_tables.specs.declared.signals.OwnedSignal.{OwnedSignal}
 use Rattle.spm_tables.specs.Desk.{Desk, Shape, MadeFor, spm_of, message_of, message_at, held_message, shown_handle, waits_for, is_owned, service_signal}
 
@@ -85,49 +85,49 @@ pub own-handle : (k : Handle) → handle_eq k k ≡ true
 own-handle k = (Decides-int_eq k.0 k.0).1 refl
 
 -- what shows a handle was delivered, and its slot gives that handle
-shown-is : (h : Held MessageItem) (k : Handle) → has_handle (shown_handle h.item.delivered h.slot) k ≡ true → handle_at Message h.slot ≡ k
+shown-is : (h : Held QueuedMessage) (k : Handle) → has_handle (shown_handle h.item.delivered h.slot) k ≡ true → handle_at Message h.slot ≡ k
 shown-is h k e =
     let go : (b : Bool) → has_handle (shown_handle b h.slot) k ≡ true → handle_at Message h.slot ≡ k =
     elim [ true ↦ λ f. let it : Some (handle_at Message h.slot) ≡ Some k = handle-is (Some (handle_at Message h.slot)) k f in cc | false ↦ λ f. cc ] in
     go h.item.delivered e
 
-has_same : (s : Slot) (h : Held MessageItem) → h.slot ≡ s → has_slot s h ≡ true
+has_same : (s : Slot) (h : Held QueuedMessage) → h.slot ≡ s → has_slot s h ≡ true
 has_same s h e = ap (λ (t : Slot). (t.index == s.index) && (t.generation == s.generation)) e ∙ has_own s
 
 abbrev pub shows : Handle → PendingMessage → Bool
 shows k m = has_handle m.handle k
 
-narrow-slot : (p : Places MessageItem) (s : Slot) → IsKept 256 p → IsNameable s → All (λ h. shows (handle_at Message s) (held_message h) ≡ true → has_slot s h ≡ true) p.held
+narrow-slot : (p : Places QueuedMessage) (s : Slot) → IsKept 256 p → IsNameable s → All (λ h. shows (handle_at Message s) (held_message h) ≡ true → has_slot s h ≡ true) p.held
 narrow-slot p s kept named =
     All-weaker (λ h. IsNameable h.slot) (λ h. shows (handle_at Message s) (held_message h) ≡ true → has_slot s h ≡ true)
     (λ h n e. has_same s h (equal-slots h.slot s n named (shown-is h (handle_at Message s) e))) p.held (nameable p kept)
 
-shown-once : (p : Places MessageItem) (s : Slot) → IsKept 256 p → IsNameable s → count_by (λ h. shows (handle_at Message s) (held_message h)) p.held ≤ 1
+shown-once : (p : Places QueuedMessage) (s : Slot) → IsKept 256 p → IsNameable s → count_by (λ h. shows (handle_at Message s) (held_message h)) p.held ≤ 1
 shown-once p s kept named =
     omega (arith, one_slot 256 p s kept, count-narrow (λ h. shows (handle_at Message s) (held_message h)) (has_slot s) p.held (narrow-slot p s kept named))
 
-shows-own : (h : Held MessageItem) (m : MessageItem) (s : Slot) → h.item ≡ m → h.slot ≡ s → m.delivered ≡ true → shows (handle_at Message s) (held_message h) ≡ true
+shows-own : (h : Held QueuedMessage) (m : QueuedMessage) (s : Slot) → h.item ≡ m → h.slot ≡ s → m.delivered ≡ true → shows (handle_at Message s) (held_message h) ≡ true
 shows-own h m s item slot on =
-    ap (λ (i : MessageItem). has_handle (shown_handle i.delivered h.slot) (handle_at Message s)) item
+    ap (λ (i : QueuedMessage). has_handle (shown_handle i.delivered h.slot) (handle_at Message s)) item
     ∙ ap (λ (b : Bool). has_handle (shown_handle b h.slot) (handle_at Message s)) on
     ∙ ap (λ (t : Slot). handle_eq (handle_at Message t) (handle_at Message s)) slot
     ∙ own-handle (handle_at Message s)
 
 -- ---- changes of a delivered message
 
-pub vectors-state : (d : Desk) (s : Slot) (m : MessageItem) (v : Vectors) → IsKept 256 d.waiting → item_at d.waiting s ≡ Some m → m.delivered ≡ true
+pub vectors-state : (d : Desk) (s : Slot) (m : QueuedMessage) (v : Vectors) → IsKept 256 d.waiting → item_at d.waiting s ≡ Some m → m.delivered ≡ true
     → spm_of (record d { waiting = with_item d.waiting s (record m { vectors = v }) }) ≡ with_vectors (spm_of d) (handle_at Message s) v
 vectors-state d s m v kept live on =
     let it = held-of d.waiting s m live in
     let named : IsNameable s = nameable-at d.waiting s m kept live in
     let same : held_message (record it.0 { item = record m { vectors = v } }) ≡ record (held_message it.0) { vectors = v } =
-    ap (λ (i : MessageItem). message_of (it.0).slot (record i { vectors = v })) (sym it.2) in
+    ap (λ (i : QueuedMessage). message_of (it.0).slot (record i { vectors = v })) (sym it.2) in
     let messages : map held_message (with_item d.waiting s (record m { vectors = v })).held ≡ (with_vectors (spm_of d) (handle_at Message s) v).messages =
     twin-put held_message (has_slot s) (shows (handle_at Message s)) (λ h. record h { item = record m { vectors = v } }) (λ n. record n { vectors = v }) it.0 same
     (shows-own it.0 m s it.2 it.3 on) d.waiting.held it.1 (one_slot 256 d.waiting s kept) (shown-once d.waiting s kept named) in
     ap (λ (ms : List PendingMessage). record (spm_of d) { messages = ms }) messages
 
-pub dropped-state : (d : Desk) (s : Slot) (m : MessageItem) → IsKept 256 d.waiting → item_at d.waiting s ≡ Some m → m.delivered ≡ true
+pub dropped-state : (d : Desk) (s : Slot) (m : QueuedMessage) → IsKept 256 d.waiting → item_at d.waiting s ≡ Some m → m.delivered ≡ true
     → spm_of (record d { waiting = without d.waiting s }) ≡ without_message (spm_of d) (handle_at Message s)
 dropped-state d s m kept live on =
     let it = held-of d.waiting s m live in
@@ -139,15 +139,15 @@ dropped-state d s m kept live on =
 -- ---- the oldest undelivered message
 
 -- the message at a slot is the service's oldest
-pub record IsOldest (p : Places MessageItem) (v : ℕ) (s : Slot) : Type 0 where
-  pub held : Held MessageItem
+pub record IsOldest (p : Places QueuedMessage) (v : ℕ) (s : Slot) : Type 0 where
+  pub held : Held QueuedMessage
   pub first : find (waits_for v) p.held ≡ Some held
   pub here : find (has_slot s) p.held ≡ Some held
   pub slot : held.slot ≡ s
 
-pub oldest-of : (p : Places MessageItem) (v : ℕ) (s : Slot) → IsKept 256 p → Some s ≡ option_map (λ (h : Held MessageItem). h.slot) (find (waits_for v) p.held) → IsOldest p v s
+pub oldest-of : (p : Places QueuedMessage) (v : ℕ) (s : Slot) → IsKept 256 p → Some s ≡ option_map (λ (h : Held QueuedMessage). h.slot) (find (waits_for v) p.held) → IsOldest p v s
 oldest-of p v s kept =
-    let go : (o : Option (Held MessageItem)) → find (waits_for v) p.held ≡ o → Some s ≡ option_map (λ (h : Held MessageItem). h.slot) o → IsOldest p v s =
+    let go : (o : Option (Held QueuedMessage)) → find (waits_for v) p.held ≡ o → Some s ≡ option_map (λ (h : Held QueuedMessage). h.slot) o → IsOldest p v s =
     elim [
       | None ↦ λ f e. cc
       | Some h ↦ λ f e.
@@ -156,34 +156,34 @@ oldest-of p v s kept =
     ] in
     go (find (waits_for v) p.held) refl
 
-pub none-oldest : (p : Places MessageItem) (v : ℕ) → None ≡ option_map (λ (h : Held MessageItem). h.slot) (find (waits_for v) p.held) → None ≡ find (is_undelivered v) (map held_message p.held)
+pub none-oldest : (p : Places QueuedMessage) (v : ℕ) → None ≡ option_map (λ (h : Held QueuedMessage). h.slot) (find (waits_for v) p.held) → None ≡ find (is_undelivered v) (map held_message p.held)
 none-oldest p v =
-    let go : (o : Option (Held MessageItem)) → find (waits_for v) p.held ≡ o → None ≡ option_map (λ (h : Held MessageItem). h.slot) o → None ≡ find (is_undelivered v) (map held_message p.held) =
+    let go : (o : Option (Held QueuedMessage)) → find (waits_for v) p.held ≡ o → None ≡ option_map (λ (h : Held QueuedMessage). h.slot) o → None ≡ find (is_undelivered v) (map held_message p.held) =
     elim [ None ↦ λ f e. sym (find-map held_message (is_undelivered v) p.held ∙ ap (option_map held_message) f) | Some h ↦ λ f e. cc ] in
     go (find (waits_for v) p.held) refl
 
 -- a live slot stays live where its item is written
-pub live-put : (p : Places MessageItem) (s : Slot) (m n : MessageItem) → item_at p s ≡ Some m → item_at (with_item p s n) s ≡ Some n
+pub live-put : (p : Places QueuedMessage) (s : Slot) (m n : QueuedMessage) → item_at p s ≡ Some m → item_at (with_item p s n) s ≡ Some n
 live-put p s m n live =
     let it = held-of p s m live in
-    ap (option_map (λ (h : Held MessageItem). h.item)) (found-put p.held it.0 it.1) where
-      kept_slot : (b : Bool) (x : Held MessageItem) → has_slot s (cond b (record x { item = n }) x) ≡ has_slot s x
+    ap (option_map (λ (h : Held QueuedMessage). h.item)) (found-put p.held it.0 it.1) where
+      kept_slot : (b : Bool) (x : Held QueuedMessage) → has_slot s (cond b (record x { item = n }) x) ≡ has_slot s x
       kept_slot true x = refl
       kept_slot false x = refl
 
-      found-put : (xs : List (Held MessageItem)) (h : Held MessageItem) → find (has_slot s) xs ≡ Some h → find (has_slot s) (map (item_put s n) xs) ≡ Some (record h { item = n })
+      found-put : (xs : List (Held QueuedMessage)) (h : Held QueuedMessage) → find (has_slot s) xs ≡ Some h → find (has_slot s) (map (item_put s n) xs) ≡ Some (record h { item = n })
       found-put [] h f = cc
       found-put (x ∷ xs) h f =
           let go : (b : Bool) → has_slot s x ≡ b → cond b (Some x) (find (has_slot s) xs) ≡ Some h
           → cond b (Some (cond b (record x { item = n }) x)) (find (has_slot s) (map (item_put s n) xs)) ≡ Some (record h { item = n }) =
           elim [
-            | true ↦ λ e g. let it : x ≡ h = cc in ap (λ (y : Held MessageItem). Some (record y { item = n })) it
+            | true ↦ λ e g. let it : x ≡ h = cc in ap (λ (y : Held QueuedMessage). Some (record y { item = n })) it
             | false ↦ λ e g. found-put xs h g
           ] in
           ap (λ (b : Bool). cond b (Some (item_put s n x)) (find (has_slot s) (map (item_put s n) xs))) (kept_slot (has_slot s x) x) ∙ go (has_slot s x) refl f
 
-pub oldest-item : (p : Places MessageItem) (v : ℕ) (s : Slot) (o : IsOldest p v s) → item_at p s ≡ Some (o.held).item
-oldest-item p v s o = ap (option_map (λ (h : Held MessageItem). h.item)) o.here
+pub oldest-item : (p : Places QueuedMessage) (v : ℕ) (s : Slot) (o : IsOldest p v s) → item_at p s ≡ Some (o.held).item
+oldest-item p v s o = ap (option_map (λ (h : Held QueuedMessage). h.item)) o.here
 
 pub oldest-message : (d : Desk) (v : ℕ) (s : Slot) → IsOldest d.waiting v s → message_at d s ≡ find (is_undelivered v) (spm_of d).messages
 oldest-message d v s o =
@@ -192,7 +192,7 @@ oldest-message d v s o =
     ∙ ap (option_map held_message) (sym o.first)
     ∙ sym (find-map held_message (is_undelivered v) d.waiting.held)
 
-delivered-put : (v : ℕ) (s : Slot) (m : MessageItem) (held : List (Held MessageItem)) (h : Held MessageItem) → h.slot ≡ s → h.item ≡ m → find (waits_for v) held ≡ Some h → count_by (has_slot s) held ≤ 1
+delivered-put : (v : ℕ) (s : Slot) (m : QueuedMessage) (held : List (Held QueuedMessage)) (h : Held QueuedMessage) → h.slot ≡ s → h.item ≡ m → find (waits_for v) held ≡ Some h → count_by (has_slot s) held ≤ 1
     → map held_message (map (item_put s (record m { delivered = true })) held) ≡ delivered v (handle_at Message s) (map held_message held)
 delivered-put v s m [] h slot item f one = refl
 delivered-put v s m (x ∷ xs) h slot item f one =
@@ -208,11 +208,11 @@ delivered-put v s m (x ∷ xs) h slot item f one =
     λ it.
     let here : has_slot s x ≡ true = ap (has_slot s) it ∙ has_same s h slot in
     let none : count_by (has_slot s) xs ≡ 0 = omega (arith, ap bit here) in
-    let was : x.item ≡ m = ap (λ (y : Held MessageItem). y.item) it ∙ item in
-    let at : x.slot ≡ s = ap (λ (y : Held MessageItem). y.slot) it ∙ slot in
+    let was : x.item ≡ m = ap (λ (y : Held QueuedMessage). y.item) it ∙ item in
+    let at : x.slot ≡ s = ap (λ (y : Held QueuedMessage). y.slot) it ∙ slot in
     ap (λ (b : Bool). held_message (cond b (record x { item = record m { delivered = true } }) x) ∷ map held_message (map (item_put s (record m { delivered = true })) xs)) here
-    ∙ ap (λ (ys : List (Held MessageItem)). message_of x.slot (record m { delivered = true }) ∷ map held_message ys) (put-none (has_slot s) (λ y. record y { item = record m { delivered = true } }) xs none)
-    ∙ ap (λ (i : MessageItem). message_of x.slot (record i { delivered = true }) ∷ map held_message xs) (sym was)
+    ∙ ap (λ (ys : List (Held QueuedMessage)). message_of x.slot (record m { delivered = true }) ∷ map held_message ys) (put-none (has_slot s) (λ y. record y { item = record m { delivered = true } }) xs none)
+    ∙ ap (λ (i : QueuedMessage). message_of x.slot (record i { delivered = true }) ∷ map held_message xs) (sym was)
     ∙ ap (λ (t : Slot). record (held_message x) { handle = Some (handle_at Message t) } ∷ map held_message xs) at in
     let go : (b : Bool) → waits_for v x ≡ b → cond b (Some x) (find (waits_for v) xs) ≡ Some h
     → held_message (item_put s (record m { delivered = true }) x) ∷ map held_message (map (item_put s (record m { delivered = true })) xs)
@@ -223,12 +223,12 @@ delivered-put v s m (x ∷ xs) h slot item f one =
     ] in
     go (waits_for v x) refl f
 
-pub delivered-state : (d : Desk) (v : ℕ) (s : Slot) (m : MessageItem) → IsKept 256 d.waiting → IsOldest d.waiting v s → item_at d.waiting s ≡ Some m
+pub delivered-state : (d : Desk) (v : ℕ) (s : Slot) (m : QueuedMessage) → IsKept 256 d.waiting → IsOldest d.waiting v s → item_at d.waiting s ≡ Some m
     → spm_of (record d { waiting = with_item d.waiting s (record m { delivered = true }) }) ≡ record (spm_of d) { messages = delivered v (handle_at Message s) (spm_of d).messages }
 delivered-state d v s m kept o live =
     let was : (o.held).item ≡ m = same_item (o.held).item m (sym (oldest-item d.waiting v s o) ∙ live) in
     ap (λ (ms : List PendingMessage). record (spm_of d) { messages = ms }) (delivered-put v s m d.waiting.held o.held o.slot was o.first (one_slot 256 d.waiting s kept)) where
-      same_item : (a b : MessageItem) → Some a ≡ Some b → a ≡ b
+      same_item : (a b : QueuedMessage) → Some a ≡ Some b → a ≡ b
       same_item a b e = cc
 
 -- ---- a message is found by its handle
@@ -240,7 +240,7 @@ Names o k = (t : Slot) → IsNameable t → handle_at Message t ≡ k → o ≡ 
 abbrev pub held_by : (ℕ → Bool) → Handle → PendingMessage → Bool
 held_by q k m = q m.service && has_handle m.handle k
 
-pub none-by : (p : Places MessageItem) (q : ℕ → Bool) (k : Handle) → IsKept 256 p → Names None k → find (held_by q k) (map held_message p.held) ≡ None
+pub none-by : (p : Places QueuedMessage) (q : ℕ → Bool) (k : Handle) → IsKept 256 p → Names None k → find (held_by q k) (map held_message p.held) ≡ None
 none-by p q k kept names =
     find-all_fail (held_by q k) (map held_message p.held)
     (All-map (λ m. held_by q k m ≡ true → ⊥) held_message p.held
@@ -249,7 +249,7 @@ none-by p q k kept names =
       no_slot : (s : Slot) → None ≡ Some s → ⊥
       no_slot s e = cc
 
-pub found-by : (p : Places MessageItem) (q : ℕ → Bool) (k : Handle) (s : Slot) → IsKept 256 p → Names (Some s) k → handle_at Message s ≡ k
+pub found-by : (p : Places QueuedMessage) (q : ℕ → Bool) (k : Handle) (s : Slot) → IsKept 256 p → Names (Some s) k → handle_at Message s ≡ k
     → find (held_by q k) (map held_message p.held) ≡ option_and_then (λ m. cond (q m.service && m.delivered) (Some (message_of s m)) None) (item_at p s)
 found-by p q k s kept names gives =
     twin-find held_message (has_slot s) (held_by q k) p.held
@@ -264,8 +264,8 @@ found-by p q k s kept names gives =
       shown true = ap (λ (h : Handle). handle_eq (handle_at Message s) h) (sym gives) ∙ own-handle (handle_at Message s)
       shown false = refl
 
-      seen : (o : Option (Held MessageItem)) → find (has_slot s) p.held ≡ o
-          → option_and_then (λ h. cond (held_by q k (held_message h)) (Some (held_message h)) None) o ≡ option_and_then (λ m. cond (q m.service && m.delivered) (Some (message_of s m)) None) (option_map (λ (h : Held MessageItem). h.item) o)
+      seen : (o : Option (Held QueuedMessage)) → find (has_slot s) p.held ≡ o
+          → option_and_then (λ h. cond (held_by q k (held_message h)) (Some (held_message h)) None) o ≡ option_and_then (λ m. cond (q m.service && m.delivered) (Some (message_of s m)) None) (option_map (λ (h : Held QueuedMessage). h.item) o)
       seen None f = refl
       seen (Some h) f =
           let same : h.slot ≡ s = slot-is s h (find-passes (has_slot s) p.held h f) in
@@ -298,7 +298,7 @@ find-gone d s p k t kept names gives made gone =
     ap (option_and_then (λ m. cond (is_owned d.services p m.service && m.delivered) (Some (message_of t m)) None)) gone
     ∙ sym (found-by d.waiting (is_owned d.services p) k t kept names gives) ∙ held-is s d p k made
 
-pub find-shown : (d : Desk) (s : System) (p : ℕ) (k : Handle) (t : Slot) (m : MessageItem) (b : Bool) → IsKept 256 d.waiting → Names (Some t) k → handle_at Message t ≡ k → MadeFor d s → Some m ≡ item_at d.waiting t
+pub find-shown : (d : Desk) (s : System) (p : ℕ) (k : Handle) (t : Slot) (m : QueuedMessage) (b : Bool) → IsKept 256 d.waiting → Names (Some t) k → handle_at Message t ≡ k → MadeFor d s → Some m ≡ item_at d.waiting t
     → b ≡ (is_owned d.services p m.service && m.delivered) → cond b (Some (message_of t m)) None ≡ message_held s (spm_of d) p k
 find-shown d s p k t m b kept names gives made live test =
     ap (λ (x : Bool). cond x (Some (message_of t m)) None) test
@@ -307,8 +307,8 @@ find-shown d s p k t m b kept names gives made live test =
 
 -- ---- the messages by their indices
 
-pub all-found : (xs : List (Held MessageItem)) → ((i : ℕ) → count_by (is_at i) xs ≤ 1) → All (λ h. find (is_at h.slot.index) xs ≡ Some h) xs
-all-found [] one = All-nil (λ (h : Held MessageItem). find (is_at h.slot.index) [] ≡ Some h)
+pub all-found : (xs : List (Held QueuedMessage)) → ((i : ℕ) → count_by (is_at i) xs ≤ 1) → All (λ h. find (is_at h.slot.index) xs ≡ Some h) xs
+all-found [] one = All-nil (λ (h : Held QueuedMessage). find (is_at h.slot.index) [] ≡ Some h)
 all-found (x ∷ xs) one =
     let fewer : (i : ℕ) → bit (is_at i x) + count_by (is_at i) xs ≤ 1 = λ i. omega (arith, count-cons (is_at i) x xs, one i) in
     let rest : All (λ h. find (is_at h.slot.index) xs ≡ Some h) xs = all-found xs (λ i. omega (arith, fewer i)) in
@@ -319,39 +319,39 @@ all-found (x ∷ xs) one =
       same_itself : (n : ℕ) → (n == n) ≡ true
       same_itself n = grind arith
 
-      behind : (h : Held MessageItem) → find (is_at h.slot.index) xs ≡ Some h → (b : Bool) → bit b + count_by (is_at h.slot.index) xs ≤ 1 → cond b (Some x) (find (is_at h.slot.index) xs) ≡ Some h
+      behind : (h : Held QueuedMessage) → find (is_at h.slot.index) xs ≡ Some h → (b : Bool) → bit b + count_by (is_at h.slot.index) xs ≤ 1 → cond b (Some x) (find (is_at h.slot.index) xs) ≡ Some h
       behind h f true k = absurd (omega (arith, count-found (is_at h.slot.index) (is_at h.slot.index) xs h f, ap bit (same_itself h.slot.index)))
       behind h f false k = f
 
-all-both : (P Q R : Held MessageItem → Type 0) (xs : List (Held MessageItem)) → ((h : Held MessageItem) → P h → Q h → R h) → All P xs → All Q xs → All R xs
+all-both : (P Q R : Held QueuedMessage → Type 0) (xs : List (Held QueuedMessage)) → ((h : Held QueuedMessage) → P h → Q h → R h) → All P xs → All Q xs → All R xs
 all-both P Q R [] each ps qs = All-nil R
 all-both P Q R (x ∷ xs) each ps qs = All-cons R x xs (each x (All-head P x xs ps) (All-head Q x xs qs)) (all-both P Q R xs each (All-tail P x xs ps) (All-tail Q x xs qs))
 
 -- no message of the service has an index below
-abbrev pub NoneBelow : Places MessageItem → ℕ → ℕ → Type 0
-NoneBelow p service n = (i : ℕ) (h : Held MessageItem) → i < n → find (is_at i) p.held ≡ Some h → h.item.service ≡ service → ⊥
+abbrev pub NoneBelow : Places QueuedMessage → ℕ → ℕ → Type 0
+NoneBelow p service n = (i : ℕ) (h : Held QueuedMessage) → i < n → find (is_at i) p.held ≡ Some h → h.item.service ≡ service → ⊥
 
-pub least-all : (p : Places MessageItem) (service n : ℕ) → IsKept 256 p → NoneBelow p service n → All (λ h. h.item.service ≡ service → n ≤ h.slot.index) p.held
+pub least-all : (p : Places QueuedMessage) (service n : ℕ) → IsKept 256 p → NoneBelow p service n → All (λ h. h.item.service ≡ service → n ≤ h.slot.index) p.held
 least-all p service n kept none =
     All-weaker (λ h. find (is_at h.slot.index) p.held ≡ Some h) (λ h. h.item.service ≡ service → n ≤ h.slot.index)
     (λ h f same. above h f same (nat_lt h.slot.index n) refl) p.held (all-found p.held kept.once) where
-      above : (h : Held MessageItem) → find (is_at h.slot.index) p.held ≡ Some h → h.item.service ≡ service → (b : Bool) → nat_lt h.slot.index n ≡ b → n ≤ h.slot.index
+      above : (h : Held QueuedMessage) → find (is_at h.slot.index) p.held ≡ Some h → h.item.service ≡ service → (b : Bool) → nat_lt h.slot.index n ≡ b → n ≤ h.slot.index
       above h f same true e = absurd (none h.slot.index h (grind (arith, nat_tests)) f same)
       above h f same false e = grind (arith, nat_tests)
 
-pub none-all : (p : Places MessageItem) (service n : ℕ) → IsKept 256 p → length p.generations ≤ n → NoneBelow p service n → All (λ h. h.item.service ≡ service → ⊥) p.held
+pub none-all : (p : Places QueuedMessage) (service n : ℕ) → IsKept 256 p → length p.generations ≤ n → NoneBelow p service n → All (λ h. h.item.service ≡ service → ⊥) p.held
 none-all p service n kept past none =
     all-both (λ h. h.item.service ≡ service → n ≤ h.slot.index) (λ h. IsNamed p.generations h.slot) (λ h. h.item.service ≡ service → ⊥) p.held
     (λ h above named same. absurd (omega (arith, above same, named.below))) (least-all p service n kept none) kept.named
 
-pub none-seen : (service : ℕ) (held : List (Held MessageItem)) → All (λ h. h.item.service ≡ service → ⊥) held → All (λ m. m.service ≡ service → ⊥) (map held_message held)
+pub none-seen : (service : ℕ) (held : List (Held QueuedMessage)) → All (λ h. h.item.service ≡ service → ⊥) held → All (λ m. m.service ≡ service → ⊥) (map held_message held)
 none-seen service held none = All-map (λ m. m.service ≡ service → ⊥) held_message held none
 
-pub found-live : (p : Places MessageItem) (i : ℕ) (h : Held MessageItem) → IsKept 256 p → find (is_at i) p.held ≡ Some h → item_at p h.slot ≡ Some h.item
+pub found-live : (p : Places QueuedMessage) (i : ℕ) (h : Held QueuedMessage) → IsKept 256 p → find (is_at i) p.held ≡ Some h → item_at p h.slot ≡ Some h.item
 found-live p i h kept f =
-    ap (option_map (λ (x : Held MessageItem). x.item)) (found-too (is_at i) (has_slot h.slot) p.held h (has_own h.slot) (one_slot 256 p h.slot kept) f)
+    ap (option_map (λ (x : Held QueuedMessage). x.item)) (found-too (is_at i) (has_slot h.slot) p.held h (has_own h.slot) (one_slot 256 p h.slot kept) f)
 
-pub found-index : (p : Places MessageItem) (i : ℕ) (h : Held MessageItem) → find (is_at i) p.held ≡ Some h → h.slot.index ≡ i
+pub found-index : (p : Places QueuedMessage) (i : ℕ) (h : Held QueuedMessage) → find (is_at i) p.held ≡ Some h → h.slot.index ≡ i
 found-index p i h f = equal h.slot.index i (find-passes (is_at i) p.held h f) where
   equal : (k m : ℕ) → (k == m) ≡ true → k ≡ m
   equal k m e = grind arith

@@ -17,7 +17,7 @@ use Rattle.object_pools.proofs.Pigeons.{found-free, index-below}
 use Rattle.handle_table.proofs.SlotLemmas.{both, held-of, named-at}
 use Rattle.handle_table.proofs.NameLemmas.{free-parts}
 use Rattle.handle_table.proofs.Twins.{find-passes}
-use Rattle.spm_tables.specs.declared.item.MessageItem.{MessageItem}
+use Rattle.spm_tables.specs.declared.item.QueuedMessage.{QueuedMessage}
 use Rattle.spm_tables.specs.declared.queues.Link.{Link}
 use Rattle.spm_tables.specs.declared.queues.Ends.{Ends}
 use Rattle.spm_tables.specs.declared.signals.OwnedSignal.{OwnedSignal}
@@ -28,12 +28,12 @@ use Rattle.spm_tables.proofs.QueueLemmas.{out, out-none}
 use Rattle.spm_tables.proofs.QueueUpdates.{Apart, queues-join, queues-unlink, length-joined, length-unlinked}
 
 -- the indices of the items that pass
-abbrev pub places : (Held MessageItem → Bool) → List (Held MessageItem) → List ℕ
+abbrev pub places : (Held QueuedMessage → Bool) → List (Held QueuedMessage) → List ℕ
 places t xs = map (λ h. h.slot.index) (filter t xs)
 
-places-cons : (t : Held MessageItem → Bool) (x : Held MessageItem) (xs : List (Held MessageItem)) (i : ℕ) → times i (places t (x ∷ xs)) ≡ bit (t x && (x.slot.index == i)) + times i (places t xs)
+places-cons : (t : Held QueuedMessage → Bool) (x : Held QueuedMessage) (xs : List (Held QueuedMessage)) (i : ℕ) → times i (places t (x ∷ xs)) ≡ bit (t x && (x.slot.index == i)) + times i (places t xs)
 places-cons t x xs i =
-    let go : (b : Bool) → times i (map (λ (h : Held MessageItem). h.slot.index) (cond b (x ∷ filter t xs) (filter t xs))) ≡ bit (b && (x.slot.index == i)) + times i (places t xs) =
+    let go : (b : Bool) → times i (map (λ (h : Held QueuedMessage). h.slot.index) (cond b (x ∷ filter t xs) (filter t xs))) ≡ bit (b && (x.slot.index == i)) + times i (places t xs) =
     elim [ true ↦ count-cons (λ k. k == i) x.slot.index (places t xs) | false ↦ omega arith ] in
     go (t x)
 
@@ -41,18 +41,18 @@ and_le : (b c : Bool) → bit (b && c) ≤ bit c
 and_le true c = omega arith
 and_le false c = omega arith
 
-times-places : (t : Held MessageItem → Bool) (xs : List (Held MessageItem)) (i : ℕ) → times i (places t xs) ≤ count_by (is_at i) xs
+times-places : (t : Held QueuedMessage → Bool) (xs : List (Held QueuedMessage)) (i : ℕ) → times i (places t xs) ≤ count_by (is_at i) xs
 times-places t [] i = omega arith
 times-places t (x ∷ xs) i = omega (arith, places-cons t x xs i, count-cons (is_at i) x xs, and_le (t x) (x.slot.index == i), times-places t xs i)
 
 -- what stands in the queue is the item at that index
-at-place : (t : Held MessageItem → Bool) (xs : List (Held MessageItem)) (i : ℕ) → count_by (is_at i) xs ≤ 1 → 1 ≤ times i (places t xs) → (h : Held MessageItem) × (find (is_at i) xs ≡ Some h) × (t h ≡ true)
+at-place : (t : Held QueuedMessage → Bool) (xs : List (Held QueuedMessage)) (i : ℕ) → count_by (is_at i) xs ≤ 1 → 1 ≤ times i (places t xs) → (h : Held QueuedMessage) × (find (is_at i) xs ≡ Some h) × (t h ≡ true)
 at-place t [] i one inside = absurd (omega arith)
 at-place t (x ∷ xs) i one inside =
     let few : bit (is_at i x) + count_by (is_at i) xs ≤ 1 = omega (arith, count-cons (is_at i) x xs) in
     let some : 1 ≤ bit (t x && is_at i x) + times i (places t xs) = omega (arith, places-cons t x xs i) in
     let go : (b c : Bool) → is_at i x ≡ b → t x ≡ c → bit b + count_by (is_at i) xs ≤ 1 → 1 ≤ bit (c && b) + times i (places t xs)
-    → (h : Held MessageItem) × (cond b (Some x) (find (is_at i) xs) ≡ Some h) × (t h ≡ true) =
+    → (h : Held QueuedMessage) × (cond b (Some x) (find (is_at i) xs) ≡ Some h) × (t h ≡ true) =
     elim [
       | true ↦ elim [
         | true ↦ λ e f m n. (x, refl, f)
@@ -65,9 +65,9 @@ at-place t (x ∷ xs) i one inside =
     ] in
     go (is_at i x) (t x) refl refl few some
 
-place-in : (t : Held MessageItem → Bool) (p : Held MessageItem → Bool) (xs : List (Held MessageItem)) (h : Held MessageItem) → find p xs ≡ Some h → t h ≡ true → 1 ≤ times h.slot.index (places t xs)
+place-in : (t : Held QueuedMessage → Bool) (p : Held QueuedMessage → Bool) (xs : List (Held QueuedMessage)) (h : Held QueuedMessage) → find p xs ≡ Some h → t h ≡ true → 1 ≤ times h.slot.index (places t xs)
 place-in t p [] h f passes = absurd (none h f) where
-  none : (y : Held MessageItem) → None ≡ Some y → ⊥
+  none : (y : Held QueuedMessage) → None ≡ Some y → ⊥
   none y e = cc
 place-in t p (x ∷ xs) h f passes =
     let go : (b : Bool) → cond b (Some x) (find p xs) ≡ Some h → 1 ≤ bit (t x && (x.slot.index == h.slot.index)) + times h.slot.index (places t xs) =
@@ -75,25 +75,25 @@ place-in t p (x ∷ xs) h f passes =
       | true ↦ λ g.
           let it : x ≡ h = cc in
           let on : bit (t x && (x.slot.index == h.slot.index)) ≡ 1 =
-          ap (λ (y : Held MessageItem). bit (t y && (y.slot.index == h.slot.index))) it ∙ ap (λ (b : Bool). bit (b && (h.slot.index == h.slot.index))) passes ∙ same_bit h.slot.index in
+          ap (λ (y : Held QueuedMessage). bit (t y && (y.slot.index == h.slot.index))) it ∙ ap (λ (b : Bool). bit (b && (h.slot.index == h.slot.index))) passes ∙ same_bit h.slot.index in
           omega arith
       | false ↦ λ g. omega (arith, place-in t p xs h g passes)
     ] in
     omega (arith, places-cons t x xs h.slot.index, go (p x) f)
 
-waits-service : (v : ℕ) (h : Held MessageItem) → waits_for v h ≡ true → h.item.service ≡ v
+waits-service : (v : ℕ) (h : Held QueuedMessage) → waits_for v h ≡ true → h.item.service ≡ v
 waits-service v h e = same_number h.item.service v (both (is_none (shown_handle h.item.delivered h.slot)) (h.item.service == v) e).1
 
-same-held : (o : Option (Held MessageItem)) (g h : Held MessageItem) → o ≡ Some g → o ≡ Some h → g ≡ h
+same-held : (o : Option (Held QueuedMessage)) (g h : Held QueuedMessage) → o ≡ Some g → o ≡ Some h → g ≡ h
 same-held o g h e f = cc
 
-pub apart-of : (p : Places MessageItem) → IsKept 256 p → Apart (queue_in p) (length p.generations)
+pub apart-of : (p : Places QueuedMessage) → IsKept 256 p → Apart (queue_in p) (length p.generations)
 apart-of p kept = record {
   once = λ v i. omega (arith, times-places (waits_for v) p.held i, kept.once i);
   one = λ v w i a b.
       let g = at-place (waits_for v) p.held i (kept.once i) a in
       let h = at-place (waits_for w) p.held i (kept.once i) b in
-      sym (waits-service v g.0 g.2) ∙ ap (λ (x : Held MessageItem). x.item.service) (same-held (find (is_at i) p.held) g.0 h.0 g.1 h.1) ∙ waits-service w h.0 h.2;
+      sym (waits-service v g.0 g.2) ∙ ap (λ (x : Held QueuedMessage). x.item.service) (same-held (find (is_at i) p.held) g.0 h.0 g.1 h.1) ∙ waits-service w h.0 h.2;
   below = λ v i a.
       let g = at-place (waits_for v) p.held i (kept.once i) a in
       let named : IsNamed p.generations (g.0).slot = named-at p (g.0).slot (g.0).item 256 kept (found-live p i g.0 kept g.1) in
@@ -102,36 +102,36 @@ apart-of p kept = record {
 
 -- ---- changes of the pool
 
-push-yes : (t : Held MessageItem → Bool) (xs : List (Held MessageItem)) (h : Held MessageItem) → t h ≡ true → places t (xs ++ h ∷ []) ≡ places t xs ++ h.slot.index ∷ []
-push-yes t [] h e = ap (λ (b : Bool). map (λ (x : Held MessageItem). x.slot.index) (cond b (h ∷ []) [])) e
+push-yes : (t : Held QueuedMessage → Bool) (xs : List (Held QueuedMessage)) (h : Held QueuedMessage) → t h ≡ true → places t (xs ++ h ∷ []) ≡ places t xs ++ h.slot.index ∷ []
+push-yes t [] h e = ap (λ (b : Bool). map (λ (x : Held QueuedMessage). x.slot.index) (cond b (h ∷ []) [])) e
 push-yes t (x ∷ xs) h e =
     let rest : places t (xs ++ h ∷ []) ≡ places t xs ++ h.slot.index ∷ [] = push-yes t xs h e in
-    let go : (b : Bool) → map (λ (y : Held MessageItem). y.slot.index) (cond b (x ∷ filter t (xs ++ h ∷ [])) (filter t (xs ++ h ∷ [])))
-    ≡ map (λ (y : Held MessageItem). y.slot.index) (cond b (x ∷ filter t xs) (filter t xs)) ++ h.slot.index ∷ [] =
+    let go : (b : Bool) → map (λ (y : Held QueuedMessage). y.slot.index) (cond b (x ∷ filter t (xs ++ h ∷ [])) (filter t (xs ++ h ∷ [])))
+    ≡ map (λ (y : Held QueuedMessage). y.slot.index) (cond b (x ∷ filter t xs) (filter t xs)) ++ h.slot.index ∷ [] =
     elim [ true ↦ ap (λ (is : List ℕ). x.slot.index ∷ is) rest | false ↦ rest ] in
     go (t x)
 
-push-no : (t : Held MessageItem → Bool) (xs : List (Held MessageItem)) (h : Held MessageItem) → t h ≡ false → places t (xs ++ h ∷ []) ≡ places t xs
-push-no t [] h e = ap (λ (b : Bool). map (λ (x : Held MessageItem). x.slot.index) (cond b (h ∷ []) [])) e
+push-no : (t : Held QueuedMessage → Bool) (xs : List (Held QueuedMessage)) (h : Held QueuedMessage) → t h ≡ false → places t (xs ++ h ∷ []) ≡ places t xs
+push-no t [] h e = ap (λ (b : Bool). map (λ (x : Held QueuedMessage). x.slot.index) (cond b (h ∷ []) [])) e
 push-no t (x ∷ xs) h e =
     let rest : places t (xs ++ h ∷ []) ≡ places t xs = push-no t xs h e in
-    let go : (b : Bool) → map (λ (y : Held MessageItem). y.slot.index) (cond b (x ∷ filter t (xs ++ h ∷ [])) (filter t (xs ++ h ∷ [])))
-    ≡ map (λ (y : Held MessageItem). y.slot.index) (cond b (x ∷ filter t xs) (filter t xs)) =
+    let go : (b : Bool) → map (λ (y : Held QueuedMessage). y.slot.index) (cond b (x ∷ filter t (xs ++ h ∷ [])) (filter t (xs ++ h ∷ [])))
+    ≡ map (λ (y : Held QueuedMessage). y.slot.index) (cond b (x ∷ filter t xs) (filter t xs)) =
     elim [ true ↦ ap (λ (is : List ℕ). x.slot.index ∷ is) rest | false ↦ rest ] in
     go (t x)
 
 -- h alone is at its index
-abbrev pub Only : Slot → Held MessageItem → List (Held MessageItem) → Type 0
+abbrev pub Only : Slot → Held QueuedMessage → List (Held QueuedMessage) → Type 0
 Only s h xs = All (λ x. is_at s.index x ≡ true → x ≡ h) xs
 
-pub only-here : (p : Places MessageItem) (s : Slot) (h : Held MessageItem) → IsKept 256 p → find (has_slot s) p.held ≡ Some h → Only s h p.held
+pub only-here : (p : Places QueuedMessage) (s : Slot) (h : Held QueuedMessage) → IsKept 256 p → find (has_slot s) p.held ≡ Some h → Only s h p.held
 only-here p s h kept f =
     let at : is_at s.index h ≡ true = (both (h.slot.index == s.index) (h.slot.generation == s.generation) (find-passes (has_slot s) p.held h f)).0 in
     let here : find (is_at s.index) p.held ≡ Some h = found-too (has_slot s) (is_at s.index) p.held h at (kept.once s.index) f in
     All-weaker (λ x. find (is_at x.slot.index) p.held ≡ Some x) (λ x. is_at s.index x ≡ true → x ≡ h)
     (λ x g e. same-held (find (is_at s.index) p.held) x h (ap (λ n. find (is_at n) p.held) (sym (same_number x.slot.index s.index e)) ∙ g) here) p.held (all-found p.held kept.once)
 
-put-out : (t : Held MessageItem → Bool) (s : Slot) (n : MessageItem) (h : Held MessageItem) (xs : List (Held MessageItem)) → ((x : Held MessageItem) → t (record x { item = n }) ≡ false) → Only s h xs → has_slot s h ≡ true
+put-out : (t : Held QueuedMessage → Bool) (s : Slot) (n : QueuedMessage) (h : Held QueuedMessage) (xs : List (Held QueuedMessage)) → ((x : Held QueuedMessage) → t (record x { item = n }) ≡ false) → Only s h xs → has_slot s h ≡ true
     → places t (map (item_put s n) xs) ≡ out s.index (places t xs)
 put-out t s n h [] off only own = refl
 put-out t s n h (x ∷ xs) off only own =
@@ -140,16 +140,16 @@ put-out t s n h (x ∷ xs) off only own =
     let gone : has_slot s x ≡ true → places t (record x { item = n } ∷ map (item_put s n) xs) ≡ out s.index (places t (x ∷ xs)) =
     λ e.
     let at : (x.slot.index == s.index) ≡ true = (both (x.slot.index == s.index) (x.slot.generation == s.generation) e).0 in
-    let go : (c : Bool) → places t (map (item_put s n) xs) ≡ out s.index (map (λ (y : Held MessageItem). y.slot.index) (cond c (x ∷ filter t xs) (filter t xs))) =
+    let go : (c : Bool) → places t (map (item_put s n) xs) ≡ out s.index (map (λ (y : Held QueuedMessage). y.slot.index) (cond c (x ∷ filter t xs) (filter t xs))) =
     elim [
       | true ↦ rest ∙ ap (λ (b : Bool). cond (not b) (x.slot.index ∷ out s.index (places t xs)) (out s.index (places t xs))) (sym at)
       | false ↦ rest
     ] in
-    ap (λ (b : Bool). map (λ (y : Held MessageItem). y.slot.index) (cond b (record x { item = n } ∷ filter t (map (item_put s n) xs)) (filter t (map (item_put s n) xs)))) (off x) ∙ go (t x) in
+    ap (λ (b : Bool). map (λ (y : Held QueuedMessage). y.slot.index) (cond b (record x { item = n } ∷ filter t (map (item_put s n) xs)) (filter t (map (item_put s n) xs)))) (off x) ∙ go (t x) in
     let stays : has_slot s x ≡ false → places t (x ∷ map (item_put s n) xs) ≡ out s.index (places t (x ∷ xs)) =
     λ e.
-    let go : (c : Bool) → map (λ (y : Held MessageItem). y.slot.index) (cond c (x ∷ filter t (map (item_put s n) xs)) (filter t (map (item_put s n) xs)))
-    ≡ out s.index (map (λ (y : Held MessageItem). y.slot.index) (cond c (x ∷ filter t xs) (filter t xs))) =
+    let go : (c : Bool) → map (λ (y : Held QueuedMessage). y.slot.index) (cond c (x ∷ filter t (map (item_put s n) xs)) (filter t (map (item_put s n) xs)))
+    ≡ out s.index (map (λ (y : Held QueuedMessage). y.slot.index) (cond c (x ∷ filter t xs) (filter t xs))) =
     elim [
       | true ↦ ap (λ (is : List ℕ). x.slot.index ∷ is) rest ∙ ap (λ (b : Bool). cond (not b) (x.slot.index ∷ out s.index (places t xs)) (out s.index (places t xs))) (sym (other (x.slot.index == s.index) refl e))
       | false ↦ rest
@@ -161,7 +161,7 @@ put-out t s n h (x ∷ xs) off only own =
       other true at e = let it : has_slot s x ≡ true = ap (has_slot s) (All-head (λ y. is_at s.index y ≡ true → y ≡ h) x xs only at) ∙ own in cc
       other false at e = at
 
-without-out : (t : Held MessageItem → Bool) (s : Slot) (h : Held MessageItem) (xs : List (Held MessageItem)) → Only s h xs → has_slot s h ≡ true
+without-out : (t : Held QueuedMessage → Bool) (s : Slot) (h : Held QueuedMessage) (xs : List (Held QueuedMessage)) → Only s h xs → has_slot s h ≡ true
     → places t (filter (λ x. not (has_slot s x)) xs) ≡ out s.index (places t xs)
 without-out t s h [] only own = refl
 without-out t s h (x ∷ xs) only own =
@@ -169,7 +169,7 @@ without-out t s h (x ∷ xs) only own =
     let gone : has_slot s x ≡ true → places t (filter (λ y. not (has_slot s y)) xs) ≡ out s.index (places t (x ∷ xs)) =
     λ e.
     let at : (x.slot.index == s.index) ≡ true = (both (x.slot.index == s.index) (x.slot.generation == s.generation) e).0 in
-    let go : (c : Bool) → places t (filter (λ y. not (has_slot s y)) xs) ≡ out s.index (map (λ (y : Held MessageItem). y.slot.index) (cond c (x ∷ filter t xs) (filter t xs))) =
+    let go : (c : Bool) → places t (filter (λ y. not (has_slot s y)) xs) ≡ out s.index (map (λ (y : Held QueuedMessage). y.slot.index) (cond c (x ∷ filter t xs) (filter t xs))) =
     elim [
       | true ↦ rest ∙ ap (λ (b : Bool). cond (not b) (x.slot.index ∷ out s.index (places t xs)) (out s.index (places t xs))) (sym at)
       | false ↦ rest
@@ -177,8 +177,8 @@ without-out t s h (x ∷ xs) only own =
     go (t x) in
     let stays : has_slot s x ≡ false → places t (x ∷ filter (λ y. not (has_slot s y)) xs) ≡ out s.index (places t (x ∷ xs)) =
     λ e.
-    let go : (c : Bool) → map (λ (y : Held MessageItem). y.slot.index) (cond c (x ∷ filter t (filter (λ y. not (has_slot s y)) xs)) (filter t (filter (λ y. not (has_slot s y)) xs)))
-    ≡ out s.index (map (λ (y : Held MessageItem). y.slot.index) (cond c (x ∷ filter t xs) (filter t xs))) =
+    let go : (c : Bool) → map (λ (y : Held QueuedMessage). y.slot.index) (cond c (x ∷ filter t (filter (λ y. not (has_slot s y)) xs)) (filter t (filter (λ y. not (has_slot s y)) xs)))
+    ≡ out s.index (map (λ (y : Held QueuedMessage). y.slot.index) (cond c (x ∷ filter t xs) (filter t xs))) =
     elim [
       | true ↦ ap (λ (is : List ℕ). x.slot.index ∷ is) rest ∙ ap (λ (b : Bool). cond (not b) (x.slot.index ∷ out s.index (places t xs)) (out s.index (places t xs))) (sym (other (x.slot.index == s.index) refl e))
       | false ↦ rest
@@ -191,49 +191,49 @@ without-out t s h (x ∷ xs) only own =
       other true at e = let it : has_slot s x ≡ true = ap (has_slot s) (All-head (λ y. is_at s.index y ≡ true → y ≡ h) x xs only at) ∙ own in cc
       other false at e = at
 
-put-same : (t : Held MessageItem → Bool) (s : Slot) (n : MessageItem) (h : Held MessageItem) (xs : List (Held MessageItem)) → t (record h { item = n }) ≡ t h → Only s h xs
+put-same : (t : Held QueuedMessage → Bool) (s : Slot) (n : QueuedMessage) (h : Held QueuedMessage) (xs : List (Held QueuedMessage)) → t (record h { item = n }) ≡ t h → Only s h xs
     → places t (map (item_put s n) xs) ≡ places t xs
 put-same t s n h [] same only = refl
 put-same t s n h (x ∷ xs) same only =
     let rest : places t (map (item_put s n) xs) ≡ places t xs = put-same t s n h xs same (All-tail (λ y. is_at s.index y ≡ true → y ≡ h) x xs only) in
-    let stays : (y : Held MessageItem) → t y ≡ t x → y.slot.index ≡ x.slot.index → places t (y ∷ map (item_put s n) xs) ≡ places t (x ∷ xs) =
+    let stays : (y : Held QueuedMessage) → t y ≡ t x → y.slot.index ≡ x.slot.index → places t (y ∷ map (item_put s n) xs) ≡ places t (x ∷ xs) =
     λ y e f.
-    let go : (c : Bool) → map (λ (z : Held MessageItem). z.slot.index) (cond c (y ∷ filter t (map (item_put s n) xs)) (filter t (map (item_put s n) xs)))
-    ≡ map (λ (z : Held MessageItem). z.slot.index) (cond c (x ∷ filter t xs) (filter t xs)) =
+    let go : (c : Bool) → map (λ (z : Held QueuedMessage). z.slot.index) (cond c (y ∷ filter t (map (item_put s n) xs)) (filter t (map (item_put s n) xs)))
+    ≡ map (λ (z : Held QueuedMessage). z.slot.index) (cond c (x ∷ filter t xs) (filter t xs)) =
     elim [ true ↦ ap (λ (is : List ℕ). y.slot.index ∷ is) rest ∙ ap (λ i. i ∷ places t xs) f | false ↦ rest ] in
-    ap (λ (b : Bool). map (λ (z : Held MessageItem). z.slot.index) (cond b (y ∷ filter t (map (item_put s n) xs)) (filter t (map (item_put s n) xs)))) e ∙ go (t x) in
+    ap (λ (b : Bool). map (λ (z : Held QueuedMessage). z.slot.index) (cond b (y ∷ filter t (map (item_put s n) xs)) (filter t (map (item_put s n) xs)))) e ∙ go (t x) in
     let go : (b : Bool) → has_slot s x ≡ b → places t (cond b (record x { item = n }) x ∷ map (item_put s n) xs) ≡ places t (x ∷ xs) =
     elim [
       | true ↦ λ e.
           let it : x ≡ h = All-head (λ y. is_at s.index y ≡ true → y ≡ h) x xs only (both (x.slot.index == s.index) (x.slot.generation == s.generation) e).0 in
-          stays (record x { item = n }) (ap (λ (y : Held MessageItem). t (record y { item = n })) it ∙ same ∙ ap t (sym it)) refl
+          stays (record x { item = n }) (ap (λ (y : Held QueuedMessage). t (record y { item = n })) it ∙ same ∙ ap t (sym it)) refl
       | false ↦ λ e. stays x refl refl
     ] in
     go (has_slot s x) refl
 
-known-put : (bound : ℕ) (s : Slot) (n : MessageItem) (xs : List (Held MessageItem)) → n.service < bound → All (λ h. h.item.service < bound) xs → All (λ h. h.item.service < bound) (map (item_put s n) xs)
-known-put bound s n [] below a = All-nil (λ (h : Held MessageItem). h.item.service < bound)
+known-put : (bound : ℕ) (s : Slot) (n : QueuedMessage) (xs : List (Held QueuedMessage)) → n.service < bound → All (λ h. h.item.service < bound) xs → All (λ h. h.item.service < bound) (map (item_put s n) xs)
+known-put bound s n [] below a = All-nil (λ (h : Held QueuedMessage). h.item.service < bound)
 known-put bound s n (x ∷ xs) below a =
-    let go : (b : Bool) → (cond b (record x { item = n }) x).item.service < bound = elim [ true ↦ below | false ↦ All-head (λ (h : Held MessageItem). h.item.service < bound) x xs a ] in
-    All-cons (λ (h : Held MessageItem). h.item.service < bound) (item_put s n x) (map (item_put s n) xs) (go (has_slot s x)) (known-put bound s n xs below (All-tail (λ (h : Held MessageItem). h.item.service < bound) x xs a))
+    let go : (b : Bool) → (cond b (record x { item = n }) x).item.service < bound = elim [ true ↦ below | false ↦ All-head (λ (h : Held QueuedMessage). h.item.service < bound) x xs a ] in
+    All-cons (λ (h : Held QueuedMessage). h.item.service < bound) (item_put s n x) (map (item_put s n) xs) (go (has_slot s x)) (known-put bound s n xs below (All-tail (λ (h : Held QueuedMessage). h.item.service < bound) x xs a))
 
-known-found : (bound : ℕ) (p : Held MessageItem → Bool) (xs : List (Held MessageItem)) (h : Held MessageItem) → All (λ x. x.item.service < bound) xs → find p xs ≡ Some h → h.item.service < bound
+known-found : (bound : ℕ) (p : Held QueuedMessage → Bool) (xs : List (Held QueuedMessage)) (h : Held QueuedMessage) → All (λ x. x.item.service < bound) xs → find p xs ≡ Some h → h.item.service < bound
 known-found bound p [] h a f = cc
 known-found bound p (x ∷ xs) h a f =
     let go : (b : Bool) → cond b (Some x) (find p xs) ≡ Some h → h.item.service < bound =
     elim [
-      | true ↦ λ g. let it : x ≡ h = cc in subst (λ (y : Held MessageItem). y.item.service < bound) it (All-head (λ (y : Held MessageItem). y.item.service < bound) x xs a)
-      | false ↦ λ g. known-found bound p xs h (All-tail (λ (y : Held MessageItem). y.item.service < bound) x xs a) g
+      | true ↦ λ g. let it : x ≡ h = cc in subst (λ (y : Held QueuedMessage). y.item.service < bound) it (All-head (λ (y : Held QueuedMessage). y.item.service < bound) x xs a)
+      | false ↦ λ g. known-found bound p xs h (All-tail (λ (y : Held QueuedMessage). y.item.service < bound) x xs a) g
     ] in
     go (p x) f
 
 -- ---- what the tables keep
 
-module _ (p : Places MessageItem) (services : List OwnedSignal) (ls : List Link) (es : List Ends) where
+module _ (p : Places QueuedMessage) (services : List OwnedSignal) (ls : List Link) (es : List Ends) where
   same-size : KeepsQueues p services ls es → IsKept 256 p → Apart (queue_in p) (length ls)
   same-size k kept = subst (Apart (queue_in p)) (sym k.linked) (apart-of p kept)
 
-  pub keeps-take : (s : Slot) (x : MessageItem) → IsKept 256 p → KeepsQueues p services ls es → free_slot p ≡ Some s → x.delivered ≡ false → x.service < length services
+  pub keeps-take : (s : Slot) (x : QueuedMessage) → IsKept 256 p → KeepsQueues p services ls es → free_slot p ≡ Some s → x.delivered ≡ false → x.service < length services
       → KeepsQueues (taken p s x) services (joined ls (ends_at es x.service).last s.index) (set es x.service (joined_ends (ends_at es x.service) s.index))
   keeps-take s x kept k free fresh below =
       let parts = free-parts p s free in
@@ -243,7 +243,7 @@ module _ (p : Places MessageItem) (services : List OwnedSignal) (ls : List Link)
       record {
         linked = omega (arith, length-joined ls (ends_at es x.service).last s.index, k.linked, length-set p.generations s.index s.generation);
         ended = omega (arith, length-set es x.service (joined_ends (ends_at es x.service) s.index), k.ended);
-        known = All-push (λ (h : Held MessageItem). h.item.service < length services) p.held (record { slot = s; item = x }) k.known below;
+        known = All-push (λ (h : Held QueuedMessage). h.item.service < length services) p.held (record { slot = s; item = x }) k.known below;
         queues = queues-join ls es (queue_in p) (queue_in (taken p s x)) x.service s.index k.queues (same-size k kept) (omega (arith, k.ended)) (omega (arith, k.linked))
             (λ v. omega (arith, times-places (waits_for v) p.held s.index))
             (push-yes (waits_for x.service) p.held (record { slot = s; item = x }) (waiting x.service ∙ same_itself x.service))
@@ -259,26 +259,26 @@ module _ (p : Places MessageItem) (services : List OwnedSignal) (ls : List Link)
         not_same : (m n : ℕ) → n ≢ m → (m == n) ≡ false
         not_same m n ne = grind arith
 
-  waits : (m : MessageItem) (h : Held MessageItem) → h.item ≡ m → m.delivered ≡ false → waits_for m.service h ≡ true
+  waits : (m : QueuedMessage) (h : Held QueuedMessage) → h.item ≡ m → m.delivered ≡ false → waits_for m.service h ≡ true
   waits m h item fresh =
-      ap (λ (i : MessageItem). is_none (shown_handle i.delivered h.slot) && (i.service == m.service)) item ∙ ap (λ (b : Bool). is_none (shown_handle b h.slot) && (m.service == m.service)) fresh ∙ same_itself m.service where
+      ap (λ (i : QueuedMessage). is_none (shown_handle i.delivered h.slot) && (i.service == m.service)) item ∙ ap (λ (b : Bool). is_none (shown_handle b h.slot) && (m.service == m.service)) fresh ∙ same_itself m.service where
         same_itself : (n : ℕ) → (n == n) ≡ true
         same_itself n = grind arith
 
-  own-slot : (s : Slot) (h : Held MessageItem) → find (has_slot s) p.held ≡ Some h → has_slot s h ≡ true
+  own-slot : (s : Slot) (h : Held QueuedMessage) → find (has_slot s) p.held ≡ Some h → has_slot s h ≡ true
   own-slot s h f = find-passes (has_slot s) p.held h f
 
-  member : (s : Slot) (m : MessageItem) → item_at p s ≡ Some m → m.delivered ≡ false → 1 ≤ times s.index (queue_in p m.service)
+  member : (s : Slot) (m : QueuedMessage) → item_at p s ≡ Some m → m.delivered ≡ false → 1 ≤ times s.index (queue_in p m.service)
   member s m live fresh =
       let it = held-of p s m live in
       subst (λ (t : Slot). 1 ≤ times t.index (queue_in p m.service)) it.3 (place-in (waits_for m.service) (has_slot s) p.held it.0 it.1 (waits m it.0 it.2 fresh))
 
-  service-below : (s : Slot) (m : MessageItem) → KeepsQueues p services ls es → item_at p s ≡ Some m → m.service < length services
+  service-below : (s : Slot) (m : QueuedMessage) → KeepsQueues p services ls es → item_at p s ≡ Some m → m.service < length services
   service-below s m k live =
       let it = held-of p s m live in
-      subst (λ (i : MessageItem). i.service < length services) it.2 (known-found (length services) (has_slot s) p.held it.0 k.known it.1)
+      subst (λ (i : QueuedMessage). i.service < length services) it.2 (known-found (length services) (has_slot s) p.held it.0 k.known it.1)
 
-  keeps-delivered : (s : Slot) (m : MessageItem) → IsKept 256 p → KeepsQueues p services ls es → item_at p s ≡ Some m → m.delivered ≡ false
+  keeps-delivered : (s : Slot) (m : QueuedMessage) → IsKept 256 p → KeepsQueues p services ls es → item_at p s ≡ Some m → m.delivered ≡ false
       → KeepsQueues (with_item p s (record m { delivered = true })) services (unlinked ls (link_at ls s.index)) (set es m.service (unlinked_ends (ends_at es m.service) (link_at ls s.index)))
   keeps-delivered s m kept k live fresh =
       let it = held-of p s m live in
@@ -291,7 +291,7 @@ module _ (p : Places MessageItem) (services : List OwnedSignal) (ls : List Link)
             (λ v. put-out (waits_for v) s (record m { delivered = true }) it.0 p.held (λ x. refl) (only-here p s it.0 kept it.1) (own-slot s it.0 it.1));
       }
 
-  keeps-dropped : (s : Slot) (m : MessageItem) → IsKept 256 p → KeepsQueues p services ls es → item_at p s ≡ Some m → m.delivered ≡ false
+  keeps-dropped : (s : Slot) (m : QueuedMessage) → IsKept 256 p → KeepsQueues p services ls es → item_at p s ≡ Some m → m.delivered ≡ false
       → KeepsQueues (without p s) services (unlinked ls (link_at ls s.index)) (set es m.service (unlinked_ends (ends_at es m.service) (link_at ls s.index)))
   keeps-dropped s m kept k live fresh =
       let it = held-of p s m live in
@@ -299,7 +299,7 @@ module _ (p : Places MessageItem) (services : List OwnedSignal) (ls : List Link)
       record {
         linked = omega (arith, length-unlinked ls (link_at ls s.index), k.linked);
         ended = omega (arith, length-set es m.service (unlinked_ends (ends_at es m.service) (link_at ls s.index)), k.ended);
-        known = All-filter (λ x. not (has_slot s x)) (λ (h : Held MessageItem). h.item.service < length services) p.held k.known;
+        known = All-filter (λ x. not (has_slot s x)) (λ (h : Held QueuedMessage). h.item.service < length services) p.held k.known;
         queues = queues-unlink ls es (queue_in p) (queue_in (without p s)) m.service s.index k.queues (same-size k kept) (omega (arith, k.ended)) (member s m live fresh)
             (λ v. without-out (waits_for v) s it.0 p.held (only-here p s it.0 kept it.1) (own-slot s it.0 it.1));
       }
@@ -307,13 +307,13 @@ module _ (p : Places MessageItem) (services : List OwnedSignal) (ls : List Link)
   same-queues : (q r : ℕ → List ℕ) → ((v : ℕ) → r v ≡ q v) → AreQueues ls es q → AreQueues ls es r
   same-queues q r same a = let whole : r ≡ q = λ j v. same v j in subst (AreQueues ls es) (sym whole) a
 
-  keeps-given : (s : Slot) (m : MessageItem) → IsKept 256 p → KeepsQueues p services ls es → item_at p s ≡ Some m → m.delivered ≡ true → KeepsQueues (without p s) services ls es
+  keeps-given : (s : Slot) (m : QueuedMessage) → IsKept 256 p → KeepsQueues p services ls es → item_at p s ≡ Some m → m.delivered ≡ true → KeepsQueues (without p s) services ls es
   keeps-given s m kept k live on =
       let it = held-of p s m live in
       record {
         linked = k.linked;
         ended = k.ended;
-        known = All-filter (λ x. not (has_slot s x)) (λ (h : Held MessageItem). h.item.service < length services) p.held k.known;
+        known = All-filter (λ x. not (has_slot s x)) (λ (h : Held QueuedMessage). h.item.service < length services) p.held k.known;
         queues = same-queues (queue_in p) (queue_in (without p s))
             (λ v. without-out (waits_for v) s it.0 p.held (only-here p s it.0 kept it.1) (own-slot s it.0 it.1)
             ∙ out-none s.index (queue_in p v) (absent it.0 it.1 it.2 v (times s.index (queue_in p v) == 0) refl)) k.queues;
@@ -321,10 +321,10 @@ module _ (p : Places MessageItem) (services : List OwnedSignal) (ls : List Link)
         some_times : (n : ℕ) → (n == 0) ≡ false → 1 ≤ n
         some_times n e = grind arith
 
-        off : (h : Held MessageItem) → h.item ≡ m → (v : ℕ) → waits_for v h ≡ false
-        off h item v = ap (λ (i : MessageItem). is_none (shown_handle i.delivered h.slot) && (i.service == v)) item ∙ ap (λ (b : Bool). is_none (shown_handle b h.slot) && (m.service == v)) on
+        off : (h : Held QueuedMessage) → h.item ≡ m → (v : ℕ) → waits_for v h ≡ false
+        off h item v = ap (λ (i : QueuedMessage). is_none (shown_handle i.delivered h.slot) && (i.service == v)) item ∙ ap (λ (b : Bool). is_none (shown_handle b h.slot) && (m.service == v)) on
 
-        absent : (h : Held MessageItem) → find (has_slot s) p.held ≡ Some h → h.item ≡ m → (v : ℕ) → (b : Bool) → (times s.index (queue_in p v) == 0) ≡ b → times s.index (queue_in p v) ≡ 0
+        absent : (h : Held QueuedMessage) → find (has_slot s) p.held ≡ Some h → h.item ≡ m → (v : ℕ) → (b : Bool) → (times s.index (queue_in p v) == 0) ≡ b → times s.index (queue_in p v) ≡ 0
         absent h f item v true e = same_number (times s.index (queue_in p v)) 0 e
         absent h f item v false e =
             let g = at-place (waits_for v) p.held s.index (kept.once s.index) (some_times (times s.index (queue_in p v)) e) in
@@ -335,7 +335,7 @@ module _ (p : Places MessageItem) (services : List OwnedSignal) (ls : List Link)
               on_off b e f = cc
 
   -- a message leaves its queue where it waits in one
-  pub keeps-out : (s : Slot) (m : MessageItem) → IsKept 256 p → KeepsQueues p services ls es → item_at p s ≡ Some m
+  pub keeps-out : (s : Slot) (m : QueuedMessage) → IsKept 256 p → KeepsQueues p services ls es → item_at p s ≡ Some m
       → KeepsQueues (without p s) services (if m.delivered then ls else unlinked ls (link_at ls s.index))
       (if m.delivered then es else set es m.service (unlinked_ends (ends_at es m.service) (link_at ls s.index)))
   keeps-out s m kept k live =
@@ -344,20 +344,20 @@ module _ (p : Places MessageItem) (services : List OwnedSignal) (ls : List Link)
       elim [ true ↦ λ e. keeps-given s m kept k live e | false ↦ λ e. keeps-dropped s m kept k live e ] in
       go m.delivered refl
 
-  fresh-oldest : (v : ℕ) (s : Slot) (m : MessageItem) → IsOldest p v s → item_at p s ≡ Some m → m.delivered ≡ false
+  fresh-oldest : (v : ℕ) (s : Slot) (m : QueuedMessage) → IsOldest p v s → item_at p s ≡ Some m → m.delivered ≡ false
   fresh-oldest v s m o live =
       let was : (o.held).item ≡ m = same_item (o.held).item m (sym (oldest-item p v s o) ∙ live) in
       let off : is_none (shown_handle (o.held).item.delivered (o.held).slot) ≡ true =
       (both (is_none (shown_handle (o.held).item.delivered (o.held).slot)) ((o.held).item.service == v) (find-passes (waits_for v) p.held o.held o.first)).0 in
-      sym (ap (λ (i : MessageItem). i.delivered) was) ∙ shows_none (o.held).item.delivered off where
-        same_item : (a b : MessageItem) → Some a ≡ Some b → a ≡ b
+      sym (ap (λ (i : QueuedMessage). i.delivered) was) ∙ shows_none (o.held).item.delivered off where
+        same_item : (a b : QueuedMessage) → Some a ≡ Some b → a ≡ b
         same_item a b e = cc
 
         shows_none : (b : Bool) → is_none (shown_handle b (o.held).slot) ≡ true → b ≡ false
         shows_none true e = cc
         shows_none false e = refl
 
-  pub keeps-oldest : (v : ℕ) (s : Slot) (m : MessageItem) → IsKept 256 p → KeepsQueues p services ls es → IsOldest p v s → item_at p s ≡ Some m
+  pub keeps-oldest : (v : ℕ) (s : Slot) (m : QueuedMessage) → IsKept 256 p → KeepsQueues p services ls es → IsOldest p v s → item_at p s ≡ Some m
       → KeepsQueues (with_item p s (record m { delivered = true })) services (if m.delivered then ls else unlinked ls (link_at ls s.index))
       (if m.delivered then es else set es m.service (unlinked_ends (ends_at es m.service) (link_at ls s.index)))
   keeps-oldest v s m kept k o live =
@@ -365,7 +365,7 @@ module _ (p : Places MessageItem) (services : List OwnedSignal) (ls : List Link)
       subst (λ (b : Bool). KeepsQueues (with_item p s (record m { delivered = true })) services (cond b ls (unlinked ls (link_at ls s.index))) (cond b es (set es m.service (unlinked_ends (ends_at es m.service) (link_at ls s.index)))))
       (sym fresh) (keeps-delivered s m kept k live fresh)
 
-  pub keeps-vectors : (s : Slot) (m : MessageItem) (w : Vectors) → IsKept 256 p → KeepsQueues p services ls es → item_at p s ≡ Some m → KeepsQueues (with_item p s (record m { vectors = w })) services ls es
+  pub keeps-vectors : (s : Slot) (m : QueuedMessage) (w : Vectors) → IsKept 256 p → KeepsQueues p services ls es → item_at p s ≡ Some m → KeepsQueues (with_item p s (record m { vectors = w })) services ls es
   keeps-vectors s m w kept k live =
       let it = held-of p s m live in
       record {
@@ -374,30 +374,30 @@ module _ (p : Places MessageItem) (services : List OwnedSignal) (ls : List Link)
         known = known-put (length services) s (record m { vectors = w }) p.held (service-below s m k live) k.known;
         queues = same-queues (queue_in p) (queue_in (with_item p s (record m { vectors = w })))
             (λ v. put-same (waits_for v) s (record m { vectors = w }) it.0 p.held
-            (ap (λ (i : MessageItem). waits_for v (record it.0 { item = record i { vectors = w } })) (sym it.2)) (only-here p s it.0 kept it.1)) k.queues;
+            (ap (λ (i : QueuedMessage). waits_for v (record it.0 { item = record i { vectors = w } })) (sym it.2)) (only-here p s it.0 kept it.1)) k.queues;
       }
 
 -- ---- the oldest message
 
-first-find : (t : Held MessageItem → Bool) (xs : List (Held MessageItem)) → first_of (places t xs) ≡ option_map (λ (h : Held MessageItem). h.slot.index) (find t xs)
+first-find : (t : Held QueuedMessage → Bool) (xs : List (Held QueuedMessage)) → first_of (places t xs) ≡ option_map (λ (h : Held QueuedMessage). h.slot.index) (find t xs)
 first-find t [] = refl
 first-find t (x ∷ xs) =
-    let go : (b : Bool) → first_of (map (λ (h : Held MessageItem). h.slot.index) (cond b (x ∷ filter t xs) (filter t xs))) ≡ option_map (λ (h : Held MessageItem). h.slot.index) (cond b (Some x) (find t xs)) =
+    let go : (b : Bool) → first_of (map (λ (h : Held QueuedMessage). h.slot.index) (cond b (x ∷ filter t xs) (filter t xs))) ≡ option_map (λ (h : Held QueuedMessage). h.slot.index) (cond b (Some x) (find t xs)) =
     elim [ true ↦ refl | false ↦ first-find t xs ] in
     go (t x)
 
-none-known : (v bound : ℕ) (xs : List (Held MessageItem)) → bound ≤ v → All (λ h. h.item.service < bound) xs → find (waits_for v) xs ≡ None
+none-known : (v bound : ℕ) (xs : List (Held QueuedMessage)) → bound ≤ v → All (λ h. h.item.service < bound) xs → find (waits_for v) xs ≡ None
 none-known v bound [] past a = refl
 none-known v bound (x ∷ xs) past a =
-    let below : x.item.service < bound = All-head (λ (h : Held MessageItem). h.item.service < bound) x xs a in
+    let below : x.item.service < bound = All-head (λ (h : Held QueuedMessage). h.item.service < bound) x xs a in
     let go : (b : Bool) → waits_for v x ≡ b → cond b (Some x) (find (waits_for v) xs) ≡ None =
     elim [
       | true ↦ λ e. absurd (omega (arith, waits-service v x e))
-      | false ↦ λ e. none-known v bound xs past (All-tail (λ (h : Held MessageItem). h.item.service < bound) x xs a)
+      | false ↦ λ e. none-known v bound xs past (All-tail (λ (h : Held QueuedMessage). h.item.service < bound) x xs a)
     ] in
     go (waits_for v x) refl
 
-pub first-is : (p : Places MessageItem) (services : List OwnedSignal) (ls : List Link) (es : List Ends) (v : ℕ) → KeepsQueues p services ls es → (ends_at es v).first ≡ first_of (queue_in p v)
+pub first-is : (p : Places QueuedMessage) (services : List OwnedSignal) (ls : List Link) (es : List Ends) (v : ℕ) → KeepsQueues p services ls es → (ends_at es v).first ≡ first_of (queue_in p v)
 first-is p services ls es v k =
     let go : (b : Bool) → nat_lt v (length es) ≡ b → (ends_at es v).first ≡ first_of (queue_in p v) =
     elim [
@@ -405,7 +405,7 @@ first-is p services ls es v k =
       | false ↦ λ e.
           let past : length es ≤ v = above v (length es) e in
           ap (λ (x : Ends). x.first) (get_or_past es v no_ends past)
-          ∙ sym (first-find (waits_for v) p.held ∙ ap (option_map (λ (h : Held MessageItem). h.slot.index)) (none-known v (length services) p.held (omega (arith, k.ended)) k.known))
+          ∙ sym (first-find (waits_for v) p.held ∙ ap (option_map (λ (h : Held QueuedMessage). h.slot.index)) (none-known v (length services) p.held (omega (arith, k.ended)) k.known))
     ] in
     go (nat_lt v (length es)) refl where
       below : (m n : ℕ) → nat_lt m n ≡ true → m < n
@@ -414,26 +414,26 @@ first-is p services ls es v k =
       above : (m n : ℕ) → nat_lt m n ≡ false → n ≤ m
       above m n e = grind (arith, nat_tests)
 
-pub oldest-at : (p : Places MessageItem) (v : ℕ) (o : Option ℕ) → IsKept 256 p → o ≡ first_of (queue_in p v)
-    → option_map (λ (h : Held MessageItem). h.slot) (option_and_then (λ i. find (is_at i) p.held) o) ≡ option_map (λ (h : Held MessageItem). h.slot) (find (waits_for v) p.held)
+pub oldest-at : (p : Places QueuedMessage) (v : ℕ) (o : Option ℕ) → IsKept 256 p → o ≡ first_of (queue_in p v)
+    → option_map (λ (h : Held QueuedMessage). h.slot) (option_and_then (λ i. find (is_at i) p.held) o) ≡ option_map (λ (h : Held QueuedMessage). h.slot) (find (waits_for v) p.held)
 oldest-at p v o kept e =
-    let go : (x : Option (Held MessageItem)) → find (waits_for v) p.held ≡ x
-    → option_map (λ (h : Held MessageItem). h.slot) (option_and_then (λ i. find (is_at i) p.held) (option_map (λ (h : Held MessageItem). h.slot.index) x)) ≡ option_map (λ (h : Held MessageItem). h.slot) x =
+    let go : (x : Option (Held QueuedMessage)) → find (waits_for v) p.held ≡ x
+    → option_map (λ (h : Held QueuedMessage). h.slot) (option_and_then (λ i. find (is_at i) p.held) (option_map (λ (h : Held QueuedMessage). h.slot.index) x)) ≡ option_map (λ (h : Held QueuedMessage). h.slot) x =
     elim [
       | None ↦ λ f. refl
-      | Some h ↦ λ f. ap (option_map (λ (y : Held MessageItem). y.slot)) (found-too (waits_for v) (is_at h.slot.index) p.held h (same_itself h.slot.index) (kept.once h.slot.index) f)
+      | Some h ↦ λ f. ap (option_map (λ (y : Held QueuedMessage). y.slot)) (found-too (waits_for v) (is_at h.slot.index) p.held h (same_itself h.slot.index) (kept.once h.slot.index) f)
     ] in
-    ap (λ (x : Option ℕ). option_map (λ (h : Held MessageItem). h.slot) (option_and_then (λ i. find (is_at i) p.held) x)) (e ∙ first-find (waits_for v) p.held) ∙ go (find (waits_for v) p.held) refl where
+    ap (λ (x : Option ℕ). option_map (λ (h : Held QueuedMessage). h.slot) (option_and_then (λ i. find (is_at i) p.held) x)) (e ∙ first-find (waits_for v) p.held) ∙ go (find (waits_for v) p.held) refl where
       same_itself : (n : ℕ) → (n == n) ≡ true
       same_itself n = grind arith
 
 -- a service's queue has a first index where a message waits for it
-pub some-first : (p : Places MessageItem) (services : List OwnedSignal) (ls : List Link) (es : List Ends) → KeepsQueues p services ls es
+pub some-first : (p : Places QueuedMessage) (services : List OwnedSignal) (ls : List Link) (es : List Ends) → KeepsQueues p services ls es
     → ◌≡◌ {A = ℕ → Bool} (λ v. is_some (ends_at es v).first) (λ v. is_some (find (waits_for v) p.held))
 some-first p services ls es k =
     let each : (v : ℕ) → is_some (ends_at es v).first ≡ is_some (find (waits_for v) p.held) =
     λ v. ap (λ (o : Option ℕ). is_some o) (first-is p services ls es v k ∙ first-find (waits_for v) p.held) ∙ seen (find (waits_for v) p.held) in
     λ j v. each v j where
-      seen : (o : Option (Held MessageItem)) → is_some (option_map (λ (h : Held MessageItem). h.slot.index) o) ≡ is_some o
+      seen : (o : Option (Held QueuedMessage)) → is_some (option_map (λ (h : Held QueuedMessage). h.slot.index) o) ≡ is_some o
       seen None = refl
       seen (Some h) = refl

@@ -1,18 +1,20 @@
 -- Which connection a message belongs to, after a connection or a message comes, changes or goes.
 use Rattle.std.proofs.Common.{ℕ, ◌≡◌, ◌<◌, ◌≤◌, ◌+◌, ◌==◌, Bool, true, false, cond, not, List, [], ◌∷◌, arith, ◌∙◌, ap, sym, refl, subst}
 use Rattle.std.specs.Prelude.{count_by, find, Option, Some, None, map, All, IsSome, IfSome, option_and_then, if◌then◌else◌}
-use Rattle.std.specs.Option.{option_map}
+use Rattle.std.specs.Option.{option_map, option_map_or}
 use Rattle.std.proofs.lemmas.List.Elements.{All-nil, All-cons, All-push, All-filter, All-weaker, All-map, All-head, All-tail}
 use Rattle.ffm_model.specs.declared.objects.OpenConnection.{OpenConnection}
 use Rattle.object_pools.specs.declared.slot.Slot.{Slot}
 use Rattle.object_pools.specs.declared.slot.Held.{Held}
 use Rattle.object_pools.specs.Pool.{Places, IsKept, has_slot, item_at, item_put, taken, with_item, without}
-use Rattle.handle_table.specs.declared.connections.Connection.{Connection}
-use Rattle.handle_table.specs.Table.{connections, connection_of, Rises, IsTable}
+use Rattle.handle_table.specs.Table.{connections, Rises, IsTable}
 use Rattle.handle_table.proofs.SlotLemmas.{has_own, one_slot, slot-is, held-of}
 use Rattle.handle_table.proofs.TableLemmas.{rises-bounds, one_serial}
 use Rattle.handle_table.proofs.Twins.{find-passes, count-map}
 use Rattle.spm_tables.specs.declared.item.MessageItem.{MessageItem}
+use Rattle.spm_tables.specs.declared.item.QueuedMessage.{QueuedMessage}
+use Rattle.spm_tables.specs.declared.item.TheConstants.{NO_CONNECTION}
+use Rattle.spm_tables.specs.Desk.{queued, queued_as, serial_at}
 use Rattle.spm_tables.specs.Slots.{BelongsTo, KeepSlots}
 use Rattle.spm_tables.proofs.MessageLemmas.{find-map, found-too}
 
@@ -28,37 +30,37 @@ All-found P q (y ∷ ys) x a f =
     go (q y) f
 
 -- if it is the message's connection, the message names its slot
-abbrev Slotted : MessageItem → Held OpenConnection → Type 0
+abbrev Slotted : QueuedMessage → Held OpenConnection → Type 0
 Slotted m h = h.item.serial ≡ m.serial → m.connection ≡ Some h.slot
 
-pub named-slot : (p : Places OpenConnection) (s : Slot) (c : OpenConnection) (m : MessageItem) → BelongsTo p m → item_at p s ≡ Some c → c.serial ≡ m.serial → m.connection ≡ Some s
+pub named-slot : (p : Places OpenConnection) (s : Slot) (c : OpenConnection) (m : QueuedMessage) → BelongsTo p m → item_at p s ≡ Some c → c.serial ≡ m.serial → m.connection ≡ Some s
 named-slot p s c m b live same =
     let it = held-of p s c live in
     All-found (Slotted m) (has_slot s) p.held it.0 b.slot it.1 (ap (λ (d : OpenConnection). d.serial) it.2 ∙ same) ∙ ap (λ (t : Slot). Some t) it.3
 
 -- ---- changes of the connections
 
-pub slots-start : (p : Places OpenConnection) (w : Places MessageItem) (s : Slot) (c : OpenConnection) → c.serial ≡ p.takes → KeepSlots p w → KeepSlots (taken p s c) w
-slots-start p w s c serial k =
+pub slots-start : (p : Places OpenConnection) (w : Places QueuedMessage) (s : Slot) (c : OpenConnection) → c.serial ≡ p.takes → p.takes < 1048575 → KeepSlots p w → KeepSlots (taken p s c) w
+slots-start p w s c serial few k =
     All-weaker (λ h. BelongsTo p h.item) (λ h. BelongsTo (taken p s c) h.item)
     (λ h b. record {
-      made = omega (arith, b.made);
-      slot = All-push (Slotted h.item) p.held (record { slot = s; item = c }) b.slot (λ e. absurd (omega (arith, b.made)));
+      past = λ above. b.past (omega arith);
+      slot = All-push (Slotted h.item) p.held (record { slot = s; item = c }) b.slot (λ e. absurd (omega (arith, b.past (omega arith))));
     }) w.held k
 
-pub slots-change : (p : Places OpenConnection) (w : Places MessageItem) (s : Slot) (c d : OpenConnection) → item_at p s ≡ Some c → d.serial ≡ c.serial → KeepSlots p w → KeepSlots (with_item p s d) w
+pub slots-change : (p : Places OpenConnection) (w : Places QueuedMessage) (s : Slot) (c d : OpenConnection) → item_at p s ≡ Some c → d.serial ≡ c.serial → KeepSlots p w → KeepSlots (with_item p s d) w
 slots-change p w s c d live same k =
     All-weaker (λ h. BelongsTo p h.item) (λ h. BelongsTo (with_item p s d) h.item)
     (λ h b. record {
-      made = b.made;
+      past = b.past;
       slot = All-map (Slotted h.item) (item_put s d) p.held
           (All-weaker (Slotted h.item) (λ x. Slotted h.item (item_put s d x)) (λ x old. put h.item b x old (has_slot s x) refl) p.held b.slot);
     }) w.held k where
-      put : (m : MessageItem) → BelongsTo p m → (x : Held OpenConnection) → Slotted m x → (b : Bool) → has_slot s x ≡ b → Slotted m (cond b (record x { item = d }) x)
+      put : (m : QueuedMessage) → BelongsTo p m → (x : Held OpenConnection) → Slotted m x → (b : Bool) → has_slot s x ≡ b → Slotted m (cond b (record x { item = d }) x)
       put m b x old true e = λ serial. named-slot p s c m b live (sym same ∙ serial) ∙ ap (λ (t : Slot). Some t) (sym (slot-is s x e))
       put m b x old false e = old
 
-pub slots-changed : (p q : Places OpenConnection) (w : Places MessageItem) (s : Slot) (f : OpenConnection → OpenConnection) → ((c : OpenConnection) → (f c).serial ≡ c.serial)
+pub slots-changed : (p q : Places OpenConnection) (w : Places QueuedMessage) (s : Slot) (f : OpenConnection → OpenConnection) → ((c : OpenConnection) → (f c).serial ≡ c.serial)
     → IsSome (item_at p s) → IfSome (item_at p s) (λ c. q ≡ with_item p s (f c)) → KeepSlots p w → KeepSlots q w
 slots-changed p q w s f same some change k =
     let go : (o : Option OpenConnection) → item_at p s ≡ o → IsSome o → IfSome o (λ c. q ≡ with_item p s (f c)) → KeepSlots q w =
@@ -68,34 +70,34 @@ slots-changed p q w s f same some change k =
     ] in
     go (item_at p s) refl some change
 
-pub slots-free : (p : Places OpenConnection) (w : Places MessageItem) (s : Slot) → KeepSlots p w → KeepSlots (without p s) w
+pub slots-free : (p : Places OpenConnection) (w : Places QueuedMessage) (s : Slot) → KeepSlots p w → KeepSlots (without p s) w
 slots-free p w s k =
     All-weaker (λ h. BelongsTo p h.item) (λ h. BelongsTo (without p s) h.item)
-    (λ h b. record { made = b.made; slot = All-filter (λ x. not (has_slot s x)) (Slotted h.item) p.held b.slot }) w.held k
+    (λ h b. record { past = b.past; slot = All-filter (λ x. not (has_slot s x)) (Slotted h.item) p.held b.slot }) w.held k
 
 -- ---- changes of the messages
 
-pub belongs-at : (p : Places OpenConnection) (w : Places MessageItem) (s : Slot) (m : MessageItem) → KeepSlots p w → item_at w s ≡ Some m → BelongsTo p m
+pub belongs-at : (p : Places OpenConnection) (w : Places QueuedMessage) (s : Slot) (m : QueuedMessage) → KeepSlots p w → item_at w s ≡ Some m → BelongsTo p m
 belongs-at p w s m k live =
     let it = held-of w s m live in
     subst (BelongsTo p) it.2 (All-found (λ h. BelongsTo p h.item) (has_slot s) w.held it.0 k it.1)
 
-pub slots-take : (p : Places OpenConnection) (w : Places MessageItem) (s : Slot) (m : MessageItem) → BelongsTo p m → KeepSlots p w → KeepSlots p (taken w s m)
+pub slots-take : (p : Places OpenConnection) (w : Places QueuedMessage) (s : Slot) (m : QueuedMessage) → BelongsTo p m → KeepSlots p w → KeepSlots p (taken w s m)
 slots-take p w s m b k = All-push (λ h. BelongsTo p h.item) w.held (record { slot = s; item = m }) k b
 
-pub slots-put : (p : Places OpenConnection) (w : Places MessageItem) (s : Slot) (m n : MessageItem) → item_at w s ≡ Some m → n.serial ≡ m.serial → n.connection ≡ m.connection
+pub slots-put : (p : Places OpenConnection) (w : Places QueuedMessage) (s : Slot) (m n : QueuedMessage) → item_at w s ≡ Some m → n.serial ≡ m.serial → n.connection ≡ m.connection
     → KeepSlots p w → KeepSlots p (with_item w s n)
 slots-put p w s m n live serial slot k =
     All-map (λ h. BelongsTo p h.item) (item_put s n) w.held
     (All-weaker (λ h. BelongsTo p h.item) (λ h. BelongsTo p (item_put s n h).item) (λ h old. put h old (has_slot s h)) w.held k) where
       new : BelongsTo p m → BelongsTo p n
-      new b = record { made = omega (arith, b.made); slot = All-weaker (Slotted m) (Slotted n) (λ h old e. slot ∙ old (e ∙ serial)) p.held b.slot }
+      new b = record { past = λ above. omega (arith, b.past (omega arith)); slot = All-weaker (Slotted m) (Slotted n) (λ h old e. slot ∙ old (e ∙ serial)) p.held b.slot }
 
-      put : (h : Held MessageItem) → BelongsTo p h.item → (b : Bool) → BelongsTo p (cond b (record h { item = n }) h).item
+      put : (h : Held QueuedMessage) → BelongsTo p h.item → (b : Bool) → BelongsTo p (cond b (record h { item = n }) h).item
       put h old true = new (belongs-at p w s m k live)
       put h old false = old
 
-pub slots-drop : (p : Places OpenConnection) (w : Places MessageItem) (s : Slot) → KeepSlots p w → KeepSlots p (without w s)
+pub slots-drop : (p : Places OpenConnection) (w : Places QueuedMessage) (s : Slot) → KeepSlots p w → KeepSlots p (without w s)
 slots-drop p w s k = All-filter (λ h. not (has_slot s h)) (λ h. BelongsTo p h.item) w.held k
 
 -- ---- serial numbers
@@ -134,37 +136,41 @@ one-place low made (y ∷ ys) q x r f =
 -- ---- a message of a connection
 
 -- of a live one, in its slot
-pub belongs-to : (p : Places OpenConnection) (s : Slot) (c : OpenConnection) (m : MessageItem) → IsTable p → item_at p s ≡ Some c → m.serial ≡ c.serial → m.connection ≡ Some s → BelongsTo p m
+belongs-to : (p : Places OpenConnection) (s : Slot) (c : OpenConnection) (m : QueuedMessage) → IsTable p → item_at p s ≡ Some c → m.serial ≡ c.serial → m.connection ≡ Some s → BelongsTo p m
 belongs-to p s c m t live serial names =
     let it = held-of p s c live in
     let same : (it.0).item.serial ≡ c.serial = ap (λ (d : OpenConnection). d.serial) it.2 in
     record {
-      made = omega (arith, All-found (λ h. h.item.serial < p.takes) (has_slot s) p.held it.0 (below-made 0 p.takes p.held t.rising) it.1);
+      past = λ above. absurd (omega (arith, All-found (λ h. h.item.serial < p.takes) (has_slot s) p.held it.0 (below-made 0 p.takes p.held t.rising) it.1));
       slot = All-weaker (λ h. h.item.serial ≡ (it.0).item.serial → h.slot ≡ (it.0).slot) (Slotted m)
           (λ h one e. names ∙ ap (λ (u : Slot). Some u) (sym (one (e ∙ serial ∙ sym same) ∙ it.3))) p.held (one-place 0 p.takes p.held (has_slot s) it.0 t.rising it.1);
     }
 
--- the same of what is told of that connection
-pub belongs-told : (p : Places OpenConnection) (s : Slot) (r : Connection) (m : MessageItem) → IsTable p → IsSome (item_at p s) → IfSome (item_at p s) (λ c. r ≡ connection_of c)
-    → m.serial ≡ r.serial → m.connection ≡ Some s → BelongsTo p m
-belongs-told p s r m t some told serial names =
-    let go : (o : Option OpenConnection) → item_at p s ≡ o → IsSome o → IfSome o (λ c. r ≡ connection_of c) → BelongsTo p m =
-    elim [
-      | None ↦ λ e n i. cc
-      | Some c ↦ λ e n i. belongs-to p s c m t e (serial ∙ ap (λ (x : Connection). x.serial) i) names
-    ] in
-    go (item_at p s) refl some told
-
--- of one that was just started
-pub belongs-started : (p : Places OpenConnection) (s : Slot) (c : OpenConnection) (m : MessageItem) → IsTable p → c.serial ≡ p.takes → m.serial ≡ c.serial → m.connection ≡ Some s → BelongsTo (taken p s c) m
-belongs-started p s c m t serial same names = record {
-  made = omega arith;
-  slot = All-push (Slotted m) p.held (record { slot = s; item = c })
-      (All-weaker (λ h. h.item.serial < p.takes) (Slotted m) (λ h below e. absurd (omega arith)) p.held (below-made 0 p.takes p.held t.rising)) (λ e. names);
+-- of none
+belongs-nowhere : (p : Places OpenConnection) (m : QueuedMessage) → IsKept 256 p → IsTable p → m.serial ≡ NO_CONNECTION → BelongsTo p m
+belongs-nowhere p m kept t serial = record {
+  past = λ above. omega arith;
+  slot = All-weaker (λ h. h.item.serial < p.takes) (Slotted m) (λ h below e. absurd (omega (arith, kept.takes_left))) p.held (below-made 0 p.takes p.held t.rising);
 }
 
+-- of the one in its slot, or of none where none is there
+pub belongs-queued : (p : Places OpenConnection) (m : MessageItem) → IsKept 256 p → IsTable p → BelongsTo p (queued p m)
+belongs-queued p m kept t = in_slot m.connection refl where
+  there : (s : Slot) (o : Option OpenConnection) → m.connection ≡ Some s → item_at p s ≡ o → BelongsTo p (queued p m)
+  there s None e live = belongs-nowhere p (queued p m) kept t (ap (serial_at p) e ∙ ap (λ (o : Option OpenConnection). option_map_or (λ c. c.serial) o NO_CONNECTION) live)
+  there s (Some c) e live = belongs-to p s c (queued p m) t live (ap (serial_at p) e ∙ ap (λ (o : Option OpenConnection). option_map_or (λ c. c.serial) o NO_CONNECTION) live) e
+
+  in_slot : (o : Option Slot) → m.connection ≡ o → BelongsTo p (queued p m)
+  in_slot None e = belongs-nowhere p (queued p m) kept t (ap (serial_at p) e)
+  in_slot (Some s) e = there s (item_at p s) e refl
+
+-- a message that names the slot of a live connection has its serial number
+pub queued-live : (p : Places OpenConnection) (s : Slot) (c : OpenConnection) (m : MessageItem) → m.connection ≡ Some s → item_at p s ≡ Some c → queued p m ≡ queued_as c.serial m
+queued-live p s c m names live =
+    ap (λ (n : ℕ). queued_as n m) (ap (serial_at p) names ∙ ap (λ (o : Option OpenConnection). option_map_or (λ d. d.serial) o NO_CONNECTION) live)
+
 -- a message's connection, while it is there, is in the slot that the message names
-pub slot-of-serial : (p : Places OpenConnection) (m : MessageItem) (c : OpenConnection) → IsKept 256 p → BelongsTo p m → find (λ d. d.serial == m.serial) (connections p) ≡ Some c
+pub slot-of-serial : (p : Places OpenConnection) (m : QueuedMessage) (c : OpenConnection) → IsKept 256 p → BelongsTo p m → find (λ d. d.serial == m.serial) (connections p) ≡ Some c
     → (s : Slot) × (m.connection ≡ Some s) × (item_at p s ≡ Some c)
 slot-of-serial p m c kept b f =
     let go : (o : Option (Held OpenConnection)) → find (λ h. h.item.serial == m.serial) p.held ≡ o → option_map (λ (h : Held OpenConnection). h.item) o ≡ Some c
@@ -198,7 +204,7 @@ abbrev pub of_serial : ℕ → OpenConnection → Option OpenConnection
 of_serial serial c = if c.serial == serial then Some c else None
 
 -- a message's connection is what the slot has that the message names, if that has its serial number
-pub connection-of : (p : Places OpenConnection) (m : MessageItem) → IsKept 256 p → IsTable p → BelongsTo p m
+pub connection-of : (p : Places OpenConnection) (m : QueuedMessage) → IsKept 256 p → IsTable p → BelongsTo p m
     → find (λ d. d.serial == m.serial) (connections p) ≡ option_and_then (λ s. option_and_then (of_serial m.serial) (item_at p s)) m.connection
 connection-of p m kept t b =
     let go : (o : Option OpenConnection) → find (λ d. d.serial == m.serial) (connections p) ≡ o → o ≡ option_and_then (λ s. option_and_then (of_serial m.serial) (item_at p s)) m.connection =

@@ -1,6 +1,6 @@
 -- What contracts see of a manager's tables, and the state of the machine that they hold.
 -- Source: FF-M 1.0, IPC model and signals; the slots are this manager's.
-use Rattle.std.specs.Prelude.{◌≡◌, ℕ, ◌==◌, Bool, ◌&&◌, false, if◌then◌else◌, List, length, Option, Some, None, map, slice_get}
+use Rattle.std.specs.Prelude.{◌≡◌, ℕ, ◌==◌, Bool, ◌&&◌, false, if◌then◌else◌, List, length, Option, Some, None, map, slice_get, option_and_then}
 use Rattle.std.specs.List.{filter_map, enumerate_from}
 use Rattle.std.specs.Option.{option_map, option_map_or}
 use Rattle.ffm_model.specs.declared.system.System.{System}
@@ -21,13 +21,15 @@ use Rattle.handle_table.specs.declared.handles.Family.TheVariants.{Message}
 use Rattle.handle_table.specs.Handles.{handle_at}
 use Rattle.handle_table.specs.Table.{connections}
 use Rattle.spm_tables.specs.declared.item.MessageItem.{MessageItem}
+use Rattle.spm_tables.specs.declared.item.QueuedMessage.{QueuedMessage}
+use Rattle.spm_tables.specs.declared.item.TheConstants.{NO_CONNECTION}
 use Rattle.spm_tables.specs.declared.signals.OwnedSignal.{OwnedSignal}
 
 pub record Desk : Type 0 where
   -- the connections, each under its slot
   pub linked : Places OpenConnection
   -- the messages, each under its slot
-  pub waiting : Places MessageItem
+  pub waiting : Places QueuedMessage
   pub phases : List ActorPhase
   pub doorbells : List Bool
   pub flags : List SourceFlags
@@ -36,20 +38,38 @@ pub record Desk : Type 0 where
   -- and those of the interrupt sources
   pub sources : List OwnedSignal
 
+-- ---- messages
+
+-- the message of a connection with that serial number
+abbrev pub queued_as : ℕ → MessageItem → QueuedMessage
+queued_as n m = record { service = m.service; client = m.client; connection = m.connection; serial = n; kind = m.kind; vectors = m.vectors; delivered = m.delivered }
+
+-- a message without the serial number
+abbrev pub item_of : QueuedMessage → MessageItem
+item_of m = record { service = m.service; client = m.client; connection = m.connection; kind = m.kind; vectors = m.vectors; delivered = m.delivered }
+
+-- the serial number of the connection in the slot, and where none is there a number that no connection has
+abbrev pub serial_at : Places OpenConnection → Option Slot → ℕ
+serial_at linked slot = option_map_or (λ c. c.serial) (option_and_then (item_at linked) slot) NO_CONNECTION
+
+-- the message of the connection in its slot
+abbrev pub queued : Places OpenConnection → MessageItem → QueuedMessage
+queued linked m = queued_as (serial_at linked m.connection) m
+
 -- ---- the state
 
 -- a message has the handle of its slot from its delivery on
 abbrev pub shown_handle : Bool → Slot → Option Handle
 shown_handle delivered s = if delivered then Some (handle_at Message s) else None
 
-abbrev pub message_of : Slot → MessageItem → PendingMessage
+abbrev pub message_of : Slot → QueuedMessage → PendingMessage
 message_of s m = record { service = m.service; client = m.client; connection = m.serial; kind = m.kind; vectors = m.vectors; handle = shown_handle m.delivered s }
 
 -- a message before its delivery
-abbrev pub fresh_message : MessageItem → PendingMessage
+abbrev pub fresh_message : QueuedMessage → PendingMessage
 fresh_message m = record { service = m.service; client = m.client; connection = m.serial; kind = m.kind; vectors = m.vectors; handle = None }
 
-abbrev pub held_message : Held MessageItem → PendingMessage
+abbrev pub held_message : Held QueuedMessage → PendingMessage
 held_message h = message_of h.slot h.item
 
 abbrev pub spm_of : Desk → SpmState
@@ -67,7 +87,7 @@ abbrev pub message_at : Desk → Slot → Option PendingMessage
 message_at d s = option_map (message_of s) (item_at d.waiting s)
 
 -- a message of the service that waits for psa_get
-abbrev pub waits_for : ℕ → Held MessageItem → Bool
+abbrev pub waits_for : ℕ → Held QueuedMessage → Bool
 waits_for service h = is_undelivered service (held_message h)
 
 -- ---- the system

@@ -4,7 +4,7 @@ use Rattle.std.specs.Prelude.{◌≡◌, ℕ, ◌<◌, List, [], ◌∷◌, leng
 use Rattle.object_pools.specs.Pool.{Places}
 use Rattle.spm_tables.specs.declared.queues.Link.{Link}
 use Rattle.spm_tables.specs.declared.queues.Ends.{Ends}
-use Rattle.spm_tables.specs.declared.item.MessageItem.{MessageItem}
+use Rattle.spm_tables.specs.declared.item.QueuedMessage.{QueuedMessage}
 use Rattle.spm_tables.specs.declared.signals.OwnedSignal.{OwnedSignal}
 use Rattle.spm_tables.specs.Desk.{waits_for}
 
@@ -41,11 +41,11 @@ pub record AreQueues (links : List Link) (ends : List Ends) (queues : ℕ → Li
   pub threaded : (v : ℕ) → v < length ends → Threaded (λ i. (link_at links i).after) (λ i. (link_at links i).before) None (queues v)
 
 -- the indices of the messages that wait for the service, in order of arrival
-abbrev pub queue_in : Places MessageItem → ℕ → List ℕ
+abbrev pub queue_in : Places QueuedMessage → ℕ → List ℕ
 queue_in p v = map (λ h. h.slot.index) (filter (waits_for v) p.held)
 
 -- what the tables keep of their queues
-pub record KeepsQueues (messages : Places MessageItem) (services : List OwnedSignal) (links : List Link) (ends : List Ends) : Type 0 where
+pub record KeepsQueues (messages : Places QueuedMessage) (services : List OwnedSignal) (links : List Link) (ends : List Ends) : Type 0 where
   pub linked : length links ≡ length messages.generations
   pub ended : length ends ≡ length services
   -- each message's service is there

@@ -6,7 +6,7 @@ mod queues;
 mod signals;
 mod tables;
 
-pub use item::MessageItem;
+pub use item::{MessageItem, NO_CONNECTION, QueuedMessage};
 pub use signals::OwnedSignal;
 pub use tables::Tables;
 

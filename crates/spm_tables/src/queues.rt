@@ -3,7 +3,7 @@
 ghost use Rattle.std.specs.Prelude.{◌≡◌, slice_set, if◌then◌else◌};
 ghost use Rattle.spm_tables.specs.Queues.{link_at, ends_at, with_after, with_before, joined, unlinked, joined_ends, unlinked_ends};
 
-use crate::item::MessageItem;
+use crate::item::QueuedMessage;
 
 /// The indices before and after one in its queue.
 #[derive(Clone, Copy, Debug)]
@@ -103,7 +103,7 @@ pub(crate) fn join(links: &mut Vec<Link>, ends: &mut Vec<Ends>, service: u32, in
 }
 
 /// Takes a message that goes out of its queue, where it waits in one.
-pub(crate) fn leave(links: &mut Vec<Link>, ends: &mut Vec<Ends>, item: &MessageItem, index: u32)
+pub(crate) fn leave(links: &mut Vec<Link>, ends: &mut Vec<Ends>, item: &QueuedMessage, index: u32)
     ensures links { links.new.items ≡ (if item.now.delivered then links.old.items else unlinked links.old.items (link_at links.old.items index)) }
     ensures ends { ends.new.items ≡ (if item.now.delivered then ends.old.items else slice_set ends.old.items item.now.service (unlinked_ends (ends_at ends.old.items item.now.service) (link_at links.old.items index))) }
 {

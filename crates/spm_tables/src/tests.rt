@@ -2,7 +2,7 @@
 
 ghost use Rattle.std.specs.Prelude.{◌≡◌, false, length, IfOk, Some};
 
-use crate::{MessageItem, Tables};
+use crate::{MessageItem, NO_CONNECTION, Tables};
 use ffm_model::{
     ActorId, ActorPhase, Budget, Class, ConnPhase, Handle, List, Name, PSA_DOORBELL, Partition,
     Policy, Priority, Region, RotType, Service, Sid, Source, SourceFlags, Span, System, Vectors,
@@ -87,18 +87,15 @@ fn system(alloc: Global) -> Result<System, Fail> {
     Ok(made.ok_or("the parts don't fit")?)
 }
 
-fn request(connection: Slot, serial: u32, service: u32, kind: i32) -> MessageItem
+fn request(connection: Option<Slot>, service: u32, kind: i32) -> MessageItem
     ensures service { result.service ≡ service }
-    ensures connection { result.connection ≡ Some connection }
-    ensures serial { result.serial ≡ serial }
     ensures delivered { result.delivered ≡ false }
 {
     let none = Span::default();
     MessageItem {
         service,
         client: CLIENT,
-        connection: Some(connection),
-        serial,
+        connection,
         kind,
         vectors: Vectors {
             input: [none; 4],
@@ -116,21 +113,18 @@ fn start(rt: &impl Abort, tables: &mut Tables) -> Slot {
     tables.start(CLIENT, 0)
 }
 
-// Sends a message of a connection.
+// Sends a message of a connection, or of none.
 fn enqueue(
     rt: &impl Abort,
     tables: &mut Tables,
-    connection: Slot,
+    connection: Option<Slot>,
     service: u32,
     kind: i32,
 ) -> Slot {
     assert!(rt; tables.has_service(service));
     assert!(rt; tables.messages().live() < tables.messages().size());
     assert!(rt; tables.messages().takes() < 1000);
-    assert!(rt; tables.connections().is_live(connection));
-    let serial = tables.connections().connection(connection).serial;
-    tables.law();
-    tables.enqueue(request(connection, serial, service, kind))
+    tables.enqueue(request(connection, service, kind))
 }
 
 fn message(rt: &impl Abort, tables: &Tables, slot: Slot) -> MessageItem {
@@ -141,6 +135,11 @@ fn message(rt: &impl Abort, tables: &Tables, slot: Slot) -> MessageItem {
 fn drop_message(rt: &impl Abort, tables: &mut Tables, slot: Slot) -> MessageItem {
     assert!(rt; tables.messages().get(slot).is_some());
     tables.drop_message(slot)
+}
+
+fn serial(rt: &impl Abort, tables: &Tables, slot: Slot) -> u32 {
+    assert!(rt; tables.messages().get(slot).is_some());
+    tables.queued(slot).serial
 }
 
 /// A message of the plain list.
@@ -189,7 +188,7 @@ fn does_what_a_plain_list_does(rt: HostRuntime) -> Result<(), Fail> {
             b'a' | b'b' => {
                 let service: u32 = if *step == b'a' { 0 } else { 1 };
                 let kind = *step as i32;
-                let slot = enqueue(&rt, &mut tables, connection, service, kind);
+                let slot = enqueue(&rt, &mut tables, Some(connection), service, kind);
                 plain.push(Plain {
                     slot,
                     service,
@@ -245,7 +244,7 @@ fn signals_and_handles(rt: HostRuntime) -> Result<(), Fail> {
     assert_eq!(rt; tables.source_flags(0), asserted);
     assert_eq!(rt; tables.signals(VAULT), PSA_DOORBELL | 0x40);
     let connection = start(&rt, &mut tables);
-    let slot = enqueue(&rt, &mut tables, connection, 1, 7);
+    let slot = enqueue(&rt, &mut tables, Some(connection), 1, 7);
     assert_eq!(rt; tables.message_to(1), Some(slot));
     assert_eq!(rt; tables.message_to(0), None);
     assert_eq!(rt; tables.find_message(VAULT, Handle(1536)), None);
@@ -260,5 +259,33 @@ fn signals_and_handles(rt: HostRuntime) -> Result<(), Fail> {
         tables.connections().find(CLIENT, Handle(1024)),
         Some(connection)
     );
+    Ok(())
+}
+
+// A message of that slot is delivered and dropped, and has that serial number.
+fn passes_through(rt: &impl Abort, tables: &mut Tables, connection: Option<Slot>, number: u32) {
+    let slot = enqueue(rt, tables, connection, 0, 1);
+    assert_eq!(rt; message(rt, tables, slot).connection, connection);
+    assert_eq!(rt; serial(rt, tables, slot), number);
+    assert_eq!(rt; tables.signals(VAULT), 0x10);
+    assert_eq!(rt; tables.dequeue(0), Some(slot));
+    let dropped = drop_message(rt, tables, slot);
+    assert_eq!(rt; dropped.connection, connection);
+    assert!(rt; dropped.delivered);
+    assert_eq!(rt; tables.messages().live(), 0);
+}
+
+#[test]
+fn messages_of_no_connection(rt: HostRuntime) -> Result<(), Fail> {
+    let system = system(rt.alloc())?;
+    let mut tables = Tables::new(rt.alloc(), &system)?;
+    let first = start(&rt, &mut tables);
+    let second = start(&rt, &mut tables);
+    passes_through(&rt, &mut tables, Some(second), 1);
+    assert!(rt; tables.connections().is_live(second));
+    tables.free(second);
+    passes_through(&rt, &mut tables, Some(second), NO_CONNECTION);
+    passes_through(&rt, &mut tables, None, NO_CONNECTION);
+    passes_through(&rt, &mut tables, Some(first), 0);
     Ok(())
 }

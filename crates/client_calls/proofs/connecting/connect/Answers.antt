@@ -8,7 +8,7 @@ use Rattle.ffm_model.specs.ClientCalls.{new_connection, connect_issued, move}
 use Rattle.ffm_model.specs.declared.machine.Outcome.TheVariants.{Blocked as Blocks}
 use Rattle.object_pools.specs.Pool.{item_at}
 use Rattle.spm_tables.specs.Desk.{Desk, spm_of}
-use Rattle.client_calls.proofs.PoolLemmas.{item-taken}
+use Rattle.spm_tables.proofs.PoolLemmas.{item-taken}
 use Rattle.client_calls.proofs.ServiceLemmas.{taking-service, made-services}
 use Rattle.client_calls.proofs.SendLemmas.{at-item, has-item, room-for-connection, room-for-message}
 use Rattle.client_calls.proofs.ConnectLemmas.{connect-rooms, connect-issues}

@@ -1,11 +1,40 @@
-use Rattle.std.proofs.Common.{refl, rules}
-use Rattle.std.specs.Prelude.{IsSome}
-use Rattle.object_pools.specs.Pool.{item_at}
-use Rattle.spm_tables.proofs.SlotLemmas.{belongs-told}
+use Rattle.std.proofs.Common.{◌≡◌, ◌++◌, [], ◌∷◌, ℤ, w32, ap, subst, ◌∙◌}
+use Rattle.std.specs.Prelude.{IsSomeAnd, IfSome}
+use Rattle.std.proofs.lemmas.Int.{to_z-of_z}
+use Rattle.ffm_model.specs.declared.machine.ActorId.{ActorId}
+use Rattle.ffm_model.specs.declared.objects.ActorPhase.TheVariants.{Blocked}
+use Rattle.ffm_model.specs.declared.objects.OpenConnection.{OpenConnection}
+use Rattle.ffm_model.specs.State.{SpmState, with_message, with_phase}
+use Rattle.object_pools.specs.Pool.{free_slot, item_at, taken}
+use Rattle.spm_tables.specs.declared.item.QueuedMessage.{QueuedMessage}
+use Rattle.spm_tables.specs.Desk.{Desk, fresh_message, queued, spm_of}
+use Rattle.client_calls.specs.Sending.{item_on, message_on}
+use Rattle.client_calls.proofs.SendLemmas.{at-items, has-item, queued-on}
 use Rattle.client_calls.proofs.sending.send.Goals as goal
 
-pub enqueue-requires-clause-connection : goal.enqueue-requires-clause-connection
-enqueue-requires-clause-connection c =
+queued-so : (c : goal.After-set_phase) → IfSome (item_at c.args.tables.now.linked c.args.slot) (λ x. queued c.args.tables.now.linked c.item_on-item.result ≡ message_on c.args.slot x c.args.kind c.args.vectors)
+queued-so c =
+    let is : ℤ → Type 0 = λ k. IfSome (item_at c.args.tables.now.linked c.args.slot) (λ x. c.item_on-item.result ≡ item_on c.args.slot x k c.args.vectors) in
+    queued-on c.args.tables.now.linked c.args.slot c.args.kind c.args.vectors c.item_on-item.result (subst is (to_z-of_z w32 c.args.kind c.ranges.kind) (rw c.connections.ensures at c.item_on-item.ensures.item))
+
+pub returns-clause-waiting : goal.returns-clause-waiting
+returns-clause-waiting c =
     let d = c.args.tables.now in
-    let live : IsSome (item_at d.linked c.args.slot) = search rules in
-    belongs-told d.linked c.args.slot c.connection-connection.result _ c.law.ensures.table live (rw c.connections.ensures at c.connection-connection.ensures) refl refl
+    let lies : OpenConnection → Desk → Type 0 = λ x new. IsSomeAnd (free_slot d.waiting) (λ place. new.waiting ≡ taken d.waiting place (message_on c.args.slot x c.args.kind c.args.vectors)) in
+    at-items (item_at d.linked c.args.slot) (λ x. queued d.linked c.item_on-item.result ≡ message_on c.args.slot x c.args.kind c.args.vectors) (λ x. lies x c.set_phase.new.self)
+    (λ x is.
+    has-item (free_slot d.waiting) c.enqueue.result (λ place. c.set_phase.new.self.waiting ≡ taken d.waiting place (message_on c.args.slot x c.args.kind c.args.vectors)) c.enqueue.ensures.slot
+    (ap (λ (e : Desk). e.waiting) c.set_phase.ensures.after ∙ ap (λ (e : Desk). e.waiting) c.enqueue.ensures.after ∙ ap (λ (m : QueuedMessage). taken d.waiting c.enqueue.result m) is))
+    (queued-so c)
+
+pub returns-clause-state : goal.returns-clause-state
+returns-clause-state c =
+    let d = c.args.tables.now in
+    let with_sent : QueuedMessage → SpmState = λ m. record (spm_of d) { messages = (spm_of d).messages ++ fresh_message m ∷ [] } in
+    at-items (item_at d.linked c.args.slot) (λ x. queued d.linked c.item_on-item.result ≡ message_on c.args.slot x c.args.kind c.args.vectors)
+    (λ x. spm_of c.set_phase.new.self ≡ with_phase (with_message (spm_of d) x c.args.kind c.args.vectors) x.client.0 Blocked)
+    (λ x is.
+    c.set_phase.ensures.state
+    ∙ ap (λ (a : ActorId). with_phase (spm_of c.enqueue.new.self) a.0 Blocked) (ap (λ (m : QueuedMessage). m.client) is)
+    ∙ ap (λ (b : SpmState). with_phase b x.client.0 Blocked) (c.enqueue.ensures.state ∙ ap with_sent is))
+    (queued-so c)

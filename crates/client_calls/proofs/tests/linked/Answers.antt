@@ -17,7 +17,7 @@ use Rattle.counting_law.proofs.Counts.{bit, bit-le, count-cons}
 use Rattle.counting_law.proofs.Parts.{off_left, off_right}
 use Rattle.object_pools.specs.Pool.{item_at, with_item}
 use Rattle.spm_tables.specs.Desk.{Desk, spm_of}
-use Rattle.client_calls.proofs.PoolLemmas.{item-put, item-taken}
+use Rattle.spm_tables.proofs.PoolLemmas.{item-put, item-taken}
 use Rattle.client_calls.proofs.SendLemmas.{at-item}
 use Rattle.client_calls.proofs.tests.linked.Goals as goal
 

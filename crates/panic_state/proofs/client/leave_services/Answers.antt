@@ -5,8 +5,8 @@ use Rattle.ffm_model.specs.declared.objects.OpenConnection.{OpenConnection}
 use Rattle.ffm_model.specs.declared.objects.PendingMessage.{PendingMessage}
 use Rattle.ffm_model.specs.State.{SpmState}
 use Rattle.object_pools.specs.Pool.{Places, item_at, taken}
-use Rattle.spm_tables.specs.Desk.{Desk, held_message}
-use Rattle.spm_tables.proofs.SlotLemmas.{belongs-to}
+use Rattle.spm_tables.specs.Desk.{Desk, fresh_message, held_message, queued}
+use Rattle.spm_tables.proofs.SlotLemmas.{queued-live}
 use Rattle.panic_state.specs.Losses.{goodbye}
 use Rattle.panic_state.proofs.Leaving.{messages_of, leaves-other, leaves-dead, dead-shorter, leaves-closing, closing-both, closing-length, room-left, takes-left, service-known, left-linked, left-messages, left-names, left-takes}
 use Rattle.panic_state.proofs.client.leave_services.Goals as goal
@@ -39,10 +39,6 @@ enqueue-requires-clause-service c =
       ap (λ (m : PendingMessage). m.service) c.disconnection.ensures.message,
     )
 
-pub enqueue-requires-clause-connection : goal.enqueue-requires-clause-connection
-enqueue-requires-clause-connection c =
-    belongs-to c.loop-place.tables.linked c.connection_at-held.result.slot c.connection_at-held.result.item c.disconnection.result c.connection_at-held.ensures.table c.connection_at-held.ensures.item c.disconnection.ensures.serial c.disconnection.ensures.connection
-
 pub enqueue-requires-clause-room : goal.enqueue-requires-clause-room
 enqueue-requires-clause-room c =
     room-left c.args.partition.0 c.loop-place.place c.args.tables.now c.loop-place.tables c.connection_at-held.result c.loop-place.invariant c.connection_at-held.ensures.at
@@ -60,17 +56,18 @@ set_connection_phase-requires c = subst (λ (d : Desk). IsSome (item_at d.linked
 pub loop-place-smaller : goal.loop-place-smaller
 loop-place-smaller c =
     let same_length : length c.set_connection_phase.new.self.linked.held ≡ length c.loop-place.tables.linked.held =
-    closing-length c.loop-place.tables c.set_connection_phase.new.self (taken c.loop-place.tables.waiting c.enqueue.result c.disconnection.result) c.connection_at-held.result.slot c.connection_at-held.result.item
-    (closing-both c.loop-place.tables c.enqueue.new.self c.set_connection_phase.new.self (taken c.loop-place.tables.waiting c.enqueue.result c.disconnection.result) c.connection_at-held.result.slot c.connection_at-held.result.item c.enqueue.ensures.after c.connection_at-held.ensures.item c.set_connection_phase.ensures.item) in
+    closing-length c.loop-place.tables c.set_connection_phase.new.self (taken c.loop-place.tables.waiting c.enqueue.result (queued c.loop-place.tables.linked c.disconnection.result)) c.connection_at-held.result.slot c.connection_at-held.result.item
+    (closing-both c.loop-place.tables c.enqueue.new.self c.set_connection_phase.new.self (taken c.loop-place.tables.waiting c.enqueue.result (queued c.loop-place.tables.linked c.disconnection.result)) c.connection_at-held.result.slot c.connection_at-held.result.item c.enqueue.ensures.after c.connection_at-held.ensures.item c.set_connection_phase.ensures.item) in
     omega (arith, same_length, c.live.ensures, c.loop-place-test.true, ap (λ (q : Places OpenConnection). length q.held) c.connections.ensures)
 
 pub loop-place-preserved : goal.loop-place-preserved
 loop-place-preserved c =
-    let sent : map held_message (taken c.loop-place.tables.waiting c.enqueue.result c.disconnection.result).held ≡ messages_of c.loop-place.tables ++ goodbye c.connection_at-held.result.item ∷ [] =
-    sym (ap (λ (d : Desk). messages_of d) c.enqueue.ensures.after) ∙ ap (λ (b : SpmState). b.messages) c.enqueue.ensures.state ∙ ap (λ (m : PendingMessage). messages_of c.loop-place.tables ++ m ∷ []) c.disconnection.ensures.message in
-    leaves-closing c.args.partition.0 c.loop-place.place c.args.tables.now c.loop-place.tables c.set_connection_phase.new.self c.connection_at-held.result c.enqueue.result c.disconnection.result c.loop-place.invariant c.connection_at-held.ensures.kept c.connection_at-held.ensures.at
+    let as_queued = queued-live c.loop-place.tables.linked c.connection_at-held.result.slot c.connection_at-held.result.item c.disconnection.result c.disconnection.ensures.connection c.connection_at-held.ensures.item in
+    let sent : map held_message (taken c.loop-place.tables.waiting c.enqueue.result (queued c.loop-place.tables.linked c.disconnection.result)).held ≡ messages_of c.loop-place.tables ++ goodbye c.connection_at-held.result.item ∷ [] =
+    sym (ap (λ (d : Desk). messages_of d) c.enqueue.ensures.after) ∙ ap (λ (b : SpmState). b.messages) c.enqueue.ensures.state ∙ ap (λ (m : PendingMessage). messages_of c.loop-place.tables ++ m ∷ []) (ap fresh_message as_queued ∙ c.disconnection.ensures.message) in
+    leaves-closing c.args.partition.0 c.loop-place.place c.args.tables.now c.loop-place.tables c.set_connection_phase.new.self c.connection_at-held.result c.enqueue.result (queued c.loop-place.tables.linked c.disconnection.result) c.loop-place.invariant c.connection_at-held.ensures.kept c.connection_at-held.ensures.at
     c.connection_at-held.ensures.item c.enqueue.ensures.slot (same c.connection_at-held.result.item.client.0 c.args.partition.0 c.if-held-partition.false) (sym c.is_dead.ensures ∙ c.if-is_dead.false) sent
-    (closing-both c.loop-place.tables c.enqueue.new.self c.set_connection_phase.new.self (taken c.loop-place.tables.waiting c.enqueue.result c.disconnection.result) c.connection_at-held.result.slot c.connection_at-held.result.item c.enqueue.ensures.after c.connection_at-held.ensures.item c.set_connection_phase.ensures.item)
+    (closing-both c.loop-place.tables c.enqueue.new.self c.set_connection_phase.new.self (taken c.loop-place.tables.waiting c.enqueue.result (queued c.loop-place.tables.linked c.disconnection.result)) c.connection_at-held.result.slot c.connection_at-held.result.item c.enqueue.ensures.after c.connection_at-held.ensures.item c.set_connection_phase.ensures.item)
 
 pub returns-clause-connections : goal.returns-clause-connections
 returns-clause-connections c =

@@ -1,6 +1,6 @@
 use Rattle.std.proofs.Common.{◌≡◌, ◌+◌, length, arith, ap, sym, ◌∙◌}
 use Rattle.object_pools.specs.Pool.{Places}
-use Rattle.spm_tables.specs.declared.item.MessageItem.{MessageItem}
+use Rattle.spm_tables.specs.declared.item.QueuedMessage.{QueuedMessage}
 use Rattle.panic_state.proofs.Walks.{messages_from-all, messages_from-other, messages_from-gone, messages_from-none, gone-shorter}
 use Rattle.panic_state.proofs.services.drop_messages.Goals as goal
 
@@ -12,7 +12,7 @@ loop-place-smaller-then-is_service_of c =
     let n = c.loop-place.place in
     let shorter : length c.drop_message.new.self.waiting.held + 1 ≡ length c.loop-place.tables.waiting.held =
     gone-shorter n c.loop-place.tables c.drop_message.new.self c.message_at-held.result c.message_at-held.ensures.kept c.message_at-held.ensures.at c.drop_message.ensures.after in
-    omega (arith, shorter, c.live.ensures, c.loop-place-test.true, ap (λ (q : Places MessageItem). length q.held) c.messages.ensures)
+    omega (arith, shorter, c.live.ensures, c.loop-place-test.true, ap (λ (q : Places QueuedMessage). length q.held) c.messages.ensures)
 
 pub loop-place-preserved-then-is_service_of : goal.loop-place-preserved-then-is_service_of
 loop-place-preserved-then-is_service_of c =
@@ -29,5 +29,5 @@ loop-place-preserved c =
 pub returns : goal.returns
 returns c =
     sym (messages_from-all c.args.system.now c.args.partition.0 c.loop-place.place c.loop-place.tables
-    (omega (arith, c.live.ensures, c.loop-place-test.false, ap (λ (q : Places MessageItem). length q.held) c.messages.ensures)))
+    (omega (arith, c.live.ensures, c.loop-place-test.false, ap (λ (q : Places QueuedMessage). length q.held) c.messages.ensures)))
     ∙ c.loop-place.invariant

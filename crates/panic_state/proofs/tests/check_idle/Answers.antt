@@ -7,7 +7,7 @@ use Rattle.object_pools.specs.declared.slot.Held.{Held}
 use Rattle.object_pools.specs.Pool.{Places}
 use Rattle.handle_table.specs.Table.{connections, Rises}
 use Rattle.counting_law.specs.Objects.{allowed}
-use Rattle.spm_tables.specs.declared.item.MessageItem.{MessageItem}
+use Rattle.spm_tables.specs.declared.item.QueuedMessage.{QueuedMessage}
 use Rattle.spm_tables.specs.Desk.{spm_of, held_message}
 use Rattle.panic_state.proofs.TestLemmas.{idle-fits, only, empty}
 use Rattle.panic_state.proofs.tests.check_idle.Goals as goal
@@ -17,7 +17,7 @@ returns g c =
     let d = c.args.tables.now in
     let h = c.connection_at.result in
     let one : length d.linked.held ≡ 1 = omega (arith, ap (λ (p : Places OpenConnection). length p.held) c.connections.ensures) in
-    let none : length d.waiting.held ≡ 0 = omega (arith, ap (λ (p : Places MessageItem). length p.held) c.messages.ensures) in
+    let none : length d.waiting.held ≡ 0 = omega (arith, ap (λ (p : Places QueuedMessage). length p.held) c.messages.ensures) in
     let is_idle : c.is_idle.result ≡ true = search rules in
     let is_told : c.is_some.result ≡ true = search rules in
     let room : 1 ≤ allowed c.args.system.now h.item.client.0 h.item.service = omega (arith, c.unwrap_or-allowed.ensures, ap (λ (o : Option ℕ). unwrap_or o 0) c.budget.ensures) in

@@ -3,7 +3,7 @@ use Rattle.std.specs.Prelude.{IsSome}
 use Rattle.ffm_model.specs.Actors.{actor_count}
 use Rattle.ffm_model.specs.State.{connection_by_serial, is_undelivered}
 use Rattle.memory_image.proofs.Systems.{buffer_inside}
-use Rattle.spm_tables.specs.declared.item.MessageItem.{MessageItem}
+use Rattle.spm_tables.specs.declared.item.QueuedMessage.{QueuedMessage}
 use Rattle.spm_tables.specs.Desk.{Desk, message_of, spm_of}
 use Rattle.service_calls.proofs.Partners.{connection-there, client-counted}
 use Rattle.service_calls.proofs.DeliveryLemmas.{was-delivered, get-due}
@@ -16,19 +16,19 @@ use Rattle.service_calls.proofs.delivery.get.Goals as goal
 
 pub shown-shown-requires-clause-there : goal.shown-shown-requires-clause-there
 shown-shown-requires-clause-there c =
-    let it = was-delivered c.args.tables.now c.dequeue.new.self c.in-Some.service c.in-Some-dequeue.slot c.message-message.result c.in-Some-dequeue.ensures.found c.in-Some-dequeue.ensures.oldest
-    c.in-Some-dequeue.ensures.after c.message-message.ensures in
+    let it = was-delivered c.args.tables.now c.dequeue.new.self c.in-Some.service c.in-Some-dequeue.slot c.queued-message.result c.in-Some-dequeue.ensures.found c.in-Some-dequeue.ensures.oldest
+    c.in-Some-dequeue.ensures.after c.queued-message.ensures in
     let there : IsSome (connection_by_serial (spm_of c.args.tables.now) it.item.serial) =
     connection-there c.args.system.now (spm_of c.args.tables.now) (is_undelivered c.in-Some.service) (message_of c.in-Some-dequeue.slot it.item) c.requires.fits it.first in
-    let same : it.item.serial ≡ c.message-message.result.serial = ap (λ (m : MessageItem). m.serial) (sym it.since) in
-    subst (λ (d : Desk). IsSome (connection_by_serial (spm_of d) c.message-message.result.serial)) (sym it.after)
+    let same : it.item.serial ≡ c.queued-message.result.serial = ap (λ (m : QueuedMessage). m.serial) (sym it.since) in
+    subst (λ (d : Desk). IsSome (connection_by_serial (spm_of d) c.queued-message.result.serial)) (sym it.after)
     (subst (λ n. IsSome (connection_by_serial (spm_of c.args.tables.now) n)) same there)
 
 pub shown-shown-requires-clause-client : goal.shown-shown-requires-clause-client
 shown-shown-requires-clause-client c =
-    let it = was-delivered c.args.tables.now c.dequeue.new.self c.in-Some.service c.in-Some-dequeue.slot c.message-message.result c.in-Some-dequeue.ensures.found c.in-Some-dequeue.ensures.oldest
-    c.in-Some-dequeue.ensures.after c.message-message.ensures in
-    subst (λ (m : MessageItem). m.client.0 < actor_count c.args.system.now) (sym it.since)
+    let it = was-delivered c.args.tables.now c.dequeue.new.self c.in-Some.service c.in-Some-dequeue.slot c.queued-message.result c.in-Some-dequeue.ensures.found c.in-Some-dequeue.ensures.oldest
+    c.in-Some-dequeue.ensures.after c.queued-message.ensures in
+    subst (λ (m : QueuedMessage). m.client.0 < actor_count c.args.system.now) (sym it.since)
     (client-counted c.args.system.now c.args.tables.now (is_undelivered c.in-Some.service) (message_of c.in-Some-dequeue.slot it.item) c.requires.made c.requires.fits it.first)
 
 pub store_words-requires : goal.store_words-requires
@@ -36,17 +36,17 @@ store_words-requires c = rw (c.words_of.ensures.count, c.requires.regions) (buff
 
 pub returns-clause-answer : goal.returns-clause-answer
 returns-clause-answer c =
-    let it = was-delivered c.args.tables.now c.dequeue.new.self c.in-Some.service c.in-Some-dequeue.slot c.message-message.result c.in-Some-dequeue.ensures.found c.in-Some-dequeue.ensures.oldest
-    c.in-Some-dequeue.ensures.after c.message-message.ensures in
+    let it = was-delivered c.args.tables.now c.dequeue.new.self c.in-Some.service c.in-Some-dequeue.slot c.queued-message.result c.in-Some-dequeue.ensures.found c.in-Some-dequeue.ensures.oldest
+    c.in-Some-dequeue.ensures.after c.queued-message.ensures in
     let stored = rw c.words_of.ensures.words at c.store_words.ensures.stored in
     λ given.
     get-due c.args.system.now c.args.tables.now c.dequeue.new.self given c.args.image.now c.store_words.new.self c.args.actor.0 c.args.signal c.args.msg c.in-Some.service c.in-Some-dequeue.slot
-    c.message-message.result c.shown-shown.result (sym c.in-Some.ensures) (sym c.if-not-valid_buffer.ensures) it c.shown-shown.ensures c.in-Some-dequeue.ensures.state stored
+    c.queued-message.result c.shown-shown.result (sym c.in-Some.ensures) (sym c.if-not-valid_buffer.ensures) it c.shown-shown.ensures c.in-Some-dequeue.ensures.state stored
 
-delivered-so : (c : goal.After-store_words) → IsDelivered c.args.tables.now c.dequeue.new.self c.in-Some.service c.in-Some-dequeue.slot c.message-message.result
+delivered-so : (c : goal.After-store_words) → IsDelivered c.args.tables.now c.dequeue.new.self c.in-Some.service c.in-Some-dequeue.slot c.queued-message.result
 delivered-so c =
-    was-delivered c.args.tables.now c.dequeue.new.self c.in-Some.service c.in-Some-dequeue.slot c.message-message.result c.in-Some-dequeue.ensures.found c.in-Some-dequeue.ensures.oldest
-    c.in-Some-dequeue.ensures.after c.message-message.ensures
+    was-delivered c.args.tables.now c.dequeue.new.self c.in-Some.service c.in-Some-dequeue.slot c.queued-message.result c.in-Some-dequeue.ensures.found c.in-Some-dequeue.ensures.oldest
+    c.in-Some-dequeue.ensures.after c.queued-message.ensures
 
 pub returns-in_default-clause-names : goal.returns-in_default-clause-names
 returns-in_default-clause-names c = unchanged-names c.args.system.now c.args.tables.now c.args.tables.now refl
@@ -59,13 +59,13 @@ returns-in_default-dequeue-clause-names c = unchanged-names c.args.system.now c.
 
 pub returns-clause-name : goal.returns-clause-name
 returns-clause-name c = λ k named given.
-    due-name c.args.system.now c.args.tables.now c.dequeue.new.self given (byte_at c.args.image.now) c.args.actor.0 c.args.signal c.args.msg c.in-Some.service c.in-Some-dequeue.slot c.message-message.result k
+    due-name c.args.system.now c.args.tables.now c.dequeue.new.self given (byte_at c.args.image.now) c.args.actor.0 c.args.signal c.args.msg c.in-Some.service c.in-Some-dequeue.slot c.queued-message.result k
     (sym c.in-Some.ensures) (delivered-so c) c.in-Some-dequeue.ensures.state named
     ∙ ap (λ (m : ShownMessage). Some m.handle) (sym c.shown-shown.ensures)
 
 pub returns-clause-within : goal.returns-clause-within
-returns-clause-within c = λ regions. delivered-within regions c.args.tables.now c.dequeue.new.self c.in-Some.service c.in-Some-dequeue.slot c.message-message.result (delivered-so c)
+returns-clause-within c = λ regions. delivered-within regions c.args.tables.now c.dequeue.new.self c.in-Some.service c.in-Some-dequeue.slot c.queued-message.result (delivered-so c)
 
 pub returns-clause-names : goal.returns-clause-names
 returns-clause-names c =
-    delivered-names c.args.system.now c.args.tables.now c.dequeue.new.self c.in-Some.service c.in-Some-dequeue.slot c.message-message.result c.law.ensures.messages (delivered-so c)
+    delivered-names c.args.system.now c.args.tables.now c.dequeue.new.self c.in-Some.service c.in-Some-dequeue.slot c.queued-message.result c.law.ensures.messages (delivered-so c)

@@ -7,14 +7,14 @@ use Rattle.message_vectors.specs.Vectors.{AreWithin}
 use Rattle.service_calls.proofs.transfer.skip.Goals as goal
 
 pub skip-count-requires-clause-moved : goal.skip-count-requires-clause-moved
-skip-count-requires-clause-moved c = holds-at (λ m. AreMovedWithin m.vectors) c.args.tables.now c.in-Some.slot c.message.result c.requires.moved c.message.ensures
+skip-count-requires-clause-moved c = holds-at (λ m. AreMovedWithin m.vectors) c.args.tables.now c.in-Some.slot c.queued.result c.requires.moved c.queued.ensures
 
 pub returns-clause-answer : goal.returns-clause-answer
 returns-clause-answer c =
-    let changed = rw c.message.ensures at c.set_vectors.ensures.state in
+    let changed = rw c.queued.ensures at c.set_vectors.ensures.state in
     λ s made.
-    skip-due s c.args.tables.now c.set_vectors.new.tables c.args.actor.0 c.args.index c.args.len c.skip-count.result c.args.handle c.in-Some.slot c.message.result c.skip-count.new.vectors
-    (message-is c.args.tables.now c.in-Some.slot c.message.result _ c.message.ensures (c.in-Some.ensures.request s made)) c.skip-count.ensures.number c.skip-count.ensures.vectors changed
+    skip-due s c.args.tables.now c.set_vectors.new.tables c.args.actor.0 c.args.index c.args.len c.skip-count.result c.args.handle c.in-Some.slot c.queued.result c.skip-count.new.vectors
+    (message-is c.args.tables.now c.in-Some.slot c.queued.result _ c.queued.ensures (c.in-Some.ensures.request s made)) c.skip-count.ensures.number c.skip-count.ensures.vectors changed
 
 pub returns-in_default-clause-names : goal.returns-in_default-clause-names
 returns-in_default-clause-names c = λ s made. unchanged-names s c.args.tables.now c.args.tables.now refl
@@ -24,4 +24,4 @@ returns-clause-moved c = c.set_vectors.ensures.moved c.skip-count.ensures.moved 
 
 pub returns-clause-within : goal.returns-clause-within
 returns-clause-within c = λ regions all.
-    c.set_vectors.ensures.within regions (c.skip-count.ensures.within regions (holds-at (λ m. AreWithin regions m.vectors) c.args.tables.now c.in-Some.slot c.message.result all c.message.ensures)) all
+    c.set_vectors.ensures.within regions (c.skip-count.ensures.within regions (holds-at (λ m. AreWithin regions m.vectors) c.args.tables.now c.in-Some.slot c.queued.result all c.queued.ensures)) all

@@ -12,18 +12,18 @@ use Rattle.service_calls.proofs.transfer.write.Goals as goal
 
 pub write-requires-clause-within : goal.write-requires-clause-within
 write-requires-clause-within c =
-    holds-at (λ m. AreWithin (regions_of c.args.image.now) m.vectors) c.args.tables.now c.in-Some.slot c.message.result c.requires.vectors c.message.ensures
+    holds-at (λ m. AreWithin (regions_of c.args.image.now) m.vectors) c.args.tables.now c.in-Some.slot c.queued.result c.requires.vectors c.queued.ensures
 
 pub write-requires-clause-buffer : goal.write-requires-clause-buffer
 write-requires-clause-buffer c = rw c.requires.regions (buffer_inside c.args.system.now c.args.actor.0 c.args.buffer c.args.len (sym c.if-not-valid_buffer.ensures))
 
 pub returns-clause-answer : goal.returns-clause-answer
 returns-clause-answer c =
-    let changed = rw c.message.ensures at c.set_vectors.ensures.state in
+    let changed = rw c.queued.ensures at c.set_vectors.ensures.state in
     λ given.
     write-due c.args.system.now c.args.tables.now c.set_vectors.new.tables given c.args.image.now c.write.new.image c.args.actor.0 c.args.index c.args.buffer c.args.len
-    c.args.handle c.in-Some.slot c.message.result c.write.new.vectors
-    (message-is c.args.tables.now c.in-Some.slot c.message.result _ c.message.ensures (c.in-Some.ensures.request c.args.system.now c.requires.made)) (sym c.if-not-valid_buffer.ensures)
+    c.args.handle c.in-Some.slot c.queued.result c.write.new.vectors
+    (message-is c.args.tables.now c.in-Some.slot c.queued.result _ c.queued.ensures (c.in-Some.ensures.request c.args.system.now c.requires.made)) (sym c.if-not-valid_buffer.ensures)
     (sym c.in_ok-write.ensures.exact) c.in_ok-write.ensures.vectors c.in_ok-write.ensures.bytes changed
 
 pub returns-in_default-clause-names : goal.returns-in_default-clause-names

@@ -1,16 +1,16 @@
 use Rattle.std.proofs.Common.{ℕ, ◌≡◌, ◌≤◌, arith, rules, sym, subst}
 use Rattle.std.specs.Prelude.{Option, IfSome, IsSome, All, Some}
 use Rattle.object_pools.specs.Pool.{item_at}
-use Rattle.spm_tables.specs.declared.item.MessageItem.{MessageItem}
+use Rattle.spm_tables.specs.declared.item.QueuedMessage.{QueuedMessage}
 use Rattle.spm_tables.proofs.MessageLemmas.{least-all, none-all, found-live, found-index}
 use Rattle.spm_tables.proofs.item.least_to.Goals as goal
 
-some-live : (o : Option MessageItem) (m : MessageItem) → o ≡ Some m → IsSome o
+some-live : (o : Option QueuedMessage) (m : QueuedMessage) → o ≡ Some m → IsSome o
 some-live o m e = rw e (search rules)
 
 pub returns-in-loop-index-clause-service : goal.returns-in-loop-index-clause-service
 returns-in-loop-index-clause-service c =
-    subst (λ (o : Option MessageItem). IfSome o (λ m. m.service ≡ c.args.service))
+    subst (λ (o : Option QueuedMessage). IfSome o (λ m. m.service ≡ c.args.service))
     (sym (found-live c.args.messages.now c.loop-index.index c.in-Some.held c.law.ensures (sym c.in-Some.ensures))) c.if-held-service.true
 
 pub returns-in-loop-index-clause-live : goal.returns-in-loop-index-clause-live

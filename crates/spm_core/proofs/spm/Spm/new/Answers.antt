@@ -4,7 +4,7 @@ use Rattle.ffm_model.specs.declared.scenario.Bytes.{Bytes}
 use Rattle.ffm_model.specs.State.{opening_spm}
 use Rattle.ffm_model.specs.Names.{capacity}
 use Rattle.object_pools.specs.Pool.{Places, empty}
-use Rattle.spm_tables.specs.declared.item.MessageItem.{MessageItem}
+use Rattle.spm_tables.specs.declared.item.QueuedMessage.{QueuedMessage}
 use Rattle.spm_tables.specs.Desk.{MadeFor, spm_of}
 use Rattle.spm_core.proofs.Kept.{keeps-first}
 use Rattle.spm_core.proofs.spm.Spm.new.Goals as goal
@@ -17,4 +17,4 @@ invariant_of-result c =
     let made : MadeFor c.in_ok-tables.tables c.args.system = search rules in
     let opens : spm_of c.in_ok-tables.tables ≡ opening_spm c.args.system = search rules in
     let none_waits : c.in_ok-tables.tables.waiting ≡ empty (capacity c.args.system) = search rules in
-    rw (none, same) (keeps-first _ c.in_ok-tables.tables _ c.requires.limited room c.requires.regions made c.law.ensures.connections c.law.ensures.messages opens (ap (λ (p : Places MessageItem). p.takes) none_waits))
+    rw (none, same) (keeps-first _ c.in_ok-tables.tables _ c.requires.limited room c.requires.regions made c.law.ensures.connections c.law.ensures.messages opens (ap (λ (p : Places QueuedMessage). p.takes) none_waits))

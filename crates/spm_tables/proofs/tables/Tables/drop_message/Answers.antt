@@ -1,3 +1,5 @@
+use Rattle.std.proofs.Common.{ap, sym, ◌∙◌}
+use Rattle.spm_tables.specs.declared.item.MessageItem.{MessageItem}
 use Rattle.spm_tables.proofs.QueueMessages.{keeps-out}
 use Rattle.spm_tables.proofs.SlotLemmas.{slots-drop}
 use Rattle.spm_tables.proofs.WordLemmas.{keeps-drop}
@@ -8,7 +10,7 @@ use Rattle.spm_tables.proofs.tables.Tables.drop_message.Goals as goal
 pub returns-clause-state : goal.returns-clause-state
 returns-clause-state c =
     rw (← c.self.view_is, c.put_back-item.ensures.rest)
-    (λ on. dropped-state (the_view c.self.inside) c.args.slot c.put_back-item.result c.law.ensures c.put_back-item.ensures.item on)
+    (λ on. dropped-state (the_view c.self.inside) c.args.slot c.put_back-item.result c.law.ensures c.put_back-item.ensures.item (ap (λ (m : MessageItem). m.delivered) (sym c.item.ensures) ∙ on))
 
 pub invariant_of-self : goal.invariant_of-self
 invariant_of-self c =
