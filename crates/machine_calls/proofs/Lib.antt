@@ -1,0 +1,5 @@
+mod Changed
+mod Fitting
+mod MessageLemmas
+mod MovedLemmas
+mod Leaving

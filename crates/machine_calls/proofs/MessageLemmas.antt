@@ -1,0 +1,158 @@
+-- Messages that are found, delivered, changed and removed.
+use Rattle.std.proofs.Common.{ℕ, ℤ, ◌≡◌, ◌<◌, ◌+◌, ◌++◌, Bool, true, false, cond, List, [], ◌∷◌, length, set, take, drop, get_or, add-one, refl, ap, sym, subst, ◌∙◌, append_assoc, append-nil, ◌≤◌, not}
+use Rattle.std.specs.Prelude.{All, Option, Some, None, option_and_then, int_le, nat_lt, ◌&&◌, find, if◌then◌else◌}
+use Rattle.std.specs.Ordering.{int_eq}
+use Rattle.std.proofs.lemmas.List.{set_split, drop_all, drop_more, take_all, take_more}
+use Rattle.std.proofs.lemmas.List.Elements.{All-cons, All-filter, All-head, All-map, All-same, All-tail, All-weaker}
+use Rattle.ffm_model.specs.declared.constants.TheConstants.{PSA_IPC_CALL, PSA_IPC_CONNECT, PSA_MAX_IOVEC}
+use Rattle.ffm_model.specs.declared.system.System.{System}
+use Rattle.ffm_model.specs.declared.machine.Handle.{Handle}
+use Rattle.ffm_model.specs.declared.objects.PendingMessage.{PendingMessage}
+use Rattle.ffm_model.specs.declared.objects.Vectors.{Vectors}
+use Rattle.ffm_model.specs.declared.machine.Message.{Message}
+use Rattle.ffm_model.specs.declared.machine.Outcome.TheVariants.{Got}
+use Rattle.ffm_model.specs.Memory.{valid_buffer, words_stored}
+use Rattle.ffm_model.specs.ClientCalls.{effect}
+use Rattle.ffm_model.specs.ServiceCalls.{get_of, message_size, is_connect_status, message_words, psa_get, reply_to, request_held, service_of_signal, shown_message}
+use Rattle.ffm_model.specs.State.{State, delivered, has_handle, is_undelivered, message_held, vectors_put, with_vectors, without_message}
+use Rattle.memory_image.specs.declared.image.Image.{Image}
+use Rattle.memory_image.specs.Pieces.{byte_at, ranges_of, regions_of}
+use Rattle.machine_calls.specs.declared.machine.Machine.{Machine}
+use Rattle.machine_calls.specs.declared.machine.Objects.{Objects}
+use Rattle.machine_calls.specs.Machine.{spm_of, state_of, IsMachineOf, MessagesFit, VectorsFit}
+
+-- ---- psa_get
+
+at_first : (s : ℕ) (h : Handle) (m : PendingMessage) (ms : List PendingMessage) → is_undelivered s m ≡ true → delivered s h (m ∷ ms) ≡ record m { handle = Some h } ∷ ms
+at_first s h m ms is = rw is refl
+
+past_first : (s : ℕ) (h : Handle) (m : PendingMessage) (ms : List PendingMessage) → is_undelivered s m ≡ false → delivered s h (m ∷ ms) ≡ m ∷ delivered s h ms
+past_first s h m ms is = rw is refl
+
+-- the message at a place is the first that waits
+pub deliver_here : (s : ℕ) (h : Handle) (cs ms : List PendingMessage) (i : ℕ) (x : PendingMessage) → cs ≡ ms → i < length ms → delivered s h ms ≡ take i ms ++ delivered s h (drop i ms) → is_undelivered s (get_or cs i x) ≡ true
+    → set cs i (record (get_or cs i x) { handle = Some h }) ≡ delivered s h ms
+deliver_here s h cs ms i x same below so_far is =
+    let new = record (get_or ms i x) { handle = Some h } in
+    let waits : is_undelivered s (get_or ms i x) ≡ true = subst (λ l. is_undelivered s (get_or l i x) ≡ true) same is in
+    let split : set ms i new ≡ take i ms ++ new ∷ drop (i + 1) ms = rw add-one (set_split ms i new below) in
+    ap (λ l. set l i (record (get_or l i x) { handle = Some h })) same
+    ∙ split ∙ ap (λ l. take i ms ++ l) (sym (ap (delivered s h) (drop_more ms i x below) ∙ at_first s h (get_or ms i x) (drop (i + 1) ms) waits)) ∙ sym so_far
+
+-- it isn't
+pub deliver_past : (s : ℕ) (h : Handle) (cs ms : List PendingMessage) (i : ℕ) (x : PendingMessage) → cs ≡ ms → i < length ms → delivered s h ms ≡ take i ms ++ delivered s h (drop i ms) → is_undelivered s (get_or cs i x) ≡ false
+    → delivered s h ms ≡ take (i + 1) ms ++ delivered s h (drop (i + 1) ms)
+deliver_past s h cs ms i x same below so_far is =
+    let past : is_undelivered s (get_or ms i x) ≡ false = subst (λ l. is_undelivered s (get_or l i x) ≡ false) same is in
+    so_far ∙ ap (λ l. take i ms ++ l) (ap (delivered s h) (drop_more ms i x below) ∙ past_first s h (get_or ms i x) (drop (i + 1) ms) past)
+    ∙ sym (append_assoc (take i ms) (get_or ms i x ∷ []) (delivered s h (drop (i + 1) ms))) ∙ ap (λ l. l ++ delivered s h (drop (i + 1) ms)) (sym (take_more ms i x below))
+
+-- all are past
+pub deliver_none : (s : ℕ) (h : Handle) (cs ms : List PendingMessage) (i : ℕ) → cs ≡ ms → length ms ≤ i → delivered s h ms ≡ take i ms ++ delivered s h (drop i ms) → cs ≡ delivered s h ms
+deliver_none s h cs ms i same over so_far =
+    same ∙ sym (so_far ∙ ap (λ l. take i ms ++ delivered s h l) (drop_all i ms over) ∙ append-nil (take i ms) ∙ take_all i ms over)
+
+-- ---- the vectors of messages
+
+-- those of a message that is found
+pub found_fits : (regions : List (ℕ × ℕ)) (q : PendingMessage → Bool) (ms : List PendingMessage) (m : PendingMessage) → All (λ m. VectorsFit regions m.vectors) ms → find q ms ≡ Some m → VectorsFit regions m.vectors
+found_fits regions q [] m a is = cc
+found_fits regions q (y ∷ ys) m a is =
+    let go : (b : Bool) → cond b (Some y) (find q ys) ≡ Some m → VectorsFit regions m.vectors = elim [
+      | true ↦ λ g. subst (λ x. VectorsFit regions x.vectors) (some_same y m g) (All-head (λ m. VectorsFit regions m.vectors) y ys a)
+      | false ↦ λ g. found_fits regions q ys m (All-tail (λ m. VectorsFit regions m.vectors) y ys a) g
+    ] in
+    go (q y) is where
+      some_same : (x z : PendingMessage) → Some x ≡ Some z → x ≡ z
+      some_same x z g = cc
+
+-- that of a partition's handle
+pub held_fits : (regions : List (ℕ × ℕ)) (s : System) (o : Objects) (a : ℕ) (h : Handle) (m : PendingMessage) → Some m ≡ message_held s (spm_of o) a h → MessagesFit regions o → VectorsFit regions m.vectors
+held_fits regions s o a h m is k = found_fits regions _ o.messages.items m k (sym is)
+
+passed : (x : Option PendingMessage) (test : PendingMessage → Bool) (m : PendingMessage) → Some m ≡ option_and_then (λ y. if test y then Some y else None) x → x ≡ Some m
+passed None test m is = cc
+passed (Some y) test m is = go (test y) is where
+  go : (b : Bool) → Some m ≡ (if b then Some y else None) → Some y ≡ Some m
+  go true g = sym g
+  go false g = cc
+
+-- that of a request
+pub request_fits : (regions : List (ℕ × ℕ)) (s : System) (o : Objects) (a : ℕ) (h : Handle) (index : ℕ) (m : PendingMessage) → Some m ≡ request_held s (spm_of o) a h index → MessagesFit regions o → VectorsFit regions m.vectors
+request_fits regions s o a h index m is k = held_fits regions s o a h m (sym (passed (message_held s (spm_of o) a h) (λ m. int_le PSA_IPC_CALL m.kind && nat_lt index PSA_MAX_IOVEC) m is)) k
+
+-- ---- the machine is still the system's
+
+-- where the messages fit and the regions stay
+pub kept_messages : (s : System) (m : Machine) (o : Objects) (image : Image) → IsMachineOf s m → regions_of image ≡ regions_of m.memory → MessagesFit (ranges_of s.regions) o → IsMachineOf s (record { objects = o; memory = image })
+kept_messages s m o image k same fits = record { regions = same ∙ k.regions; messages = fits }
+
+-- where the vectors of a message changed
+pub kept_vectors : (s : System) (m : Machine) (o : Objects) (image : Image) (h : Handle) (v : Vectors) → IsMachineOf s m → regions_of image ≡ regions_of m.memory
+    → spm_of o ≡ with_vectors (spm_of m.objects) h v → VectorsFit (ranges_of s.regions) v → IsMachineOf s (record { objects = o; memory = image })
+kept_vectors s m o image h v k same is fits =
+    kept_messages s m o image k same
+    (All-same fit _ _ (ap (λ b. b.messages) is) (All-map fit (vectors_put h v) m.objects.messages.items (All-weaker fit (λ x. fit (vectors_put h v x)) put m.objects.messages.items k.messages))) where
+      fit : PendingMessage → Type 0
+      fit x = VectorsFit (ranges_of s.regions) x.vectors
+
+      put : (x : PendingMessage) → fit x → fit (vectors_put h v x)
+      put x old = by (has_handle x.handle h) where
+        by : (b : Bool) → fit (if b then record x { vectors = v } else x)
+        by true = fits
+        by false = old
+
+delivered_fit : (regions : List (ℕ × ℕ)) (service : ℕ) (h : Handle) (ms : List PendingMessage) → All (λ m. VectorsFit regions m.vectors) ms → All (λ m. VectorsFit regions m.vectors) (delivered service h ms)
+delivered_fit regions service h [] a = a
+delivered_fit regions service h (m ∷ ms) a = by (is_undelivered service m) (delivered_fit regions service h ms (All-tail (λ x. VectorsFit regions x.vectors) m ms a)) where
+  fit : PendingMessage → Type 0
+  fit x = VectorsFit regions x.vectors
+
+  by : (b : Bool) → All fit (delivered service h ms) → All fit (if b then record m { handle = Some h } ∷ ms else m ∷ delivered service h ms)
+  by true rest = All-cons fit (record m { handle = Some h }) ms (All-head fit m ms a) (All-tail fit m ms a)
+  by false rest = All-cons fit m (delivered service h ms) (All-head fit m ms a) rest
+
+-- where a message was delivered
+pub kept_delivered : (s : System) (m : Machine) (o : Objects) (image : Image) (service : ℕ) (h : Handle) → IsMachineOf s m → regions_of image ≡ regions_of m.memory
+    → spm_of o ≡ record (spm_of m.objects) { messages = delivered service h m.objects.messages.items } → IsMachineOf s (record { objects = o; memory = image })
+kept_delivered s m o image service h k same is =
+    kept_messages s m o image k same
+    (All-same (λ x. VectorsFit (ranges_of s.regions) x.vectors) _ _ (ap (λ b. b.messages) is) (delivered_fit (ranges_of s.regions) service h m.objects.messages.items k.messages))
+
+-- ---- what psa_get answers and leaves
+
+got : (s : System) (st : State) (a signal msg i : ℕ) (h : Handle) (x : PendingMessage) → Some i ≡ service_of_signal s a signal → Some x ≡ find (is_undelivered i) st.spm.messages → valid_buffer s a msg message_size ≡ true
+    → psa_get s st a signal msg h ≡ Some (get_of s st i msg h x)
+got s st a signal msg i h x at first room =
+    ap (option_and_then (λ i. option_and_then (λ m. if valid_buffer s a msg message_size then Some (get_of s st i msg h m) else None) (find (is_undelivered i) st.spm.messages))) (sym at)
+    ∙ ap (option_and_then (λ m. if valid_buffer s a msg message_size then Some (get_of s st i msg h m) else None)) (sym first)
+    ∙ ap (λ b. if b then Some (get_of s st i msg h x) else None) room
+
+pub got_due : (s : System) (old new : Machine) (given : List Handle) (a signal msg i : ℕ) (h : Handle) (x : PendingMessage) (shown : Message) (words : List ℕ)
+    → Some i ≡ service_of_signal s a signal → Some x ≡ find (is_undelivered i) old.objects.messages.items → valid_buffer s a msg message_size ≡ true
+    → shown ≡ shown_message s (spm_of old.objects) x h → words ≡ message_words shown
+    → spm_of new.objects ≡ record (spm_of old.objects) { messages = delivered i h old.objects.messages.items } → byte_at new.memory ≡ words_stored (byte_at old.memory) msg words
+    → psa_get s (state_of old given) a signal msg h ≡ Some (effect (Got shown) (state_of new (given ++ h ∷ [])))
+got_due s old new given a signal msg i h x shown words at first room is words_are spm memory =
+    got s (state_of old given) a signal msg i h x at first room
+    ∙ ap (λ m. Some (effect (Got m) (record { spm = record (spm_of old.objects) { messages = delivered i h old.objects.messages.items }; handles_given = given ++ h ∷ []; memory = words_stored (byte_at old.memory) msg (message_words m) }))) (sym is)
+    ∙ ap (λ b. Some (effect (Got shown) (record { spm = b; handles_given = given ++ h ∷ []; memory = words_stored (byte_at old.memory) msg (message_words shown) }))) (sym spm)
+    ∙ ap (λ m. Some (effect (Got shown) (record { spm = spm_of new.objects; handles_given = given ++ h ∷ []; memory = m }))) (sym (memory ∙ ap (words_stored (byte_at old.memory) msg) words_are))
+
+-- ---- psa_reply
+
+-- the messages that are left, where no call behind it changes one
+pub removed_fit : (regions : List (ℕ × ℕ)) (o n p : Objects) (h : Handle) → spm_of n ≡ without_message (spm_of o) h → p.messages ≡ n.messages → MessagesFit regions o → MessagesFit regions p
+removed_fit regions o n p h is same fits =
+    All-same (λ x. VectorsFit regions x.vectors) _ _ (ap (λ v. v.items) same ∙ ap (λ b. b.messages) is) (All-filter (λ m. not (has_handle m.handle h)) (λ x. VectorsFit regions x.vectors) o.messages.items fits)
+
+left_out : (x : Option PendingMessage) (test : PendingMessage → Bool) (m : PendingMessage) → Some m ≡ option_and_then (λ y. if test y then None else Some y) x → x ≡ Some m
+left_out None test m is = cc
+left_out (Some y) test m is = go (test y) is where
+  go : (b : Bool) → Some m ≡ (if b then None else Some y) → Some y ≡ Some m
+  go true g = cc
+  go false g = sym g
+
+-- the vectors of a message that may be answered
+pub reply_fits : (regions : List (ℕ × ℕ)) (s : System) (o : Objects) (a : ℕ) (h : Handle) (status : ℤ) (m : PendingMessage) → Some m ≡ reply_to s (spm_of o) a h status → MessagesFit regions o → VectorsFit regions m.vectors
+reply_fits regions s o a h status m is k = held_fits regions s o a h m (sym (left_out (message_held s (spm_of o) a h) (λ m. int_eq m.kind PSA_IPC_CONNECT && not (is_connect_status status)) m is)) k

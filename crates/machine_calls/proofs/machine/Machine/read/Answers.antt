@@ -1,0 +1,36 @@
+use Rattle.std.proofs.Common.{◌<◌, ◌≤◌, length, arith, rules, sym}
+use Rattle.ffm_model.specs.Memory.{no_span}
+use Rattle.memory_image.specs.Pieces.{ranges_of}
+use Rattle.memory_image.proofs.Stored.{part_inside}
+use Rattle.memory_image.proofs.Systems.{buffer_inside}
+use Rattle.machine_calls.specs.Moved.{input_of}
+use Rattle.machine_calls.proofs.MessageLemmas.{kept_vectors, request_fits}
+use Rattle.machine_calls.proofs.machine.Machine.read.Goals as goal
+
+pub skip-count-requires-clause-moved : goal.skip-count-requires-clause-moved
+skip-count-requires-clause-moved c =
+    let fits = request_fits (ranges_of c.args.system.now.regions) c.args.system.now c.args.self.now.objects c.args.actor.0 c.args.handle c.args.index c.in_ok-message.message c.in_ok-message.ensures c.requires.messages in
+    let below : c.args.index < length c.in_ok-message.message.vectors.input = search rules in
+    (fits.inputs c.args.index no_span below).moved
+
+pub copy_from-requires-clause-inside : goal.copy_from-requires-clause-inside
+copy_from-requires-clause-inside c =
+    let fits = request_fits (ranges_of c.args.system.now.regions) c.args.system.now c.args.self.now.objects c.args.actor.0 c.args.handle c.args.index c.in_ok-message.message c.in_ok-message.ensures c.requires.messages in
+    let below : c.args.index < length c.in_ok-message.message.vectors.input = search rules in
+    rw c.requires.regions (fits.inputs c.args.index no_span below).inside
+
+pub copy_from-requires-clause-rest : goal.copy_from-requires-clause-rest
+copy_from-requires-clause-rest c =
+    let fits = request_fits (ranges_of c.args.system.now.regions) c.args.system.now c.args.self.now.objects c.args.actor.0 c.args.handle c.args.index c.in_ok-message.message c.in_ok-message.ensures c.requires.messages in
+    let below : c.args.index < length c.in_ok-message.message.vectors.input = search rules in
+    let moved : (input_of c.in_ok-message.message.vectors c.args.index).moved ≤ (input_of c.in_ok-message.message.vectors c.args.index).len = (fits.inputs c.args.index no_span below).moved in
+    omega (arith, moved, c.skip-count.ensures.number)
+
+pub copy_from-requires-clause-buffer : goal.copy_from-requires-clause-buffer
+copy_from-requires-clause-buffer c =
+    rw c.requires.regions (part_inside c.args.buffer c.args.len c.args.buffer c.skip-count.result _ (omega arith) (omega (arith, c.skip-count.ensures.number)) (buffer_inside c.args.system.now c.args.actor.0 c.args.buffer c.args.len (sym c.if-not-valid_buffer.ensures)))
+
+pub returns-clause-kept : goal.returns-clause-kept
+returns-clause-kept c =
+    let fits = request_fits (ranges_of c.args.system.now.regions) c.args.system.now c.args.self.now.objects c.args.actor.0 c.args.handle c.args.index c.in_ok-message.message c.in_ok-message.ensures c.requires.messages in
+    kept_vectors c.args.system.now c.args.self.now c.set_vectors.new.self c.copy_from.new.memory c.args.handle c.skip-count.new.vectors c.requires c.copy_from.ensures.regions c.set_vectors.ensures.state (c.skip-count.ensures.fits _ fits)

@@ -1,0 +1,4 @@
+pub mod Machine
+pub mod Moved
+pub mod Signals
+pub mod Leaving

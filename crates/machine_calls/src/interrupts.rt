@@ -1,0 +1,152 @@
+//! Doorbells and interrupts.
+ghost use Rattle.std.specs.Prelude.{◌≡◌, Ok, false, get_or, slice_set};
+ghost use Rattle.ffm_model.specs.Accesses.{raise};
+ghost use Rattle.ffm_model.specs.ServiceCalls.{forwarded, psa_notify, psa_clear, psa_eoi, source_of_signal, with_doorbell, with_flags};
+ghost use Rattle.ffm_model.specs.State.{flags_at};
+ghost use Rattle.machine_calls.specs.Machine.{spm_of, Moves};
+
+use crate::machine::Objects;
+use ffm_model::{ActorId, Outcome, SourceFlags, System};
+
+fn put_bell(doorbells: &mut [bool], partition: usize, set: bool)
+    ensures { doorbells.new ≡ slice_set doorbells.old partition set }
+{
+    if partition < doorbells.len() {
+        doorbells[partition] = set;
+    }
+}
+
+fn put_flags(sources: &mut [SourceFlags], source: usize, flags: SourceFlags)
+    ensures { sources.new ≡ slice_set sources.old source flags }
+{
+    if source < sources.len() {
+        sources[source] = flags;
+    }
+}
+
+// An enabled source that is pending asserts its signal as soon as that is clear.
+fn forwarded(flags: SourceFlags) -> SourceFlags
+    ensures { result ≡ forwarded flags }
+{
+    if flags.enabled && flags.pending && !flags.asserted {
+        SourceFlags {
+            pending: false,
+            asserted: true,
+            ..flags
+        }
+    } else {
+        flags
+    }
+}
+
+// The partition's interrupt source that has the signal.
+fn source_of_signal(system: &System, actor: ActorId, signal: u32) -> Option<usize>
+    ensures { result ≡ source_of_signal system.now actor.0 signal }
+{
+    let mut sources = system.sources.as_slice().iter();
+    sources.position(|source| source.owner == actor.0 && source.signal == signal)
+}
+
+impl Objects {
+    fn is_rung(&self, partition: u32) -> bool
+        ensures { result ≡ get_or self.now.doorbells.items partition false }
+    {
+        match self.doorbells.as_slice().get(partition as usize) {
+            Some(set) => *set,
+            None => false,
+        }
+    }
+
+    fn set_doorbell(&mut self, partition: usize, set: bool)
+        ensures state { spm_of self.new ≡ with_doorbell (spm_of self.old) partition set }
+        ensures messages { self.new.messages ≡ self.old.messages }
+        ensures made { self.new.connections_made ≡ self.old.connections_made }
+    {
+        put_bell(self.doorbells.as_mut_slice(), partition, set);
+    }
+
+    fn flags(&self, source: usize) -> SourceFlags
+        ensures { result ≡ flags_at (spm_of self.now) source }
+    {
+        match self.sources.as_slice().get(source) {
+            Some(flags) => *flags,
+            None => SourceFlags {
+                enabled: false,
+                pending: false,
+                asserted: false,
+            },
+        }
+    }
+
+    fn set_flags(&mut self, source: usize, flags: SourceFlags)
+        ensures state { spm_of self.new ≡ with_flags (spm_of self.old) source flags }
+        ensures messages { self.new.messages ≡ self.old.messages }
+        ensures made { self.new.connections_made ≡ self.old.connections_made }
+    {
+        put_flags(self.sources.as_mut_slice(), source, flags);
+    }
+
+    /// `psa_notify` (`psa/service.h`). None where no partition has the ID.
+    pub fn notify(&mut self, system: &System, partition: i32) -> Option<Outcome>
+        ensures moves { Moves (psa_notify system.now (spm_of self.old) partition) self.old (Ok result) self.new }
+        ensures messages { self.new.messages ≡ self.old.messages }
+        ensures made { self.new.connections_made ≡ self.old.connections_made }
+    {
+        let id = usize::try_from(partition).ok()?;
+        if id == 0 || id > system.partitions.len() {
+            return None;
+        }
+        self.set_doorbell(id - 1, true);
+        Some(Outcome::Done)
+    }
+
+    /// `psa_clear` (`psa/service.h`). None where the actor's doorbell isn't set.
+    pub fn clear(&mut self, actor: ActorId) -> Option<Outcome>
+        ensures moves { Moves (psa_clear (spm_of self.old) actor.0) self.old (Ok result) self.new }
+        ensures messages { self.new.messages ≡ self.old.messages }
+        ensures made { self.new.connections_made ≡ self.old.connections_made }
+    {
+        if !self.is_rung(actor.0) {
+            return None;
+        }
+        self.set_doorbell(actor.0 as usize, false);
+        Some(Outcome::Done)
+    }
+
+    /// `psa_eoi` (`psa/service.h`). None where it isn't the asserted signal of an interrupt source of the actor.
+    pub fn eoi(&mut self, system: &System, actor: ActorId, signal: u32) -> Option<Outcome>
+        ensures moves { Moves (psa_eoi system.now (spm_of self.old) actor.0 signal) self.old (Ok result) self.new }
+        ensures messages { self.new.messages ≡ self.old.messages }
+        ensures made { self.new.connections_made ≡ self.old.connections_made }
+    {
+        let source = source_of_signal(system, actor, signal)?;
+        let flags = self.flags(source);
+        if !flags.asserted {
+            return None;
+        }
+        let ended = SourceFlags {
+            asserted: false,
+            ..flags
+        };
+        self.set_flags(source, forwarded(ended));
+        Some(Outcome::Done)
+    }
+
+    /// An interrupt of the device. None where no source has the number.
+    pub fn raise(&mut self, system: &System, source: u32) -> Option<Outcome>
+        ensures moves { Moves (raise system.now (spm_of self.old) source) self.old (Ok result) self.new }
+        ensures messages { self.new.messages ≡ self.old.messages }
+        ensures made { self.new.connections_made ≡ self.old.connections_made }
+    {
+        let source = source as usize;
+        if source >= system.sources.len() {
+            return None;
+        }
+        let raised = SourceFlags {
+            pending: true,
+            ..self.flags(source)
+        };
+        self.set_flags(source, forwarded(raised));
+        Some(Outcome::Done)
+    }
+}

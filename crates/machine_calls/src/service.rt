@@ -1,0 +1,261 @@
+//! The calls of `psa/service.h` that wait for messages, take them and move their bytes.
+ghost use Rattle.std.specs.Prelude.{◌≡◌, ◌++◌, ◌==◌, ◌&&◌, Ok, length, position, if◌then◌else◌};
+ghost use Rattle.std.specs.Option.{option_map, option_map_or};
+ghost use Rattle.ffm_model.specs.ClientCalls.{in_state};
+ghost use Rattle.std.specs.Ordering.{int_eq};
+ghost use Rattle.ffm_model.specs.Actors.{client_id_of};
+ghost use Rattle.ffm_model.specs.ServiceCalls.{message_words, psa_wait, psa_get, psa_set_rhandle, psa_read, psa_skip, psa_write, service_of_signal, shown_message, sizes_of};
+ghost use Rattle.ffm_model.specs.State.{connection_by_serial};
+ghost use Rattle.machine_calls.specs.Machine.{spm_of, state_of, Moves, Does, Gets, IsMachineOf};
+
+use crate::machine::{Machine, Objects};
+use crate::moves::{advance, copy_from, copy_to, skip};
+use crate::signals::assigned_to;
+use ffm_model::{
+    ActorId, ActorPhase, Handle, Message, Outcome, PSA_BLOCK, PSA_IPC_CONNECT, PendingMessage,
+    Service, Span, System,
+};
+use memory_image::valid_buffer;
+
+// How many bytes a `psa_msg_t` takes.
+const MESSAGE_SIZE: u32 = 48;
+
+fn place_of(services: &[Service], partition: u32, signal: u32) -> Option<usize>
+    ensures { result ≡ position (λ v. (v.owner == partition) && (v.signal == signal)) services.now }
+{
+    services
+        .iter()
+        .position(|v| v.owner == partition && v.signal == signal)
+}
+
+// The place of the partition's service that has the signal.
+fn service_of_signal(system: &System, partition: u32, signal: u32) -> Option<usize>
+    ensures { result ≡ service_of_signal system.now partition signal }
+{
+    place_of(system.services.as_slice(), partition, signal)
+}
+
+// An actor's client ID: a partition's place plus one, -k for the k-th non-secure client, and 0 for any other.
+#[tactic(auto, using(ffm_model::proofs::ActorLemmas::few_partitions, ffm_model::proofs::ActorLemmas::few_clients))]
+fn client_id_of(system: &System, actor: u32) -> i32
+    ensures { result ≡ client_id_of system.now actor }
+{
+    let partitions = system.partitions.len();
+    let at = actor as usize;
+    if at < partitions {
+        actor as i32 + 1
+    } else if at - partitions < system.clients.len() {
+        -1 - (at - partitions) as i32
+    } else {
+        0
+    }
+}
+
+fn sizes_of(vectors: [Span; 4]) -> [u32; 4]
+    ensures { result ≡ sizes_of vectors }
+{
+    [
+        vectors[0].len,
+        vectors[1].len,
+        vectors[2].len,
+        vectors[3].len,
+    ]
+}
+
+// Three times four words, one behind the other.
+fn joined(head: [u32; 4], input: [u32; 4], output: [u32; 4]) -> [u32; 12]
+    ensures { result ≡ head ++ (input ++ output) }
+{
+    [
+        head[0], head[1], head[2], head[3], input[0], input[1], input[2], input[3], output[0],
+        output[1], output[2], output[3],
+    ]
+}
+
+// The twelve words of a `psa_msg_t`.
+fn words_of(message: Message) -> [u32; 12]
+    ensures words { result ≡ message_words message }
+    ensures count { length result ≡ 12 }
+{
+    let head = [
+        message.kind.cast_unsigned(),
+        message.handle.0.cast_unsigned(),
+        message.client_id.cast_unsigned(),
+        message.rhandle,
+    ];
+    joined(head, message.in_size, message.out_size)
+}
+
+impl Objects {
+    // The rhandle that a message carries: 0 for that of a `psa_connect`, else its connection's.
+    fn rhandle_of(&self, message: PendingMessage) -> u32
+        ensures { result ≡ (if int_eq message.kind PSA_IPC_CONNECT then 0 else option_map_or (λ c. c.rhandle) (connection_by_serial (spm_of self.now) message.connection) 0) }
+    {
+        if message.kind == PSA_IPC_CONNECT {
+            return 0;
+        }
+        match self.connection_by_serial(message.connection) {
+            Some(connection) => connection.rhandle,
+            None => 0,
+        }
+    }
+
+    // What a partition is told of a message that it gets.
+    fn shown(&self, system: &System, message: PendingMessage, handle: Handle) -> Message
+        ensures { result ≡ shown_message system.now (spm_of self.now) message handle }
+    {
+        Message {
+            kind: message.kind,
+            handle,
+            client_id: client_id_of(system, message.client.0),
+            rhandle: self.rhandle_of(message),
+            in_size: sizes_of(message.vectors.input),
+            out_size: sizes_of(message.vectors.output),
+        }
+    }
+
+    /// `psa_wait` (`psa/service.h`). None where the mask has no signal of the partition.
+    pub fn wait(
+        &mut self,
+        system: &System,
+        actor: ActorId,
+        mask: u32,
+        timeout: u32,
+    ) -> Option<Outcome>
+        ensures moves { Moves (psa_wait system.now (spm_of self.old) actor.0 mask timeout) self.old (Ok result) self.new }
+        ensures messages { self.new.messages ≡ self.old.messages }
+        ensures made { self.new.connections_made ≡ self.old.connections_made }
+    {
+        if assigned_to(system, actor.0) & mask == 0 {
+            return None;
+        }
+        if timeout < PSA_BLOCK {
+            return Some(Outcome::Signals(self.signals(system, actor.0) & mask));
+        }
+        self.set_phase(actor.0, ActorPhase::Waiting { mask });
+        Some(Outcome::Blocked)
+    }
+
+    /// `psa_set_rhandle` (`psa/service.h`). None where the handle isn't that of a message of the partition.
+    pub fn set_rhandle_of(
+        &mut self,
+        system: &System,
+        actor: ActorId,
+        handle: Handle,
+        rhandle: u32,
+    ) -> Option<Outcome>
+        ensures moves { Moves (psa_set_rhandle system.now (spm_of self.old) actor.0 handle rhandle) self.old (Ok result) self.new }
+        ensures messages { self.new.messages ≡ self.old.messages }
+        ensures made { self.new.connections_made ≡ self.old.connections_made }
+    {
+        let message = self.message_held(system, actor.0, handle)?;
+        self.set_rhandle(message.connection, rhandle);
+        Some(Outcome::Done)
+    }
+}
+
+impl Machine {
+    /// `psa_get` (`psa/service.h`), with the handle that it is to give. None where the signal isn't one service's of the
+    /// partition, no message waits for it, or the message has no room at `msg`.
+    pub fn get(
+        &mut self,
+        system: &System,
+        actor: ActorId,
+        signal: u32,
+        msg: u32,
+        handle: Handle,
+    ) -> Option<Message>
+        requires { IsMachineOf system.now self.old }
+        ensures gets { Gets (λ given. psa_get system.now (state_of self.old given) actor.0 signal msg handle) handle self.old result self.new }
+        ensures made { self.new.objects.connections_made ≡ self.old.objects.connections_made }
+        ensures kept { IsMachineOf system.now self.new }
+    {
+        let service = service_of_signal(system, actor.0, signal)?;
+        let message = self.objects.first_undelivered(service)?;
+        if !valid_buffer(system, actor, msg, MESSAGE_SIZE) {
+            return None;
+        }
+        let shown = self.objects.shown(system, message, handle);
+        self.objects.deliver(service, handle);
+        self.memory.store_words(msg, &words_of(shown));
+        Some(shown)
+    }
+
+    /// `psa_skip` (`psa/service.h`). None where the handle isn't that of a request of the partition, or the index is no
+    /// vector's.
+    pub fn skip(
+        &mut self,
+        system: &System,
+        actor: ActorId,
+        handle: Handle,
+        index: u32,
+        len: u32,
+    ) -> Option<Outcome>
+        requires { IsMachineOf system.now self.old }
+        ensures does { Does (λ given. option_map (in_state (state_of self.old given)) (psa_skip system.now (spm_of self.old.objects) actor.0 handle index len)) self.old (Ok result) self.new }
+        ensures made { self.new.objects.connections_made ≡ self.old.objects.connections_made }
+        ensures kept { IsMachineOf system.now self.new }
+    {
+        let message = self.objects.request_held(system, actor.0, handle, index)?;
+        let mut vectors = message.vectors;
+        let count = skip(&mut vectors, index, len);
+        self.objects.set_vectors(handle, vectors);
+        Some(Outcome::Number(count))
+    }
+
+    /// `psa_read` (`psa/service.h`). None as of `skip`, or where the buffer isn't a valid one.
+    pub fn read(
+        &mut self,
+        system: &System,
+        actor: ActorId,
+        handle: Handle,
+        index: u32,
+        buffer: u32,
+        len: u32,
+    ) -> Option<Outcome>
+        requires { IsMachineOf system.now self.old }
+        ensures does { Does (λ given. psa_read system.now (state_of self.old given) actor.0 handle index buffer len) self.old (Ok result) self.new }
+        ensures made { self.new.objects.connections_made ≡ self.old.objects.connections_made }
+        ensures kept { IsMachineOf system.now self.new }
+    {
+        let message = self.objects.request_held(system, actor.0, handle, index)?;
+        if !valid_buffer(system, actor, buffer, len) {
+            return None;
+        }
+        let span = message.vectors.input[index as usize];
+        let mut vectors = message.vectors;
+        let count = skip(&mut vectors, index, len);
+        copy_from(&mut self.memory, &span, buffer, count);
+        self.objects.set_vectors(handle, vectors);
+        Some(Outcome::Number(count))
+    }
+
+    /// `psa_write` (`psa/service.h`). None as of `read`, or where the bytes are more than what is left of the vector.
+    pub fn write(
+        &mut self,
+        system: &System,
+        actor: ActorId,
+        handle: Handle,
+        index: u32,
+        buffer: u32,
+        len: u32,
+    ) -> Option<Outcome>
+        requires { IsMachineOf system.now self.old }
+        ensures does { Does (λ given. psa_write system.now (state_of self.old given) actor.0 handle index buffer len) self.old (Ok result) self.new }
+        ensures made { self.new.objects.connections_made ≡ self.old.objects.connections_made }
+        ensures kept { IsMachineOf system.now self.new }
+    {
+        let message = self.objects.request_held(system, actor.0, handle, index)?;
+        if !valid_buffer(system, actor, buffer, len) {
+            return None;
+        }
+        let span = message.vectors.output[index as usize];
+        let mut vectors = message.vectors;
+        if !advance(&mut vectors, index, len) {
+            return None;
+        }
+        copy_to(&mut self.memory, &span, buffer, len);
+        self.objects.set_vectors(handle, vectors);
+        Some(Outcome::Done)
+    }
+}

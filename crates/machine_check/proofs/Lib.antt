@@ -1,0 +1,5 @@
+mod Kept
+mod Allowed
+mod Steps
+mod Performed
+mod Judged

@@ -1,0 +1,4 @@
+pub mod Groups
+pub mod Performed
+pub mod Answers
+pub mod Checking

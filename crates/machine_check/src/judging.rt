@@ -1,0 +1,169 @@
+//! Whole traces.
+ghost use Rattle.std.specs.Prelude.{◌≡◌, ◌<◌, ◌≤◌, ◌+◌, ◌^◌, ◌∷◌, [], ℕ, IfOk, length, replicate};
+ghost use Rattle.std.specs.Prelude as prelude;
+ghost use Rattle.ffm_model.specs.declared.machine.Entry.{Entry as EntrySeen};
+ghost use Rattle.ffm_model.specs.declared.machine.Verdict.{Verdict as VerdictSeen};
+ghost use Rattle.ffm_model.specs.State.{opening_spm};
+ghost use Rattle.ffm_model.specs.Verdicts.{Judgement, judged, some_enabled, some_blocked, verdict_at};
+ghost use Rattle.memory_image.specs.Pieces.{byte_at, ranges_of, regions_of};
+ghost use Rattle.machine_check.specs.Answers.{judgement};
+ghost use Rattle.machine_check.specs.Checking.{Accepts, ChecksTo};
+ghost use Rattle.machine_calls.specs.Machine.{spm_of, IsMachineOf};
+
+use crate::step::step;
+use ffm_model::{ActorPhase, Entry, Memory, SourceFlags, System, Trace, Verdict};
+use machine_calls::{Machine, Objects};
+use memory_image::Image;
+use std::alloc::Global;
+use std::collections::BTreeSet;
+
+/// How a trace is judged.
+#[derive(Clone, Copy, Debug, PartialEq, Eq)]
+pub enum Checked {
+    /// Its entries are a run of the machine, at most as many as the limit, and its verdict is that run's.
+    Legal,
+    /// The first place, counted from 1, at which it isn't: an entry that is no step behind those before it or exceeds the
+    /// limit, or, one behind all entries, the verdict.
+    IllegalAt(u32),
+}
+
+// So many copies of one value.
+fn filled<T: Copy>(alloc: Global, value: T, count: usize) -> Result<Vec<T>, Memory>
+    ensures { IfOk result (λ v. v.items ≡ replicate count value) }
+{
+    let mut items = Vec::new(alloc);
+    items.resize(count, value)?;
+    Ok(items)
+}
+
+// The state that a run begins with.
+fn opening(alloc: Global, system: &System) -> Result<Objects, Memory>
+    ensures { IfOk result (λ o. spm_of o ≡ opening_spm system.now) }
+{
+    let flags = SourceFlags {
+        enabled: true,
+        pending: false,
+        asserted: false,
+    };
+    let actors = system.actor_count() as usize;
+    Ok(Objects {
+        connections: Vec::new(alloc),
+        connections_made: 0,
+        messages: Vec::new(alloc),
+        phases: filled(alloc, ActorPhase::Running, actors)?,
+        doorbells: filled(alloc, false, system.partitions.len())?,
+        sources: filled(alloc, flags, system.sources.len())?,
+    })
+}
+
+fn is_some_enabled(objects: &Objects, system: &System) -> bool
+    ensures { result ≡ some_enabled system.now (spm_of objects.now) }
+{
+    (0..system.actor_count()).any(|actor| objects.is_enabled(system, actor))
+}
+
+fn is_some_blocked(objects: &Objects, system: &System) -> bool
+    ensures { result ≡ some_blocked system.now (spm_of objects.now) }
+{
+    (0..system.actor_count()).any(|actor| matches!(objects.phase(actor), ActorPhase::Blocked))
+}
+
+// The verdict of a run of so many entries, or none where it isn't ended.
+fn verdict_at(objects: &Objects, system: &System, limit: u32, count: u32) -> Option<Verdict>
+    ensures { result ≡ verdict_at system.now limit count (spm_of objects.now) }
+{
+    if is_some_enabled(objects, system) {
+        if count == limit {
+            Some(Verdict::Full)
+        } else {
+            None
+        }
+    } else if is_some_blocked(objects, system) {
+        Some(Verdict::Stalled)
+    } else {
+        Some(Verdict::Quiet)
+    }
+}
+
+/// A trace as far as it was checked.
+#[derive(Drop)]
+struct Checker {
+    machine: Machine,
+    /// The handles that its entries gave.
+    given: BTreeSet<i32>,
+    /// How many entries were accepted.
+    count: u32,
+}
+
+impl Checker {
+    // Before the first entry.
+    fn new(alloc: Global, system: &System, memory: &Image) -> Result<Checker, Memory>
+        requires { regions_of memory.now ≡ ranges_of system.now.regions }
+        ensures checks { IfOk result (λ c. (limit : ℕ) (v : VerdictSeen) (es : prelude.List EntrySeen) → ChecksTo system.now limit v (judged system.now (byte_at memory.now) limit es v) c es) }
+        ensures count { IfOk result (λ c. c.count ≡ 0) }
+    {
+        let machine = Machine {
+            objects: opening(alloc, system)?,
+            memory: memory.copy_of(alloc)?,
+        };
+        Ok(Checker {
+            machine,
+            given: BTreeSet::new(alloc),
+            count: 0,
+        })
+    }
+
+    // Whether the entry is the next one of a run of at most so many.
+    fn accept(&mut self, system: &System, limit: u32, entry: &Entry) -> Result<bool, Memory>
+        requires kept { IsMachineOf system.now self.old.machine }
+        requires made { self.old.machine.objects.connections_made ≤ self.old.count }
+        requires few { self.old.count < 2 ^ 31 }
+        ensures accepts { (v : VerdictSeen) (j : Judgement) (es : prelude.List EntrySeen) → ChecksTo system.now limit v j self.old (entry.now ∷ es) → Accepts system.now limit v j self.old result self.new es }
+        ensures count { self.new.count ≤ self.old.count + 1 }
+    {
+        if self.count >= limit {
+            return Ok(false);
+        }
+        let is_step = step(&mut self.machine, system, &mut self.given, entry)?;
+        if !is_step {
+            return Ok(false);
+        }
+        self.count += 1;
+        Ok(true)
+    }
+
+    // Judges by the verdict, behind all entries.
+    fn finish(&self, system: &System, limit: u32, verdict: Verdict) -> Checked
+        requires { self.now.count < 2 ^ 31 }
+        ensures { (j : Judgement) → ChecksTo system.now limit verdict j self.now [] → judgement result ≡ j }
+    {
+        match verdict_at(&self.machine.objects, system, limit, self.count) {
+            Some(found) if found == verdict => Checked::Legal,
+            _ => Checked::IllegalAt(self.count + 1),
+        }
+    }
+}
+
+/// Judges whether a trace is a run of the machine, of at most so many entries, from this memory.
+///
+/// It needs memory for the state, for one copy of the image and for the handles that the trace gives.
+/// The memory has the system's regions, and the trace has fewer than 2^31 entries.
+pub fn check(
+    alloc: Global,
+    system: &System,
+    memory: &Image,
+    limit: u32,
+    trace: &Trace,
+) -> Result<Checked, Memory>
+    requires regions { regions_of memory.now ≡ ranges_of system.now.regions }
+    requires few { length trace.now.entries < 2 ^ 31 }
+    ensures { IfOk result (λ c. judgement c ≡ judged system.now (byte_at memory.now) limit trace.now.entries trace.now.verdict) }
+{
+    let mut checker = Checker::new(alloc, system, memory)?;
+    for entry in trace.entries.as_slice() {
+        if !checker.accept(system, limit, entry)? {
+            return Ok(Checked::IllegalAt(checker.count + 1));
+        }
+    }
+    Ok(checker.finish(system, limit, trace.verdict))
+}
