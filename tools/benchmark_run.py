@@ -1,17 +1,17 @@
 #!/usr/bin/env python3
-"""Times whole runs of the program. Run by hand; no test uses it.
+"""Times whole runs of the program, and the judging of their traces. Run by hand; no test uses it.
 
     python3 tools/benchmark_run.py crates/ffm/out/ffm
 
 Makes a system of 16 partitions with a service each and 16 clients, each of which sends requests with
 a vector of four bytes each way to its own service without end, and runs it for 65,536, 131,072 and
-262,144 events, several times each, into a file. Prints one row for each: the events, the bytes of the
-trace, the least and the middle time in milliseconds, the most memory in MB, and the last line."""
+262,144 events, several times each, into a file; then the trace is judged as often. Prints one row for
+each command: the events, the bytes of the trace, the least and the middle time in milliseconds, the
+most memory in MB, and the last line. At the end it times the largest generated run in the same way."""
 
 import argparse
 import json
 import os
-import resource
 import subprocess
 import tempfile
 import time
@@ -75,19 +75,23 @@ def scenario(events):
     return {"event_limit": events, "scripts": scripts, "memory": memory}
 
 
-def timed(program, folder, repeats):
-    """The times of some runs in milliseconds, the bytes that one writes, and its last line."""
-    times = []
-    command = [program, "run", os.path.join(folder, "system.json"), os.path.join(folder, "scenario.json")]
-    trace = os.path.join(folder, "trace")
+def timed(command, output, repeats):
+    """The times of some runs of a command in milliseconds, the most memory of one in MB, and its last line."""
+    times, memory = [], 0
     for _ in range(repeats):
-        with open(trace, "wb") as out:
+        with open(output, "wb") as out:
             start = time.perf_counter()
-            subprocess.run(command, stdout=out, check=False)
+            child = subprocess.Popen(command, stdout=out)
+            _, _, usage = os.wait4(child.pid, 0)
             times.append((time.perf_counter() - start) * 1000)
-    with open(trace, "rb") as text:
-        lines = text.read()
-    return sorted(times), len(lines), lines.splitlines()[-1].decode()
+            memory = max(memory, usage.ru_maxrss / 1000)
+    with open(output, "rb") as text:
+        return sorted(times), memory, text.read().splitlines()[-1].decode()
+
+
+def row(name, events, size, measured):
+    times, memory, last = measured
+    print(f"{name:>6} {events:>8} {size:>10} {times[0]:8.1f} {times[len(times) // 2]:8.1f} {memory:6.1f}  {last}")
 
 
 def main():
@@ -96,14 +100,19 @@ def main():
     arguments.add_argument("--repeats", type=int, default=9)
     options = arguments.parse_args()
     with tempfile.TemporaryDirectory() as folder:
-        with open(os.path.join(folder, "system.json"), "w", encoding="utf-8") as file:
+        files = [os.path.join(folder, name) for name in ("system.json", "scenario.json", "trace")]
+        judged = os.path.join(folder, "judged")
+        with open(files[0], "w", encoding="utf-8") as file:
             json.dump(system(), file)
         for events in EVENTS:
-            with open(os.path.join(folder, "scenario.json"), "w", encoding="utf-8") as file:
+            with open(files[1], "w", encoding="utf-8") as file:
                 json.dump(scenario(events), file)
-            times, size, last = timed(options.program, folder, options.repeats)
-            memory = resource.getrusage(resource.RUSAGE_CHILDREN).ru_maxrss / 1000
-            print(f"{events:>8} {size:>10} {times[0]:8.1f} {times[len(times) // 2]:8.1f} {memory:6.1f}  {last}")
+            ran = timed([options.program, "run", *files[:2]], files[2], options.repeats)
+            size = os.path.getsize(files[2])
+            row("run", events, size, ran)
+            row("replay", events, size, timed([options.program, "replay", *files], judged, options.repeats))
+        made = timed([options.program, "make", "2000"], judged, options.repeats)
+        row("make", int(made[2].split()[3]), 0, made)
 
 
 if __name__ == "__main__":

@@ -20,7 +20,7 @@ def guided():
         if " " not in line:
             name = line.strip()
             traces[name] = ""
-        elif not line.startswith("status "):
+        elif not line.startswith(("status ", "legal ")):
             traces[name] += line
     return traces
 
@@ -29,7 +29,7 @@ def pairs():
     """Pairs of texts that have to be the same, each with what it is."""
     for name, trace in guided().items():
         yield f"{name}/trace.txt", (EXAMPLES / name / "trace.txt").read_text(), trace
-        for file in ("system.json", "scenario.json"):
+        for file in ("system.json", "scenario.json", "trace.txt"):
             yield f"{name}/{file}", (EXAMPLES / name / file).read_text(), (STORED / "data" / f"{name}_{file}").read_text()
     for folder, crate in (("first", "ffm"), ("firmware", "firmware_listing")):
         for path in sorted((EXAMPLES / folder).glob("*.json")):

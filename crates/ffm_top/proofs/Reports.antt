@@ -12,7 +12,7 @@ use Rattle.ffm_model.specs.Listing.{listing}
 use Rattle.ffm_model.specs.TraceText.{entry_text, line, trace_text, verdict_text}
 use Rattle.ffm_top.specs.declared.report.Report.TheVariants as report
 use Rattle.ffm_top.specs.declared.run.Ran.{Ran}
-use Rattle.ffm_top.specs.Due.{RanBy, RunDue, verdict_status}
+use Rattle.ffm_top.specs.Runs.{RanBy, RunDue, verdict_status}
 use Rattle.ffm_top.specs.Lines.{refusal_line, usage_line}
 use Rattle.ffm_top.specs.Report.{text_of}
 use Rattle.ffm_top.specs.Work.{Parts}
@@ -30,11 +30,11 @@ run_due s c scripts ran system_is by = record {
 
 -- ---- no text is empty
 
-abbrev is_empty : List ℕ → Bool
+abbrev pub is_empty : List ℕ → Bool
 is_empty [] = true
 is_empty (x ∷ xs) = false
 
-not_empty : (xs : List ℕ) → is_empty xs ≡ false → 0 < length xs
+pub not_empty : (xs : List ℕ) → is_empty xs ≡ false → 0 < length xs
 not_empty [] e = cc
 not_empty (x ∷ xs) e = omega arith
 

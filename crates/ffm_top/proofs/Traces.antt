@@ -9,7 +9,7 @@ use Rattle.outside_io.specs.Told.{Takes, TakesPart, Puts}
 use Rattle.outside_io.proofs.Told.{Takes-then, part_of_first, part_of_second, part_as, part_of_items, puts_after}
 
 -- what is said of the item at a place
-at_place : {X : Type 0} (P : X → Type 0) (xs : List X) (i : ℕ) (d : X) → i < length xs → IfSome (slice_get xs i) P → P (get_or xs i d)
+pub at_place : {X : Type 0} (P : X → Type 0) (xs : List X) (i : ℕ) (d : X) → i < length xs → IfSome (slice_get xs i) P → P (get_or xs i d)
 at_place {X = X} P xs i d lt h = let Q : Option X → Type 0 = λ o. IfSome o P in subst Q (slice_get-get_or xs i d lt) h
 
 -- one line more

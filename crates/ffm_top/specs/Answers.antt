@@ -5,13 +5,13 @@ use Rattle.outside_io.specs.Told.{Takes, TakesPart}
 use Rattle.ffm_model.specs.Reading.{Contents, FailedAmong}
 use Rattle.ffm_top.specs.Due.{Due, asked}
 
--- 0: done. 1: a file is refused. 2: the words are no command. 4, 5: a run is stalled, full. 7: a file can't be read. 8: the text can't be written. 9: no memory
+-- 0: done. 1: a file is refused. 2: the words are no command. 4, 5: a run is stalled, full. 6: a trace is illegal. 7: a file can't be read. 8: the text can't be written. 9: no memory
 abbrev pub IsStatus : ℕ → Type 0
-IsStatus status = (status ≤ 2) ⊎ ((4 ≤ status) × (status ≤ 5)) ⊎ ((7 ≤ status) × (status ≤ 9))
+IsStatus status = (status ≤ 2) ⊎ ((4 ≤ status) × (status ≤ 9))
 
--- the statuses of a run that ended
-abbrev pub IsRunStatus : ℕ → Type 0
-IsRunStatus status = (status ≡ 0) ⊎ ((status ≡ 4) ⊎ (status ≡ 5))
+-- the statuses of what was done: listed or made, a run that ended, a trace that was judged
+abbrev pub IsDoneStatus : ℕ → Type 0
+IsDoneStatus status = (status ≡ 0) ⊎ ((4 ≤ status) × (status ≤ 6))
 
 -- a text that is due with this status was taken, all of it
 abbrev pub WritesDue : List (List ℕ) → Contents → Option (List ℕ) → Option (List ℕ) → ℕ → Type 0

@@ -1,6 +1,9 @@
 pub mod Words
 pub mod Lines
 pub mod Work
+pub mod Runs
+pub mod Replays
+pub mod Makes
 pub mod Due
 pub mod Answers
 pub mod Report

@@ -6,16 +6,25 @@ use Rattle.ffm_model.specs.Scenarios.{IsScenarioOf}
 use Rattle.ffm_top.specs.declared.work.Work as code
 use Rattle.ffm_top.specs.declared.work.Work.TheVariants as code_work
 use Rattle.ffm_top.specs.declared.work.RunWork.{RunWork}
-use Rattle.ffm_top.specs.Work.{Work, listing_of, run_of}
+use Rattle.ffm_top.specs.declared.work.ReplayWork.{ReplayWork}
+use Rattle.ffm_top.specs.Work.{Work, listing_of, run_of, replay_of, make_of}
 
 abbrev pub work : code.Work → Work
 work (code_work.Listing system) = listing_of system
 work (code_work.Run run) = run_of run.system run.scenario run.scripts
+work (code_work.Replay replay) = replay_of replay.system replay.scenario replay.trace.items
+work (code_work.Make rounds) = make_of rounds
 
 -- a scenario of the system, and one script for each actor
 abbrev pub IsRun : RunWork → Type 0
 IsRun run = IsScenarioOf run.system run.scenario × (length run.scripts ≡ actor_count run.system)
 
+-- a scenario of the system
+abbrev pub IsReplay : ReplayWork → Type 0
+IsReplay replay = IsScenarioOf replay.system replay.scenario
+
 abbrev pub IsWork : code.Work → Type 0
 IsWork (code_work.Listing system) = Unit {0}
 IsWork (code_work.Run run) = IsRun run
+IsWork (code_work.Replay replay) = IsReplay replay
+IsWork (code_work.Make rounds) = Unit {0}

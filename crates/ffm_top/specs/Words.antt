@@ -1,14 +1,19 @@
 -- Which lists of words are accepted. The first word is the program's name.
 -- Source: this simulator's command line.
-use Rattle.std.specs.Prelude.{ℕ, Bool, false, not, ◌&&◌, ◌==◌, List, [], ◌∷◌, Option, None, Some, codes, if◌then◌else◌}
+use Rattle.std.specs.Prelude.{ℕ, ◌+◌, ◌*◌, nat_le, Bool, false, not, ◌&&◌, ◌==◌, List, [], ◌∷◌, Option, None, Some, codes, if◌then◌else◌}
+use Rattle.std.specs.Char.{digit_value, is_digit}
+use Rattle.std.specs.Option.{option_map}
 use Rattle.std.specs.Str.{bytes_eq}
+use Rattle.ffm_top.specs.declared.limits.TheConstants.{MAX_ROUNDS}
 use Rattle.ffm_top.specs.declared.words.Command.{Command}
 use Rattle.ffm_top.specs.declared.words.Command.TheVariants as command
 
--- what an accepted list asks for, by the names of the files
+-- what an accepted list asks for, by the names of the files or by a number
 pub data Order : Type 0 where
   compile : List ℕ → Order
   run : List ℕ → List ℕ → Order
+  replay : List ℕ → List ℕ → List ℕ → Order
+  make : ℕ → Order
 
 -- a file's name isn't empty and doesn't begin with `-`
 abbrev pub is_file_word : List ℕ → Bool
@@ -25,13 +30,53 @@ abbrev pub run_words : List (List ℕ) → Option Order
 run_words (system ∷ scenario ∷ []) = if is_file_word system && is_file_word scenario then Some (run system scenario) else None
 run_words _ = None
 
+-- a trace, for a scenario over a system
+abbrev pub replay_files : List ℕ → List ℕ → List ℕ → Option Order
+replay_files system scenario trace =
+    if is_file_word system && (is_file_word scenario && is_file_word trace) then Some (replay system scenario trace) else None
+
+-- SCENARIO TRACE, behind SYSTEM
+abbrev pub replay_over : List ℕ → List (List ℕ) → Option Order
+replay_over system (scenario ∷ trace ∷ []) = replay_files system scenario trace
+replay_over system _ = None
+
+-- SYSTEM SCENARIO TRACE
+abbrev pub replay_words : List (List ℕ) → Option Order
+replay_words [] = None
+replay_words (system ∷ words) = replay_over system words
+
+-- the number that n and the decimal digits behind it spell, where it is at most the limit
+abbrev pub rounds_behind : ℕ → List ℕ → Option ℕ
+rounds_behind n [] = Some n
+rounds_behind n (d ∷ ds) =
+    if is_digit d 10 && nat_le (n * 10 + digit_value d) MAX_ROUNDS then rounds_behind (n * 10 + digit_value d) ds else None
+
+-- a number from 1 to the limit, in decimal digits without a leading zero
+unfoldable pub rounds_of : List ℕ → Option ℕ
+rounds_of [] = None
+rounds_of (d ∷ ds) = if d == 48 then None else rounds_behind 0 (d ∷ ds)
+
+-- N
+abbrev pub make_words : List (List ℕ) → Option Order
+make_words (count ∷ []) = option_map make (rounds_of count)
+make_words _ = None
+
+-- the words of a command
+abbrev pub command_words : List ℕ → List (List ℕ) → Option Order
+command_words name words =
+    if bytes_eq name (codes "compile") then compile_words words
+    else (if bytes_eq name (codes "run") then run_words words
+    else (if bytes_eq name (codes "replay") then replay_words words
+    else (if bytes_eq name (codes "make") then make_words words else None)))
+
 -- the name of the command, and its words
 abbrev pub order_of : List (List ℕ) → Option Order
-order_of (program ∷ name ∷ words) =
-    if bytes_eq name (codes "compile") then compile_words words else (if bytes_eq name (codes "run") then run_words words else None)
+order_of (program ∷ name ∷ words) = command_words name words
 order_of _ = None
 
 -- what a command of the code asks for
 abbrev pub order : Command → Order
 order (command.Compile system) = compile system.now
 order (command.Run system scenario) = run system.now scenario.now
+order (command.Replay system scenario trace) = replay system.now scenario.now trace.now
+order (command.Make rounds) = make rounds

@@ -1,5 +1,5 @@
 -- The work that an order asks for: what is read of the files, in which order, until the first refusal.
--- Source: this simulator's order of work: the system file and its manifests, the compiler, the scenario, its scripts.
+-- Source: this simulator's order of work: the system file and its manifests, the compiler, the scenario, its scripts, the trace.
 use Rattle.std.specs.Prelude.{ℕ, ◌+◌, List, [], ◌∷◌, ◌++◌, length, get_or, slice_set, replicate, Result, Ok, Err}
 use Rattle.ffm_model.specs.declared.constants.TheConstants.{MAX_FILE_BYTES}
 use Rattle.ffm_model.specs.declared.machine.ActorId.{ActorId}
@@ -16,7 +16,8 @@ use Rattle.ffm_model.specs.Systems.{system_of, stopped}
 use Rattle.ffm_model.specs.Compiled.{compiled}
 use Rattle.script_asm.specs.Device.{device_script}
 use Rattle.script_asm.specs.Lines.{script_read}
-use Rattle.ffm_top.specs.Words.{Order, compile, run}
+use Rattle.ffm_top.specs.declared.limits.TheConstants.{MAX_TRACE_BYTES}
+use Rattle.ffm_top.specs.Words.{Order, compile, run, replay, make}
 
 -- a script, as the list of its parts
 abbrev pub Parts : Type 0
@@ -62,6 +63,9 @@ system_place = record { root = root.System; steps = [] }
 abbrev pub scenario_place : Place
 scenario_place = record { root = root.Scenario; steps = [] }
 
+abbrev pub trace_place : Place
+trace_place = record { root = root.Trace; steps = [] }
+
 -- the system of a system file's bytes
 unfoldable pub system_in : Contents → List ℕ → Reading System
 system_in of bytes = do
@@ -85,6 +89,9 @@ scenario_at of s name = do
 pub data Work : Type 0 where
   listing_of : System → Work
   run_of : System → Scenario → List Parts → Work
+  -- the trace file's bytes
+  replay_of : System → Scenario → List ℕ → Work
+  make_of : ℕ → Work
 
 -- the scenario's run of a system
 unfoldable pub run_in : Contents → System → List ℕ → Reading Work
@@ -105,6 +112,27 @@ run_at of system scenario = do
   s ← system_at of system
   run_in of s scenario
 
+-- a trace file's bytes
+unfoldable pub trace_in : Contents → System → Scenario → List ℕ → Reading Work
+trace_in of s c trace = do
+  bytes ← file_at of trace_place MAX_TRACE_BYTES trace
+  asks_nothing (Ok (replay_of s c bytes))
+
+-- a trace for a system; the scenario's scripts are read before it, and not used
+unfoldable pub replay_in : Contents → System → List ℕ → List ℕ → Reading Work
+replay_in of s scenario trace = do
+  c ← scenario_at of s scenario
+  scripts ← asks_nothing (scripts_of s c)
+  trace_in of s c trace
+
+-- a trace for a system and a scenario, from their files
+unfoldable pub replay_at : Contents → List ℕ → List ℕ → List ℕ → Reading Work
+replay_at of system scenario trace = do
+  s ← system_at of system
+  replay_in of s scenario trace
+
 abbrev pub work_of : Contents → Order → Reading Work
 work_of of (compile system) = list_in of system
 work_of of (run system scenario) = run_at of system scenario
+work_of of (replay system scenario trace) = replay_at of system scenario trace
+work_of of (make rounds) = asks_nothing (Ok (make_of rounds))

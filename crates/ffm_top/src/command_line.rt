@@ -2,7 +2,7 @@
 ghost use Rattle.std.specs.Prelude.{◌≡◌, IfOk};
 ghost use Rattle.ffm_top.specs.Words.{order};
 
-use crate::words::Command;
+use crate::words::{Command, rounds_of};
 use clap::{Arg, ArgAction, ArgMatches, Error};
 use std::alloc::Global;
 
@@ -10,20 +10,27 @@ use std::alloc::Global;
 #[derive(Clone, Copy, Debug)]
 pub struct Unread;
 
-// The name of a file.
-fn file_argument(alloc: Global, id: &str) -> Arg<'_> {
+// An argument of one word.
+fn word_argument(alloc: Global, id: &str) -> Arg<'_> {
     Arg::new(alloc, id).required(true).action(ArgAction::Set)
 }
 
 // The commands and their arguments.
 fn command_line<'a>(alloc: Global) -> Result<clap::Command<'a>, Error> {
-    let compile = clap::Command::new(alloc, "compile").arg(file_argument(alloc, "system"))?;
+    let compile = clap::Command::new(alloc, "compile").arg(word_argument(alloc, "system"))?;
     let run = clap::Command::new(alloc, "run")
-        .arg(file_argument(alloc, "system"))?
-        .arg(file_argument(alloc, "scenario"))?;
+        .arg(word_argument(alloc, "system"))?
+        .arg(word_argument(alloc, "scenario"))?;
+    let replay = clap::Command::new(alloc, "replay")
+        .arg(word_argument(alloc, "system"))?
+        .arg(word_argument(alloc, "scenario"))?
+        .arg(word_argument(alloc, "trace"))?;
+    let make = clap::Command::new(alloc, "make").arg(word_argument(alloc, "rounds"))?;
     let commands = clap::Command::new(alloc, "ffm")
         .subcommand(compile)?
-        .subcommand(run)?;
+        .subcommand(run)?
+        .subcommand(replay)?
+        .subcommand(make)?;
     Ok(commands)
 }
 
@@ -38,12 +45,30 @@ fn run_of<'a>(found: &ArgMatches<'a>) -> Option<Command<'a>> {
     Some(Command::Run { system, scenario })
 }
 
+fn replay_of<'a>(found: &ArgMatches<'a>) -> Option<Command<'a>> {
+    let system = found.get_str("system")?;
+    let scenario = found.get_str("scenario")?;
+    let trace = found.get_str("trace")?;
+    Some(Command::Replay {
+        system,
+        scenario,
+        trace,
+    })
+}
+
+fn make_of<'a>(found: &ArgMatches<'a>) -> Option<Command<'a>> {
+    let rounds = rounds_of(found.get_str("rounds")?)?;
+    Some(Command::Make { rounds })
+}
+
 // The command as `clap` reads it.
 fn read<'a>(alloc: Global, words: &'a [String]) -> Result<Option<Command<'a>>, Error> {
     let matches = command_line(alloc)?.try_get_matches_from(words)?;
     Ok(match matches.subcommand() {
         Some(("compile", found)) => compile_of(found),
         Some(("run", found)) => run_of(found),
+        Some(("replay", found)) => replay_of(found),
+        Some(("make", found)) => make_of(found),
         _ => None,
     })
 }

@@ -4,7 +4,10 @@
 mod command_line;
 #[cfg(test)]
 mod compile_tests;
+mod limits;
 mod lines;
+mod make;
+mod replay;
 mod report;
 mod run;
 #[cfg(test)]

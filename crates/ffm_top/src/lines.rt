@@ -140,13 +140,15 @@ fn root_text(root: Root) -> &'static str
     }
 }
 
-fn append(line: &mut Vec<u8>, text: &str) -> Result<(), AllocError>
+/// Appends a text.
+pub fn append(line: &mut Vec<u8>, text: &str) -> Result<(), AllocError>
     ensures { OnOk result (line.new.items ≡ line.old.items ++ text.now) }
 {
     line.extend_from_slice(text.as_bytes())
 }
 
-fn append_number(line: &mut Vec<u8>, number: u32) -> Result<(), AllocError>
+/// Appends a number in decimal.
+pub fn append_number(line: &mut Vec<u8>, number: u32) -> Result<(), AllocError>
     ensures { OnOk result (line.new.items ≡ line.old.items ++ decimal number) }
 {
     append(line, Buffer::new().format(number))

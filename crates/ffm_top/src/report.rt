@@ -5,12 +5,15 @@ ghost use Rattle.outside_io.specs.Count.{Rose};
 ghost use Rattle.outside_io.specs.Told.{Puts};
 ghost use Rattle.ffm_model.specs.Actors.{counts_of};
 ghost use Rattle.ffm_model.specs.TraceText.{entry_text, line, trace_text, verdict_text};
-ghost use Rattle.ffm_top.specs.Due.{verdict_status};
+ghost use Rattle.machine_check.specs.Answers.{judgement};
+ghost use Rattle.ffm_top.specs.Replays.{judgement_status};
+ghost use Rattle.ffm_top.specs.Runs.{verdict_status};
 ghost use Rattle.ffm_top.specs.Report.{text_of, status_of};
 
 use crate::lines::usage_line;
 use crate::run::Ran;
 use ffm_model::Verdict;
+use machine_check::Checked;
 use outside_io::{Failed, Sink, put_all};
 use spm_core::Spm;
 use trace_print::{print, print_verdict};
@@ -22,10 +25,12 @@ pub enum Report {
     Usage,
     /// A file is refused, by this line.
     Refused(Vec<u8>),
-    /// A system is listed, by this text.
+    /// A system is listed, or a generated run is summed up, by this text.
     Listed(Vec<u8>),
     /// A run ended.
     Ran(Ran),
+    /// A trace is judged, by this line.
+    Judged { checked: Checked, line: Vec<u8> },
 }
 
 // Puts the line of the entry at a place, counted from 0.
@@ -116,6 +121,7 @@ fn put_report<S: Sink>(out: &mut S, report: &Report) -> Result<(), Failed>
         Report::Refused(line) => put_all(out, line.as_slice()),
         Report::Listed(text) => put_lines(out, text.as_slice()),
         Report::Ran(ran) => put_trace(out, &ran.spm, ran.verdict),
+        Report::Judged { line, .. } => put_all(out, line.as_slice()),
     }
 }
 
@@ -142,6 +148,15 @@ fn verdict_status(verdict: Verdict) -> u8
     }
 }
 
+fn checked_status(checked: Checked) -> u8
+    ensures { result ≡ judgement_status (judgement checked) }
+{
+    match checked {
+        Checked::Legal => 0,
+        Checked::IllegalAt(_) => 6,
+    }
+}
+
 impl Report {
     /// The status of a report that was written.
     pub fn status(&self) -> u8
@@ -152,6 +167,7 @@ impl Report {
             Report::Refused(_) => 1,
             Report::Listed(_) => 0,
             Report::Ran(ran) => verdict_status(ran.verdict),
+            Report::Judged { checked, .. } => checked_status(*checked),
         }
     }
 }

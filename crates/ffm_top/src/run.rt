@@ -1,14 +1,14 @@
 //! Runs the scripts of a scenario over a system.
 
-ghost use Rattle.std.specs.Prelude.{◌≡◌, true, IfOk, length};
+ghost use Rattle.std.specs.Prelude.{◌≡◌, IfOk, length};
 ghost use Rattle.std.specs.List.{All};
 ghost use Rattle.ffm_model.specs.Actors.{actor_count};
 ghost use Rattle.ffm_model.specs.Scenarios.{IsScenarioOf};
 ghost use Rattle.ffm_model.specs.Memory.{opening_memory};
-ghost use Rattle.memory_image.specs.Pieces.{byte_at, regions_of, ranges_of, open_within};
-ghost use Rattle.ffm_top.specs.Due.{RanBy};
+ghost use Rattle.memory_image.specs.Pieces.{byte_at, regions_of, ranges_of};
+ghost use Rattle.ffm_top.specs.Runs.{RanBy};
 
-use ffm_model::{Bytes, List, Memory, Scenario, Script, System, Verdict};
+use ffm_model::{List, Memory, Scenario, Script, System, Verdict};
 use memory_image::Image;
 use partition_sim::drive_scheduled;
 use spm_core::Spm;
@@ -24,17 +24,17 @@ pub struct Ran {
 // The regions are fewer than 2^31 where there is memory for so many.
 const MAX_REGIONS: usize = 0x7fff_ffff;
 
-// The memory that a run begins with.
+/// The memory that a run begins with.
 #[tactic(auto, using(memory_image::proofs::Systems::system_fits))]
-fn opening_image(alloc: Global, system: &System, opening: &List<Bytes>) -> Result<Image, Memory>
-    requires { open_within system.now.regions opening.now ≡ true }
+pub fn opening_image(alloc: Global, system: &System, scenario: &Scenario) -> Result<Image, Memory>
+    requires { IsScenarioOf system.now scenario.now }
     ensures regions { IfOk result (λ image. regions_of image ≡ ranges_of system.now.regions) }
-    ensures bytes { IfOk result (λ image. byte_at image ≡ opening_memory opening.now) }
+    ensures bytes { IfOk result (λ image. byte_at image ≡ opening_memory scenario.now.memory) }
 {
     if system.regions.len() > MAX_REGIONS {
         return Err(Memory);
     }
-    Image::new(alloc, &system.regions, opening)
+    Image::new(alloc, &system.regions, &scenario.memory)
 }
 
 /// The run of a scenario's scripts, one for each actor, over a system. Memory where no memory was
@@ -50,7 +50,7 @@ pub fn run(
     ensures system { IfOk result (λ ran. ran.spm.opening.system ≡ system) }
     ensures ran { IfOk result (λ ran. RanBy system scenario.now scripts.now ran.spm.history ran.verdict) }
 {
-    let image = opening_image(alloc, &system, &scenario.memory)?;
+    let image = opening_image(alloc, &system, scenario)?;
     let mut spm = Spm::new(alloc, system, image, scenario.limit)?;
     drive_scheduled(alloc, &mut spm, scripts, &scenario.schedule)?;
     let _length = spm.length();

@@ -255,6 +255,107 @@ fn faults_and_words(rt: HostRuntime) -> Result<(), Fail> {
     Ok(())
 }
 
+/// Lists of words, and the status that comes of each over the two files, a trace and a part of one.
+const LISTS: [(&[&str], u8); 23] = [
+    (&["ffm", "make"], 2),
+    (&["ffm", "make", ""], 2),
+    (&["ffm", "make", "0"], 2),
+    (&["ffm", "make", "01"], 2),
+    (&["ffm", "make", "+1"], 2),
+    (&["ffm", "make", "-1"], 2),
+    (&["ffm", "make", "1x"], 2),
+    (&["ffm", "make", "0x1"], 2),
+    (&["ffm", "make", "2001"], 2),
+    (&["ffm", "make", "20000"], 2),
+    (&["ffm", "make", "4294967297"], 2),
+    (&["ffm", "make", "1", "2"], 2),
+    (&["ffm", "make", "1"], 0),
+    (&["ffm", "make", "10"], 0),
+    (&["ffm", "replay"], 2),
+    (&["ffm", "replay", "system", "scenario"], 2),
+    (&["ffm", "replay", "system", "scenario", "trace", "a"], 2),
+    (&["ffm", "replay", "system", "scenario", "-a"], 2),
+    (&["ffm", "replay", "system", "scenario", ""], 2),
+    (&["ffm", "replay", "--", "system", "scenario", "trace"], 2),
+    (&["ffm", "replay", "system", "scenario", "nothing"], 7),
+    (&["ffm", "replay", "nothing", "scenario", "trace"], 7),
+    (&["ffm", "replay", "system", "scenario", "cut"], 1),
+];
+
+#[test]
+fn lists_of_words(rt: HostRuntime) -> Result<(), Fail> {
+    let alloc = rt.alloc();
+    for (list, wanted) in LISTS {
+        let words = words_of(alloc, list)?;
+        let mut files = files_of(alloc, ONE_CLIENT, ASKING)?;
+        files.add(alloc, "trace", ASKED.as_bytes())?;
+        files.add(alloc, "cut", b"p1 stop end -> done\nquiet 2\n")?;
+        let mut sink = MemorySink::new(alloc, 4096, 256, List::of(Vec::new(alloc)))?;
+        let status = ffm(&rt, alloc, &words, &mut files, &mut sink, &OpenGate);
+        assert_eq!(rt; status, wanted, "{list:?}");
+    }
+    Ok(())
+}
+
+/// The text of the words over the two files and a trace file.
+fn text_of(rt: &HostRuntime, words: &[&str], scenario: &str, trace: &str) -> Result<Vec<u8>, Fail> {
+    let alloc = rt.alloc();
+    let words = words_of(alloc, words)?;
+    let mut files = files_of(alloc, ONE_CLIENT, scenario)?;
+    files.add(alloc, "trace", trace.as_bytes())?;
+    let mut sink = MemorySink::new(alloc, 4096, 256, List::of(Vec::new(alloc)))?;
+    ffm(rt, alloc, &words, &mut files, &mut sink, &OpenGate);
+    Ok(sink.bytes().to_vec(alloc)?)
+}
+
+#[test]
+fn generated_runs(rt: HostRuntime) -> Result<(), Fail> {
+    for (rounds, text) in [
+        ("1", "make 1 entries 352 bytes 128 quiet\n"),
+        ("17", "make 17 entries 2400 bytes 2176 quiet\n"),
+        ("2000", "make 2000 entries 256224 bytes 256000 quiet\n"),
+    ] {
+        let written = text_of(&rt, &["ffm", "make", rounds], ASKING, "")?;
+        assert_eq!(rt; written.as_slice(), text.as_bytes());
+    }
+    Ok(())
+}
+
+#[test]
+fn refused_traces(rt: HostRuntime) -> Result<(), Fail> {
+    const WRONG: &str = r#"{"scripts":[{"actor":"NS","lines":["nothing"]}]}"#;
+    for (scenario, trace, text) in [
+        (ASKING, "", "refused 24 TraceSyntax trace /1\n"),
+        (ASKING, "quiet 0", "refused 24 TraceSyntax trace /1\n"),
+        (
+            ASKING,
+            "p1 stop end -> done\nquiet 2\n",
+            "refused 24 TraceSyntax trace /2\n",
+        ),
+        (
+            ASKING,
+            "p2 stop end -> done\nquiet 1\n",
+            "refused 24 TraceSyntax trace /1\n",
+        ),
+        (
+            ASKING,
+            "n1 stop end -> done\nquiet 1\n\n",
+            "refused 24 TraceSyntax trace /3\n",
+        ),
+        // The scripts come first, though a replay uses none.
+        (
+            WRONG,
+            "",
+            "refused 19 ScriptSyntax scenario /scripts/0/lines/0\n",
+        ),
+    ] {
+        let words = ["ffm", "replay", "system", "scenario", "trace"];
+        let written = text_of(&rt, &words, scenario, trace)?;
+        assert_eq!(rt; written.as_slice(), text.as_bytes());
+    }
+    Ok(())
+}
+
 /// A sink that gathers everything and can hand nothing on.
 #[derive(Drop)]
 struct Lost {

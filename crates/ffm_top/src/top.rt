@@ -1,23 +1,28 @@
 //! The top call.
 
-ghost use Rattle.std.specs.Prelude.{◌≡◌, ◌<◌, ◌≤◌, ◌≢◌, ◌↔◌, [], ◌⊎◌, None, Ok, IfOk, IfSome, IsErrOf, IsOk, length, map, string_bytes};
+ghost use Rattle.std.specs.Prelude.{◌≡◌, ◌<◌, ◌≤◌, ◌≢◌, ◌↔◌, [], ◌⊎◌, None, Ok, IfOk, IfSome, IsErrOf, IsOk, IsOkAnd, length, map, string_bytes};
 ghost use Rattle.outside_io.specs.Count.{Rose};
 ghost use Rattle.outside_io.specs.Told.{Puts, Takes};
 ghost use Rattle.ffm_model.specs.Reading.{FailedAmong};
-ghost use Rattle.ffm_top.specs.Answers.{IsStatus, IsRunStatus, WritesDue, WritesPart, FailedAsked};
-ghost use Rattle.ffm_top.specs.Due.{Due, DueBy, ListingDue, RunDue, WorkDue, asked, IsValid};
+ghost use Rattle.ffm_top.specs.Answers.{IsStatus, IsDoneStatus, WritesDue, WritesPart, FailedAsked};
+ghost use Rattle.ffm_top.specs.Due.{Due, DueBy, ListingDue, WorkDue, asked, IsValid, IsValidWork};
+ghost use Rattle.ffm_top.specs.Makes.{MadeDue};
+ghost use Rattle.ffm_top.specs.Replays.{ReplayDue, IsTraceText};
+ghost use Rattle.ffm_top.specs.Runs.{RunDue};
 ghost use Rattle.ffm_top.specs.Lines.{refusal_line, usage_line};
 ghost use Rattle.ffm_top.specs.Report.{text_of, status_of};
-ghost use Rattle.ffm_top.specs.View.{work as work_seen, IsRun, IsWork};
+ghost use Rattle.ffm_top.specs.View.{work as work_seen, IsReplay, IsRun, IsWork};
 ghost use Rattle.ffm_top.specs.Words.{order, order_of};
 ghost use Rattle.ffm_top.specs.Work.{work_of};
 
 use crate::command_line::{Unread, confirmed};
 use crate::lines::refusal_line;
+use crate::make::make;
+use crate::replay::replay;
 use crate::report::{Report, write_report};
 use crate::run::run;
 use crate::words::{Command, command_of};
-use crate::work::{RunWork, Work, work_of};
+use crate::work::{ReplayWork, RunWork, Work, work_of};
 use ffm_model::{Gate, PartsError, Refusal, System};
 use outside_io::{Failed, Files, Sink};
 use std::alloc::Global;
@@ -59,7 +64,7 @@ fn refused(alloc: Global, refusal: &Refusal) -> Result<Report, Halt>
 fn listed(alloc: Global, system: &System) -> Result<Report, Halt>
     ensures due { IfOk result (λ report. ListingDue system.now (text_of report) (status_of report)) }
     ensures some { IfOk result (λ report. 0 < length (text_of report)) }
-    ensures status { IfOk result (λ report. IsRunStatus (status_of report)) }
+    ensures status { IfOk result (λ report. IsDoneStatus (status_of report)) }
     ensures memory { IsErrOf result Halt.Files → ⊥ }
 {
     match listing(alloc, system) {
@@ -74,7 +79,7 @@ fn ran(alloc: Global, work: RunWork) -> Result<Report, Halt>
     requires { IsRun work }
     ensures due { IfOk result (λ report. RunDue work.system work.scenario work.scripts (text_of report) (status_of report)) }
     ensures some { IfOk result (λ report. 0 < length (text_of report)) }
-    ensures status { IfOk result (λ report. IsRunStatus (status_of report)) }
+    ensures status { IfOk result (λ report. IsDoneStatus (status_of report)) }
     ensures memory { IsErrOf result Halt.Files → ⊥ }
 {
     let RunWork {
@@ -88,17 +93,48 @@ fn ran(alloc: Global, work: RunWork) -> Result<Report, Halt>
     }
 }
 
+// The report of a trace's text.
+fn replayed(alloc: Global, work: &ReplayWork) -> Result<Report, Halt>
+    requires { IsReplay work.now }
+    ensures due { IfOk result (λ report. ReplayDue work.now.system work.now.scenario work.now.trace.items (text_of report) (status_of report)) }
+    ensures some { IfOk result (λ report. 0 < length (text_of report)) }
+    ensures status { IfOk result (λ report. (status_of report ≡ 1) ⊎ IsDoneStatus (status_of report)) }
+    ensures valid { IsTraceText work.now.system work.now.trace.items → IfOk result (λ report. IsDoneStatus (status_of report)) }
+    ensures memory { IsErrOf result Halt.Files → ⊥ }
+{
+    match replay(alloc, work) {
+        Ok(report) => Ok(report),
+        Err(_) => Err(Halt::Memory),
+    }
+}
+
+// The report of a generated system's run.
+fn made(alloc: Global, rounds: u32) -> Result<Report, Halt>
+    ensures due { IfOk result (λ report. MadeDue rounds (text_of report) (status_of report)) }
+    ensures some { IfOk result (λ report. 0 < length (text_of report)) }
+    ensures status { IfOk result (λ report. IsDoneStatus (status_of report)) }
+    ensures memory { IsErrOf result Halt.Files → ⊥ }
+{
+    match make(alloc, rounds) {
+        Ok(report) => Ok(report),
+        Err(_) => Err(Halt::Memory),
+    }
+}
+
 // The report of work that was asked for.
 fn done(alloc: Global, work: Work) -> Result<Report, Halt>
     requires { IsWork work }
     ensures due { IfOk result (λ report. WorkDue (work_seen work) (text_of report) (status_of report)) }
     ensures some { IfOk result (λ report. 0 < length (text_of report)) }
-    ensures status { IfOk result (λ report. IsRunStatus (status_of report)) }
+    ensures status { IfOk result (λ report. (status_of report ≡ 1) ⊎ IsDoneStatus (status_of report)) }
+    ensures valid { IsValidWork (work_seen work) → IfOk result (λ report. IsDoneStatus (status_of report)) }
     ensures memory { IsErrOf result Halt.Files → ⊥ }
 {
     match work {
         Work::Listing(system) => listed(alloc, &system),
         Work::Run(run) => ran(alloc, run),
+        Work::Replay(replay) => replayed(alloc, &replay),
+        Work::Make(rounds) => made(alloc, rounds),
     }
 }
 
@@ -110,10 +146,10 @@ fn report_of_command<F: Files>(
 ) -> Result<Report, Halt>
     ensures due { IfSome (F.held files.old) (λ of. IfOk result (λ report.
         DueBy (work_of of (order command.entry)).gives (text_of report) (status_of report))) }
-    ensures valid { IfSome (F.held files.old) (λ of. IsOk (work_of of (order command.entry)).gives →
-        IfOk result (λ report. IsRunStatus (status_of report))) }
+    ensures valid { IfSome (F.held files.old) (λ of. IsOkAnd (work_of of (order command.entry)).gives IsValidWork →
+        IfOk result (λ report. IsDoneStatus (status_of report))) }
     ensures some { IfOk result (λ report. 0 < length (text_of report)) }
-    ensures status { IfOk result (λ report. (status_of report ≡ 1) ⊎ IsRunStatus (status_of report)) }
+    ensures status { IfOk result (λ report. (status_of report ≡ 1) ⊎ IsDoneStatus (status_of report)) }
     ensures keeps { F.held files.new ≡ F.held files.old }
     ensures later { F.faults files.old ≤ F.faults files.new }
     ensures failed { IsErrOf result Halt.Files → Rose (F.faults files.old) (F.faults files.new) }
@@ -133,11 +169,11 @@ fn report_of<F: Files>(alloc: Global, words: &Vec<String>, files: &mut F) -> Res
     ensures due { IfSome (F.held files.old) (λ of. IfOk result (λ report.
         Due (map string_bytes words.now.items) of (text_of report) (status_of report))) }
     ensures valid { IfSome (F.held files.old) (λ of. IsValid (map string_bytes words.now.items) of →
-        IfOk result (λ report. IsRunStatus (status_of report))) }
+        IfOk result (λ report. IsDoneStatus (status_of report))) }
     ensures usage { IfOk result (λ report. (status_of report ≡ 2) ↔ (order_of (map string_bytes words.now.items) ≡ None)) }
     ensures no_words { order_of (map string_bytes words.now.items) ≡ None → IsOk result }
     ensures some { IfOk result (λ report. 0 < length (text_of report)) }
-    ensures status { IfOk result (λ report. (status_of report ≤ 2) ⊎ IsRunStatus (status_of report)) }
+    ensures status { IfOk result (λ report. (status_of report ≤ 2) ⊎ IsDoneStatus (status_of report)) }
     ensures keeps { F.held files.new ≡ F.held files.old }
     ensures later { F.faults files.old ≤ F.faults files.new }
     ensures failed { IsErrOf result Halt.Files → Rose (F.faults files.old) (F.faults files.new) }
@@ -156,10 +192,11 @@ fn report_of<F: Files>(alloc: Global, words: &Vec<String>, files: &mut F) -> Res
 /// Does what the words ask for over these files, writes the text that is due, and answers the
 /// status to end with.
 ///
-/// 0: a system is listed, or a run is quiet. 4 and 5: a run is stalled, full. 1: a file is refused, by the line written. 2: the
-/// words are no command, by the usage line. 7: a file that is asked for can't be read, and nothing
-/// is written. 8: the text can't be written whole. 9: no memory was found, or `clap` reads accepted words
-/// otherwise, and nothing is written.
+/// 0: a system is listed, a run is quiet, a trace is legal, or a generated run is summed up. 4 and 5:
+/// a run is stalled, full. 6: a trace is illegal. 1: a file is refused, by the line written. 2: the
+/// words are no command, by the usage line. 7: a file that is asked for can't be read, and nothing is
+/// written. 8: the text can't be written whole. 9: no memory was found, or `clap` reads accepted
+/// words otherwise, and nothing is written.
 pub fn ffm<R, F: Files, S: Sink, G: Gate>(
     rt: &R,
     alloc: Global,
@@ -171,8 +208,11 @@ pub fn ffm<R, F: Files, S: Sink, G: Gate>(
     ensures status { IsStatus result }
 
     // A status below 7 comes with a text that is due with it, written whole: for `compile` the
-    // listing of the system, and for `run` the trace of a run of the FF-M machine in which each
-    // actor's events are its script's calls with the machine's answers, in the turns of the schedule.
+    // listing of the system, for `run` the trace of a run of the FF-M machine in which each actor's
+    // events are its script's calls with the machine's answers, in the turns of the schedule, for
+    // `replay` the judgement of the trace file's trace by that machine or the refusal of its first
+    // wrong line, and for `make` the summary of such a run of the generated system. So 6 comes exactly
+    // with `illegal N`, and N is the place that the machine gives.
     ensures due { result < 7 → IfSome (F.held files.old) (λ of.
         WritesDue (map string_bytes words.now.items) of (S.taken out.old) (S.taken out.new) result) }
 
@@ -196,10 +236,11 @@ pub fn ffm<R, F: Files, S: Sink, G: Gate>(
     // 7 and 9: nothing was written.
     ensures nothing { (result ≡ 7) ⊎ (result ≡ 9) → Takes (S.taken out.old) (S.taken out.new) [] }
 
-    // Accepted words, files that give no refusal and no fault: the run ends, or no memory was found.
+    // Accepted words, files that give no refusal and no fault: what was asked for is done, or no
+    // memory was found.
     ensures complete { IfSome (F.held files.old) (λ of. IsValid (map string_bytes words.now.items) of →
         (Rose (F.faults files.old) (F.faults files.new) → ⊥) → (Rose (S.faults out.old) (S.faults out.new) → ⊥) →
-        IsRunStatus result ⊎ (result ≡ 9)) }
+        IsDoneStatus result ⊎ (result ≡ 9)) }
 
     // What the files hold stays, and no count falls.
     ensures keeps { F.held files.new ≡ F.held files.old }

@@ -7,9 +7,10 @@ ghost use Rattle.ffm_model.specs.Actors.{actor_count};
 ghost use Rattle.ffm_model.specs.Reading.{Gives, Reads, file_at};
 ghost use Rattle.ffm_model.specs.Scenarios.{IsScenarioOf};
 ghost use Rattle.ffm_top.specs.Words.{order};
-ghost use Rattle.ffm_top.specs.Work.{empty_script, first_scripts, script_of_actor, scripts_of, system_in, system_at, scenario_at, run_in, list_in, run_at, work_of};
+ghost use Rattle.ffm_top.specs.Work.{empty_script, first_scripts, script_of_actor, scripts_of, system_in, system_at, scenario_at, run_in, list_in, run_at, trace_in, replay_in, replay_at, work_of};
 ghost use Rattle.ffm_top.specs.View.{work, IsWork};
 
+use crate::limits::MAX_TRACE_BYTES;
 use crate::words::Command;
 use ffm_model::{
     ActorId, FILE_TOO_LONG, List, MAX_FILE_BYTES, Memory, PartsError, Place, ReadError, Refusal,
@@ -29,12 +30,24 @@ pub struct RunWork {
     pub scripts: List<Script>,
 }
 
+/// A trace's text, for a scenario over a system.
+#[derive(Drop)]
+pub struct ReplayWork {
+    pub system: System,
+    pub scenario: Scenario,
+    pub trace: Vec<u8>,
+}
+
 /// What is to be done.
 #[derive(Drop)]
 pub enum Work {
     /// To list a system.
     Listing(System),
     Run(RunWork),
+    /// To judge a trace.
+    Replay(ReplayWork),
+    /// To run a generated system, with so many requests of each client.
+    Make(u32),
 }
 
 // A refusal of a whole file.
@@ -51,20 +64,21 @@ fn too_long(alloc: Global, root: Root) -> Refusal
     }
 }
 
-// The bytes of a file, at most 1 MiB.
+// The bytes of a file.
 fn bytes_of<F: Files>(
     alloc: Global,
     files: &mut F,
     root: Root,
+    limit: u32,
     name: &str,
 ) -> Result<Vec<u8>, PartsError>
-    ensures gives { IfSome (F.held files.old) (λ of. Gives (λ bytes. bytes.items) (F.last_failed files.new) result (file_at of (record { root = root; steps = [] }) MAX_FILE_BYTES name.now)) }
+    ensures gives { IfSome (F.held files.old) (λ of. Gives (λ bytes. bytes.items) (F.last_failed files.new) result (file_at of (record { root = root; steps = [] }) limit name.now)) }
     ensures keeps { F.held files.new ≡ F.held files.old }
     ensures later { F.faults files.old ≤ F.faults files.new }
     ensures failed { IsErrOf result PartsError.ReadFault → Rose (F.faults files.old) (F.faults files.new) }
-    ensures short { IfOk result (λ bytes. length bytes.items ≤ MAX_FILE_BYTES) }
+    ensures short { IfOk result (λ bytes. length bytes.items ≤ limit) }
 {
-    match files.read(alloc, name, MAX_FILE_BYTES) {
+    match files.read(alloc, name, limit) {
         Ok(bytes) => Ok(bytes),
         Err(FileError::TooLong) => Err(PartsError::Refused(too_long(alloc, root))),
         Err(FileError::Failed) => Err(PartsError::ReadFault),
@@ -72,9 +86,9 @@ fn bytes_of<F: Files>(
     }
 }
 
-// The system of a system file's bytes.
+/// The system of a system file's bytes.
 #[tactic(auto, unfolding(crate::specs::Work::system_in), using(ffm_model::proofs::ReadingLemmas::after_ok, ffm_model::proofs::ReadingLemmas::after_err))]
-fn system_in<F: Files>(alloc: Global, files: &mut F, bytes: &[u8]) -> Result<System, PartsError>
+pub fn system_in<F: Files>(alloc: Global, files: &mut F, bytes: &[u8]) -> Result<System, PartsError>
     ensures gives { IfSome (F.held files.old) (λ of. Gives (λ s. s) (F.last_failed files.new) result (system_in of bytes.now)) }
     ensures keeps { F.held files.new ≡ F.held files.old }
     ensures later { F.faults files.old ≤ F.faults files.new }
@@ -92,7 +106,7 @@ fn system_at<F: Files>(alloc: Global, files: &mut F, name: &str) -> Result<Syste
     ensures later { F.faults files.old ≤ F.faults files.new }
     ensures failed { IsErrOf result PartsError.ReadFault → Rose (F.faults files.old) (F.faults files.new) }
 {
-    let bytes = bytes_of(alloc, files, Root::System, name)?;
+    let bytes = bytes_of(alloc, files, Root::System, MAX_FILE_BYTES, name)?;
     system_in(alloc, files, &bytes)
 }
 
@@ -110,7 +124,7 @@ fn scenario_at<F: Files>(
     ensures failed { IsErrOf result PartsError.ReadFault → Rose (F.faults files.old) (F.faults files.new) }
     ensures kept { IfOk result (IsScenarioOf system.now) }
 {
-    let bytes = bytes_of(alloc, files, Root::Scenario, name)?;
+    let bytes = bytes_of(alloc, files, Root::Scenario, MAX_FILE_BYTES, name)?;
     Ok(read_scenario(alloc, &bytes, system)?)
 }
 
@@ -158,9 +172,9 @@ fn script_of_actor(
     assemble(alloc, lines, kind, place as u32)
 }
 
-// The script of each actor.
+/// The script of each actor.
 #[tactic(auto, unfolding(crate::specs::Work::scripts_of))]
-fn scripts_of(
+pub fn scripts_of(
     alloc: Global,
     system: &System,
     scenario: &Scenario,
@@ -232,6 +246,70 @@ fn run_at<F: Files>(
     run_in(alloc, files, system, scenario)
 }
 
+// A trace for a scenario over a system, from its file.
+#[tactic(auto, unfolding(crate::specs::Work::trace_in), using(ffm_model::proofs::ReadingLemmas::after_ok, ffm_model::proofs::ReadingLemmas::after_err))]
+fn trace_in<F: Files>(
+    alloc: Global,
+    files: &mut F,
+    system: System,
+    scenario: Scenario,
+    name: &str,
+) -> Result<Work, PartsError>
+    requires { IsScenarioOf system scenario }
+    ensures gives { IfSome (F.held files.old) (λ of. Gives work (F.last_failed files.new) result (trace_in of system scenario name.now)) }
+    ensures keeps { F.held files.new ≡ F.held files.old }
+    ensures later { F.faults files.old ≤ F.faults files.new }
+    ensures failed { IsErrOf result PartsError.ReadFault → Rose (F.faults files.old) (F.faults files.new) }
+    ensures kept { IfOk result IsWork }
+{
+    let trace = bytes_of(alloc, files, Root::Trace, MAX_TRACE_BYTES, name)?;
+    Ok(Work::Replay(ReplayWork {
+        system,
+        scenario,
+        trace,
+    }))
+}
+
+// A trace for a system, from the files of the scenario and the trace. The scripts are read and not
+// used.
+#[tactic(auto, unfolding(crate::specs::Work::replay_in), using(ffm_model::proofs::ReadingLemmas::after_ok, ffm_model::proofs::ReadingLemmas::after_err))]
+fn replay_in<F: Files>(
+    alloc: Global,
+    files: &mut F,
+    system: System,
+    scenario: &str,
+    trace: &str,
+) -> Result<Work, PartsError>
+    ensures gives { IfSome (F.held files.old) (λ of. Gives work (F.last_failed files.new) result (replay_in of system scenario.now trace.now)) }
+    ensures keeps { F.held files.new ≡ F.held files.old }
+    ensures later { F.faults files.old ≤ F.faults files.new }
+    ensures failed { IsErrOf result PartsError.ReadFault → Rose (F.faults files.old) (F.faults files.new) }
+    ensures kept { IfOk result IsWork }
+{
+    let scenario = scenario_at(alloc, files, &system, scenario)?;
+    let _scripts = scripts_of(alloc, &system, &scenario)?;
+    trace_in(alloc, files, system, scenario, trace)
+}
+
+// A trace for a scenario over a system, from their files.
+#[tactic(auto, unfolding(crate::specs::Work::replay_at), using(ffm_model::proofs::ReadingLemmas::after_ok, ffm_model::proofs::ReadingLemmas::after_err))]
+fn replay_at<F: Files>(
+    alloc: Global,
+    files: &mut F,
+    system: &str,
+    scenario: &str,
+    trace: &str,
+) -> Result<Work, PartsError>
+    ensures gives { IfSome (F.held files.old) (λ of. Gives work (F.last_failed files.new) result (replay_at of system.now scenario.now trace.now)) }
+    ensures keeps { F.held files.new ≡ F.held files.old }
+    ensures later { F.faults files.old ≤ F.faults files.new }
+    ensures failed { IsErrOf result PartsError.ReadFault → Rose (F.faults files.old) (F.faults files.new) }
+    ensures kept { IfOk result IsWork }
+{
+    let system = system_at(alloc, files, system)?;
+    replay_in(alloc, files, system, scenario, trace)
+}
+
 /// The work of a command.
 pub fn work_of<F: Files>(
     alloc: Global,
@@ -247,5 +325,11 @@ pub fn work_of<F: Files>(
     match command {
         Command::Compile { system } => list_in(alloc, files, system),
         Command::Run { system, scenario } => run_at(alloc, files, system, scenario),
+        Command::Replay {
+            system,
+            scenario,
+            trace,
+        } => replay_at(alloc, files, system, scenario, trace),
+        Command::Make { rounds } => Ok(Work::Make(rounds)),
     }
 }

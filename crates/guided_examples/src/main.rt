@@ -1,4 +1,5 @@
-//! Runs the guided examples, one after the other, and writes the trace of each behind its name.
+//! Runs the guided examples, one after the other, and writes the trace of each behind its name. Then the trace that
+//! lies beside the example is judged.
 #![tactic(auto)]
 
 use ffm_model::OpenGate;
@@ -23,24 +24,38 @@ const EXAMPLES: [&str; 13] = [
     "stalled_run",
 ];
 
-// The words of a command that runs an example.
-fn words_of(alloc: Global, name: &str) -> Result<Vec<String>, AllocError> {
+// The words of a command over an example's files.
+fn words_of(
+    alloc: Global,
+    command: &str,
+    name: &str,
+    files: &[&str],
+) -> Result<Vec<String>, AllocError> {
     let mut words = Vec::new(alloc);
     words.push(String::from_str(alloc, "ffm")?)?;
-    words.push(String::from_str(alloc, "run")?)?;
-    words.push(format!(in alloc; "{name}_system.json")?)?;
-    words.push(format!(in alloc; "{name}_scenario.json")?)?;
+    words.push(String::from_str(alloc, command)?)?;
+    for file in files {
+        words.push(format!(in alloc; "{name}_{file}")?)?;
+    }
     Ok(words)
+}
+
+// Does what the words ask for over the host's files, and writes the status behind its text.
+fn write(rt: &HostRuntime, words: &Vec<String>) -> io::Result<()> {
+    let mut files = HostFiles::new(rt);
+    let mut out = StdoutSink::new(rt);
+    let status = ffm(rt, rt.alloc(), words, &mut files, &mut out, &OpenGate);
+    println!(rt; "status {status}")
 }
 
 fn main(rt: HostRuntime) -> io::Result<()> {
     for name in &EXAMPLES {
         println!(rt; "{name}")?;
-        let words = words_of(rt.alloc(), name)?;
-        let mut files = HostFiles::new(&rt);
-        let mut out = StdoutSink::new(&rt);
-        let status = ffm(&rt, rt.alloc(), &words, &mut files, &mut out, &OpenGate);
-        println!(rt; "status {status}")?;
+        let run = words_of(rt.alloc(), "run", name, &["system.json", "scenario.json"])?;
+        write(&rt, &run)?;
+        let files = ["system.json", "scenario.json", "trace.txt"];
+        let replay = words_of(rt.alloc(), "replay", name, &files)?;
+        write(&rt, &replay)?;
     }
     Ok(())
 }

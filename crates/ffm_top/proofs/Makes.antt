@@ -1,0 +1,38 @@
+-- The run of a generated system, and how many bytes it moves.
+use Rattle.std.proofs.Common.{ℕ, ◌≡◌, ◌<◌, ◌+◌, List, [], ◌∷◌, length, take, ap, sym, ◌∙◌, refl, arith}
+use Rattle.std.specs.Prelude.{None, Ok, IfSome, slice_get}
+use Rattle.std.proofs.lemmas.List.Sums.{sum_by_more}
+use Rattle.ffm_model.specs.declared.machine.Entry.{Entry}
+use Rattle.ffm_model.specs.declared.machine.Verdict.{Verdict}
+use Rattle.ffm_model.specs.declared.scenario.Scenario.{Scenario}
+use Rattle.ffm_model.specs.declared.system.System.{System}
+use Rattle.ffm_model.specs.Reading.{Contents}
+use Rattle.ffm_model.specs.Scenarios.{scenario_in}
+use Rattle.ffm_model.specs.Systems.{stopped}
+use Rattle.generated_system.specs.Texts.{system_text, scenario_text}
+use Rattle.ffm_top.specs.Makes.{IsGenerated, IsMade, MadeDue, moved_by, bytes_moved, summary_line}
+use Rattle.ffm_top.specs.Runs.{RanBy}
+use Rattle.ffm_top.specs.Work.{Parts, system_in, scripts_of}
+use Rattle.ffm_top.proofs.Reports.{not_empty}
+use Rattle.ffm_top.proofs.Traces.{at_place}
+
+pub is_generated : (rounds : ℕ) (s : System) (c : Scenario) (scripts : List Parts) (held : Contents) → ((name : List ℕ) → held name ≡ None) → (system_in held system_text).gives ≡ Ok s
+    → stopped (scenario_in s (scenario_text rounds)) ≡ Ok c → scripts_of s c ≡ Ok scripts → IsGenerated rounds s c scripts
+is_generated rounds s c scripts held empty one two three = record { held = held; empty = empty; system = one; scenario = two; assembled = three }
+
+pub is_made : (rounds : ℕ) (s : System) (c : Scenario) (scripts : List Parts) (es : List Entry) (v : Verdict) → IsGenerated rounds s c scripts → RanBy s c scripts es v → IsMade rounds es v
+is_made rounds s c scripts es v generated ran = record { system = s; scenario = c; scripts = scripts; generated = generated; ran = ran }
+
+pub made_due : (rounds : ℕ) (es : List Entry) (v : Verdict) (text : List ℕ) → IsMade rounds es v → text ≡ summary_line rounds (length es) (bytes_moved es) v → MadeDue rounds text 0
+made_due rounds es v text made e = record { entries = es; ended = v; made = made; text_is = e; status_is = refl }
+
+pub made_some : (rounds count moved : ℕ) (v : Verdict) → 0 < length (summary_line rounds count moved v)
+unfolding summary_line
+made_some rounds count moved v = not_empty (summary_line rounds count moved v) refl
+
+-- one event more
+pub moved_more : (es : List Entry) (i n : ℕ) → i < length es → IfSome (slice_get es i) (λ e. n ≡ moved_by e.call e.outcome) → bytes_moved (take (i + 1) es) ≡ bytes_moved (take i es) + n
+moved_more [] i n lt h = absurd (omega arith)
+moved_more (x ∷ xs) i n lt h =
+    sum_by_more (λ e. moved_by e.call e.outcome) (x ∷ xs) i x lt
+    ∙ ap (λ (k : ℕ). bytes_moved (take i (x ∷ xs)) + k) (sym (at_place (λ e. n ≡ moved_by e.call e.outcome) (x ∷ xs) i x lt h))

@@ -1,0 +1,162 @@
+//! Runs a generated system, and sums the run up.
+
+ghost use Rattle.std.specs.Prelude.{◌≡◌, ◌<◌, ◌≤◌, ◌*◌, Ok, IfOk, IfSome, length, slice_get, take};
+ghost use Rattle.ffm_model.specs.Scenarios.{scenario_in, IsScenarioOf};
+ghost use Rattle.ffm_model.specs.Systems.{stopped};
+ghost use Rattle.generated_system.specs.Texts.{system_text, scenario_text};
+ghost use Rattle.outside_io.specs.MemoryFiles.{held_by};
+ghost use Rattle.ffm_top.specs.Makes.{IsGenerated, IsMade, moved_by, bytes_moved, summary_line, MadeDue};
+ghost use Rattle.ffm_top.specs.Report.{text_of, status_of};
+ghost use Rattle.ffm_top.specs.View.{IsRun};
+ghost use Rattle.ffm_top.specs.Work.{system_in};
+ghost use Rattle.ffm_model.specs.TraceText.{verdict_word};
+
+use crate::lines::{append, append_number};
+use crate::report::Report;
+use crate::run::{Ran, run};
+use crate::work::{RunWork, scripts_of, system_in};
+use ffm_model::{Call, Entry, Memory, Outcome, PartsError, Scenario, System, Verdict};
+use generated_system::{scenario_text, system_text};
+use itoa::Buffer;
+use outside_io::MemoryFiles;
+use spm_core::Spm;
+use std::alloc::{AllocError, Global};
+use system_json::read_scenario;
+
+// The generated system, of which no file is read.
+fn system_of(alloc: Global, nothing: &mut MemoryFiles) -> Result<System, PartsError>
+    ensures { IfOk result (λ s. (system_in (held_by nothing.old) system_text).gives ≡ Ok s) }
+{
+    let text = system_text(alloc)?;
+    system_in(alloc, nothing, text.as_slice())
+}
+
+// The generated scenario, with so many requests of each client.
+fn scenario_of(alloc: Global, rounds: u32, system: &System) -> Result<Scenario, PartsError>
+    ensures given { IfOk result (λ c. stopped (scenario_in system.now (scenario_text rounds)) ≡ Ok c) }
+    ensures kept { IfOk result (IsScenarioOf system.now) }
+{
+    let text = scenario_text(alloc, rounds)?;
+    Ok(read_scenario(alloc, text.as_slice(), system)?)
+}
+
+// What the generated texts stand for, with so many requests of each client.
+#[tactic(auto, using(crate::proofs::Makes::is_generated))]
+fn generated(alloc: Global, rounds: u32) -> Result<RunWork, PartsError>
+    ensures generated { IfOk result (λ work. IsGenerated rounds work.system work.scenario work.scripts) }
+    ensures kept { IfOk result IsRun }
+{
+    let mut nothing = MemoryFiles::new(alloc);
+    let system = system_of(alloc, &mut nothing)?;
+    let scenario = scenario_of(alloc, rounds, &system)?;
+    let scripts = scripts_of(alloc, &system, &scenario)?;
+    Ok(RunWork {
+        system,
+        scenario,
+        scripts,
+    })
+}
+
+// How many bytes an event moved.
+fn moved_by(entry: Entry) -> u32
+    ensures { result ≡ moved_by entry.call entry.outcome }
+{
+    match (entry.call, entry.outcome) {
+        (Call::Read { .. }, Outcome::Number(count)) => count,
+        (Call::Write { len, .. }, Outcome::Done) => len,
+        _ => 0,
+    }
+}
+
+// How many bytes the event at a place moved, counted from 0.
+fn moved_at(spm: &Spm, place: u32) -> u32
+    requires { place < length spm.now.history }
+    ensures { IfSome (slice_get spm.now.history place) (λ e. result ≡ moved_by e.call e.outcome) }
+{
+    let _length = spm.length();
+    moved_by(spm.entry(place + 1))
+}
+
+// How many bytes the events of a run moved.
+fn bytes_moved(spm: &Spm) -> u64
+    ensures { result ≡ bytes_moved spm.now.history }
+{
+    let mut moved = 0;
+    for place in 0..spm.length() {
+        moved += u64::from(moved_at(spm, place));
+    }
+    moved
+}
+
+fn verdict_word(verdict: Verdict) -> &'static str
+    ensures { result.now ≡ verdict_word verdict }
+{
+    match verdict {
+        Verdict::Quiet => "quiet",
+        Verdict::Stalled => "stalled",
+        Verdict::Full => "full",
+    }
+}
+
+// The line that sums a run up.
+#[tactic(auto, unfolding(crate::specs::Makes::summary_line))]
+fn summary_line(
+    alloc: Global,
+    rounds: u32,
+    count: u32,
+    moved: u64,
+    verdict: Verdict,
+) -> Result<Vec<u8>, AllocError>
+    ensures { IfOk result (λ line. line.items ≡ summary_line rounds count moved verdict) }
+{
+    let mut line = Vec::new(alloc);
+    append(&mut line, "make ")?;
+    append_number(&mut line, rounds)?;
+    append(&mut line, " entries ")?;
+    append_number(&mut line, count)?;
+    append(&mut line, " bytes ")?;
+    append(&mut line, Buffer::new().format(moved))?;
+    append(&mut line, " ")?;
+    append(&mut line, verdict_word(verdict))?;
+    append(&mut line, "\n")?;
+    Ok(line)
+}
+
+// The run of what the generated texts stand for.
+#[tactic(auto, using(crate::proofs::Makes::is_made))]
+fn made(alloc: Global, rounds: u32) -> Result<Ran, PartsError>
+    ensures { IfOk result (λ ran. IsMade rounds ran.spm.history ran.verdict) }
+{
+    let RunWork {
+        system,
+        scenario,
+        scripts,
+    } = generated(alloc, rounds)?;
+    Ok(run(alloc, system, &scenario, &scripts)?)
+}
+
+// The report of a run of the generated system.
+#[tactic(auto, unfolding(crate::specs::Report::text_of), using(crate::proofs::Makes::made_due, crate::proofs::Makes::made_some))]
+fn summed_up(alloc: Global, rounds: u32, ran: &Ran) -> Result<Report, AllocError>
+    requires { IsMade rounds ran.now.spm.history ran.now.verdict }
+    ensures due { IfOk result (λ report. MadeDue rounds (text_of report) (status_of report)) }
+    ensures some { IfOk result (λ report. 0 < length (text_of report)) }
+    ensures status { IfOk result (λ report. status_of report ≡ 0) }
+{
+    let count = ran.spm.length();
+    let line = summary_line(alloc, rounds, count, bytes_moved(&ran.spm), ran.verdict)?;
+    Ok(Report::Listed(line))
+}
+
+/// The report of a generated system's run, with so many requests of each client. Memory where no
+/// memory was found.
+pub fn make(alloc: Global, rounds: u32) -> Result<Report, Memory>
+    ensures due { IfOk result (λ report. MadeDue rounds (text_of report) (status_of report)) }
+    ensures some { IfOk result (λ report. 0 < length (text_of report)) }
+    ensures status { IfOk result (λ report. status_of report ≡ 0) }
+{
+    let Ok(ran) = made(alloc, rounds) else {
+        return Err(Memory);
+    };
+    Ok(summed_up(alloc, rounds, &ran)?)
+}

@@ -1,0 +1,89 @@
+//! What `ffm` writes over files in memory.
+
+use crate::altered::{Change, altered};
+use crate::systems::Pair;
+use ffm_model::{List, OpenGate};
+use ffm_top::ffm;
+use outside_io::{MemoryFiles, MemorySink};
+use std::alloc::Global;
+use std::str::from_utf8;
+use std::test::Fail;
+
+const RUN: [&str; 4] = ["ffm", "run", "system", "scenario"];
+
+const REPLAY: [&str; 5] = ["ffm", "replay", "system", "scenario", "trace"];
+
+fn words_of(alloc: Global, words: &[&str]) -> Result<Vec<String>, Fail> {
+    let mut list = Vec::new(alloc);
+    for word in words {
+        list.push(String::from_str(alloc, word)?)?;
+    }
+    Ok(list)
+}
+
+// What the command writes, and its status.
+fn written_by(
+    rt: &HostRuntime,
+    words: &[&str],
+    pair: &Pair<'_>,
+    trace: &[u8],
+) -> Result<(String, u8), Fail> {
+    let alloc = rt.alloc();
+    let words = words_of(alloc, words)?;
+    let mut files = MemoryFiles::new(alloc);
+    files.add(alloc, "system", pair.system.as_bytes())?;
+    files.add(alloc, "scenario", pair.scenario.as_bytes())?;
+    files.add(alloc, "trace", trace)?;
+    let mut sink = MemorySink::new(alloc, 4096, 256, List::of(Vec::new(alloc)))?;
+    let status = ffm(rt, alloc, &words, &mut files, &mut sink, &OpenGate);
+    Ok((String::from_str(alloc, from_utf8(sink.bytes())?)?, status))
+}
+
+/// The trace that a run of the files writes.
+pub(crate) fn run(rt: &HostRuntime, pair: &Pair<'_>) -> Result<String, Fail> {
+    match written_by(rt, &RUN, pair, b"")? {
+        (trace, 0) => Ok(trace),
+        (text, status) => Err(Fail::new(format!(in rt.alloc();
+            "status {status} of a run:\n{text}"
+        )?)),
+    }
+}
+
+// The status that comes with an answer.
+fn status_of(answer: &str) -> u8 {
+    if answer.starts_with("legal ") {
+        0
+    } else if answer.starts_with("illegal ") {
+        6
+    } else {
+        1
+    }
+}
+
+/// Fails unless this is the answer to the trace.
+pub(crate) fn expect(
+    rt: &HostRuntime,
+    pair: &Pair<'_>,
+    trace: &[u8],
+    answer: &str,
+) -> Result<(), Fail> {
+    let (text, status) = written_by(rt, &REPLAY, pair, trace)?;
+    if text.strip_suffix('\n') == Some(answer) && status == status_of(answer) {
+        return Ok(());
+    }
+    Err(Fail::new(format!(in rt.alloc(); "status {status}, not {answer}: {text}")?))
+}
+
+/// Fails unless each of the traces that the changes make of the written one has its answer.
+pub(crate) fn expect_each(
+    rt: &HostRuntime,
+    pair: &Pair<'_>,
+    rows: &[(&[Change<'_>], &str)],
+) -> Result<(), Fail> {
+    let trace = run(rt, pair)?;
+    for (changes, answer) in rows {
+        let text = altered(rt.alloc(), &trace, changes)?;
+        expect(rt, pair, text.as_bytes(), answer)?;
+    }
+    Ok(())
+}
