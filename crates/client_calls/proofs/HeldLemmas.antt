@@ -23,17 +23,17 @@ use Rattle.handle_table.proofs.SlotLemmas.{both}
 use Rattle.counting_law.specs.Objects.{ObjectsFit}
 use Rattle.counting_law.proofs.Counts.{find-passes}
 use Rattle.counting_law.proofs.Rooms.{request-room}
-use Rattle.spm_tables.specs.Desk.{Desk, MadeFor, spm_of}
+use Rattle.spm_tables.specs.TablesView.{TablesView, MadeFor, spm_of}
 use Rattle.spm_tables.proofs.PoolLemmas.{item-put}
 use Rattle.client_calls.proofs.ServiceLemmas.{connection-service, made-services}
 use Rattle.client_calls.proofs.SendLemmas.{at-item, has-item, room-for-message}
 
 -- the connection that the actor holds, in its slot
-pub record IsHeld (d : Desk) (a : ℕ) (k : Handle) (s : Slot) (c : OpenConnection) : Type 0 where
+pub record IsHeld (d : TablesView) (a : ℕ) (k : Handle) (s : Slot) (c : OpenConnection) : Type 0 where
   pub live : item_at d.linked s ≡ Some c
   pub held : connection_held (spm_of d) a k ≡ Some c
 
-pub held-item : (d : Desk) (p : Places OpenConnection) (a : ℕ) (k : Handle) (s : Slot) → p ≡ d.linked → IsSome (item_at p s) → item_at p s ≡ connection_held (table.spm_of p) a k → (c : OpenConnection) × IsHeld d a k s c
+pub held-item : (d : TablesView) (p : Places OpenConnection) (a : ℕ) (k : Handle) (s : Slot) → p ≡ d.linked → IsSome (item_at p s) → item_at p s ≡ connection_held (table.spm_of p) a k → (c : OpenConnection) × IsHeld d a k s c
 held-item d p a k s same live found =
     let go : (o : Option OpenConnection) → item_at p s ≡ o → IsSome o → (c : OpenConnection) × IsHeld d a k s c =
     elim [
@@ -49,7 +49,7 @@ held-item d p a k s same live found =
     go (item_at p s) refl live
 
 -- what is told of it
-pub told-phase : (d : Desk) (p : Places OpenConnection) (s : Slot) (c : OpenConnection) (t : TheConnection) → p ≡ d.linked → item_at d.linked s ≡ Some c → IfSome (item_at p s) (λ x. t ≡ table.connection_of x) → t.phase ≡ c.phase
+pub told-phase : (d : TablesView) (p : Places OpenConnection) (s : Slot) (c : OpenConnection) (t : TheConnection) → p ≡ d.linked → item_at d.linked s ≡ Some c → IfSome (item_at p s) (λ x. t ≡ table.connection_of x) → t.phase ≡ c.phase
 told-phase d p s c t same live told =
     ap (λ (x : TheConnection). x.phase) (at-item (item_at p s) c (λ x. t ≡ table.connection_of x) (ap (λ (q : Places OpenConnection). item_at q s) same ∙ live) told)
 
@@ -61,28 +61,28 @@ held-client b a k c held =
       equal n m e = grind arith
 
 -- the connection of a slot was put into a phase
-abbrev pub Phased : Desk → Slot → ConnPhase → Desk → Type 0
+abbrev pub Phased : TablesView → Slot → ConnPhase → TablesView → Type 0
 Phased d s ph m = IfSome (item_at d.linked s) (λ c. m ≡ record d { linked = with_item d.linked s (record c { phase = ph }) })
 
-module _ (d m : Desk) (a : ℕ) (k : Handle) (s : Slot) (c : OpenConnection) (ph : ConnPhase) (h : IsHeld d a k s c) (phased : Phased d s ph m) where
+module _ (d m : TablesView) (a : ℕ) (k : Handle) (s : Slot) (c : OpenConnection) (ph : ConnPhase) (h : IsHeld d a k s c) (phased : Phased d s ph m) where
   pub after-phase : m ≡ record d { linked = with_item d.linked s (record c { phase = ph }) }
   after-phase = at-item (item_at d.linked s) c (λ x. m ≡ record d { linked = with_item d.linked s (record x { phase = ph }) }) h.live phased
 
   pub item-phased : item_at m.linked s ≡ Some (record c { phase = ph })
-  item-phased = ap (λ (x : Desk). item_at x.linked s) after-phase ∙ item-put d.linked s c (record c { phase = ph }) h.live
+  item-phased = ap (λ (x : TablesView). item_at x.linked s) after-phase ∙ item-put d.linked s c (record c { phase = ph }) h.live
 
   pub may-send : (y : System) → MadeFor d y → ObjectsFit y (spm_of d) → IsSomeAnd (item_at m.linked s) (λ x. x.service < length m.services)
   may-send y made fit =
       let there : c.service < length y.services = connection-service y (spm_of d) (λ x. (x.client.0 == a) && has_handle x.handle k) c fit h.held in
       has-item (item_at m.linked s) (record c { phase = ph }) (λ x. x.service < length m.services) item-phased
-      (omega (arith, made-services d y made, ap (λ (x : Desk). length x.services) after-phase))
+      (omega (arith, made-services d y made, ap (λ (x : TablesView). length x.services) after-phase))
 
   pub has-room : (y : System) → MadeFor d y → ObjectsFit y (spm_of d) → phase_of (spm_of d) a ≡ Running → is_dead c.phase ≡ false → length (spm_of m).messages < length m.waiting.generations
   has-room y made fit running alive =
-      let P : Desk → Type 0 = λ x. length (spm_of x).messages < length x.waiting.generations in
+      let P : TablesView → Type 0 = λ x. length (spm_of x).messages < length x.waiting.generations in
       subst P (sym after-phase) (room-for-message d y made (request-room y (spm_of d) a k c fit running h.held alive))
 
-  pub sent-state : (new : Desk) (kind : ℤ) (v : Vectors) → IfSome (item_at d.linked s) (λ x. spm_of m ≡ with_connection_phase (spm_of d) x.serial ph)
+  pub sent-state : (new : TablesView) (kind : ℤ) (v : Vectors) → IfSome (item_at d.linked s) (λ x. spm_of m ≡ with_connection_phase (spm_of d) x.serial ph)
       → IfSome (item_at m.linked s) (λ x. spm_of new ≡ with_phase (with_message (spm_of m) x kind v) x.client.0 Blocked)
       → spm_of new ≡ with_phase (with_message (with_connection_phase (spm_of d) c.serial ph) c kind v) a Blocked
   sent-state new kind v phase sent =

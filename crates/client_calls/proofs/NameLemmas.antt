@@ -10,7 +10,7 @@ use Rattle.object_pools.specs.declared.slot.Slot.{Slot}
 use Rattle.object_pools.specs.Pool.{Places, IsKept, free_slot, item_at, taken, with_item, without}
 use Rattle.handle_table.specs.Table.{IsTable}
 use Rattle.spm_tables.specs.declared.item.QueuedMessage.{QueuedMessage}
-use Rattle.spm_tables.specs.Desk.{Desk, MadeFor}
+use Rattle.spm_tables.specs.TablesView.{TablesView, MadeFor}
 use Rattle.slot_names.specs.Named.{KeepsNames}
 use Rattle.slot_names.proofs.Changes.{names-same, names-freed, names-asked, names-connected}
 use Rattle.client_calls.specs.Sending.{message_on}
@@ -18,12 +18,12 @@ use Rattle.spm_tables.proofs.PoolLemmas.{item-taken}
 use Rattle.client_calls.proofs.SendLemmas.{at-item}
 use Rattle.client_calls.proofs.HeldLemmas.{IsHeld, Phased, after-phase, item-phased}
 
-pub names_kept : (y : System) (d : Desk) → KeepsNames y d d
+pub names_kept : (y : System) (d : TablesView) → KeepsNames y d d
 names_kept y d = names-same y d d refl refl
 
 -- the connection of a slot goes
-pub names_gone : (y : System) (d new : Desk) (s : Slot) → new ≡ record d { linked = without d.linked s } → KeepsNames y d new
-names_gone y d new s after = names-freed y d new s (ap (λ (x : Desk). x.linked) after) (ap (λ (x : Desk). x.waiting) after)
+pub names_gone : (y : System) (d new : TablesView) (s : Slot) → new ≡ record d { linked = without d.linked s } → KeepsNames y d new
+names_gone y d new s after = names-freed y d new s (ap (λ (x : TablesView). x.linked) after) (ap (λ (x : TablesView). x.waiting) after)
 
 -- the place of a message that was sent
 abbrev Placed : Places QueuedMessage → QueuedMessage → Places QueuedMessage → Type 0
@@ -36,28 +36,28 @@ placed w v x h =
     go (free_slot w) refl h
 
 -- what `send` says of the messages
-abbrev pub Sends : Desk → Slot → ℤ → Vectors → Desk → Type 0
+abbrev pub Sends : TablesView → Slot → ℤ → Vectors → TablesView → Type 0
 Sends m s kind v new = IfSome (item_at m.linked s) (λ c. IsSomeAnd (free_slot m.waiting) (λ place. new.waiting ≡ taken m.waiting place (message_on s c kind v)))
 
 -- psa_connect
-pub names-connect : (y : System) (d m new : Desk) (s : Slot) (c : OpenConnection) (kind : ℤ) (v : Vectors) → MadeFor d y → IsTable d.linked → free_slot d.linked ≡ Some s → c.serial ≡ d.linked.takes
+pub names-connect : (y : System) (d m new : TablesView) (s : Slot) (c : OpenConnection) (kind : ℤ) (v : Vectors) → MadeFor d y → IsTable d.linked → free_slot d.linked ≡ Some s → c.serial ≡ d.linked.takes
     → m ≡ record d { linked = taken d.linked s c } → new.linked ≡ m.linked → Sends m s kind v new → KeepsNames y d new
 names-connect y d m new s c kind v made table free serial started same sent =
-    let live : item_at m.linked s ≡ Some c = ap (λ (x : Desk). item_at x.linked s) started ∙ item-taken d.linked s c free in
-    let waiting : m.waiting ≡ d.waiting = ap (λ (x : Desk). x.waiting) started in
+    let live : item_at m.linked s ≡ Some c = ap (λ (x : TablesView). item_at x.linked s) started ∙ item-taken d.linked s c free in
+    let waiting : m.waiting ≡ d.waiting = ap (λ (x : TablesView). x.waiting) started in
     let P : OpenConnection → Type 0 = λ x. IsSomeAnd (free_slot m.waiting) (λ place. new.waiting ≡ taken m.waiting place (message_on s x kind v)) in
     let at = placed m.waiting new.waiting (message_on s c kind v) (at-item (item_at m.linked s) c P live sent) in
-    names-connected y d new s at.0 c (message_on s c kind v) made table free serial (same ∙ ap (λ (x : Desk). x.linked) started)
+    names-connected y d new s at.0 c (message_on s c kind v) made table free serial (same ∙ ap (λ (x : TablesView). x.linked) started)
     (ap (λ (w : Places QueuedMessage). free_slot w) (sym waiting) ∙ at.1) (at.2 ∙ ap (λ (w : Places QueuedMessage). taken w at.0 (message_on s c kind v)) waiting)
 
 -- psa_call, and psa_close of a connection that isn't dead
-pub names-held : (y : System) (d m new : Desk) (a : ℕ) (k : Handle) (s : Slot) (c : OpenConnection) (ph : ConnPhase) (kind : ℤ) (v : Vectors) → IsHeld d a k s c → Phased d s ph m → MadeFor d y
+pub names-held : (y : System) (d m new : TablesView) (a : ℕ) (k : Handle) (s : Slot) (c : OpenConnection) (ph : ConnPhase) (kind : ℤ) (v : Vectors) → IsHeld d a k s c → Phased d s ph m → MadeFor d y
     → IsKept 256 d.linked → new.linked ≡ m.linked → Sends m s kind v new → KeepsNames y d new
 names-held y d m new a k s c ph kind v h phased made kept same sent =
     let changed : OpenConnection = record c { phase = ph } in
     let after : m ≡ record d { linked = with_item d.linked s changed } = after-phase d m a k s c ph h phased in
-    let waiting : m.waiting ≡ d.waiting = ap (λ (x : Desk). x.waiting) after in
+    let waiting : m.waiting ≡ d.waiting = ap (λ (x : TablesView). x.waiting) after in
     let P : OpenConnection → Type 0 = λ x. IsSomeAnd (free_slot m.waiting) (λ place. new.waiting ≡ taken m.waiting place (message_on s x kind v)) in
     let at = placed m.waiting new.waiting (message_on s changed kind v) (at-item (item_at m.linked s) changed P (item-phased d m a k s c ph h phased) sent) in
-    names-asked y d new s at.0 c changed (message_on s changed kind v) made kept h.live refl (same ∙ ap (λ (x : Desk). x.linked) after)
+    names-asked y d new s at.0 c changed (message_on s changed kind v) made kept h.live refl (same ∙ ap (λ (x : TablesView). x.linked) after)
     (ap (λ (w : Places QueuedMessage). free_slot w) (sym waiting) ∙ at.1) (at.2 ∙ ap (λ (w : Places QueuedMessage). taken w at.0 (message_on s changed kind v)) waiting)

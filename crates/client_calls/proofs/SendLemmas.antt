@@ -8,7 +8,7 @@ use Rattle.ffm_model.specs.Names.{capacity}
 use Rattle.object_pools.specs.declared.slot.Slot.{Slot}
 use Rattle.object_pools.specs.Pool.{Places, item_at}
 use Rattle.spm_tables.specs.declared.item.MessageItem.{MessageItem}
-use Rattle.spm_tables.specs.Desk.{Desk, MadeFor, Shape, spm_of, queued}
+use Rattle.spm_tables.specs.TablesView.{TablesView, MadeFor, Shape, spm_of, queued}
 use Rattle.spm_tables.proofs.SlotLemmas.{queued-live}
 use Rattle.client_calls.specs.Sending.{item_on, message_on}
 
@@ -34,9 +34,9 @@ queued-on p s kind v m = by (item_at p s) refl where
   by (Some c) live is = ap (queued p) is ∙ queued-live p s c (item_on s c kind v) refl live
 
 -- the pool has room for one more message
-pub room-for-message : (d : Desk) (s : System) → MadeFor d s → length (spm_of d).messages + 1 ≤ capacity s → length (spm_of d).messages < length d.waiting.generations
+pub room-for-message : (d : TablesView) (s : System) → MadeFor d s → length (spm_of d).messages + 1 ≤ capacity s → length (spm_of d).messages < length d.waiting.generations
 room-for-message d s made room = omega (arith, ap (λ (x : Shape). x.messages) made)
 
 -- and for one more connection
-pub room-for-connection : (d : Desk) (s : System) → MadeFor d s → length (spm_of d).connections + 1 ≤ capacity s → length (spm_of d).connections < length d.linked.generations
+pub room-for-connection : (d : TablesView) (s : System) → MadeFor d s → length (spm_of d).connections + 1 ≤ capacity s → length (spm_of d).connections < length d.linked.generations
 room-for-connection d s made room = omega (arith, ap (λ (x : Shape). x.connections) made)

@@ -16,7 +16,7 @@ use Rattle.ffm_model.specs.State.{SpmState, in_use}
 use Rattle.handle_table.proofs.SlotLemmas.{both}
 use Rattle.counting_law.specs.Objects.{ObjectsFit, allowed}
 use Rattle.counting_law.proofs.Counts.{bit, count-found, find-passes}
-use Rattle.spm_tables.specs.Desk.{Desk, MadeFor, Shape, service_signal}
+use Rattle.spm_tables.specs.TablesView.{TablesView, MadeFor, Shape, service_signal}
 
 -- what passes a test for all
 all-found : {X : Type 0} (p q : X → Bool) (xs : List X) (x : X) → list_all p xs ≡ true → find q xs ≡ Some x → p x ≡ true
@@ -78,5 +78,5 @@ taking-service s i asked takes =
     go (slice_get s.services i) refl takes
 
 -- tables have as many services as the system that they were made for
-pub made-services : (d : Desk) (s : System) → MadeFor d s → length d.services ≡ length s.services
+pub made-services : (d : TablesView) (s : System) → MadeFor d s → length d.services ≡ length s.services
 made-services d s made = ap (λ (x : Shape). length x.services) made ∙ length-map s.services service_signal

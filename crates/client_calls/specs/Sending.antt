@@ -6,7 +6,7 @@ use Rattle.ffm_model.specs.declared.objects.Vectors.{Vectors}
 use Rattle.object_pools.specs.declared.slot.Slot.{Slot}
 use Rattle.spm_tables.specs.declared.item.MessageItem.{MessageItem}
 use Rattle.spm_tables.specs.declared.item.QueuedMessage.{QueuedMessage}
-use Rattle.spm_tables.specs.Desk.{queued_as}
+use Rattle.spm_tables.specs.TablesView.{queued_as}
 
 -- a message of the connection in that slot, before its delivery
 abbrev pub item_on : Slot → OpenConnection → ℤ → Vectors → MessageItem

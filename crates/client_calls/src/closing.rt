@@ -4,7 +4,7 @@ ghost use Rattle.ffm_model.specs.declared.system.System.{System as SystemSeen};
 ghost use Rattle.ffm_model.specs.State.{phase_of};
 ghost use Rattle.ffm_model.specs.ClientCalls.{psa_close};
 ghost use Rattle.counting_law.specs.Objects.{ObjectsFit};
-ghost use Rattle.spm_tables.specs.Desk.{MadeFor, shape_of, spm_of};
+ghost use Rattle.spm_tables.specs.TablesView.{MadeFor, shape_of, spm_of};
 ghost use Rattle.spm_tables.specs.Answers.{Answers};
 ghost use Rattle.slot_names.specs.Named.{KeepsNames};
 

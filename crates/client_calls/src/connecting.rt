@@ -3,7 +3,7 @@ ghost use Rattle.std.specs.Prelude.{◌≡◌, ◌+◌, ◌≤◌};
 ghost use Rattle.ffm_model.specs.State.{phase_of};
 ghost use Rattle.ffm_model.specs.ClientCalls.{takes_version, is_service_panicked, psa_connect};
 ghost use Rattle.counting_law.specs.Objects.{ObjectsFit};
-ghost use Rattle.spm_tables.specs.Desk.{MadeFor, shape_of, spm_of};
+ghost use Rattle.spm_tables.specs.TablesView.{MadeFor, shape_of, spm_of};
 ghost use Rattle.spm_tables.specs.Answers.{Answers};
 ghost use Rattle.slot_names.specs.Named.{KeepsNames};
 

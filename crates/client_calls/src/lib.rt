@@ -11,6 +11,3 @@ pub use closing::close;
 pub use connecting::connect;
 pub use requests::invoke;
 pub use versions::{framework_version, version};
-
-#[cfg(test)]
-mod tests;

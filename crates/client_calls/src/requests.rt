@@ -6,7 +6,7 @@ ghost use Rattle.ffm_model.specs.ClientCalls.{psa_call, refuses_requests};
 ghost use Rattle.ffm_model.specs.Panic.{is_dead};
 ghost use Rattle.counting_law.specs.Objects.{ObjectsFit};
 ghost use Rattle.memory_image.specs.Pieces.{byte_at, ranges_of, regions_of};
-ghost use Rattle.spm_tables.specs.Desk.{MadeFor, shape_of, spm_of};
+ghost use Rattle.spm_tables.specs.TablesView.{MadeFor, shape_of, spm_of};
 ghost use Rattle.spm_tables.specs.Answers.{Answers, state_with};
 ghost use Rattle.slot_names.specs.Named.{KeepsNames};
 

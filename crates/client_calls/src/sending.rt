@@ -2,7 +2,7 @@
 ghost use Rattle.std.specs.Prelude.{◌≡◌, ◌<◌, length, false, IsSome, IsSomeAnd, IfSome};
 ghost use Rattle.ffm_model.specs.State.{with_phase, with_message};
 ghost use Rattle.object_pools.specs.Pool.{free_slot, item_at, taken};
-ghost use Rattle.spm_tables.specs.Desk.{spm_of, shape_of};
+ghost use Rattle.spm_tables.specs.TablesView.{spm_of, shape_of};
 ghost use Rattle.client_calls.specs.Sending.{item_on, message_on};
 
 use ffm_model::{ActorPhase, Span, Vectors};

@@ -33,15 +33,15 @@ all_left s p [] = []
 all_left s p (c ∷ cs) = left_as (is_service_of s p c.service) (c.client.0 == p) c.phase c ++ all_left s p cs
 
 -- the disconnection of one of the partition's own
-abbrev pub goodbye : OpenConnection → PendingMessage
-goodbye c = record { service = c.service; client = c.client; connection = c.serial; kind = PSA_IPC_DISCONNECT; vectors = no_vectors; handle = None }
+abbrev pub disconnect_message : OpenConnection → PendingMessage
+disconnect_message c = record { service = c.service; client = c.client; connection = c.serial; kind = PSA_IPC_DISCONNECT; vectors = no_vectors; handle = None }
 
-abbrev pub goodbye_as : Bool → Bool → ConnPhase → OpenConnection → List PendingMessage
-goodbye_as o k ph c = if o then [] else (if k then (if is_dead ph then [] else goodbye c ∷ []) else [])
+abbrev pub disconnect_as : Bool → Bool → ConnPhase → OpenConnection → List PendingMessage
+disconnect_as o k ph c = if o then [] else (if k then (if is_dead ph then [] else disconnect_message c ∷ []) else [])
 
-abbrev pub goodbyes : System → ℕ → List OpenConnection → List PendingMessage
-goodbyes s p [] = []
-goodbyes s p (c ∷ cs) = goodbye_as (is_service_of s p c.service) (c.client.0 == p) c.phase c ++ goodbyes s p cs
+abbrev pub disconnect_messages : System → ℕ → List OpenConnection → List PendingMessage
+disconnect_messages s p [] = []
+disconnect_messages s p (c ∷ cs) = disconnect_as (is_service_of s p c.service) (c.client.0 == p) c.phase c ++ disconnect_messages s p cs
 
 -- the loss of the service, in these cases
 abbrev served : Bool → ConnPhase → OpenConnection → Option OpenConnection
@@ -50,8 +50,8 @@ served o ph c = if o then option_map (λ f. record c { phase = f }) (lost ph) el
 abbrev left_in : Bool → OpenConnection → Option OpenConnection
 left_in k d = if k then (if is_dead d.phase then None else Some (record d { phase = Closing })) else Some d
 
-abbrev goodbye_in : Bool → OpenConnection → Option PendingMessage
-goodbye_in k d = if k && not (is_dead d.phase) then Some (goodbye d) else None
+abbrev disconnect_in : Bool → OpenConnection → Option PendingMessage
+disconnect_in k d = if k && not (is_dead d.phase) then Some (disconnect_message d) else None
 
 left-cases : (c : OpenConnection) (xs : List OpenConnection) (o k : Bool) (ph : ConnPhase) → cons_option (option_and_then (left_in k) (served o ph c)) xs ≡ left_as o k ph c ++ xs
 left-cases c xs true true Opening = refl
@@ -74,26 +74,26 @@ left-cases c xs false true Closing = refl
 left-cases c xs false true Dead = refl
 left-cases c xs false false ph = refl
 
-goodbye-cases : (c : OpenConnection) (xs : List PendingMessage) (o k : Bool) (ph : ConnPhase) → cons_option (option_and_then (goodbye_in k) (served o ph c)) xs ≡ goodbye_as o k ph c ++ xs
-goodbye-cases c xs true true Opening = refl
-goodbye-cases c xs true true Idle = refl
-goodbye-cases c xs true true Busy = refl
-goodbye-cases c xs true true Error = refl
-goodbye-cases c xs true true Closing = refl
-goodbye-cases c xs true true Dead = refl
-goodbye-cases c xs true false Opening = refl
-goodbye-cases c xs true false Idle = refl
-goodbye-cases c xs true false Busy = refl
-goodbye-cases c xs true false Error = refl
-goodbye-cases c xs true false Closing = refl
-goodbye-cases c xs true false Dead = refl
-goodbye-cases c xs false true Opening = refl
-goodbye-cases c xs false true Idle = refl
-goodbye-cases c xs false true Busy = refl
-goodbye-cases c xs false true Error = refl
-goodbye-cases c xs false true Closing = refl
-goodbye-cases c xs false true Dead = refl
-goodbye-cases c xs false false ph = refl
+disconnect-cases : (c : OpenConnection) (xs : List PendingMessage) (o k : Bool) (ph : ConnPhase) → cons_option (option_and_then (disconnect_in k) (served o ph c)) xs ≡ disconnect_as o k ph c ++ xs
+disconnect-cases c xs true true Opening = refl
+disconnect-cases c xs true true Idle = refl
+disconnect-cases c xs true true Busy = refl
+disconnect-cases c xs true true Error = refl
+disconnect-cases c xs true true Closing = refl
+disconnect-cases c xs true true Dead = refl
+disconnect-cases c xs true false Opening = refl
+disconnect-cases c xs true false Idle = refl
+disconnect-cases c xs true false Busy = refl
+disconnect-cases c xs true false Error = refl
+disconnect-cases c xs true false Closing = refl
+disconnect-cases c xs true false Dead = refl
+disconnect-cases c xs false true Opening = refl
+disconnect-cases c xs false true Idle = refl
+disconnect-cases c xs false true Busy = refl
+disconnect-cases c xs false true Error = refl
+disconnect-cases c xs false true Closing = refl
+disconnect-cases c xs false true Dead = refl
+disconnect-cases c xs false false ph = refl
 
 left-one : (p : ℕ) (c : OpenConnection) (o : Bool) (l : Option ConnPhase)
     → option_and_then (without_client p) (if o then option_map (λ f. record c { phase = f }) l else Some c) ≡ option_and_then (left_in (c.client.0 == p)) (if o then option_map (λ f. record c { phase = f }) l else Some c)
@@ -101,11 +101,11 @@ left-one p c true None = refl
 left-one p c true (Some f) = refl
 left-one p c false l = refl
 
-goodbye-one : (p : ℕ) (c : OpenConnection) (o : Bool) (l : Option ConnPhase)
-    → option_and_then (disconnection p) (if o then option_map (λ f. record c { phase = f }) l else Some c) ≡ option_and_then (goodbye_in (c.client.0 == p)) (if o then option_map (λ f. record c { phase = f }) l else Some c)
-goodbye-one p c true None = refl
-goodbye-one p c true (Some f) = refl
-goodbye-one p c false l = refl
+disconnect-one : (p : ℕ) (c : OpenConnection) (o : Bool) (l : Option ConnPhase)
+    → option_and_then (disconnection p) (if o then option_map (λ f. record c { phase = f }) l else Some c) ≡ option_and_then (disconnect_in (c.client.0 == p)) (if o then option_map (λ f. record c { phase = f }) l else Some c)
+disconnect-one p c true None = refl
+disconnect-one p c true (Some f) = refl
+disconnect-one p c false l = refl
 
 all_left-is : (s : System) (p : ℕ) (cs : List OpenConnection) → filter_map (λ c. option_and_then (without_client p) (without_service s p c)) cs ≡ all_left s p cs
 all_left-is s p [] = refl
@@ -114,20 +114,20 @@ all_left-is s p (c ∷ cs) =
     ∙ ap (λ o. cons_option o (all_left s p cs)) (left-one p c (is_service_of s p c.service) (lost c.phase))
     ∙ left-cases c (all_left s p cs) (is_service_of s p c.service) (c.client.0 == p) c.phase
 
-goodbyes-is : (s : System) (p : ℕ) (cs : List OpenConnection) → filter_map (λ c. option_and_then (disconnection p) (without_service s p c)) cs ≡ goodbyes s p cs
-goodbyes-is s p [] = refl
-goodbyes-is s p (c ∷ cs) =
-    ap (λ xs. cons_option (option_and_then (disconnection p) (without_service s p c)) xs) (goodbyes-is s p cs)
-    ∙ ap (λ o. cons_option o (goodbyes s p cs)) (goodbye-one p c (is_service_of s p c.service) (lost c.phase))
-    ∙ goodbye-cases c (goodbyes s p cs) (is_service_of s p c.service) (c.client.0 == p) c.phase
+disconnects-is : (s : System) (p : ℕ) (cs : List OpenConnection) → filter_map (λ c. option_and_then (disconnection p) (without_service s p c)) cs ≡ disconnect_messages s p cs
+disconnects-is s p [] = refl
+disconnects-is s p (c ∷ cs) =
+    ap (λ xs. cons_option (option_and_then (disconnection p) (without_service s p c)) xs) (disconnects-is s p cs)
+    ∙ ap (λ o. cons_option o (disconnect_messages s p cs)) (disconnect-one p c (is_service_of s p c.service) (lost c.phase))
+    ∙ disconnect-cases c (disconnect_messages s p cs) (is_service_of s p c.service) (c.client.0 == p) c.phase
 
 -- the effect of a panic in these words
 abbrev pub after_panic : System → SpmState → ℕ → SpmState
 after_panic s b p = record b {
   phases = clients_answered s p b.connections (slice_set b.phases p Panicked);
   connections = all_left s p b.connections;
-  messages = filter (λ m. not (is_service_of s p m.service)) b.messages ++ goodbyes s p b.connections;
+  messages = filter (λ m. not (is_service_of s p m.service)) b.messages ++ disconnect_messages s p b.connections;
 }
 
 pub after_panic-is : (s : System) (b : SpmState) (p : ℕ) → panic_effect s b p ≡ after_panic s b p
-after_panic-is s b p = rw (all_left-is s p b.connections, goodbyes-is s p b.connections) refl
+after_panic-is s b p = rw (all_left-is s p b.connections, disconnects-is s p b.connections) refl

@@ -18,7 +18,7 @@ use Rattle.ffm_model.specs.State.{SpmState, phase_of, has_handle}
 use Rattle.counting_law.proofs.Balance.{Balanced}
 use Rattle.counting_law.specs.Objects.{PhaseFits, PhaseFitsAt, RisesTo, Mark, is_joining, is_opening, is_awaited, is_asking, is_accepted, awaited_of, asking_of, accepted_as, wrongly_shown, message_marked, connection_marked}
 use Rattle.ffm_model.specs.Panic.{is_dead, client_answered, clients_answered, panic_effect}
-use Rattle.counting_law.proofs.Losses.{survives, left_as, all_left, goodbye, goodbye_as, goodbyes, after_panic, after_panic-is}
+use Rattle.counting_law.proofs.Losses.{survives, left_as, all_left, disconnect_message, disconnect_as, disconnect_messages, after_panic, after_panic-is}
 use Rattle.counting_law.proofs.Counts.{bit, count-cons, count-ext, count-le}
 use Rattle.counting_law.proofs.Parts.{is_plain, same_or_not, is_there, phase_same, phase_other, off_left, off_right, on_left, flipped, rising-from, unique, off_from, equal_from, both-le-left, both-le-right}
 use Rattle.counting_law.proofs.Updates.{in_phase}
@@ -60,7 +60,7 @@ abbrev kept_mark : System → ℕ → Mark → Mark
 kept_mark s p t n a v ph = not (is_service_of s p v) && t n a v ph
 
 mark-step : (t : Mark) (c : OpenConnection) (o k : Bool) (ph : ConnPhase) → (k && is_awaited ph) ≡ false
-    → count_by (connection_marked t) (left_as o k ph c) ≡ bit (is_awaited ph && (not o && t c.serial c.client.0 c.service ph)) + count_by (message_marked t) (goodbye_as o k ph c)
+    → count_by (connection_marked t) (left_as o k ph c) ≡ bit (is_awaited ph && (not o && t c.serial c.client.0 c.service ph)) + count_by (message_marked t) (disconnect_as o k ph c)
 mark-step t c true true Opening e = cc
 mark-step t c true true Busy e = cc
 mark-step t c true true Closing e = cc
@@ -76,8 +76,8 @@ mark-step t c true false Dead e = refl
 mark-step t c false true Opening e = cc
 mark-step t c false true Busy e = cc
 mark-step t c false true Closing e = cc
-mark-step t c false true Idle e = omega (arith, count-cons (connection_marked t) (in_phase c Closing) [], count-cons (message_marked t) (goodbye c) [])
-mark-step t c false true Error e = omega (arith, count-cons (connection_marked t) (in_phase c Closing) [], count-cons (message_marked t) (goodbye c) [])
+mark-step t c false true Idle e = omega (arith, count-cons (connection_marked t) (in_phase c Closing) [], count-cons (message_marked t) (disconnect_message c) [])
+mark-step t c false true Error e = omega (arith, count-cons (connection_marked t) (in_phase c Closing) [], count-cons (message_marked t) (disconnect_message c) [])
 mark-step t c false true Dead e = refl
 mark-step t c false false Opening e = omega (arith, count-cons (connection_marked t) (in_phase c Opening) [])
 mark-step t c false false Busy e = omega (arith, count-cons (connection_marked t) (in_phase c Busy) [])
@@ -87,7 +87,7 @@ mark-step t c false false Error e = refl
 mark-step t c false false Dead e = refl
 
 marks-left : (s : System) (p : ℕ) (t : Mark) (cs : List OpenConnection) → count_by (awaited_of p) cs ≡ 0
-    → count_by (connection_marked t) (all_left s p cs) ≡ count_by (connection_marked (kept_mark s p t)) cs + count_by (message_marked t) (goodbyes s p cs)
+    → count_by (connection_marked t) (all_left s p cs) ≡ count_by (connection_marked (kept_mark s p t)) cs + count_by (message_marked t) (disconnect_messages s p cs)
 marks-left s p t [] h = refl
 marks-left s p t (c ∷ cs) h =
     let o : Bool = is_service_of s p c.service in
@@ -99,7 +99,7 @@ marks-left s p t (c ∷ cs) h =
       mark-step t c o k c.phase (off_from _ own),
       marks-left s p t cs rest,
       count-append (connection_marked t) (left_as o k c.phase c) (all_left s p cs),
-      count-append (message_marked t) (goodbye_as o k c.phase c) (goodbyes s p cs),
+      count-append (message_marked t) (disconnect_as o k c.phase c) (disconnect_messages s p cs),
       count-cons (connection_marked (kept_mark s p t)) c cs,
     )
 
@@ -111,22 +111,22 @@ count-filter {X = X} q r (x ∷ xs) =
     elim [ true ↦ omega (arith, count-cons q x rest, count-filter q r xs) | false ↦ omega (arith, count-filter q r xs) ] in
     omega (arith, count-cons (λ y. r y && q y) x xs, go (r x))
 
-no-goodbye-handle : (s : System) (p : ℕ) (h : Handle) (cs : List OpenConnection) → count_by (λ m. has_handle m.handle h) (goodbyes s p cs) ≡ 0
-no-goodbye-handle s p h [] = refl
-no-goodbye-handle s p h (c ∷ cs) =
-    let here : (o k : Bool) (ph : ConnPhase) → count_by (λ m. has_handle m.handle h) (goodbye_as o k ph c) ≡ 0 =
-    λ o k ph. elim o as (λ (o : Bool). count_by (λ m. has_handle m.handle h) (goodbye_as o k ph c) ≡ 0) [
+no-disconnect-handle : (s : System) (p : ℕ) (h : Handle) (cs : List OpenConnection) → count_by (λ m. has_handle m.handle h) (disconnect_messages s p cs) ≡ 0
+no-disconnect-handle s p h [] = refl
+no-disconnect-handle s p h (c ∷ cs) =
+    let here : (o k : Bool) (ph : ConnPhase) → count_by (λ m. has_handle m.handle h) (disconnect_as o k ph c) ≡ 0 =
+    λ o k ph. elim o as (λ (o : Bool). count_by (λ m. has_handle m.handle h) (disconnect_as o k ph c) ≡ 0) [
       | true ↦ refl
-      | false ↦ elim k as (λ (k : Bool). count_by (λ m. has_handle m.handle h) (goodbye_as false k ph c) ≡ 0) [
-        | true ↦ elim (is_dead ph) as (λ (d : Bool). count_by (λ m. has_handle m.handle h) (if d then [] else goodbye c ∷ []) ≡ 0) [ true ↦ refl | false ↦ refl ]
+      | false ↦ elim k as (λ (k : Bool). count_by (λ m. has_handle m.handle h) (disconnect_as false k ph c) ≡ 0) [
+        | true ↦ elim (is_dead ph) as (λ (d : Bool). count_by (λ m. has_handle m.handle h) (if d then [] else disconnect_message c ∷ []) ≡ 0) [ true ↦ refl | false ↦ refl ]
         | false ↦ refl
       ]
     ] in
     omega (
       arith,
       here (is_service_of s p c.service) (c.client.0 == p) c.phase,
-      no-goodbye-handle s p h cs,
-      count-append (λ m. has_handle m.handle h) (goodbye_as (is_service_of s p c.service) (c.client.0 == p) c.phase c) (goodbyes s p cs),
+      no-disconnect-handle s p h cs,
+      count-append (λ m. has_handle m.handle h) (disconnect_as (is_service_of s p c.service) (c.client.0 == p) c.phase c) (disconnect_messages s p cs),
     )
 
 -- the same, naming the phase that is left
@@ -407,7 +407,7 @@ after_panic-keeps s limit b p h inside quiet free =
       within = λ x w. omega (arith, h.within x w, left-le s p (λ c. (c.client.0 == x) && (c.service == w)) (λ c ph. refl) b.connections);
       paired = λ t. omega (
         arith,
-        count-append (message_marked t) (filter (λ m. not (is_service_of s p m.service)) b.messages) (goodbyes s p b.connections),
+        count-append (message_marked t) (filter (λ m. not (is_service_of s p m.service)) b.messages) (disconnect_messages s p b.connections),
         count-filter (message_marked t) (λ m. not (is_service_of s p m.service)) b.messages,
         h.paired (kept_mark s p t),
         marks-left s p t b.connections quiet,
@@ -445,8 +445,8 @@ after_panic-keeps s limit b p h inside quiet free =
         arith,
         h.handles k,
         left-le s p (λ c. has_handle c.handle k) (λ c ph. refl) b.connections,
-        count-append (λ m. has_handle m.handle k) (filter (λ m. not (is_service_of s p m.service)) b.messages) (goodbyes s p b.connections),
-        no-goodbye-handle s p k b.connections,
+        count-append (λ m. has_handle m.handle k) (filter (λ m. not (is_service_of s p m.service)) b.messages) (disconnect_messages s p b.connections),
+        no-disconnect-handle s p k b.connections,
         count-filter (λ m. has_handle m.handle k) (λ m. not (is_service_of s p m.service)) b.messages,
         count-le (λ m. not (is_service_of s p m.service) && has_handle m.handle k) (λ m. has_handle m.handle k) (λ m. both-le-right (not (is_service_of s p m.service)) (has_handle m.handle k)) b.messages,
       );

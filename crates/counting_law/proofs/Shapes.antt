@@ -35,7 +35,7 @@ use Rattle.counting_law.proofs.Bounds.{count-all}
 use Rattle.counting_law.proofs.Pairs.{carries, count-sum, member-counts, none-counts}
 use Rattle.counting_law.proofs.Resume.{times, put-same}
 use Rattle.counting_law.proofs.Reply.{settled, settled-keeps, message-out}
-use Rattle.counting_law.proofs.Losses.{goodbye, goodbye_as, goodbyes, after_panic-is}
+use Rattle.counting_law.proofs.Losses.{disconnect_message, disconnect_as, disconnect_messages, after_panic-is}
 use Rattle.counting_law.proofs.Panic.{left-le}
 use Rattle.counting_law.proofs.Turns.{settled-cases}
 use Rattle.counting_law.proofs.Takes.{same_message, filter-all, length-filter}
@@ -196,13 +196,13 @@ other-kind x k l n e f =
     go x
 
 -- a disconnection that a panic sends stands for no message that was there
-sent-apart : (p : ℕ) (old : List PendingMessage) (c : OpenConnection) (o k : Bool) (ph : ConnPhase) → (k ≡ true → count_by (λ m. same_message m (goodbye c)) old ≡ 0) → count_by (stays (goodbye_as o k ph c)) old ≡ 0
+sent-apart : (p : ℕ) (old : List PendingMessage) (c : OpenConnection) (o k : Bool) (ph : ConnPhase) → (k ≡ true → count_by (λ m. same_message m (disconnect_message c)) old ≡ 0) → count_by (stays (disconnect_as o k ph c)) old ≡ 0
 sent-apart p old c true k ph none = none-counts (stays []) (λ m. refl) old
 sent-apart p old c false false ph none = none-counts (stays []) (λ m. refl) old
 sent-apart p old c false true ph none =
     let or_false : (x : Bool) → (x || false) ≡ x = elim [ true ↦ refl | false ↦ refl ] in
-    let go : (x : Bool) → count_by (stays (cond {A = List PendingMessage} x [] (goodbye c ∷ []))) old ≡ 0 =
-    elim [ true ↦ none-counts (stays []) (λ m. refl) old | false ↦ count-ext (stays (goodbye c ∷ [])) (λ m. same_message m (goodbye c)) (λ m. or_false (same_message m (goodbye c))) old ∙ none refl ] in
+    let go : (x : Bool) → count_by (stays (cond {A = List PendingMessage} x [] (disconnect_message c ∷ []))) old ≡ 0 =
+    elim [ true ↦ none-counts (stays []) (λ m. refl) old | false ↦ count-ext (stays (disconnect_message c ∷ [])) (λ m. same_message m (disconnect_message c)) (λ m. or_false (same_message m (disconnect_message c))) old ∙ none refl ] in
     go (is_dead ph)
 
 stays-append : (xs ys old : List PendingMessage) → count_by (stays (xs ++ ys)) old ≤ count_by (stays xs) old + count_by (stays ys) old
@@ -211,12 +211,12 @@ stays-append xs ys old =
     count-sum (stays (xs ++ ys)) (stays xs) (stays ys) (λ m. omega (arith, ap bit (list_any-append (same_message m) xs ys), either (stays xs m) (stays ys m))) old
 
 all-sent-apart : (s : System) (p : ℕ) (old : List PendingMessage) (cs : List OpenConnection)
-    → ((i : ℕ) (d : OpenConnection) → i < length cs → ((get_or cs i d).client.0 == p) ≡ true → count_by (λ m. same_message m (goodbye (get_or cs i d))) old ≡ 0) → count_by (stays (goodbyes s p cs)) old ≡ 0
+    → ((i : ℕ) (d : OpenConnection) → i < length cs → ((get_or cs i d).client.0 == p) ≡ true → count_by (λ m. same_message m (disconnect_message (get_or cs i d))) old ≡ 0) → count_by (stays (disconnect_messages s p cs)) old ≡ 0
 all-sent-apart s p old [] none = none-counts (stays []) (λ m. refl) old
 all-sent-apart s p old (c ∷ cs) none =
     omega (
       arith,
-      stays-append (goodbye_as (is_service_of s p c.service) (c.client.0 == p) c.phase c) (goodbyes s p cs) old,
+      stays-append (disconnect_as (is_service_of s p c.service) (c.client.0 == p) c.phase c) (disconnect_messages s p cs) old,
       sent-apart p old c (is_service_of s p c.service) (c.client.0 == p) c.phase (λ e. none 0 c (omega arith) e),
       all-sent-apart s p old cs (λ i d lt e. none (suc i) d (omega (arith, lt)) e),
     )
@@ -229,7 +229,7 @@ panic-shape : (s : System) (b mid : SpmState) (r : PendingMessage → Bool) (p :
 panic-shape s b mid r p given it fit fit_mid quiet only =
     let q : PendingMessage → Bool = λ m. not (is_service_of s p m.service) in
     let both : PendingMessage → Bool = λ m. r m && q m in
-    let sent : List PendingMessage = goodbyes s p mid.connections in
+    let sent : List PendingMessage = disconnect_messages s p mid.connections in
     let order : filter q mid.messages ++ sent ≡ filter both b.messages ++ sent =
     ap (λ (ms : List PendingMessage). filter q ms ++ sent) it.messages ∙ ap (λ (ms : List PendingMessage). ms ++ sent) (filter-twice r q b.messages) in
     let apart : count_by (stays sent) b.messages ≡ 0 =
@@ -238,8 +238,8 @@ panic-shape s b mid r p given it fit fit_mid quiet only =
     let c : OpenConnection = get_or mid.connections i d in
     omega (
       arith,
-      only (goodbye c) refl,
-      count-le (λ m. same_message m (goodbye c)) (λ m. m.connection == c.serial) (λ m. and-flipped m.connection c.serial (int_eq PSA_IPC_DISCONNECT m.kind)) mid.messages,
+      only (disconnect_message c) refl,
+      count-le (λ m. same_message m (disconnect_message c)) (λ m. m.connection == c.serial) (λ m. and-flipped m.connection c.serial (int_eq PSA_IPC_DISCONNECT m.kind)) mid.messages,
       quiet-messages s mid p fit_mid quiet i d lt e,
     )) in
     subst (λ (x : SpmState). Quiet b x given given) (sym (after_panic-is s mid p)) (record {

@@ -26,7 +26,7 @@ use Rattle.counting_law.proofs.Parts.{same_or_not, is_there, phase_other, runnin
 use Rattle.counting_law.proofs.Bounds.{count-all}
 use Rattle.counting_law.proofs.Resume.{times, delivered-same, put-same}
 use Rattle.counting_law.proofs.Reply.{settled, settled-keeps}
-use Rattle.counting_law.proofs.Losses.{left_as, all_left, goodbye_as, goodbyes, goodbye, after_panic, after_panic-is}
+use Rattle.counting_law.proofs.Losses.{left_as, all_left, disconnect_as, disconnect_messages, disconnect_message, after_panic, after_panic-is}
 use Rattle.counting_law.proofs.Panic.{count-append, count-filter, left_cases}
 use Rattle.counting_law.proofs.Keeps.{request-ready, ready-quiet}
 use Rattle.counting_law.proofs.Turns.{Turned, settled-cases, panicked-self, panicked-other}
@@ -140,13 +140,13 @@ settled-answers s limit b p h status m balanced found =
 -- ---- a panic
 
 -- a disconnection is sent for a connection whose client was alive, and is so no more
-goodbye-step : (b new : SpmState) (p : ℕ) (c : OpenConnection) (o k : Bool) (ph : ConnPhase) → is_panicked (phase_of b p) ≡ false → is_panicked (phase_of new p) ≡ true
+disconnect-step : (b new : SpmState) (p : ℕ) (c : OpenConnection) (o k : Bool) (ph : ConnPhase) → is_panicked (phase_of b p) ≡ false → is_panicked (phase_of new p) ≡ true
     → bit (is_owned new c) ≤ bit (is_owned b c) → (c.client.0 == p) ≡ k
-    → length (goodbye_as o k ph c) + count_by (is_owned new) (left_as o k ph c) ≤ bit (is_owned b c)
-goodbye-step b new p c o k ph alive dead le e =
+    → length (disconnect_as o k ph c) + count_by (is_owned new) (left_as o k ph c) ≤ bit (is_owned b c)
+disconnect-step b new p c o k ph alive dead le e =
     let left : count_by (is_owned new) (left_as o k ph c) ≤ bit (is_owned new c) =
     left_cases c (λ (xs : List OpenConnection). count_by (is_owned new) xs ≤ bit (is_owned new c)) (omega arith) (λ z. omega (arith, count-cons (is_owned new) (record c { phase = z }) [])) o k ph in
-    let few : (x y z : Bool) → length (cond {A = List PendingMessage} x [] (cond {A = List PendingMessage} y (cond {A = List PendingMessage} z [] (goodbye c ∷ [])) [])) ≤ bit y =
+    let few : (x y z : Bool) → length (cond {A = List PendingMessage} x [] (cond {A = List PendingMessage} y (cond {A = List PendingMessage} z [] (disconnect_message c ∷ [])) [])) ≤ bit y =
     elim [ true ↦ λ y z. omega arith | false ↦ elim [ true ↦ elim [ true ↦ omega arith | false ↦ omega arith ] | false ↦ λ z. omega arith ] ] in
     let go : (x : Bool) → k ≡ x → bit k + bit (is_owned new c) ≤ bit (is_owned b c) =
     elim [
@@ -159,15 +159,15 @@ goodbye-step b new p c o k ph alive dead le e =
     ] in
     omega (arith, left, few o k (is_dead ph), go k refl)
 
-goodbyes-owned : (s : System) (b new : SpmState) (p : ℕ) → is_panicked (phase_of b p) ≡ false → is_panicked (phase_of new p) ≡ true → ((x : ℕ) → bit (not (is_panicked (phase_of new x))) ≤ bit (not (is_panicked (phase_of b x))))
-    → (cs : List OpenConnection) → length (goodbyes s p cs) + count_by (is_owned new) (all_left s p cs) ≤ count_by (is_owned b) cs
-goodbyes-owned s b new p alive dead le [] = omega arith
-goodbyes-owned s b new p alive dead le (c ∷ cs) =
+disconnects-owned : (s : System) (b new : SpmState) (p : ℕ) → is_panicked (phase_of b p) ≡ false → is_panicked (phase_of new p) ≡ true → ((x : ℕ) → bit (not (is_panicked (phase_of new x))) ≤ bit (not (is_panicked (phase_of b x))))
+    → (cs : List OpenConnection) → length (disconnect_messages s p cs) + count_by (is_owned new) (all_left s p cs) ≤ count_by (is_owned b) cs
+disconnects-owned s b new p alive dead le [] = omega arith
+disconnects-owned s b new p alive dead le (c ∷ cs) =
     omega (
       arith,
-      goodbye-step b new p c (is_service_of s p c.service) (c.client.0 == p) c.phase alive dead (le c.client.0) refl,
-      goodbyes-owned s b new p alive dead le cs,
-      length-append (goodbye_as (is_service_of s p c.service) (c.client.0 == p) c.phase c) (goodbyes s p cs),
+      disconnect-step b new p c (is_service_of s p c.service) (c.client.0 == p) c.phase alive dead (le c.client.0) refl,
+      disconnects-owned s b new p alive dead le cs,
+      length-append (disconnect_as (is_service_of s p c.service) (c.client.0 == p) c.phase c) (disconnect_messages s p cs),
       count-append (is_owned new) (left_as (is_service_of s p c.service) (c.client.0 == p) c.phase c) (all_left s p cs),
       count-cons (is_owned b) c cs,
     )
@@ -193,8 +193,8 @@ panic-spends s limit b mid q p it balanced inside alive quiet =
     λ x. same_or_not x p (bit (not (is_panicked (phase_of new x))) ≤ bit (not (is_panicked (phase_of mid x))))
     (λ e. omega (arith, ap (λ (y : ℕ). bit (not (is_panicked (phase_of new y)))) e, ap (λ (z : ActorPhase). bit (not (is_panicked z))) gone))
     (λ e. turned-alive (phase_of mid x) (phase_of new x) (panicked-other s limit mid p x balanced e)) in
-    let owners : length (goodbyes s p mid.connections) + owned new ≤ owned mid = goodbyes-owned s mid new p alive (ap is_panicked gone) le mid.connections in
-    let sent : List PendingMessage = goodbyes s p mid.connections in
+    let owners : length (disconnect_messages s p mid.connections) + owned new ≤ owned mid = disconnects-owned s mid new p alive (ap is_panicked gone) le mid.connections in
+    let sent : List PendingMessage = disconnect_messages s p mid.connections in
     subst (λ (x : SpmState). Spends b x) (sym same) (record {
       made = omega (arith, it.made);
       grows = omega (arith, it.made);

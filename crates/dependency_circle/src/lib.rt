@@ -17,6 +17,3 @@ pub use laws::{
     first_of_the_lists_is_the_first_circle, least_place_first, one_first_circle, rotated_circle,
     worked_graphs,
 };
-
-#[cfg(test)]
-mod tests;

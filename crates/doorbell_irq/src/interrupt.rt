@@ -7,7 +7,7 @@ ghost use Rattle.ffm_model.specs.ClientCalls.{move};
 ghost use Rattle.ffm_model.specs.ServiceCalls.{forwarded, psa_eoi, source_of_signal};
 ghost use Rattle.slot_names.specs.Named.{KeepsNames};
 ghost use Rattle.spm_tables.specs.Answers.{Answers};
-ghost use Rattle.spm_tables.specs.Desk.{MadeFor, shape_of, spm_of};
+ghost use Rattle.spm_tables.specs.TablesView.{MadeFor, shape_of, spm_of};
 
 use ffm_model::{ActorId, Fault, Source, SourceFlags, System};
 use spm_tables::Tables;

@@ -10,6 +10,3 @@ mod interrupt;
 
 pub use doorbell::{clear, notify};
 pub use interrupt::{eoi, raise};
-
-#[cfg(test)]
-mod tests;

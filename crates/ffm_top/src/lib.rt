@@ -2,16 +2,12 @@
 #![tactic(auto)]
 
 mod command_line;
-#[cfg(test)]
-mod compile_tests;
 mod limits;
 mod lines;
 mod make;
 mod replay;
 mod report;
 mod run;
-#[cfg(test)]
-mod tests;
 mod top;
 mod words;
 mod work;

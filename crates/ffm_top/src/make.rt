@@ -145,7 +145,7 @@ fn summed_up(alloc: Global, rounds: u32, ran: &Ran) -> Result<Report, AllocError
 {
     let count = ran.spm.length();
     let line = summary_line(alloc, rounds, count, bytes_moved(&ran.spm), ran.verdict)?;
-    Ok(Report::Listed(line))
+    Ok(Report::Text(line))
 }
 
 /// The report of a generated system's run, with so many requests of each client. Memory where no

@@ -25,8 +25,8 @@ pub enum Report {
     Usage,
     /// A file is refused, by this line.
     Refused(Vec<u8>),
-    /// A system is listed, or a generated run is summed up, by this text.
-    Listed(Vec<u8>),
+    /// A system is listed, or a generated run is summed up: this text.
+    Text(Vec<u8>),
     /// A run ended.
     Ran(Ran),
     /// A trace is judged, by this line.
@@ -119,7 +119,7 @@ fn put_report<S: Sink>(out: &mut S, report: &Report) -> Result<(), Failed>
     match report {
         Report::Usage => put_all(out, usage_line().as_bytes()),
         Report::Refused(line) => put_all(out, line.as_slice()),
-        Report::Listed(text) => put_lines(out, text.as_slice()),
+        Report::Text(text) => put_lines(out, text.as_slice()),
         Report::Ran(ran) => put_trace(out, &ran.spm, ran.verdict),
         Report::Judged { line, .. } => put_all(out, line.as_slice()),
     }
@@ -165,7 +165,7 @@ impl Report {
         match self {
             Report::Usage => 2,
             Report::Refused(_) => 1,
-            Report::Listed(_) => 0,
+            Report::Text(_) => 0,
             Report::Ran(ran) => verdict_status(ran.verdict),
             Report::Judged { checked, .. } => checked_status(*checked),
         }

@@ -68,7 +68,7 @@ fn listed(alloc: Global, system: &System) -> Result<Report, Halt>
     ensures memory { IsErrOf result Halt.Files → ⊥ }
 {
     match listing(alloc, system) {
-        Ok(text) => Ok(Report::Listed(text)),
+        Ok(text) => Ok(Report::Text(text)),
         Err(_) => Err(Halt::Memory),
     }
 }

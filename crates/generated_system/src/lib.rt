@@ -6,8 +6,6 @@ mod items;
 mod parts;
 mod scenario;
 mod system;
-#[cfg(test)]
-mod tests;
 
 pub use scenario::scenario_text;
 pub use system::system_text;

@@ -8,6 +8,3 @@ mod names;
 pub use connections::{Connection, Connections};
 pub use handles::{Family, handle_of, slot_of};
 pub use names::{fresh_law, name_law};
-
-#[cfg(test)]
-mod tests;

@@ -61,7 +61,7 @@ pub record VectorsFit (regions : List (ℕ × ℕ)) (vectors : Vectors) : Type 0
 abbrev pub MessagesFit : List (ℕ × ℕ) → Objects → Type 0
 MessagesFit regions o = All (λ m. VectorsFit regions m.vectors) o.messages.items
 
--- the machine's memory is the system's, and the vectors of its messages lie in it
+-- the machine has the memory of the system, and the vectors of its messages fit it
 pub record IsMachineOf (s : System) (m : Machine) : Type 0 where
   pub regions : regions_of m.memory ≡ ranges_of s.regions
   pub messages : MessagesFit (ranges_of s.regions) m.objects

@@ -8,7 +8,7 @@ ghost use Rattle.machine_calls.specs.Machine.{spm_of, Moves};
 use crate::machine::Objects;
 use ffm_model::{ActorId, Outcome, SourceFlags, System};
 
-fn put_bell(doorbells: &mut [bool], partition: usize, set: bool)
+fn put_doorbell(doorbells: &mut [bool], partition: usize, set: bool)
     ensures { doorbells.new ≡ slice_set doorbells.old partition set }
 {
     if partition < doorbells.len() {
@@ -62,7 +62,7 @@ impl Objects {
         ensures messages { self.new.messages ≡ self.old.messages }
         ensures made { self.new.connections_made ≡ self.old.connections_made }
     {
-        put_bell(self.doorbells.as_mut_slice(), partition, set);
+        put_doorbell(self.doorbells.as_mut_slice(), partition, set);
     }
 
     fn flags(&self, source: usize) -> SourceFlags

@@ -111,7 +111,7 @@ fn disconnection(partition: u32, connection: OpenConnection) -> Option<PendingMe
 }
 
 // What is left of a connection.
-fn left(system: &System, partition: u32, connection: OpenConnection) -> Option<OpenConnection>
+fn left_of(system: &System, partition: u32, connection: OpenConnection) -> Option<OpenConnection>
     ensures { result ≡ left_of system.now partition connection }
 {
     let kept = without_service(system, partition, connection)?;
@@ -132,10 +132,10 @@ fn disconnection_left(
 }
 
 // Whether the connection stays, as what is left of it.
-fn lose(system: &System, partition: u32, connection: &mut OpenConnection) -> bool
+fn stays(system: &System, partition: u32, connection: &mut OpenConnection) -> bool
     ensures { Leaves (left_of system.now partition connection.old) result connection.new }
 {
-    match left(system, partition, *connection) {
+    match left_of(system, partition, *connection) {
         Some(kept) => {
             *connection = kept;
             true
@@ -147,7 +147,7 @@ fn lose(system: &System, partition: u32, connection: &mut OpenConnection) -> boo
 fn lose_connections(system: &System, partition: u32, connections: &mut Vec<OpenConnection>)
     ensures { connections.new.items ≡ filter_map (left_of system.now partition) connections.old.items }
 {
-    connections.retain_mut(|c| lose(system, partition, c));
+    connections.retain_mut(|c| stays(system, partition, c));
 }
 
 // The messages to the partition's services are gone.

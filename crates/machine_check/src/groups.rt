@@ -1,11 +1,8 @@
-//! Which calls belong together, and who has which.
+//! Which calls belong together.
 ghost use Rattle.std.specs.Prelude.{◌≡◌};
-ghost use Rattle.ffm_model.specs.Calls.{client_has, has_call, refusal_of};
 ghost use Rattle.machine_check.specs.Groups.{group_of};
 
-use ffm_model::{
-    ActorKind, Call, Outcome, PSA_ERROR_CONNECTION_REFUSED, PSA_ERROR_PROGRAMMER_ERROR,
-};
+use ffm_model::Call;
 
 /// Calls that belong together.
 #[derive(Clone, Copy)]
@@ -40,44 +37,5 @@ pub fn group_of(call: Call) -> Group
         Call::Notify { .. } | Call::Clear | Call::Eoi { .. } | Call::Raise { .. } => Group::Signal,
         Call::Load { .. } | Call::Store { .. } => Group::Memory,
         Call::Panic | Call::Stop { .. } | Call::Resume => Group::Actor,
-    }
-}
-
-/// Whether actors of that kind have the call.
-pub fn has_call(kind: ActorKind, call: Call) -> bool
-    ensures { result ≡ has_call kind call }
-{
-    match kind {
-        ActorKind::Partition => !matches!(call, Call::Raise { .. }),
-        ActorKind::Client => is_for_clients(call),
-        ActorKind::Device => matches!(call, Call::Raise { .. } | Call::Stop { .. } | Call::Resume),
-    }
-}
-
-fn is_for_clients(call: Call) -> bool
-    ensures { result ≡ client_has call }
-{
-    matches!(
-        call,
-        Call::FrameworkVersion
-            | Call::Version { .. }
-            | Call::Connect { .. }
-            | Call::Invoke { .. }
-            | Call::Close { .. }
-            | Call::Load { .. }
-            | Call::Store { .. }
-            | Call::Stop { .. }
-            | Call::Resume
-    )
-}
-
-/// What a non-secure client is answered at a PROGRAMMER ERROR.
-pub fn refusal_of(call: Call) -> Outcome
-    ensures { result ≡ refusal_of call }
-{
-    match call {
-        Call::Connect { .. } => Outcome::Value(PSA_ERROR_CONNECTION_REFUSED),
-        Call::Close { .. } => Outcome::Done,
-        _ => Outcome::Value(PSA_ERROR_PROGRAMMER_ERROR),
     }
 }

@@ -7,7 +7,5 @@
 mod groups;
 mod judging;
 mod step;
-#[cfg(test)]
-mod tests;
 
 pub use judging::{Checked, check};

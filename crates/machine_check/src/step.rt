@@ -12,10 +12,10 @@ ghost use Rattle.machine_check.specs.Groups.{group_of};
 ghost use Rattle.machine_calls.specs.Machine.{spm_of, IsMachineOf};
 ghost use Rattle.machine_check.specs.Performed.{gave_handle, Attempts, Knows, Performs, Refuses, Steps};
 
-use crate::groups::{Group, group_of, has_call, refusal_of};
+use crate::groups::{Group, group_of};
 use ffm_model::{
     ActorId, ActorKind, ActorPhase, Call, Entry, Handle, Memory, Outcome,
-    PSA_ERROR_PROGRAMMER_ERROR, PSA_FRAMEWORK_VERSION, System,
+    PSA_ERROR_PROGRAMMER_ERROR, PSA_FRAMEWORK_VERSION, System, has_call, refusal_of,
 };
 use machine_calls::{Machine, Objects, version};
 use std::collections::BTreeSet;

@@ -4,22 +4,15 @@ ghost use Rattle.spm_core.specs.Manager.{is_resume};
 
 use crate::call_lines::{Words, actor_of, call_of};
 use ffm_model::{ActorId, Answer, Call, Counts, System};
-use manifest_compile::compile;
 use memory_image::{Image, open_within};
-use outside_io::MemoryFiles;
+use sample_systems::system_of;
 use spm_core::Spm;
 use std::alloc::Global;
 use std::process::Abort;
 use std::str::from_utf8;
 use std::test::Fail;
-use system_json::{read_scenario, read_system};
+use system_json::read_scenario;
 use trace_print::{print, print_verdict};
-
-fn system_of(alloc: Global, text: &str) -> Result<System, Fail> {
-    let mut files = MemoryFiles::new(alloc);
-    let parts = read_system(alloc, text.as_bytes(), &mut files)?;
-    Ok(compile(alloc, &parts)?)
-}
 
 /// A manager of the system of a system file, with the memory and the limit of a scenario file.
 #[tactic(auto, using(memory_image::proofs::Systems::system_fits))]

@@ -12,6 +12,3 @@ mod regions;
 mod systems;
 
 pub use compiler::compile;
-
-#[cfg(test)]
-mod tests;

@@ -18,6 +18,3 @@ pub use trees::read_tree;
 pub use values::{
     BooleanReader, NameReader, NumberReader, SourceReader, hex_number, is_name, object, whole,
 };
-
-#[cfg(test)]
-mod tests;

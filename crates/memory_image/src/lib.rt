@@ -8,6 +8,3 @@ mod ranges;
 
 pub use image::Image;
 pub use ranges::{may_read, may_write, open_within, valid_buffer};
-
-#[cfg(test)]
-mod tests;

@@ -16,6 +16,3 @@ pub use laws::{
     vectors_tell_ram, words_change_range,
 };
 pub use moves::{finish, read, skip, write};
-
-#[cfg(test)]
-mod tests;

@@ -7,6 +7,3 @@ mod slot;
 
 pub use pool::Pool;
 pub use slot::{Held, Slot};
-
-#[cfg(test)]
-mod tests;

@@ -25,13 +25,13 @@ use Rattle.handle_table.specs.Table.{connections}
 use Rattle.counting_law.specs.Objects.{ObjectsFit}
 use Rattle.counting_law.proofs.Parts.{phase_same}
 use Rattle.counting_law.proofs.Rooms.{panic-room}
-use Rattle.spm_tables.specs.Desk.{Desk, Shape, MadeFor, spm_of, shape_of, held_message, service_signal}
+use Rattle.spm_tables.specs.TablesView.{TablesView, Shape, MadeFor, spm_of, shape_of, held_message, service_signal}
 use Rattle.spm_tables.proofs.SystemLemmas.{few_connections}
 use Rattle.slot_names.specs.Named.{KeepsNames}
-use Rattle.slot_names.specs.Changes.{PairsOff, Relinks, TakesOn, names_of}
+use Rattle.slot_names.specs.Changes.{PairsOff, KeepsConnectionNames, TakesOn, names_of}
 use Rattle.slot_names.proofs.Moves.{relinks-some}
 use Rattle.slot_names.proofs.Panics.{names-panicked, takes-first}
-use Rattle.panic_state.specs.Losses.{left_by, in_slot, held_without_service, held_without_client, as_client, goodbyes}
+use Rattle.panic_state.specs.Losses.{left_by, in_slot, held_without_service, held_without_client, as_client, disconnect_messages}
 use Rattle.panic_state.proofs.Lists.{map-left, left-twice, map-kept, All-left}
 use Rattle.panic_state.proofs.ServiceLemmas.{services-known}
 use Rattle.panic_state.proofs.Walks.{items}
@@ -40,41 +40,41 @@ seen-left : (h : Held OpenConnection) (o : Option OpenConnection) → option_map
 seen-left h None = refl
 seen-left h (Some c) = refl
 
-connections-served : (s : System) (p : ℕ) (d : Desk) → items (as_client s p d).linked.held ≡ filter_map (without_service s p) (connections d.linked)
+connections-served : (s : System) (p : ℕ) (d : TablesView) → items (as_client s p d).linked.held ≡ filter_map (without_service s p) (connections d.linked)
 connections-served s p d = map-left (λ (h : Held OpenConnection). h.item) (held_without_service s p) (without_service s p) (λ h. seen-left h (without_service s p h.item)) d.linked.held
 
-goodbyes-are : (s : System) (p : ℕ) (d : Desk) → goodbyes p (as_client s p d).linked ≡ filter_map (λ c. option_and_then (disconnection p) (without_service s p c)) (connections d.linked)
-goodbyes-are s p d = ap (filter_map (disconnection p)) (connections-served s p d) ∙ left-twice (without_service s p) (disconnection p) (connections d.linked)
+disconnects-are : (s : System) (p : ℕ) (d : TablesView) → disconnect_messages p (as_client s p d).linked ≡ filter_map (λ c. option_and_then (disconnection p) (without_service s p c)) (connections d.linked)
+disconnects-are s p d = ap (filter_map (disconnection p)) (connections-served s p d) ∙ left-twice (without_service s p) (disconnection p) (connections d.linked)
 
-connections-are : (s : System) (p : ℕ) (d : Desk)
+connections-are : (s : System) (p : ℕ) (d : TablesView)
     → connections (left_by (held_without_client p) (as_client s p d).linked) ≡ filter_map (λ c. option_and_then (without_client p) (without_service s p c)) (connections d.linked)
 connections-are s p d =
     map-left (λ (h : Held OpenConnection). h.item) (held_without_client p) (without_client p) (λ h. seen-left h (without_client p h.item)) (as_client s p d).linked.held
     ∙ ap (filter_map (without_client p)) (connections-served s p d) ∙ left-twice (without_service s p) (without_client p) (connections d.linked)
 
-messages-kept : (s : System) (p : ℕ) (d : Desk) → map held_message (as_client s p d).waiting.held ≡ filter (λ m. not (is_service_of s p m.service)) (map held_message d.waiting.held)
+messages-kept : (s : System) (p : ℕ) (d : TablesView) → map held_message (as_client s p d).waiting.held ≡ filter (λ m. not (is_service_of s p m.service)) (map held_message d.waiting.held)
 messages-kept s p d = map-kept held_message (λ m. not (is_service_of s p m.service)) d.waiting.held
 
 -- ---- the effect
 
-pub effect-is : (s : System) (p : ℕ) (d mid new : Desk) → mid ≡ as_client s p d → new.linked ≡ left_by (held_without_client p) mid.linked
-    → map held_message new.waiting.held ≡ map held_message mid.waiting.held ++ goodbyes p mid.linked → new ≡ record mid { linked = new.linked; waiting = new.waiting } → spm_of new ≡ panic_effect s (spm_of d) p
+pub effect-is : (s : System) (p : ℕ) (d mid new : TablesView) → mid ≡ as_client s p d → new.linked ≡ left_by (held_without_client p) mid.linked
+    → map held_message new.waiting.held ≡ map held_message mid.waiting.held ++ disconnect_messages p mid.linked → new ≡ record mid { linked = new.linked; waiting = new.waiting } → spm_of new ≡ panic_effect s (spm_of d) p
 effect-is s p d mid new before linked messages rest =
-    let at : record mid { linked = new.linked; waiting = new.waiting } ≡ record (as_client s p d) { linked = new.linked; waiting = new.waiting } = ap (λ (x : Desk). record x { linked = new.linked; waiting = new.waiting }) before in
+    let at : record mid { linked = new.linked; waiting = new.waiting } ≡ record (as_client s p d) { linked = new.linked; waiting = new.waiting } = ap (λ (x : TablesView). record x { linked = new.linked; waiting = new.waiting }) before in
     let is : new ≡ record (as_client s p d) { linked = new.linked; waiting = new.waiting } = rest ∙ at in
-    let made : new.linked ≡ left_by (held_without_client p) (as_client s p d).linked = linked ∙ ap (λ (x : Desk). left_by (held_without_client p) x.linked) before in
+    let made : new.linked ≡ left_by (held_without_client p) (as_client s p d).linked = linked ∙ ap (λ (x : TablesView). left_by (held_without_client p) x.linked) before in
     let cs = ap connections made ∙ connections-are s p d in
     let count = ap (λ (x : Places OpenConnection). x.takes) made in
-    let ms = messages ∙ ap (λ (x : Desk). map held_message x.waiting.held ++ goodbyes p x.linked) before
-    ∙ ap (λ (xs : List PendingMessage). xs ++ goodbyes p (as_client s p d).linked) (messages-kept s p d)
-    ∙ ap (λ (xs : List PendingMessage). filter (λ m. not (is_service_of s p m.service)) (map held_message d.waiting.held) ++ xs) (goodbyes-are s p d) in
+    let ms = messages ∙ ap (λ (x : TablesView). map held_message x.waiting.held ++ disconnect_messages p x.linked) before
+    ∙ ap (λ (xs : List PendingMessage). xs ++ disconnect_messages p (as_client s p d).linked) (messages-kept s p d)
+    ∙ ap (λ (xs : List PendingMessage). filter (λ m. not (is_service_of s p m.service)) (map held_message d.waiting.held) ++ xs) (disconnects-are s p d) in
     ap spm_of is ∙ (λ j. record (spm_of (as_client s p d)) { connections = cs j; connections_made = count j; messages = ms j })
 
 -- ---- the room
 
 -- the messages that stay and those that come are no more than the connections that are declared
-pub room-of : (s : System) (p : ℕ) (d : Desk) → MadeFor d s → p < length s.partitions → ObjectsFit s (with_phase (spm_of d) p Running)
-    → length (as_client s p d).waiting.held + length (goodbyes p (as_client s p d).linked) ≤ capacity s
+pub room-of : (s : System) (p : ℕ) (d : TablesView) → MadeFor d s → p < length s.partitions → ObjectsFit s (with_phase (spm_of d) p Running)
+    → length (as_client s p d).waiting.held + length (disconnect_messages p (as_client s p d).linked) ≤ capacity s
 room-of s p d made inside fits =
     let there : p < length d.phases = omega (arith, ap (λ (x : Shape). x.actors) made) in
     let running : phase_of (with_phase (spm_of d) p Running) p ≡ Running = phase_same d.phases p Running there in
@@ -85,13 +85,13 @@ room-of s p d made inside fits =
       panic-room s (with_phase (spm_of d) p Running) p fits running,
       length-append kept sent,
       ap (λ (ms : List PendingMessage). length ms) (messages-kept s p d),
-      ap (λ (ms : List PendingMessage). length ms) (goodbyes-are s p d),
+      ap (λ (ms : List PendingMessage). length ms) (disconnects-are s p d),
       length-map (as_client s p d).waiting.held held_message,
     )
 
 -- ---- the services of the connections
 
-pub services-of : (s : System) (p : ℕ) (d : Desk) → MadeFor d s → ObjectsFit s (with_phase (spm_of d) p Running) → All (λ h. h.item.service < length (as_client s p d).services) (as_client s p d).linked.held
+pub services-of : (s : System) (p : ℕ) (d : TablesView) → MadeFor d s → ObjectsFit s (with_phase (spm_of d) p Running) → All (λ h. h.item.service < length (as_client s p d).services) (as_client s p d).linked.held
 services-of s p d made fit =
     let count : length d.services ≡ length s.services = ap (λ (x : Shape). length x.services) made ∙ length-map s.services service_signal in
     let all : All (λ h. h.item.service < length d.services) d.linked.held =
@@ -127,32 +127,32 @@ clients-length s p (c ∷ cs) phases =
     let go : (b : Bool) → length (cond b told phases) ≡ length phases = elim [ true ↦ answered-length c.phase phases c.client.0 | false ↦ refl ] in
     clients-length s p cs (cond (is_service_of s p c.service) told phases) ∙ go (is_service_of s p c.service)
 
-pub shape-is : (s : System) (p : ℕ) (d mid new : Desk) → mid ≡ as_client s p d → new.linked ≡ left_by (held_without_client p) mid.linked
+pub shape-is : (s : System) (p : ℕ) (d mid new : TablesView) → mid ≡ as_client s p d → new.linked ≡ left_by (held_without_client p) mid.linked
     → length new.waiting.generations ≡ length mid.waiting.generations → new ≡ record mid { linked = new.linked; waiting = new.waiting } → shape_of new ≡ shape_of d
 shape-is s p d mid new before linked size rest =
-    let is : new ≡ record (as_client s p d) { linked = new.linked; waiting = new.waiting } = rest ∙ ap (λ (x : Desk). record x { linked = new.linked; waiting = new.waiting }) before in
-    let made = ap (λ (x : Places OpenConnection). length x.generations) (linked ∙ ap (λ (x : Desk). left_by (held_without_client p) x.linked) before) in
-    let room = size ∙ ap (λ (x : Desk). length x.waiting.generations) before in
+    let is : new ≡ record (as_client s p d) { linked = new.linked; waiting = new.waiting } = rest ∙ ap (λ (x : TablesView). record x { linked = new.linked; waiting = new.waiting }) before in
+    let made = ap (λ (x : Places OpenConnection). length x.generations) (linked ∙ ap (λ (x : TablesView). left_by (held_without_client p) x.linked) before) in
+    let room = size ∙ ap (λ (x : TablesView). length x.waiting.generations) before in
     let phases = clients-length s p (connections d.linked) (slice_set d.phases p Panicked) ∙ length-set d.phases p Panicked in
     ap shape_of is ∙ (λ j. record (shape_of d) { actors = phases j; connections = made j; messages = room j })
 
-pub few-goodbyes : (s : System) (p : ℕ) (d : Desk) → MadeFor d s → p < length s.partitions → ObjectsFit s (with_phase (spm_of d) p Running) → length (goodbyes p (as_client s p d).linked) ≤ 256
-few-goodbyes s p d made inside fit = omega (arith, room-of s p d made inside fit, few_connections s)
+pub few-disconnects : (s : System) (p : ℕ) (d : TablesView) → MadeFor d s → p < length s.partitions → ObjectsFit s (with_phase (spm_of d) p Running) → length (disconnect_messages p (as_client s p d).linked) ≤ 256
+few-disconnects s p d made inside fit = omega (arith, room-of s p d made inside fit, few_connections s)
 
 -- ---- the names
 
-pub names-are : (s : System) (p : ℕ) (d mid new : Desk) → MadeFor d s → ObjectsFit s (with_phase (spm_of d) p Running) → mid ≡ as_client s p d → spm_of new ≡ panic_effect s (spm_of d) p
-    → ((first : Desk) (kept : List SlotName) → TakesOn (length mid.waiting.generations) first kept 0 mid → TakesOn (length mid.waiting.generations) first kept (length (goodbyes p mid.linked)) new) → KeepsNames s d new
+pub names-are : (s : System) (p : ℕ) (d mid new : TablesView) → MadeFor d s → ObjectsFit s (with_phase (spm_of d) p Running) → mid ≡ as_client s p d → spm_of new ≡ panic_effect s (spm_of d) p
+    → ((first : TablesView) (kept : List SlotName) → TakesOn (length mid.waiting.generations) first kept 0 mid → TakesOn (length mid.waiting.generations) first kept (length (disconnect_messages p mid.linked)) new) → KeepsNames s d new
 names-are s p d mid new made fit before effect more =
     let pairs : PairsOff (spm_of d) = record { paired = fit.paired; rising = fit.rising } in
     let kept : List SlotName = names_of (λ h. not (is_service_of s p h.item.service)) d.waiting in
-    let size : length mid.waiting.generations ≡ capacity s = ap (λ (x : Desk). length x.waiting.generations) before ∙ ap (λ (x : Shape). x.messages) made in
-    let linked : Relinks d.linked (as_client s p d).linked =
+    let size : length mid.waiting.generations ≡ capacity s = ap (λ (x : TablesView). length x.waiting.generations) before ∙ ap (λ (x : Shape). x.messages) made in
+    let linked : KeepsConnectionNames d.linked (as_client s p d).linked =
     relinks-some d.linked (held_without_service s p) (λ h g e. (same_slot h g (is_service_of s p h.item.service) (lost h.item.phase) e, same_serial h g (is_service_of s p h.item.service) (lost h.item.phase) e)) in
     let gone : TakesOn (capacity s) d kept 0 (as_client s p d) = takes-first (capacity s) d (as_client s p d) (λ h. not (is_service_of s p h.item.service)) linked refl in
-    let there : TakesOn (length mid.waiting.generations) d kept 0 mid = subst (λ (n : ℕ). TakesOn n d kept 0 mid) (sym size) (subst (λ (x : Desk). TakesOn (capacity s) d kept 0 x) (sym before) gone) in
-    let all : TakesOn (capacity s) d kept (length (goodbyes p mid.linked)) new = subst (λ (n : ℕ). TakesOn n d kept (length (goodbyes p mid.linked)) new) size (more d kept there) in
-    names-panicked s d new p kept (length (goodbyes p mid.linked)) pairs effect refl all where
+    let there : TakesOn (length mid.waiting.generations) d kept 0 mid = subst (λ (n : ℕ). TakesOn n d kept 0 mid) (sym size) (subst (λ (x : TablesView). TakesOn (capacity s) d kept 0 x) (sym before) gone) in
+    let all : TakesOn (capacity s) d kept (length (disconnect_messages p mid.linked)) new = subst (λ (n : ℕ). TakesOn n d kept (length (disconnect_messages p mid.linked)) new) size (more d kept there) in
+    names-panicked s d new p kept (length (disconnect_messages p mid.linked)) pairs effect refl all where
       same_slot : (x y : Held OpenConnection) (b : Bool) (l : Option ConnPhase) → in_slot x (if b then option_map (λ f. record x.item { phase = f }) l else Some x.item) ≡ Some y → y.slot ≡ x.slot
       same_slot x y true None f = cc
       same_slot x y true (Some ph) f = let it : record x { item = record x.item { phase = ph } } ≡ y = cc in ap (λ (h : Held OpenConnection). h.slot) (sym it)

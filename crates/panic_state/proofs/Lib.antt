@@ -4,4 +4,3 @@ mod Walks
 mod Leaving
 pub mod ServiceLemmas
 mod EffectLemmas
-mod TestLemmas

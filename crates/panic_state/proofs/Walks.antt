@@ -12,7 +12,7 @@ use Rattle.ffm_model.specs.Panic.{lost, client_answered, clients_answered}
 use Rattle.object_pools.specs.declared.slot.Held.{Held}
 use Rattle.object_pools.specs.Pool.{IsKept, with_item, without}
 use Rattle.spm_tables.specs.declared.item.QueuedMessage.{QueuedMessage}
-use Rattle.spm_tables.specs.Desk.{Desk}
+use Rattle.spm_tables.specs.TablesView.{TablesView}
 use Rattle.panic_state.specs.Losses.{with_left, in_slot, in_phase, held_without_service, with_lost, without_messages}
 use Rattle.panic_state.proofs.Lists.{left_from, left_from-same, left_from-set, left_from-out, left_from-all, length-out, drop-nth, drop-set, drop-out, drop-all}
 use Rattle.panic_state.proofs.PlaceLemmas.{with_item-at, without-at}
@@ -21,14 +21,14 @@ abbrev pub items : List (Held OpenConnection) → List OpenConnection
 items hs = map (λ h. h.item) hs
 
 -- the services of the connections from a place on are gone too
-abbrev pub services_from : System → ℕ → ℕ → Desk → Desk
+abbrev pub services_from : System → ℕ → ℕ → TablesView → TablesView
 services_from s p n d = record d {
   linked = record d.linked { held = left_from (held_without_service s p) n d.linked.held };
   phases = clients_answered s p (items (drop n d.linked.held)) d.phases;
 }
 
 -- at the end none is left to be lost
-pub services_from-all : (s : System) (p n : ℕ) (d : Desk) → length d.linked.held ≤ n → services_from s p n d ≡ d
+pub services_from-all : (s : System) (p n : ℕ) (d : TablesView) → length d.linked.held ≤ n → services_from s p n d ≡ d
 services_from-all s p n d past = λ j. record d {
   linked = record d.linked { held = left_from-all (held_without_service s p) d.linked.held n past j };
   phases = clients_answered s p (items (drop-all d.linked.held n past j)) d.phases;
@@ -38,7 +38,7 @@ abbrev answered_by : System → ℕ → List ActorPhase → OpenConnection → L
 answered_by s p phases c = if is_service_of s p c.service then client_answered c.phase phases c.client.0 else phases
 
 -- one further, where the service is another partition's
-pub services_from-other : (s : System) (p n : ℕ) (d : Desk) (h : Held OpenConnection) → slice_get d.linked.held n ≡ Some h → is_service_of s p h.item.service ≡ false
+pub services_from-other : (s : System) (p n : ℕ) (d : TablesView) (h : Held OpenConnection) → slice_get d.linked.held n ≡ Some h → is_service_of s p h.item.service ≡ false
     → services_from s p (n + 1) d ≡ services_from s p n d
 services_from-other s p n d h here other =
     let kept : held_without_service s p h ≡ Some h = ap (λ (b : Bool). in_slot h (if b then option_map (λ f. record h.item { phase = f }) (lost h.item.phase) else Some h.item)) other in
@@ -50,7 +50,7 @@ services_from-other s p n d h here other =
     λ j. record d { linked = record d.linked { held = held j }; phases = phases j }
 
 -- one lost
-pub services_from-lost : (s : System) (p n : ℕ) (d new : Desk) (h : Held OpenConnection) (kept : Bool) → IsKept 256 d.linked → slice_get d.linked.held n ≡ Some h → is_service_of s p h.item.service ≡ true
+pub services_from-lost : (s : System) (p n : ℕ) (d new : TablesView) (h : Held OpenConnection) (kept : Bool) → IsKept 256 d.linked → slice_get d.linked.held n ≡ Some h → is_service_of s p h.item.service ≡ true
     → new ≡ with_lost d h → kept ≡ is_some (lost h.item.phase) → services_from s p (if kept then n + 1 else n) new ≡ services_from s p n d
 services_from-lost s p n d new h kept k here own after stays =
     let rest = drop-nth d.linked.held n h here in
@@ -79,7 +79,7 @@ services_from-lost s p n d new h kept k here own after stays =
     ap (λ (b : Bool). services_from s p (if b then n + 1 else n) new) stays ∙ ap (services_from s p (if is_some (lost h.item.phase) then n + 1 else n)) after ∙ go (lost h.item.phase) refl
 
 -- a connection that goes leaves fewer
-pub lost-shorter : (p : ℕ) (d new : Desk) (h : Held OpenConnection) (kept : Bool) → IsKept 256 d.linked → slice_get d.linked.held p ≡ Some h → new ≡ with_lost d h → kept ≡ is_some (lost h.item.phase) → kept ≡ false
+pub lost-shorter : (p : ℕ) (d new : TablesView) (h : Held OpenConnection) (kept : Bool) → IsKept 256 d.linked → slice_get d.linked.held p ≡ Some h → new ≡ with_lost d h → kept ≡ is_some (lost h.item.phase) → kept ≡ false
     → length new.linked.held + 1 ≡ length d.linked.held
 lost-shorter n d new h kept k here after stays gone =
     let go : (o : Option ConnPhase) → lost h.item.phase ≡ o → is_some o ≡ false → length (with_left d.linked h.slot (in_phase h.item o)).held + 1 ≡ length d.linked.held =
@@ -87,33 +87,33 @@ lost-shorter n d new h kept k here after stays gone =
       | None ↦ λ e f. ap (λ (hs : List (Held OpenConnection)). length hs + 1) (without-at d.linked n h k here) ∙ length-out d.linked.held n h here
       | Some f ↦ λ e g. cc
     ] in
-    ap (λ (x : Desk). length x.linked.held + 1) after ∙ go (lost h.item.phase) refl (sym stays ∙ gone)
+    ap (λ (x : TablesView). length x.linked.held + 1) after ∙ go (lost h.item.phase) refl (sym stays ∙ gone)
 
 -- the messages from a place on are gone too, where they are to the partition's services
 abbrev pub is_kept : System → ℕ → Held QueuedMessage → Option (Held QueuedMessage)
 is_kept s p h = if is_service_of s p h.item.service then None else Some h
 
-abbrev pub messages_from : System → ℕ → ℕ → Desk → Desk
+abbrev pub messages_from : System → ℕ → ℕ → TablesView → TablesView
 messages_from s p n d = record d { waiting = record d.waiting { held = left_from (is_kept s p) n d.waiting.held } }
 
-pub messages_from-all : (s : System) (p n : ℕ) (d : Desk) → length d.waiting.held ≤ n → messages_from s p n d ≡ d
+pub messages_from-all : (s : System) (p n : ℕ) (d : TablesView) → length d.waiting.held ≤ n → messages_from s p n d ≡ d
 messages_from-all s p n d past = λ j. record d { waiting = record d.waiting { held = left_from-all (is_kept s p) d.waiting.held n past j } }
 
-pub messages_from-other : (s : System) (p n : ℕ) (d : Desk) (h : Held QueuedMessage) → slice_get d.waiting.held n ≡ Some h → is_service_of s p h.item.service ≡ false → messages_from s p (n + 1) d ≡ messages_from s p n d
+pub messages_from-other : (s : System) (p n : ℕ) (d : TablesView) (h : Held QueuedMessage) → slice_get d.waiting.held n ≡ Some h → is_service_of s p h.item.service ≡ false → messages_from s p (n + 1) d ≡ messages_from s p n d
 messages_from-other s p n d h here other =
     let held = left_from-same (is_kept s p) d.waiting.held n h here (ap (λ (b : Bool). if b then None else Some h) other) in
     λ j. record d { waiting = record d.waiting { held = held j } }
 
-pub messages_from-gone : (s : System) (p n : ℕ) (d new : Desk) (h : Held QueuedMessage) → IsKept 256 d.waiting → slice_get d.waiting.held n ≡ Some h → is_service_of s p h.item.service ≡ true
+pub messages_from-gone : (s : System) (p n : ℕ) (d new : TablesView) (h : Held QueuedMessage) → IsKept 256 d.waiting → slice_get d.waiting.held n ≡ Some h → is_service_of s p h.item.service ≡ true
     → new ≡ record d { waiting = without d.waiting h.slot } → messages_from s p n new ≡ messages_from s p n d
 messages_from-gone s p n d new h k here own after =
     let held = ap (left_from (is_kept s p) n) (without-at d.waiting n h k here) ∙ left_from-out (is_kept s p) d.waiting.held n h here (ap (λ (b : Bool). if b then None else Some h) own) in
     let step : messages_from s p n (record d { waiting = without d.waiting h.slot }) ≡ messages_from s p n d = λ j. record d { waiting = record d.waiting { held = held j } } in
     ap (messages_from s p n) after ∙ step
 
-pub gone-shorter : (n : ℕ) (d new : Desk) (h : Held QueuedMessage) → IsKept 256 d.waiting → slice_get d.waiting.held n ≡ Some h → new ≡ record d { waiting = without d.waiting h.slot } → length new.waiting.held + 1 ≡ length d.waiting.held
+pub gone-shorter : (n : ℕ) (d new : TablesView) (h : Held QueuedMessage) → IsKept 256 d.waiting → slice_get d.waiting.held n ≡ Some h → new ≡ record d { waiting = without d.waiting h.slot } → length new.waiting.held + 1 ≡ length d.waiting.held
 gone-shorter n d new h k here after =
-    ap (λ (x : Desk). length x.waiting.held + 1) after ∙ ap (λ (hs : List (Held QueuedMessage)). length hs + 1) (without-at d.waiting n h k here) ∙ length-out d.waiting.held n h here
+    ap (λ (x : TablesView). length x.waiting.held + 1) after ∙ ap (λ (hs : List (Held QueuedMessage)). length hs + 1) (without-at d.waiting n h k here) ∙ length-out d.waiting.held n h here
 
 -- a filter, as what is left
 kept-filter : (s : System) (p : ℕ) (hs : List (Held QueuedMessage)) → filter_map (is_kept s p) hs ≡ filter (λ h. not (is_service_of s p h.item.service)) hs
@@ -124,5 +124,5 @@ kept-filter s p (h ∷ hs) =
     elim [ true ↦ kept-filter s p hs | false ↦ ap (λ (xs : List (Held QueuedMessage)). h ∷ xs) (kept-filter s p hs) ] in
     go (is_service_of s p h.item.service)
 
-pub messages_from-none : (s : System) (p : ℕ) (d : Desk) → messages_from s p 0 d ≡ without_messages s p d
+pub messages_from-none : (s : System) (p : ℕ) (d : TablesView) → messages_from s p 0 d ≡ without_messages s p d
 messages_from-none s p d = λ j. record d { waiting = record d.waiting { held = kept-filter s p d.waiting.held j } }

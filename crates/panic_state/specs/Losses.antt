@@ -16,7 +16,7 @@ use Rattle.object_pools.specs.declared.slot.Slot.{Slot}
 use Rattle.object_pools.specs.declared.slot.Held.{Held}
 use Rattle.object_pools.specs.Pool.{Places, with_item, without}
 use Rattle.handle_table.specs.Table.{connections}
-use Rattle.spm_tables.specs.Desk.{Desk}
+use Rattle.spm_tables.specs.TablesView.{TablesView}
 
 module _ {T : Type 0} where
   -- the item of a slot is this one, or it is gone
@@ -42,25 +42,25 @@ abbrev pub held_without_client : ℕ → Held OpenConnection → Option (Held Op
 held_without_client p h = in_slot h (without_client p h.item)
 
 -- the service of one connection is gone, and its client is answered
-abbrev pub with_lost : Desk → Held OpenConnection → Desk
+abbrev pub with_lost : TablesView → Held OpenConnection → TablesView
 with_lost d h = record d { linked = with_left d.linked h.slot (in_phase h.item (lost h.item.phase)); phases = client_answered h.item.phase d.phases h.item.client.0 }
 
 -- the partition's services are gone
-abbrev pub without_services : System → ℕ → Desk → Desk
+abbrev pub without_services : System → ℕ → TablesView → TablesView
 without_services s p d = record d { linked = left_by (held_without_service s p) d.linked; phases = clients_answered s p (connections d.linked) d.phases }
 
 -- the messages to the partition's services are gone
-abbrev pub without_messages : System → ℕ → Desk → Desk
+abbrev pub without_messages : System → ℕ → TablesView → TablesView
 without_messages s p d = record d { waiting = record d.waiting { held = filter (λ h. not (is_service_of s p h.item.service)) d.waiting.held } }
 
 -- the partition is Panicked and its services are gone; it is still there as a client
-abbrev pub as_client : System → ℕ → Desk → Desk
+abbrev pub as_client : System → ℕ → TablesView → TablesView
 as_client s p d = without_messages s p (without_services s p (record d { phases = slice_set d.phases p Panicked }))
 
 -- the message that closes a connection, for which nobody waits
-abbrev pub goodbye : OpenConnection → PendingMessage
-goodbye c = record { service = c.service; client = c.client; connection = c.serial; kind = PSA_IPC_DISCONNECT; vectors = no_vectors; handle = None }
+abbrev pub disconnect_message : OpenConnection → PendingMessage
+disconnect_message c = record { service = c.service; client = c.client; connection = c.serial; kind = PSA_IPC_DISCONNECT; vectors = no_vectors; handle = None }
 
 -- those of the partition's own connections that aren't dead
-abbrev pub goodbyes : ℕ → Places OpenConnection → List PendingMessage
-goodbyes p linked = filter_map (disconnection p) (connections linked)
+abbrev pub disconnect_messages : ℕ → Places OpenConnection → List PendingMessage
+disconnect_messages p linked = filter_map (disconnection p) (connections linked)

@@ -3,9 +3,9 @@
 ghost use Rattle.std.specs.Prelude.{◌≡◌, ◌<◌, ◌≤◌, ◌+◌, ◌++◌, List, length, false, All, Some};
 ghost use Rattle.ffm_model.specs.Panic.{is_dead};
 ghost use Rattle.ffm_model.specs.Names.{SlotName};
-ghost use Rattle.spm_tables.specs.Desk.{Desk, spm_of, fresh_message, queued_as};
+ghost use Rattle.spm_tables.specs.TablesView.{TablesView, spm_of, fresh_message, queued_as};
 ghost use Rattle.slot_names.specs.Changes.{TakesOn};
-ghost use Rattle.panic_state.specs.Losses.{left_by, held_without_client, goodbye, goodbyes};
+ghost use Rattle.panic_state.specs.Losses.{left_by, held_without_client, disconnect_message, disconnect_messages};
 
 use crate::places::connection_at;
 use ffm_model::{ActorId, ConnPhase, OpenConnection, PSA_IPC_DISCONNECT, Span, Vectors};
@@ -14,7 +14,7 @@ use spm_tables::{MessageItem, Tables};
 
 // The message that closes a connection, for which nobody waits.
 fn disconnection(held: Held<OpenConnection>) -> MessageItem
-    ensures message { fresh_message (queued_as held.item.serial result) ≡ goodbye held.item }
+    ensures message { fresh_message (queued_as held.item.serial result) ≡ disconnect_message held.item }
     ensures connection { result.connection ≡ Some held.slot }
     ensures undelivered { result.delivered ≡ false }
 {
@@ -43,15 +43,15 @@ fn is_dead(phase: ConnPhase) -> bool
 // The partition's own connections, in the order of their making: a Dead one is freed; of any other a disconnection goes last, and it is Closing.
 pub(crate) fn leave_services(tables: &mut Tables, partition: ActorId)
     requires services { All (λ h. h.item.service < length tables.old.services) tables.old.linked.held }
-    requires room { length tables.old.waiting.held + length (goodbyes partition.0 tables.old.linked) ≤ length tables.old.waiting.generations }
-    requires few { tables.old.waiting.takes + length (goodbyes partition.0 tables.old.linked) ≤ 1048575 }
+    requires room { length tables.old.waiting.held + length (disconnect_messages partition.0 tables.old.linked) ≤ length tables.old.waiting.generations }
+    requires few { tables.old.waiting.takes + length (disconnect_messages partition.0 tables.old.linked) ≤ 1048575 }
     ensures connections { tables.new.linked ≡ left_by (held_without_client partition.0) tables.old.linked }
-    ensures messages { (spm_of tables.new).messages ≡ (spm_of tables.old).messages ++ goodbyes partition.0 tables.old.linked }
+    ensures messages { (spm_of tables.new).messages ≡ (spm_of tables.old).messages ++ disconnect_messages partition.0 tables.old.linked }
     ensures rest { tables.new ≡ record tables.old { linked = tables.new.linked; waiting = tables.new.waiting } }
     ensures size { length tables.new.waiting.generations ≡ length tables.old.waiting.generations }
-    ensures takes { tables.new.waiting.takes ≡ tables.old.waiting.takes + length (goodbyes partition.0 tables.old.linked) }
-    ensures names { (first : Desk) (kept : List SlotName) → TakesOn (length tables.old.waiting.generations) first kept 0 tables.old
-        → TakesOn (length tables.old.waiting.generations) first kept (length (goodbyes partition.0 tables.old.linked)) tables.new }
+    ensures takes { tables.new.waiting.takes ≡ tables.old.waiting.takes + length (disconnect_messages partition.0 tables.old.linked) }
+    ensures names { (first : TablesView) (kept : List SlotName) → TakesOn (length tables.old.waiting.generations) first kept 0 tables.old
+        → TakesOn (length tables.old.waiting.generations) first kept (length (disconnect_messages partition.0 tables.old.linked)) tables.new }
 {
     let mut place = 0;
     while place < tables.connections().live() {

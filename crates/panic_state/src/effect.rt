@@ -5,7 +5,7 @@ ghost use Rattle.ffm_model.specs.declared.objects.ActorPhase.TheVariants as phas
 ghost use Rattle.ffm_model.specs.State.{with_phase};
 ghost use Rattle.ffm_model.specs.Panic.{panic_effect};
 ghost use Rattle.counting_law.specs.Objects.{ObjectsFit};
-ghost use Rattle.spm_tables.specs.Desk.{spm_of, shape_of, MadeFor};
+ghost use Rattle.spm_tables.specs.TablesView.{spm_of, shape_of, MadeFor};
 ghost use Rattle.slot_names.specs.Named.{KeepsNames};
 ghost use Rattle.panic_state.specs.Losses.{as_client};
 

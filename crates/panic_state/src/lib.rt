@@ -7,6 +7,3 @@ mod places;
 mod services;
 
 pub use effect::panic;
-
-#[cfg(test)]
-mod tests;

@@ -4,8 +4,6 @@
 mod calls;
 mod drive;
 mod runner;
-#[cfg(test)]
-mod tests;
 
 pub use drive::drive_scheduled;
 pub use runner::Runner;

@@ -13,6 +13,3 @@ mod ram;
 
 pub use error::LayoutError;
 pub use layout::lay_out;
-
-#[cfg(test)]
-mod tests;

@@ -8,8 +8,6 @@ mod instructions;
 mod labels;
 mod lines;
 mod scripts;
-#[cfg(test)]
-mod tests;
 mod words;
 
 pub use device::device_script;

@@ -1,7 +1,6 @@
 pub mod Held
 pub mod Partners
 pub mod Kept
-pub mod AskedLemmas
 pub mod TransferLemmas
 pub mod DeliveryLemmas
 pub mod ReplyLemmas

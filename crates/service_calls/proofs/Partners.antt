@@ -18,7 +18,7 @@ use Rattle.object_pools.specs.Pool.{IsKept, item_at}
 use Rattle.handle_table.specs.Table.{connections}
 use Rattle.handle_table.proofs.Twins.{find-passes}
 use Rattle.spm_tables.specs.declared.item.QueuedMessage.{QueuedMessage}
-use Rattle.spm_tables.specs.Desk.{Desk, MadeFor, Shape, spm_of}
+use Rattle.spm_tables.specs.TablesView.{TablesView, MadeFor, Shape, spm_of}
 use Rattle.spm_tables.specs.Slots.{KeepSlots}
 use Rattle.spm_tables.proofs.SlotLemmas.{belongs-at, slot-of-serial}
 use Rattle.service_calls.specs.Connections.{IsConnectionOf}
@@ -45,7 +45,7 @@ client-there s b q m fit found =
     is_there b.phases a (λ ended. let none : count_by (awaited_of a) b.connections ≡ 0 = waits-somewhere (phase_of b a) _ _ (λ n. count_by (accepted_as a n) b.connections) ended (fit.phases a) in absurd (omega (arith, some, none))) in
     subst (λ (x : ℕ). x < length b.phases) it.1.client inside
 
-pub client-counted : (s : System) (d : Desk) (q : PendingMessage → Bool) (m : PendingMessage) → MadeFor d s → ObjectsFit s (spm_of d) → find q (spm_of d).messages ≡ Some m → m.client.0 < actor_count s
+pub client-counted : (s : System) (d : TablesView) (q : PendingMessage → Bool) (m : PendingMessage) → MadeFor d s → ObjectsFit s (spm_of d) → find q (spm_of d).messages ≡ Some m → m.client.0 < actor_count s
 client-counted s d q m made fit found =
     let actors : length d.phases ≡ actor_count s = ap (λ (h : Shape). h.actors) made in
     omega (arith, client-there s (spm_of d) q m fit found)
@@ -56,7 +56,7 @@ equal : (k n : ℕ) → (k == n) ≡ true → k ≡ n
 equal k n e = grind arith
 
 -- a message names the slot of its connection
-pub connection-slot : (d : Desk) (t : Slot) (m : QueuedMessage) → IsKept 256 d.linked → KeepSlots d.linked d.waiting → item_at d.waiting t ≡ Some m → IsSome (connection_by_serial (spm_of d) m.serial)
+pub connection-slot : (d : TablesView) (t : Slot) (m : QueuedMessage) → IsKept 256 d.linked → KeepSlots d.linked d.waiting → item_at d.waiting t ≡ Some m → IsSome (connection_by_serial (spm_of d) m.serial)
     → (u : Slot) × (m.connection ≡ Some u) × IsConnectionOf d.linked m u
 connection-slot d t m kept slots live there =
     let go : (o : Option OpenConnection) → connection_by_serial (spm_of d) m.serial ≡ o → IsSome o → (u : Slot) × (m.connection ≡ Some u) × IsConnectionOf d.linked m u =

@@ -32,7 +32,7 @@ use Rattle.handle_table.specs.declared.handles.Family.TheVariants.{Message}
 use Rattle.handle_table.specs.Handles.{handle_at}
 use Rattle.spm_tables.specs.declared.item.QueuedMessage.{QueuedMessage}
 use Rattle.spm_tables.specs.Answers.{state_with}
-use Rattle.spm_tables.specs.Desk.{Desk, fresh_message, message_of, spm_of}
+use Rattle.spm_tables.specs.TablesView.{TablesView, fresh_message, message_of, spm_of}
 use Rattle.service_calls.specs.Answers.{once_panicked}
 use Rattle.service_calls.proofs.Held.{IsTold, held-told}
 
@@ -50,12 +50,12 @@ reply-held s b a k status n e = kept-held (message_held s b a k) (λ m. int_eq m
 -- ---- what is left
 
 -- the message of a slot is gone and its client answered
-pub record IsReplied (s : System) (d new : Desk) (a : ℕ) (k : Handle) (status : ℤ) (t : Slot) (m : QueuedMessage) (owing : Option ActorId) : Type 0 where
+pub record IsReplied (s : System) (d new : TablesView) (a : ℕ) (k : Handle) (status : ℤ) (t : Slot) (m : QueuedMessage) (owing : Option ActorId) : Type 0 where
   pub found : reply_to s (spm_of d) a k status ≡ Some (message_of t m)
   pub state : spm_of new ≡ replied s (spm_of d) k status (message_of t m)
   pub owes : option_map (λ (p : ActorId). p.0) owing ≡ (if owes_panic s (message_of t m) status then Some m.client.0 else None)
 
-pub was-replied : (s : System) (d mid new : Desk) (a : ℕ) (k : Handle) (status : ℤ) (t : Slot) (m : QueuedMessage) (owing : Option ActorId) → reply_to s (spm_of d) a k status ≡ Some (message_of t m)
+pub was-replied : (s : System) (d mid new : TablesView) (a : ℕ) (k : Handle) (status : ℤ) (t : Slot) (m : QueuedMessage) (owing : Option ActorId) → reply_to s (spm_of d) a k status ≡ Some (message_of t m)
     → (m.delivered ≡ true → spm_of mid ≡ without_message (spm_of d) (handle_at Message t)) → spm_of new ≡ answered s (spm_of mid) (fresh_message m) status
     → option_map (λ (p : ActorId). p.0) owing ≡ (if owes_panic s (fresh_message m) status then Some m.client.0 else None) → IsReplied s d new a k status t m owing
 was-replied s d mid new a k status t m owing found dropped answer owes =
@@ -63,7 +63,7 @@ was-replied s d mid new a k status t m owing found dropped answer owes =
     let gone : spm_of mid ≡ without_message (spm_of d) k = dropped told.delivered ∙ ap (λ (h : Handle). without_message (spm_of d) h) told.handle in
     record { found = found; state = answer ∙ ap (λ (b : SpmState). answered s b (fresh_message m) status) gone; owes = owes }
 
-pub left-due : (s : System) (d new : Desk) (a : ℕ) (k : Handle) (status : ℤ) (t : Slot) (m : QueuedMessage) (owing : Option ActorId) → IsReplied s d new a k status t m owing
+pub left-due : (s : System) (d new : TablesView) (a : ℕ) (k : Handle) (status : ℤ) (t : Slot) (m : QueuedMessage) (owing : Option ActorId) → IsReplied s d new a k status t m owing
     → reply_on s (spm_of d) a k status ≡ Some (record { spm = spm_of new; owing = option_map (λ (p : ActorId). p.0) owing })
 left-due s d new a k status t m owing it =
     let n : PendingMessage = message_of t m in
@@ -80,7 +80,7 @@ panic-is s b None n true e = cc
 panic-is s b (Some p) n false e = cc
 panic-is s b (Some p) n true e = let same : n ≡ p.0 = cc in ap (panic_effect s b) same
 
-pub reply-due : (s : System) (d new : Desk) (given : List Handle) (bytes after : List Bytes) (a : ℕ) (k : Handle) (status : ℤ) (t : Slot) (m : QueuedMessage) (owing : Option ActorId)
+pub reply-due : (s : System) (d new : TablesView) (given : List Handle) (bytes after : List Bytes) (a : ℕ) (k : Handle) (status : ℤ) (t : Slot) (m : QueuedMessage) (owing : Option ActorId)
     → IsReplied s d new a k status t m owing
     → byte_at after ≡ (if int_lt m.kind PSA_IPC_CALL then byte_at bytes else lengths_written (byte_at bytes) m.vectors.out_vec (take m.vectors.out_len m.vectors.output))
     → psa_reply s (state_with d given (byte_at bytes)) a k status ≡ Some (effect Done (record { spm = once_panicked s (spm_of new) owing; handles_given = given; memory = byte_at after }))
@@ -139,7 +139,7 @@ owed-running s b a h status m fit held e =
     (ready-quiet (phase_of told m.client.0) ready.0 _ _ (λ k. count_by (accepted_as m.client.0 k) told.connections) ready.1 (kept.fitting m.client.0))) in
     subst (ObjectsFit s) (sym (running-told s b h status m e)) (balanced-fit s one _ woken)
 
-pub owing-fits : (s : System) (d new : Desk) (a : ℕ) (k : Handle) (status : ℤ) (t : Slot) (m : QueuedMessage) (owing : Option ActorId) → ObjectsFit s (spm_of d) → IsReplied s d new a k status t m owing
+pub owing-fits : (s : System) (d new : TablesView) (a : ℕ) (k : Handle) (status : ℤ) (t : Slot) (m : QueuedMessage) (owing : Option ActorId) → ObjectsFit s (spm_of d) → IsReplied s d new a k status t m owing
     → IfSome owing (λ p. ObjectsFit s (with_phase (spm_of new) p.0 Running))
 owing-fits s d new a k status t m owing fit it =
     let n : PendingMessage = message_of t m in

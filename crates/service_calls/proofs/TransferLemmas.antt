@@ -19,17 +19,17 @@ use Rattle.handle_table.specs.declared.handles.Family.TheVariants.{Message}
 use Rattle.handle_table.specs.Handles.{handle_at}
 use Rattle.spm_tables.specs.declared.item.QueuedMessage.{QueuedMessage}
 use Rattle.spm_tables.specs.Answers.{state_with}
-use Rattle.spm_tables.specs.Desk.{Desk, spm_of, message_of}
+use Rattle.spm_tables.specs.TablesView.{TablesView, spm_of, message_of}
 use Rattle.service_calls.proofs.Held.{IsTold, held-told, request-held}
 
 -- the vectors of the request were changed, and nothing else
-vectors-changed : (s : System) (d new : Desk) (a index : ℕ) (k : Handle) (t : Slot) (m : QueuedMessage) (v : Vectors) → request_held s (spm_of d) a k index ≡ Some (message_of t m)
+vectors-changed : (s : System) (d new : TablesView) (a index : ℕ) (k : Handle) (t : Slot) (m : QueuedMessage) (v : Vectors) → request_held s (spm_of d) a k index ≡ Some (message_of t m)
     → (m.delivered ≡ true → spm_of new ≡ with_vectors (spm_of d) (handle_at Message t) v) → spm_of new ≡ with_vectors (spm_of d) k v
 vectors-changed s d new a index k t m v held changed =
     let told : IsTold t m k = held-told s (spm_of d) a k t m (request-held s (spm_of d) a k index (message_of t m) held) in
     changed told.delivered ∙ ap (λ (h : Handle). with_vectors (spm_of d) h v) told.handle
 
-pub skip-due : (s : System) (d new : Desk) (a index len n : ℕ) (k : Handle) (t : Slot) (m : QueuedMessage) (v : Vectors) → request_held s (spm_of d) a k index ≡ Some (message_of t m)
+pub skip-due : (s : System) (d new : TablesView) (a index len n : ℕ) (k : Handle) (t : Slot) (m : QueuedMessage) (v : Vectors) → request_held s (spm_of d) a k index ≡ Some (message_of t m)
     → n ≡ min len (rest_of (input_of m.vectors index)) → v ≡ with_input_moved m.vectors index n
     → (m.delivered ≡ true → spm_of new ≡ with_vectors (spm_of d) (handle_at Message t) v) → psa_skip s (spm_of d) a k index len ≡ Some (move (Number n) (spm_of new))
 skip-due s d new a index len n k t m v held number moved changed =
@@ -42,7 +42,7 @@ skip-due s d new a index len n k t m v held number moved changed =
 abbrev where_valid : Bool → (PendingMessage → Effect) → Option PendingMessage → Option Effect
 where_valid valid f o = option_and_then (λ m. cond valid (Some (f m)) None) o
 
-pub read-due : (s : System) (d new : Desk) (given : List Handle) (bytes after : List Bytes) (a index buffer len n : ℕ) (k : Handle) (t : Slot) (m : QueuedMessage) (v : Vectors)
+pub read-due : (s : System) (d new : TablesView) (given : List Handle) (bytes after : List Bytes) (a index buffer len n : ℕ) (k : Handle) (t : Slot) (m : QueuedMessage) (v : Vectors)
     → request_held s (spm_of d) a k index ≡ Some (message_of t m) → valid_buffer s a buffer len ≡ true
     → n ≡ min len (rest_of (input_of m.vectors index)) → v ≡ with_input_moved m.vectors index n
     → byte_at after ≡ copy_bytes (byte_at bytes) ((input_of m.vectors index).base + (input_of m.vectors index).moved) buffer n
@@ -58,7 +58,7 @@ read-due s d new given bytes after a index buffer len n k t m v held valid numbe
     ∙ ap (λ (b : SpmState). Some (effect (Number n) (record { spm = b; handles_given = given; memory = copy_bytes (byte_at bytes) ((input_of m.vectors index).base + (input_of m.vectors index).moved) buffer n }))) (sym state)
     ∙ ap (λ (x : ℕ → ℕ). Some (effect (Number n) (record { spm = spm_of new; handles_given = given; memory = x }))) (sym copied)
 
-pub write-due : (s : System) (d new : Desk) (given : List Handle) (bytes after : List Bytes) (a index buffer len : ℕ) (k : Handle) (t : Slot) (m : QueuedMessage) (v : Vectors)
+pub write-due : (s : System) (d new : TablesView) (given : List Handle) (bytes after : List Bytes) (a index buffer len : ℕ) (k : Handle) (t : Slot) (m : QueuedMessage) (v : Vectors)
     → request_held s (spm_of d) a k index ≡ Some (message_of t m) → valid_buffer s a buffer len ≡ true → nat_le len (rest_of (output_of m.vectors index)) ≡ true
     → v ≡ with_output_moved m.vectors index len
     → byte_at after ≡ copy_bytes (byte_at bytes) buffer ((output_of m.vectors index).base + (output_of m.vectors index).moved) len

@@ -4,7 +4,7 @@ ghost use Rattle.std.specs.Prelude.{◌≡◌, IsSome, Some};
 ghost use Rattle.ffm_model.specs.State.{connection_by_serial};
 ghost use Rattle.object_pools.specs.Pool.{item_at};
 ghost use Rattle.service_calls.specs.Connections.{IsConnectionOf};
-ghost use Rattle.spm_tables.specs.Desk.{spm_of};
+ghost use Rattle.spm_tables.specs.TablesView.{spm_of};
 
 use object_pools::Slot;
 use spm_tables::{QueuedMessage, Tables};

@@ -18,7 +18,7 @@ ghost use Rattle.object_pools.specs.Pool.{item_at};
 ghost use Rattle.service_calls.specs.Answers.{IsGot};
 ghost use Rattle.slot_names.specs.Named.{KeepsNames, NamesAre};
 ghost use Rattle.spm_tables.specs.Answers.{state_with};
-ghost use Rattle.spm_tables.specs.Desk.{MadeFor, message_of, shape_of, spm_of};
+ghost use Rattle.spm_tables.specs.TablesView.{MadeFor, message_of, shape_of, spm_of};
 
 use crate::connection::connection_of;
 use ffm_model::{ActorId, Fault, Message, PSA_IPC_CONNECT, Service, Span, System};

@@ -17,6 +17,3 @@ pub use delivery::get;
 pub use replies::{reply, set_rhandle};
 pub use transfer::{read, skip, write};
 pub use waiting::wait;
-
-#[cfg(test)]
-mod tests;

@@ -19,7 +19,7 @@ ghost use Rattle.service_calls.specs.Answers.{LeavesReply, once_panicked};
 ghost use Rattle.service_calls.specs.Connections.{ChangesAt, IsConnectionOf};
 ghost use Rattle.slot_names.specs.Named.{KeepsNames};
 ghost use Rattle.spm_tables.specs.Answers.{Answers, state_with};
-ghost use Rattle.spm_tables.specs.Desk.{MadeFor, fresh_message, message_at, shape_of, spm_of};
+ghost use Rattle.spm_tables.specs.TablesView.{MadeFor, fresh_message, message_at, shape_of, spm_of};
 
 use crate::connection::connection_of;
 use ffm_model::{

@@ -14,7 +14,7 @@ ghost use Rattle.object_pools.specs.Pool.{item_at};
 ghost use Rattle.service_calls.specs.Answers.{AnswersOver};
 ghost use Rattle.slot_names.specs.Named.{KeepsNames};
 ghost use Rattle.spm_tables.specs.Answers.{Answers, state_with};
-ghost use Rattle.spm_tables.specs.Desk.{MadeFor, message_at, shape_of, spm_of};
+ghost use Rattle.spm_tables.specs.TablesView.{MadeFor, message_at, shape_of, spm_of};
 
 use ffm_model::{ActorId, Fault, Handle, PSA_IPC_CALL, PSA_MAX_IOVEC, System, Vectors};
 use memory_image::{Image, valid_buffer};

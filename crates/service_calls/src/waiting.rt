@@ -5,7 +5,7 @@ ghost use Rattle.ffm_model.specs.ServiceCalls.{psa_wait};
 ghost use Rattle.ffm_model.specs.Signals.{assigned_to, union_of};
 ghost use Rattle.slot_names.specs.Named.{KeepsNames};
 ghost use Rattle.spm_tables.specs.Answers.{Answers};
-ghost use Rattle.spm_tables.specs.Desk.{MadeFor, shape_of, spm_of};
+ghost use Rattle.spm_tables.specs.TablesView.{MadeFor, shape_of, spm_of};
 
 use ffm_model::{
     ActorId, ActorPhase, Fault, Outcome, PSA_BLOCK, PSA_DOORBELL, Service, Source, System,

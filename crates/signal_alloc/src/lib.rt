@@ -4,6 +4,3 @@
 mod signals;
 
 pub use signals::{FIRST_BIT, SignalMap, assign, service_of, signal_of};
-
-#[cfg(test)]
-mod tests;

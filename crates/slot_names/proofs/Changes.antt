@@ -15,23 +15,23 @@ use Rattle.handle_table.specs.Handles.{live_names, slot_name}
 use Rattle.handle_table.specs.Table.{IsTable}
 use Rattle.handle_table.proofs.NameLemmas.{next-name}
 use Rattle.spm_tables.specs.declared.item.QueuedMessage.{QueuedMessage}
-use Rattle.spm_tables.specs.Desk.{Desk, MadeFor, Shape, held_message, spm_of}
+use Rattle.spm_tables.specs.TablesView.{TablesView, MadeFor, Shape, held_message, spm_of}
 use Rattle.slot_names.specs.Named.{IsNamedBy, KeepsNames, NamesAre}
-use Rattle.slot_names.specs.Changes.{Relinks, Rewaits, is_like}
+use Rattle.slot_names.specs.Changes.{KeepsConnectionNames, KeepsMessageNames, is_like}
 use Rattle.slot_names.proofs.Kept.{kept-all, message_list, stay-all, stay-own, stays-is}
 use Rattle.slot_names.proofs.Moves.{names-enqueued, names-started, names-stay, relinks-item, relinks-same, relinks-to, relinks-without, rewaits-item, rewaits-same, rewaits-to}
 
 -- ---- the machine's names after an event
 
 -- the slots of the messages of the old tables that stay in the new ones
-abbrev pub kept_names : Desk → Desk → List SlotName → List SlotName
+abbrev pub kept_names : TablesView → TablesView → List SlotName → List SlotName
 kept_names old new ts = slots_kept (stays (message_list new.waiting.held)) (message_list old.waiting.held) ts
 
-added : (old new : Desk) (ts : List SlotName) (n : ℕ) → length new.waiting.held ≡ length ts + n → length (message_list new.waiting.held) - length ts ≡ n
+added : (old new : TablesView) (ts : List SlotName) (n : ℕ) → length new.waiting.held ≡ length ts + n → length (message_list new.waiting.held) - length ts ≡ n
 added old new ts n longer = omega (arith, longer, length-map new.waiting.held held_message)
 
 -- where no connection is made
-pub after-still : (s : System) (old new : Desk) (k : NamesSoFar) (ts : List SlotName) → kept_names old new k.messages ≡ ts → new.linked.takes ≡ old.linked.takes
+pub after-still : (s : System) (old new : TablesView) (k : NamesSoFar) (ts : List SlotName) → kept_names old new k.messages ≡ ts → new.linked.takes ≡ old.linked.takes
     → names_after s (spm_of old) (spm_of new) k ≡ with_messages (capacity s) (length (message_list new.waiting.held) - length ts) (record k { messages = ts })
 after-still s old new k ts kept made =
     let size : ℕ = capacity s in
@@ -41,13 +41,13 @@ after-still s old new k ts kept made =
     ap (λ (b : Bool). cond {A = NamesSoFar} b (record k { messages = ts; connections = k.connections ++ next_slot size (live_connections k (spm_of old)) k.connections ∷ [] }) (record k { messages = ts })) not_less in
     ap (λ us. with_messages size (length (message_list new.waiting.held) - length us) (joined us)) kept ∙ ap (with_messages size (length (message_list new.waiting.held) - length ts)) unjoined
 
-pub after-is : (s : System) (old new : Desk) (k : NamesSoFar) (ts : List SlotName) (n : ℕ) → kept_names old new k.messages ≡ ts → length new.waiting.held ≡ length ts + n → new.linked.takes ≡ old.linked.takes
+pub after-is : (s : System) (old new : TablesView) (k : NamesSoFar) (ts : List SlotName) (n : ℕ) → kept_names old new k.messages ≡ ts → length new.waiting.held ≡ length ts + n → new.linked.takes ≡ old.linked.takes
     → names_after s (spm_of old) (spm_of new) k ≡ with_messages (capacity s) n (record k { messages = ts })
 after-is s old new k ts n kept longer made =
     after-still s old new k ts kept made ∙ ap (λ m. with_messages (capacity s) m (record k { messages = ts })) (added old new ts n longer)
 
 -- where one is
-pub after-joined : (s : System) (old new : Desk) (k : NamesSoFar) (ts : List SlotName) (n : ℕ) → kept_names old new k.messages ≡ ts → length new.waiting.held ≡ length ts + n → new.linked.takes ≡ old.linked.takes + 1
+pub after-joined : (s : System) (old new : TablesView) (k : NamesSoFar) (ts : List SlotName) (n : ℕ) → kept_names old new k.messages ≡ ts → length new.waiting.held ≡ length ts + n → new.linked.takes ≡ old.linked.takes + 1
     → names_after s (spm_of old) (spm_of new) k
     ≡ with_messages (capacity s) n (record k { messages = ts; connections = k.connections ++ next_slot (capacity s) (live_connections k (spm_of old)) k.connections ∷ [] })
 after-joined s old new k ts n kept longer made =
@@ -61,68 +61,68 @@ after-joined s old new k ts n kept longer made =
     ∙ ap (with_messages size n) is_joined
 
 -- all messages stay
-all-kept : (old new : Desk) (k : NamesSoFar) → NamesAre old k → All (λ h. list_any (is_like h) new.waiting.held ≡ true) old.waiting.held → kept_names old new k.messages ≡ k.messages
+all-kept : (old new : TablesView) (k : NamesSoFar) → NamesAre old k → All (λ h. list_any (is_like h) new.waiting.held ≡ true) old.waiting.held → kept_names old new k.messages ≡ k.messages
 all-kept old new k was stay =
     ap (kept_names old new) was.messages
     ∙ kept-all (stays (message_list new.waiting.held)) old.waiting.held (λ i d lt. stays-is new.waiting.held (get_or old.waiting.held i d) ∙ stay i d lt)
     ∙ sym was.messages
 
-pub names-length : (d : Desk) (k : NamesSoFar) → NamesAre d k → length k.messages ≡ length d.waiting.held
+pub names-length : (d : TablesView) (k : NamesSoFar) → NamesAre d k → length k.messages ≡ length d.waiting.held
 names-length d k was = ap (λ (ts : List SlotName). length ts) was.messages ∙ length-map d.waiting.held (λ (h : Held QueuedMessage). slot_name h.slot)
 
 -- ---- no connection or message comes, and no message goes
 
-pub names-changed : (s : System) (old new : Desk) → Relinks old.linked new.linked → Rewaits old.waiting new.waiting → KeepsNames s old new
+pub names-changed : (s : System) (old new : TablesView) → KeepsConnectionNames old.linked new.linked → KeepsMessageNames old.waiting new.waiting → KeepsNames s old new
 names-changed s old new linked waiting = λ k was.
     let stay : All (λ h. list_any (is_like h) new.waiting.held ≡ true) old.waiting.held = λ i d lt. waiting.alike (get_or old.waiting.held i d) ∙ stay-all old.waiting.held i d lt in
     let now : NamesAre new k = names-stay old new k was linked waiting in
     subst (NamesAre new) (sym (after-is s old new k k.messages 0 (all-kept old new k was stay) (omega (arith, names-length new k now)) linked.takes)) now
 
-pub names-same : (s : System) (old new : Desk) → new.linked ≡ old.linked → new.waiting ≡ old.waiting → KeepsNames s old new
+pub names-same : (s : System) (old new : TablesView) → new.linked ≡ old.linked → new.waiting ≡ old.waiting → KeepsNames s old new
 names-same s old new linked waiting = names-changed s old new (relinks-same old.linked new.linked linked) (rewaits-same old.waiting new.waiting waiting)
 
 -- a connection changes in its slot
-pub names-connection : (s : System) (old new : Desk) (slot : Slot) (c changed : OpenConnection) → IsKept 256 old.linked → item_at old.linked slot ≡ Some c → changed.serial ≡ c.serial
+pub names-connection : (s : System) (old new : TablesView) (slot : Slot) (c changed : OpenConnection) → IsKept 256 old.linked → item_at old.linked slot ≡ Some c → changed.serial ≡ c.serial
     → new.linked ≡ with_item old.linked slot changed → new.waiting ≡ old.waiting → KeepsNames s old new
 names-connection s old new slot c changed kept live serial linked waiting =
     names-changed s old new (relinks-to old.linked new.linked (with_item old.linked slot changed) linked (relinks-item 256 old.linked slot c changed kept live serial)) (rewaits-same old.waiting new.waiting waiting)
 
 -- a message changes in its slot
-pub names-message : (s : System) (old new : Desk) (slot : Slot) (m changed : QueuedMessage) → IsKept 256 old.waiting → item_at old.waiting slot ≡ Some m → changed.serial ≡ m.serial → changed.kind ≡ m.kind
+pub names-message : (s : System) (old new : TablesView) (slot : Slot) (m changed : QueuedMessage) → IsKept 256 old.waiting → item_at old.waiting slot ≡ Some m → changed.serial ≡ m.serial → changed.kind ≡ m.kind
     → new.linked ≡ old.linked → new.waiting ≡ with_item old.waiting slot changed → KeepsNames s old new
 names-message s old new slot m changed kept live serial kind linked waiting =
     names-changed s old new (relinks-same old.linked new.linked linked) (rewaits-to old.waiting new.waiting (with_item old.waiting slot changed) waiting (rewaits-item 256 old.waiting slot m changed kept live serial kind))
 
 -- a connection is freed
-pub names-freed : (s : System) (old new : Desk) (slot : Slot) → new.linked ≡ without old.linked slot → new.waiting ≡ old.waiting → KeepsNames s old new
+pub names-freed : (s : System) (old new : TablesView) (slot : Slot) → new.linked ≡ without old.linked slot → new.waiting ≡ old.waiting → KeepsNames s old new
 names-freed s old new slot linked waiting =
     names-changed s old new (relinks-to old.linked new.linked (without old.linked slot) linked (relinks-without old.linked slot)) (rewaits-same old.waiting new.waiting waiting)
 
 -- ---- a message comes
 
-connection_slots : (d : Desk) (s : System) → MadeFor d s → length d.linked.generations ≡ capacity s
+connection_slots : (d : TablesView) (s : System) → MadeFor d s → length d.linked.generations ≡ capacity s
 connection_slots d s made = ap (λ (h : Shape). h.connections) made
 
-message_slots : (d : Desk) (s : System) → MadeFor d s → length d.waiting.generations ≡ capacity s
+message_slots : (d : TablesView) (s : System) → MadeFor d s → length d.waiting.generations ≡ capacity s
 message_slots d s made = ap (λ (h : Shape). h.messages) made
 
-stay-pushed : (old new : Desk) (slot : Slot) (x : QueuedMessage) → new.waiting ≡ taken old.waiting slot x → All (λ h. list_any (is_like h) new.waiting.held ≡ true) old.waiting.held
+stay-pushed : (old new : TablesView) (slot : Slot) (x : QueuedMessage) → new.waiting ≡ taken old.waiting slot x → All (λ h. list_any (is_like h) new.waiting.held ≡ true) old.waiting.held
 stay-pushed old new slot x waiting =
     subst (λ (p : Places QueuedMessage). All (λ h. list_any (is_like h) p.held ≡ true) old.waiting.held) (sym waiting) (stay-own old.waiting.held (record { slot = slot; item = x } ∷ []))
 
-pushed-length : (old new : Desk) (k : NamesSoFar) (slot : Slot) (x : QueuedMessage) → NamesAre old k → new.waiting ≡ taken old.waiting slot x → length new.waiting.held ≡ length k.messages + 1
+pushed-length : (old new : TablesView) (k : NamesSoFar) (slot : Slot) (x : QueuedMessage) → NamesAre old k → new.waiting ≡ taken old.waiting slot x → length new.waiting.held ≡ length k.messages + 1
 pushed-length old new k slot x was waiting =
     ap (λ (p : Places QueuedMessage). length p.held) waiting ∙ omega (arith, length-append old.waiting.held (record { slot = slot; item = x } ∷ []), names-length old k was)
 
-pub names-added : (s : System) (old new : Desk) (slot : Slot) (x : QueuedMessage) → MadeFor old s → Relinks old.linked new.linked → free_slot old.waiting ≡ Some slot → new.waiting ≡ taken old.waiting slot x → KeepsNames s old new
+pub names-added : (s : System) (old new : TablesView) (slot : Slot) (x : QueuedMessage) → MadeFor old s → KeepsConnectionNames old.linked new.linked → free_slot old.waiting ≡ Some slot → new.waiting ≡ taken old.waiting slot x → KeepsNames s old new
 names-added s old new slot x made linked free waiting = λ k was.
-    let mid : Desk = record old { linked = new.linked } in
+    let mid : TablesView = record old { linked = new.linked } in
     let between : NamesAre mid k = names-stay old mid k was linked (rewaits-same old.waiting old.waiting refl) in
     subst (NamesAre new) (sym (after-is s old new k k.messages 1 (all-kept old new k was (stay-pushed old new slot x waiting)) (pushed-length old new k slot x was waiting) linked.takes))
     (names-enqueued mid new k slot x (capacity s) between (message_slots old s made) free refl waiting)
 
 -- the message of a connection that changes in its slot
-pub names-asked : (s : System) (old new : Desk) (slot place : Slot) (c changed : OpenConnection) (x : QueuedMessage) → MadeFor old s → IsKept 256 old.linked → item_at old.linked slot ≡ Some c → changed.serial ≡ c.serial
+pub names-asked : (s : System) (old new : TablesView) (slot place : Slot) (c changed : OpenConnection) (x : QueuedMessage) → MadeFor old s → IsKept 256 old.linked → item_at old.linked slot ≡ Some c → changed.serial ≡ c.serial
     → new.linked ≡ with_item old.linked slot changed → free_slot old.waiting ≡ Some place → new.waiting ≡ taken old.waiting place x → KeepsNames s old new
 names-asked s old new slot place c changed x made kept live serial linked free waiting =
     names-added s old new place x made (relinks-to old.linked new.linked (with_item old.linked slot changed) linked (relinks-item 256 old.linked slot c changed kept live serial)) free waiting
@@ -136,11 +136,11 @@ live-named ts (h ∷ hs) named =
     ap (λ (t : SlotName). t ∷ map (λ (c : OpenConnection). get_or ts c.serial no_slot) (map (λ (x : Held OpenConnection). x.item) hs)) (All-head (IsNamedBy ts) h hs named)
     ∙ ap (λ (us : List SlotName). slot_name h.slot ∷ us) (live-named ts hs (All-tail (IsNamedBy ts) h hs named))
 
-pub names-connected : (s : System) (old new : Desk) (slot place : Slot) (c : OpenConnection) (x : QueuedMessage) → MadeFor old s → IsTable old.linked → free_slot old.linked ≡ Some slot → c.serial ≡ old.linked.takes
+pub names-connected : (s : System) (old new : TablesView) (slot place : Slot) (c : OpenConnection) (x : QueuedMessage) → MadeFor old s → IsTable old.linked → free_slot old.linked ≡ Some slot → c.serial ≡ old.linked.takes
     → new.linked ≡ taken old.linked slot c → free_slot old.waiting ≡ Some place → new.waiting ≡ taken old.waiting place x → KeepsNames s old new
 names-connected s old new slot place c x made table free serial linked room waiting = λ k was.
     let size : ℕ = capacity s in
-    let mid : Desk = record old { linked = new.linked } in
+    let mid : TablesView = record old { linked = new.linked } in
     let next : slot_name slot ≡ next_slot size (live_connections k (spm_of old)) k.connections =
     next-name old.linked k.connections slot was.past_connections free
     ∙ ap (λ n. next_slot n (live_names old.linked) k.connections) (connection_slots old s made)

@@ -22,7 +22,7 @@ use Rattle.handle_table.specs.Handles.{handle_at, slot_name}
 use Rattle.handle_table.proofs.SlotLemmas.{held-of}
 use Rattle.spm_tables.specs.declared.item.QueuedMessage.{QueuedMessage}
 use Rattle.spm_tables.specs.Answers.{state_with}
-use Rattle.spm_tables.specs.Desk.{Desk, spm_of, waits_for}
+use Rattle.spm_tables.specs.TablesView.{TablesView, spm_of, waits_for}
 use Rattle.slot_names.specs.Named.{IsNamedBy, NamesAre}
 use Rattle.slot_names.proofs.Kept.{message_list, name_list}
 
@@ -33,7 +33,7 @@ none-mapped f [] e = refl
 none-mapped f (x ∷ xs) e = cc
 
 -- tables that took nothing yet have no names
-pub names-begin : (s : System) (d : Desk) → IsKept 256 d.linked → IsKept 256 d.waiting → spm_of d ≡ opening_spm s → d.waiting.takes ≡ 0 → NamesAre d no_names
+pub names-begin : (s : System) (d : TablesView) → IsKept 256 d.linked → IsKept 256 d.waiting → spm_of d ≡ opening_spm s → d.waiting.takes ≡ 0 → NamesAre d no_names
 names-begin s d linked waiting opens untaken =
     let made : d.linked.takes ≡ 0 = ap (λ (b : SpmState). b.connections_made) opens in
     let no_connection : d.linked.held ≡ [] = none-mapped (λ (h : Held OpenConnection). h.item) d.linked.held (ap (λ (b : SpmState). b.connections) opens) in
@@ -57,14 +57,14 @@ all-found P p (y ∷ ys) x all e =
     elim [ true ↦ λ f. let it : y ≡ x = cc in subst P it (All-head P y ys all) | false ↦ λ f. all-found P p ys x (All-tail P y ys all) f ] in
     go (p y) e
 
-pub named-connection : (d : Desk) (k : NamesSoFar) (slot : Slot) (c : OpenConnection) → NamesAre d k → item_at d.linked slot ≡ Some c → name_of 0 (get_or k.connections c.serial no_slot) ≡ handle_at Connection slot
+pub named-connection : (d : TablesView) (k : NamesSoFar) (slot : Slot) (c : OpenConnection) → NamesAre d k → item_at d.linked slot ≡ Some c → name_of 0 (get_or k.connections c.serial no_slot) ≡ handle_at Connection slot
 named-connection d k slot c was live =
     let it = held-of d.linked slot c live in
     ap (λ (x : OpenConnection). name_of 0 (get_or k.connections x.serial no_slot)) (sym it.2)
     ∙ ap (name_of 0) (all-found (IsNamedBy k.connections) (has_slot slot) d.linked.held it.0 was.connections it.1)
     ∙ ap (λ (u : Slot). handle_at Connection u) it.3
 
-pub due-at-return : (s : System) (d : Desk) (given : List Handle) (m : ByteMap) (a : ℕ) (k : NamesSoFar) (slot : Slot) (c : OpenConnection) → NamesAre d k → item_at d.linked slot ≡ Some c → phase_of (spm_of d) a ≡ Connected c.serial
+pub due-at-return : (s : System) (d : TablesView) (given : List Handle) (m : ByteMap) (a : ℕ) (k : NamesSoFar) (slot : Slot) (c : OpenConnection) → NamesAre d k → item_at d.linked slot ≡ Some c → phase_of (spm_of d) a ≡ Connected c.serial
     → name_due s (state_with d given m) a call.Resume k ≡ Some (handle_at Connection slot)
 due-at-return s d given m a k slot c was live phase = ap (name_at_return k) phase ∙ ap (λ (h : Handle). Some h) (named-connection d k slot c was live)
 
@@ -87,7 +87,7 @@ found-name v (x ∷ xs) h e =
     ] in
     go (waits_for v x) e
 
-pub named-message : (d : Desk) (k : NamesSoFar) (v : ℕ) (h : Held QueuedMessage) → NamesAre d k → find (waits_for v) d.waiting.held ≡ Some h
+pub named-message : (d : TablesView) (k : NamesSoFar) (v : ℕ) (h : Held QueuedMessage) → NamesAre d k → find (waits_for v) d.waiting.held ≡ Some h
     → option_map (λ j. name_of 512 (get_or k.messages j no_slot)) (position (is_undelivered v) (spm_of d).messages) ≡ Some (handle_at Message h.slot)
 named-message d k v h was found =
     let ms = message_list d.waiting.held in
@@ -98,7 +98,7 @@ named-message d k v h was found =
     ap (λ (b : Bool). option_map (λ i. name_of 512 (get_or k.messages i no_slot)) (cond b (Some j) None)) below
     ∙ ap (λ (ts : List SlotName). Some (name_of 512 (get_or ts j no_slot))) was.messages ∙ ap (λ (t : SlotName). Some (name_of 512 t)) it.1
 
-pub due-at-get : (s : System) (d : Desk) (given : List Handle) (m : ByteMap) (a signal msg v : ℕ) (k : NamesSoFar) (h : Held QueuedMessage) → NamesAre d k → service_of_signal s a signal ≡ Some v → find (waits_for v) d.waiting.held ≡ Some h
+pub due-at-get : (s : System) (d : TablesView) (given : List Handle) (m : ByteMap) (a signal msg v : ℕ) (k : NamesSoFar) (h : Held QueuedMessage) → NamesAre d k → service_of_signal s a signal ≡ Some v → find (waits_for v) d.waiting.held ≡ Some h
     → name_due s (state_with d given m) a (call.Get signal msg) k ≡ Some (handle_at Message h.slot)
 due-at-get s d given m a signal msg v k h was service found =
     ap (λ (o : Option ℕ). option_map (λ j. name_of 512 (get_or k.messages j no_slot)) (option_and_then (λ i. position (is_undelivered i) (spm_of d).messages) o)) service ∙ named-message d k v h was found

@@ -11,7 +11,7 @@ use Rattle.ffm_model.specs.Names.{SlotName, slots_kept, stays}
 use Rattle.object_pools.specs.declared.slot.Held.{Held}
 use Rattle.handle_table.specs.Handles.{slot_name}
 use Rattle.spm_tables.specs.declared.item.QueuedMessage.{QueuedMessage}
-use Rattle.spm_tables.specs.Desk.{held_message}
+use Rattle.spm_tables.specs.TablesView.{held_message}
 use Rattle.slot_names.specs.Changes.{is_like}
 
 abbrev pub name_list : List (Held QueuedMessage) → List SlotName

@@ -18,14 +18,14 @@ use Rattle.handle_table.proofs.NameLemmas.{next-name, past-after}
 use Rattle.handle_table.proofs.SlotLemmas.{held-of, one_slot}
 use Rattle.handle_table.proofs.TableLemmas.{rises-bounds}
 use Rattle.spm_tables.specs.declared.item.QueuedMessage.{QueuedMessage}
-use Rattle.spm_tables.specs.Desk.{Desk}
+use Rattle.spm_tables.specs.TablesView.{TablesView}
 use Rattle.slot_names.specs.Named.{NamesAre, IsNamedBy}
-use Rattle.slot_names.specs.Changes.{Relinks, Rewaits, is_like}
+use Rattle.slot_names.specs.Changes.{KeepsConnectionNames, KeepsMessageNames, is_like}
 use Rattle.slot_names.proofs.Kept.{name_list}
 
 -- ---- pools that change without a take
 
-pub relinks-same : (old new : Places OpenConnection) → new ≡ old → Relinks old new
+pub relinks-same : (old new : Places OpenConnection) → new ≡ old → KeepsConnectionNames old new
 relinks-same old new same = record {
   generations = ap (λ (p : Places OpenConnection). p.generations) same;
   takes = ap (λ (p : Places OpenConnection). p.takes) same;
@@ -33,10 +33,10 @@ relinks-same old new same = record {
 }
 
 -- by another name of the new one
-pub relinks-to : (old new changed : Places OpenConnection) → new ≡ changed → Relinks old changed → Relinks old new
-relinks-to old new changed same it = subst (Relinks old) (sym same) it
+pub relinks-to : (old new changed : Places OpenConnection) → new ≡ changed → KeepsConnectionNames old changed → KeepsConnectionNames old new
+relinks-to old new changed same it = subst (KeepsConnectionNames old) (sym same) it
 
-pub relinks-trans : (old mid new : Places OpenConnection) → Relinks old mid → Relinks mid new → Relinks old new
+pub relinks-trans : (old mid new : Places OpenConnection) → KeepsConnectionNames old mid → KeepsConnectionNames mid new → KeepsConnectionNames old new
 relinks-trans old mid new one two = record {
   generations = two.generations ∙ one.generations;
   takes = two.takes ∙ one.takes;
@@ -85,7 +85,7 @@ put-named ts s c h same named =
     elim [ true ↦ λ e. ap (λ n. get_or ts n no_slot) (sym (same e)) ∙ named | false ↦ λ e. named ] in
     go (has_slot s h) refl
 
-pub relinks-item : (capacity : ℕ) (p : Places OpenConnection) (s : Slot) (c changed : OpenConnection) → IsKept capacity p → item_at p s ≡ Some c → changed.serial ≡ c.serial → Relinks p (with_item p s changed)
+pub relinks-item : (capacity : ℕ) (p : Places OpenConnection) (s : Slot) (c changed : OpenConnection) → IsKept capacity p → item_at p s ≡ Some c → changed.serial ≡ c.serial → KeepsConnectionNames p (with_item p s changed)
 relinks-item capacity p s c changed kept live serial = record {
   generations = refl;
   takes = refl;
@@ -94,7 +94,7 @@ relinks-item capacity p s c changed kept live serial = record {
       (λ k d lt. put-named ts s changed (get_or p.held k d) (λ e. ap (λ (x : OpenConnection). x.serial) (only-item capacity p s c kept live k d lt e) ∙ sym serial) (named k d lt));
 }
 
-pub relinks-without : (p : Places OpenConnection) (s : Slot) → Relinks p (without p s)
+pub relinks-without : (p : Places OpenConnection) (s : Slot) → KeepsConnectionNames p (without p s)
 relinks-without p s = record {
   generations = refl;
   takes = refl;
@@ -103,7 +103,7 @@ relinks-without p s = record {
 
 -- some connections go, and others change in their slots
 pub relinks-some : (p : Places OpenConnection) (f : Held OpenConnection → Option (Held OpenConnection)) → ((h g : Held OpenConnection) → f h ≡ Some g → (g.slot ≡ h.slot) × (g.item.serial ≡ h.item.serial))
-    → Relinks p (record p { held = filter_map f p.held })
+    → KeepsConnectionNames p (record p { held = filter_map f p.held })
 relinks-some p f same = record { generations = refl; takes = refl; held = λ ts named. some ts p.held named } where
   some : (ts : List SlotName) (hs : List (Held OpenConnection)) → All (IsNamedBy ts) hs → All (IsNamedBy ts) (filter_map f hs)
   some ts [] named = All-nil (IsNamedBy ts)
@@ -118,7 +118,7 @@ relinks-some p f same = record { generations = refl; takes = refl; held = λ ts 
       ] in
       go (f h) refl
 
-pub rewaits-same : (old new : Places QueuedMessage) → new ≡ old → Rewaits old new
+pub rewaits-same : (old new : Places QueuedMessage) → new ≡ old → KeepsMessageNames old new
 rewaits-same old new same = record {
   generations = ap (λ (p : Places QueuedMessage). p.generations) same;
   takes = ap (λ (p : Places QueuedMessage). p.takes) same;
@@ -126,10 +126,10 @@ rewaits-same old new same = record {
   alike = λ h. ap (λ (p : Places QueuedMessage). list_any (is_like h) p.held) same;
 }
 
-pub rewaits-to : (old new changed : Places QueuedMessage) → new ≡ changed → Rewaits old changed → Rewaits old new
-rewaits-to old new changed same it = subst (Rewaits old) (sym same) it
+pub rewaits-to : (old new changed : Places QueuedMessage) → new ≡ changed → KeepsMessageNames old changed → KeepsMessageNames old new
+rewaits-to old new changed same it = subst (KeepsMessageNames old) (sym same) it
 
-pub rewaits-trans : (old mid new : Places QueuedMessage) → Rewaits old mid → Rewaits mid new → Rewaits old new
+pub rewaits-trans : (old mid new : Places QueuedMessage) → KeepsMessageNames old mid → KeepsMessageNames mid new → KeepsMessageNames old new
 rewaits-trans old mid new one two = record {
   generations = two.generations ∙ one.generations;
   takes = two.takes ∙ one.takes;
@@ -157,7 +157,7 @@ likes-put s m x (h ∷ hs) same =
     let P : Held QueuedMessage → Type 0 = λ y. has_slot s y ≡ true → (y.item.serial ≡ m.serial) × (y.item.kind ≡ m.kind) in
     ap (λ b. b || list_any (is_like x) (map (item_put s m) hs)) (like-put s m x h (All-head P h hs same)) ∙ ap (λ b. is_like x h || b) (likes-put s m x hs (All-tail P h hs same))
 
-pub rewaits-item : (capacity : ℕ) (p : Places QueuedMessage) (s : Slot) (m changed : QueuedMessage) → IsKept capacity p → item_at p s ≡ Some m → changed.serial ≡ m.serial → changed.kind ≡ m.kind → Rewaits p (with_item p s changed)
+pub rewaits-item : (capacity : ℕ) (p : Places QueuedMessage) (s : Slot) (m changed : QueuedMessage) → IsKept capacity p → item_at p s ≡ Some m → changed.serial ≡ m.serial → changed.kind ≡ m.kind → KeepsMessageNames p (with_item p s changed)
 rewaits-item capacity p s m changed kept live serial kind = record {
   generations = refl;
   takes = refl;
@@ -172,7 +172,7 @@ rewaits-item capacity p s m changed kept live serial kind = record {
 -- ---- the names of changed tables
 
 -- some slots were put back at most
-pub names-with : (old new : Desk) (k : NamesSoFar) (ts : List SlotName) → NamesAre old k → Relinks old.linked new.linked → new.waiting.generations ≡ old.waiting.generations → new.waiting.takes ≡ old.waiting.takes → ts ≡ live_names new.waiting
+pub names-with : (old new : TablesView) (k : NamesSoFar) (ts : List SlotName) → NamesAre old k → KeepsConnectionNames old.linked new.linked → new.waiting.generations ≡ old.waiting.generations → new.waiting.takes ≡ old.waiting.takes → ts ≡ live_names new.waiting
     → NamesAre new (record k { messages = ts })
 names-with old new k ts was linked generations takes names = record {
   made = was.made ∙ sym linked.takes;
@@ -184,7 +184,7 @@ names-with old new k ts was linked generations takes names = record {
 }
 
 -- no message comes or goes
-pub names-stay : (old new : Desk) (k : NamesSoFar) → NamesAre old k → Relinks old.linked new.linked → Rewaits old.waiting new.waiting → NamesAre new k
+pub names-stay : (old new : TablesView) (k : NamesSoFar) → NamesAre old k → KeepsConnectionNames old.linked new.linked → KeepsMessageNames old.waiting new.waiting → NamesAre new k
 names-stay old new k was linked waiting = names-with old new k k.messages was linked waiting.generations waiting.takes (was.messages ∙ sym waiting.names)
 
 map-push : {X Y : Type 0} (f : X → Y) (xs : List X) (x : X) → map f (xs ++ x ∷ []) ≡ map f xs ++ f x ∷ []
@@ -206,7 +206,7 @@ named-later ts t (h ∷ hs) below named =
     (named-later ts t hs (All-tail (λ c. c.serial < length ts) h.item cs below) (All-tail (IsNamedBy ts) h hs named))
 
 -- a connection is made in its slot
-pub names-started : (old new : Desk) (k : NamesSoFar) (slot : Slot) (c : OpenConnection) → NamesAre old k → IsTable old.linked → free_slot old.linked ≡ Some slot → c.serial ≡ old.linked.takes
+pub names-started : (old new : TablesView) (k : NamesSoFar) (slot : Slot) (c : OpenConnection) → NamesAre old k → IsTable old.linked → free_slot old.linked ≡ Some slot → c.serial ≡ old.linked.takes
     → new.linked ≡ taken old.linked slot c → new.waiting ≡ old.waiting → NamesAre new (record k { connections = k.connections ++ slot_name slot ∷ [] })
 names-started old new k slot c was table free serial linked waiting =
     let ts : List SlotName = k.connections in
@@ -231,7 +231,7 @@ one_more size k =
     record k { messages = k.messages ++ t ∷ []; past_messages = k.past_messages ++ t ∷ [] }
 
 -- a message is taken in
-pub names-enqueued : (old new : Desk) (k : NamesSoFar) (slot : Slot) (x : QueuedMessage) (size : ℕ) → NamesAre old k → length old.waiting.generations ≡ size → free_slot old.waiting ≡ Some slot
+pub names-enqueued : (old new : TablesView) (k : NamesSoFar) (slot : Slot) (x : QueuedMessage) (size : ℕ) → NamesAre old k → length old.waiting.generations ≡ size → free_slot old.waiting ≡ Some slot
     → new.linked ≡ old.linked → new.waiting ≡ taken old.waiting slot x → NamesAre new (one_more size k)
 names-enqueued old new k slot x size was wide free linked waiting =
     let t : SlotName = slot_name slot in

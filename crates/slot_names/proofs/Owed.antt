@@ -8,7 +8,7 @@ use Rattle.ffm_model.specs.declared.objects.PendingMessage.{PendingMessage}
 use Rattle.ffm_model.specs.Names.{NamesSoFar, SlotName, capacity, slots_kept, stays}
 use Rattle.counting_law.proofs.Slots.{kept-length, same-self}
 use Rattle.counting_law.proofs.Takes.{same_message}
-use Rattle.spm_tables.specs.Desk.{Desk, held_message, spm_of}
+use Rattle.spm_tables.specs.TablesView.{TablesView, held_message, spm_of}
 use Rattle.slot_names.specs.Named.{KeepsNames, NamesAre}
 use Rattle.slot_names.proofs.Kept.{any-at, message_list}
 use Rattle.slot_names.proofs.Changes.{after-is, after-still, kept_names, names-length}
@@ -30,7 +30,7 @@ use Rattle.ffm_model.specs.Signals.{is_blocked}
 use Rattle.ffm_model.specs.State.{SpmState, has_handle, message_held, phase_of, with_connection_phase, with_phase, without_connection, without_message}
 use Rattle.counting_law.specs.Objects.{ObjectsFit}
 use Rattle.counting_law.proofs.Counts.{bit, any-count, count-filter-le, count-found, find-passes, none-count}
-use Rattle.counting_law.proofs.Losses.{after_panic, after_panic-is, goodbye, goodbye_as, goodbyes}
+use Rattle.counting_law.proofs.Losses.{after_panic, after_panic-is, disconnect_message, disconnect_as, disconnect_messages}
 use Rattle.counting_law.proofs.Owed.{owed-request}
 use Rattle.counting_law.proofs.Pairs.{count-split, member-counts}
 use Rattle.counting_law.proofs.Parts.{right_true}
@@ -77,7 +77,7 @@ stay-part r ms gone = λ i d lt.
     go (r m) refl
 
 -- where the first change only removes messages, and no removed one is like one of the messages that are left then, or at the end
-pub names-joined : (s : System) (old mid new : Desk) (r : PendingMessage → Bool) → KeepsNames s old mid → KeepsNames s mid new → (spm_of mid).messages ≡ filter r (spm_of old).messages
+pub names-joined : (s : System) (old mid new : TablesView) (r : PendingMessage → Bool) → KeepsNames s old mid → KeepsNames s mid new → (spm_of mid).messages ≡ filter r (spm_of old).messages
     → mid.linked.takes ≡ old.linked.takes → new.linked.takes ≡ mid.linked.takes
     → All (λ m. r m ≡ false → (stays (spm_of mid).messages m ≡ false) × (stays (spm_of new).messages m ≡ false)) (spm_of old).messages → KeepsNames s old new
 names-joined s old mid new r one two messages made still gone = λ k was.
@@ -154,21 +154,21 @@ off_and true y e = e
 off_and false y e = refl
 
 -- a request is like no disconnection
-no-goodbye : (s : System) (p : ℕ) (n : PendingMessage) (cs : List OpenConnection) → int_eq PSA_IPC_DISCONNECT n.kind ≡ false → stays (goodbyes s p cs) n ≡ false
-no-goodbye s p n [] off = refl
-no-goodbye s p n (c ∷ cs) off =
-    let here : (o k : Bool) (ph : ConnPhase) → stays (goodbye_as o k ph c) n ≡ false =
+no-disconnect : (s : System) (p : ℕ) (n : PendingMessage) (cs : List OpenConnection) → int_eq PSA_IPC_DISCONNECT n.kind ≡ false → stays (disconnect_messages s p cs) n ≡ false
+no-disconnect s p n [] off = refl
+no-disconnect s p n (c ∷ cs) off =
+    let here : (o k : Bool) (ph : ConnPhase) → stays (disconnect_as o k ph c) n ≡ false =
     elim [
       | true ↦ λ k ph. refl
       | false ↦ elim [
         | true ↦ λ ph.
-            let go : (x : Bool) → stays (if x then [] else goodbye c ∷ []) n ≡ false = elim [ true ↦ refl | false ↦ ap (λ b. b || false) (off_and (c.serial == n.connection) (int_eq PSA_IPC_DISCONNECT n.kind) off) ] in
+            let go : (x : Bool) → stays (if x then [] else disconnect_message c ∷ []) n ≡ false = elim [ true ↦ refl | false ↦ ap (λ b. b || false) (off_and (c.serial == n.connection) (int_eq PSA_IPC_DISCONNECT n.kind) off) ] in
             go (is_dead ph)
         | false ↦ λ ph. refl
       ]
     ] in
-    list_any-append (same_message n) (goodbye_as (is_service_of s p c.service) (c.client.0 == p) c.phase c) (goodbyes s p cs)
-    ∙ ap (λ b. b || stays (goodbyes s p cs) n) (here (is_service_of s p c.service) (c.client.0 == p) c.phase) ∙ no-goodbye s p n cs off
+    list_any-append (same_message n) (disconnect_as (is_service_of s p c.service) (c.client.0 == p) c.phase c) (disconnect_messages s p cs)
+    ∙ ap (λ b. b || stays (disconnect_messages s p cs) n) (here (is_service_of s p c.service) (c.client.0 == p) c.phase) ∙ no-disconnect s p n cs off
 
 off-filter : (n : PendingMessage) (r : PendingMessage → Bool) (ms : List PendingMessage) → stays ms n ≡ false → stays (filter r ms) n ≡ false
 off-filter n r ms off =
@@ -202,7 +202,7 @@ held-request s b a h m i d fits found request lt shown =
     go (D n) refl
 
 -- a reply, and the panic of the client that it owes
-pub names-owed : (s : System) (old mid new : Desk) (a p : ℕ) (h : Handle) (status : ℤ) → ObjectsFit s (spm_of old) → reply_on s (spm_of old) a h status ≡ Some (record { spm = spm_of mid; owing = Some p })
+pub names-owed : (s : System) (old mid new : TablesView) (a p : ℕ) (h : Handle) (status : ℤ) → ObjectsFit s (spm_of old) → reply_on s (spm_of old) a h status ≡ Some (record { spm = spm_of mid; owing = Some p })
     → spm_of new ≡ panic_effect s (spm_of mid) p → KeepsNames s old mid → KeepsNames s mid new → KeepsNames s old new
 names-owed s old mid new a p h status fits reply effect one two =
     let b : SpmState = spm_of old in
@@ -215,7 +215,7 @@ names-owed s old mid new a p h status fits reply effect one two =
     ap (λ (x : SpmState). x.connections_made) (sym it.is_after) ∙ answered-keeps (λ x. x.connections_made) s (without_message b h) it.m status (λ n ph. refl) (λ n. refl) (λ c i ph. refl) in
     let is_new : spm_of new ≡ after_panic s (spm_of mid) p = effect ∙ after_panic-is s (spm_of mid) p in
     let svc : PendingMessage → Bool = λ x. not (is_service_of s p x.service) in
-    let last : (spm_of new).messages ≡ filter svc (spm_of mid).messages ++ goodbyes s p (spm_of mid).connections = ap (λ (x : SpmState). x.messages) is_new in
+    let last : (spm_of new).messages ≡ filter svc (spm_of mid).messages ++ disconnect_messages s p (spm_of mid).connections = ap (λ (x : SpmState). x.messages) is_new in
     let request : int_eq PSA_IPC_DISCONNECT it.m.kind ≡ false = owed-request s it.m status (int_eq PSA_IPC_DISCONNECT it.m.kind ≡ false) it.owes (λ n e. request_kind it.m.kind n e) in
     names-joined s old mid new r one two messages made (ap (λ (x : SpmState). x.connections_made) is_new)
     (λ i d lt off.
@@ -226,9 +226,9 @@ names-owed s old mid new a p h status fits reply effect one two =
     ∙ like-kept same_message (λ x. x.connection) same-self same-narrow r ms [] (fitting-messages s b fits) (λ j e k g. refl) i d lt ∙ off in (
       left,
       ap (λ (xs : List PendingMessage). stays xs n) last
-          ∙ list_any-append (same_message n) (filter svc (spm_of mid).messages) (goodbyes s p (spm_of mid).connections)
-          ∙ ap (λ x. x || stays (goodbyes s p (spm_of mid).connections) n) (off-filter n svc (spm_of mid).messages left)
-          ∙ no-goodbye s p n (spm_of mid).connections (held-request s b a h it.m i d fits it.found request lt shown),
+          ∙ list_any-append (same_message n) (filter svc (spm_of mid).messages) (disconnect_messages s p (spm_of mid).connections)
+          ∙ ap (λ x. x || stays (disconnect_messages s p (spm_of mid).connections) n) (off-filter n svc (spm_of mid).messages left)
+          ∙ no-disconnect s p n (spm_of mid).connections (held-request s b a h it.m i d fits it.found request lt shown),
     )) where
       not_off : (x : Bool) → not x ≡ false → x ≡ true
       not_off true e = refl

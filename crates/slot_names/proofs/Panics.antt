@@ -18,15 +18,15 @@ use Rattle.handle_table.specs.Handles.{live_names}
 use Rattle.counting_law.specs.Objects.{Mark, connection_marked, is_awaited, message_marked}
 use Rattle.counting_law.proofs.Counts.{bit, any-count, count-cons, count-le}
 use Rattle.counting_law.proofs.Parts.{both-le-left, both-le-right, is_itself, unique}
-use Rattle.counting_law.proofs.Losses.{after_panic-is, goodbye, goodbye_as, goodbyes}
+use Rattle.counting_law.proofs.Losses.{after_panic-is, disconnect_message, disconnect_as, disconnect_messages}
 use Rattle.counting_law.proofs.Panic.{count-append}
 use Rattle.counting_law.proofs.Pairs.{count-split, member-counts}
 use Rattle.counting_law.proofs.Slots.{same-self}
 use Rattle.counting_law.proofs.Takes.{same_message}
 use Rattle.spm_tables.specs.declared.item.QueuedMessage.{QueuedMessage}
-use Rattle.spm_tables.specs.Desk.{Desk, held_message, spm_of}
+use Rattle.spm_tables.specs.TablesView.{TablesView, held_message, spm_of}
 use Rattle.slot_names.specs.Named.{KeepsNames, NamesAre}
-use Rattle.slot_names.specs.Changes.{OneMessageEach, PairsOff, Relinks, Rewaits, TakesOn, names_of}
+use Rattle.slot_names.specs.Changes.{OneMessageEach, PairsOff, KeepsConnectionNames, KeepsMessageNames, TakesOn, names_of}
 use Rattle.slot_names.proofs.Kept.{kept-where, message_list}
 use Rattle.slot_names.proofs.Moves.{messages-more, names-enqueued, names-stay, names-with, one_more, rewaits-same}
 use Rattle.slot_names.proofs.Changes.{after-is, kept_names, names-length}
@@ -36,39 +36,39 @@ use Rattle.slot_names.proofs.Removals.{one-message}
 -- ---- the tables so far
 
 -- at first nothing changed
-pub takes-none : (size : ℕ) (old : Desk) → TakesOn size old (live_names old.waiting) 0 old
+pub takes-none : (size : ℕ) (old : TablesView) → TakesOn size old (live_names old.waiting) 0 old
 takes-none size old = λ k was. subst (λ (ts : List SlotName). NamesAre old (record k { messages = ts })) was.messages was
 
 -- before the first take, messages and connections go
-pub takes-dropped : (size : ℕ) (old d new : Desk) (kept : List SlotName) → TakesOn size old kept 0 d → Relinks d.linked new.linked → new.waiting.generations ≡ d.waiting.generations → new.waiting.takes ≡ d.waiting.takes
+pub takes-dropped : (size : ℕ) (old d new : TablesView) (kept : List SlotName) → TakesOn size old kept 0 d → KeepsConnectionNames d.linked new.linked → new.waiting.generations ≡ d.waiting.generations → new.waiting.takes ≡ d.waiting.takes
     → TakesOn size old (live_names new.waiting) 0 new
 takes-dropped size old d new kept so_far linked generations takes = λ k was. names-with d new (record k { messages = kept }) (live_names new.waiting) (so_far k was) linked generations takes refl
 
 -- all at once, before the first take
-pub takes-first : (size : ℕ) (old new : Desk) (q : Held QueuedMessage → Bool) → Relinks old.linked new.linked → new.waiting ≡ record old.waiting { held = filter q old.waiting.held }
+pub takes-first : (size : ℕ) (old new : TablesView) (q : Held QueuedMessage → Bool) → KeepsConnectionNames old.linked new.linked → new.waiting ≡ record old.waiting { held = filter q old.waiting.held }
     → TakesOn size old (names_of q old.waiting) 0 new
 takes-first size old new q linked waiting = λ k was.
     names-with old new k (names_of q old.waiting) was linked (ap (λ (p : Places QueuedMessage). p.generations) waiting) (ap (λ (p : Places QueuedMessage). p.takes) waiting)
     (ap live_names (sym waiting))
 
 -- the message of a slot goes
-pub takes-without : (size : ℕ) (old d new : Desk) (kept : List SlotName) (place : Slot) → TakesOn size old kept 0 d → Relinks d.linked new.linked → new.waiting ≡ without d.waiting place → TakesOn size old (live_names new.waiting) 0 new
+pub takes-without : (size : ℕ) (old d new : TablesView) (kept : List SlotName) (place : Slot) → TakesOn size old kept 0 d → KeepsConnectionNames d.linked new.linked → new.waiting ≡ without d.waiting place → TakesOn size old (live_names new.waiting) 0 new
 takes-without size old d new kept place so_far linked waiting =
     takes-dropped size old d new kept so_far linked (ap (λ (p : Places QueuedMessage). p.generations) waiting) (ap (λ (p : Places QueuedMessage). p.takes) waiting)
 
 -- connections go or change in their slots, and messages change in theirs
-pub takes-stay : (size : ℕ) (old d new : Desk) (kept : List SlotName) (n : ℕ) → TakesOn size old kept n d → Relinks d.linked new.linked → Rewaits d.waiting new.waiting → TakesOn size old kept n new
+pub takes-stay : (size : ℕ) (old d new : TablesView) (kept : List SlotName) (n : ℕ) → TakesOn size old kept n d → KeepsConnectionNames d.linked new.linked → KeepsMessageNames d.waiting new.waiting → TakesOn size old kept n new
 takes-stay size old d new kept n so_far linked waiting = λ k was. names-stay d new (with_messages size n (record k { messages = kept })) (so_far k was) linked waiting
 
-pub takes-relinked : (size : ℕ) (old d new : Desk) (kept : List SlotName) (n : ℕ) → TakesOn size old kept n d → Relinks d.linked new.linked → new.waiting ≡ d.waiting → TakesOn size old kept n new
+pub takes-relinked : (size : ℕ) (old d new : TablesView) (kept : List SlotName) (n : ℕ) → TakesOn size old kept n d → KeepsConnectionNames d.linked new.linked → new.waiting ≡ d.waiting → TakesOn size old kept n new
 takes-relinked size old d new kept n so_far linked waiting = takes-stay size old d new kept n so_far linked (rewaits-same d.waiting new.waiting waiting)
 
 -- a message is taken in
-pub takes-more : (size : ℕ) (old d new : Desk) (kept : List SlotName) (n : ℕ) (slot : Slot) (x : QueuedMessage) → TakesOn size old kept n d → length d.waiting.generations ≡ size → free_slot d.waiting ≡ Some slot
-    → Relinks d.linked new.linked → new.waiting ≡ taken d.waiting slot x → TakesOn size old kept (n + 1) new
+pub takes-more : (size : ℕ) (old d new : TablesView) (kept : List SlotName) (n : ℕ) (slot : Slot) (x : QueuedMessage) → TakesOn size old kept n d → length d.waiting.generations ≡ size → free_slot d.waiting ≡ Some slot
+    → KeepsConnectionNames d.linked new.linked → new.waiting ≡ taken d.waiting slot x → TakesOn size old kept (n + 1) new
 takes-more size old d new kept n slot x so_far wide free linked waiting = λ k was.
     let k' : NamesSoFar = record k { messages = kept } in
-    let mid : Desk = record d { linked = new.linked } in
+    let mid : TablesView = record d { linked = new.linked } in
     let between : NamesAre mid (with_messages size n k') = names-stay d mid (with_messages size n k') (so_far k was) linked (rewaits-same d.waiting d.waiting refl) in
     subst (NamesAre new) (sym (messages-more size n k') ∙ ap (λ m. with_messages size m k') (sym (add-one n))) (names-enqueued mid new (with_messages size n k') slot x size between wide free refl waiting)
 
@@ -84,7 +84,7 @@ pub same-narrow : (m n : PendingMessage) → bit (same_message m n) ≤ bit (n.c
 same-narrow m n = both-le-left (n.connection == m.connection) (int_eq n.kind m.kind)
 
 -- the messages that pass the test stay, the others go, and those that come are like none of them
-pub names-closed : (s : System) (old new : Desk) (r : PendingMessage → Bool) (added : List PendingMessage) (kept : List SlotName) (n : ℕ) → TakesOn (capacity s) old kept n new
+pub names-closed : (s : System) (old new : TablesView) (r : PendingMessage → Bool) (added : List PendingMessage) (kept : List SlotName) (n : ℕ) → TakesOn (capacity s) old kept n new
     → kept ≡ names_of (λ h. r (held_message h)) old.waiting → new.linked.takes ≡ old.linked.takes → (spm_of new).messages ≡ filter r (spm_of old).messages ++ added
     → OneMessageEach (spm_of old) → All (λ m. r m ≡ false → stays added m ≡ false) (spm_of old).messages → KeepsNames s old new
 names-closed s old new r added kept n so_far names made messages one apart = λ k was.
@@ -104,35 +104,35 @@ names-closed s old new r added kept n so_far names made messages one apart = λ 
 
 -- ---- a panic in the machine's words
 
-goodbye-le : (m : PendingMessage) (c : OpenConnection) (o k : Bool) (ph : ConnPhase) → count_by (same_message m) (goodbye_as o k ph c) ≤ bit (not o && (c.serial == m.connection))
-goodbye-le m c true k ph = omega arith
-goodbye-le m c false true ph =
-    let go : (b : Bool) → count_by (same_message m) (if b then [] else goodbye c ∷ []) ≤ bit (c.serial == m.connection) =
-    elim [ true ↦ omega arith | false ↦ omega (arith, count-cons (same_message m) (goodbye c) [], same-narrow m (goodbye c)) ] in
+disconnect-le : (m : PendingMessage) (c : OpenConnection) (o k : Bool) (ph : ConnPhase) → count_by (same_message m) (disconnect_as o k ph c) ≤ bit (not o && (c.serial == m.connection))
+disconnect-le m c true k ph = omega arith
+disconnect-le m c false true ph =
+    let go : (b : Bool) → count_by (same_message m) (if b then [] else disconnect_message c ∷ []) ≤ bit (c.serial == m.connection) =
+    elim [ true ↦ omega arith | false ↦ omega (arith, count-cons (same_message m) (disconnect_message c) [], same-narrow m (disconnect_message c)) ] in
     go (is_dead ph)
-goodbye-le m c false false ph = omega arith
+disconnect-le m c false false ph = omega arith
 
-goodbyes-le : (s : System) (p : ℕ) (m : PendingMessage) (cs : List OpenConnection) → count_by (same_message m) (goodbyes s p cs) ≤ count_by (λ c. not (is_service_of s p c.service) && (c.serial == m.connection)) cs
-goodbyes-le s p m [] = omega arith
-goodbyes-le s p m (c ∷ cs) =
+disconnects-le : (s : System) (p : ℕ) (m : PendingMessage) (cs : List OpenConnection) → count_by (same_message m) (disconnect_messages s p cs) ≤ count_by (λ c. not (is_service_of s p c.service) && (c.serial == m.connection)) cs
+disconnects-le s p m [] = omega arith
+disconnects-le s p m (c ∷ cs) =
     omega (
       arith,
-      count-append (same_message m) (goodbye_as (is_service_of s p c.service) (c.client.0 == p) c.phase c) (goodbyes s p cs),
-      goodbye-le m c (is_service_of s p c.service) (c.client.0 == p) c.phase,
-      goodbyes-le s p m cs,
+      count-append (same_message m) (disconnect_as (is_service_of s p c.service) (c.client.0 == p) c.phase c) (disconnect_messages s p cs),
+      disconnect-le m c (is_service_of s p c.service) (c.client.0 == p) c.phase,
+      disconnects-le s p m cs,
       count-cons (λ d. not (is_service_of s p d.service) && (d.serial == m.connection)) c cs,
     )
 
 -- the disconnections that a panic sends are of other connections than the messages that it takes from its services
-pub goodbyes-apart : (s : System) (b : SpmState) (p : ℕ) → PairsOff b → All (λ m. not (is_service_of s p m.service) ≡ false → stays (goodbyes s p b.connections) m ≡ false) b.messages
-goodbyes-apart s b p h = λ i d lt off.
+pub disconnects-apart : (s : System) (b : SpmState) (p : ℕ) → PairsOff b → All (λ m. not (is_service_of s p m.service) ≡ false → stays (disconnect_messages s p b.connections) m ≡ false) b.messages
+disconnects-apart s b p h = λ i d lt off.
     let m : PendingMessage = get_or b.messages i d in
     let t : Mark = λ n a v ph. is_service_of s p v && (n == m.connection) in
     let here : message_marked t m ≡ true = both_on (is_service_of s p m.service) (m.connection == m.connection) (not_off (is_service_of s p m.service) off) (is_itself m.connection) in
-    let none : count_by (same_message m) (goodbyes s p b.connections) ≡ 0 =
+    let none : count_by (same_message m) (disconnect_messages s p b.connections) ≡ 0 =
     omega (
       arith,
-      goodbyes-le s p m b.connections,
+      disconnects-le s p m b.connections,
       member-counts (message_marked t) b.messages i d lt,
       ap bit here,
       h.paired t,
@@ -140,15 +140,15 @@ goodbyes-apart s b p h = λ i d lt off.
       count-split (λ c. is_service_of s p c.service) (λ c. c.serial == m.connection) b.connections,
       unique 0 b.connections_made m.connection b.connections h.rising,
     ) in
-    let go : (x : Bool) → stays (goodbyes s p b.connections) m ≡ x → x ≡ false = elim [ true ↦ λ e. absurd (omega (arith, any-count (same_message m) (goodbyes s p b.connections) e, none)) | false ↦ λ e. refl ] in
-    go (stays (goodbyes s p b.connections) m) refl where
+    let go : (x : Bool) → stays (disconnect_messages s p b.connections) m ≡ x → x ≡ false = elim [ true ↦ λ e. absurd (omega (arith, any-count (same_message m) (disconnect_messages s p b.connections) e, none)) | false ↦ λ e. refl ] in
+    go (stays (disconnect_messages s p b.connections) m) refl where
       not_off : (x : Bool) → not x ≡ false → x ≡ true
       not_off true e = refl
       not_off false e = cc
 
-pub names-panicked : (s : System) (old new : Desk) (p : ℕ) (kept : List SlotName) (n : ℕ) → PairsOff (spm_of old) → spm_of new ≡ panic_effect s (spm_of old) p
+pub names-panicked : (s : System) (old new : TablesView) (p : ℕ) (kept : List SlotName) (n : ℕ) → PairsOff (spm_of old) → spm_of new ≡ panic_effect s (spm_of old) p
     → kept ≡ names_of (λ h. not (is_service_of s p h.item.service)) old.waiting → TakesOn (capacity s) old kept n new → KeepsNames s old new
 names-panicked s old new p kept n pairs effect names so_far =
     let is_after = effect ∙ after_panic-is s (spm_of old) p in
-    names-closed s old new (λ m. not (is_service_of s p m.service)) (goodbyes s p (spm_of old).connections) kept n so_far names
-    (ap (λ (b : SpmState). b.connections_made) is_after) (ap (λ (b : SpmState). b.messages) is_after) (one-message (spm_of old) pairs) (goodbyes-apart s (spm_of old) p pairs)
+    names-closed s old new (λ m. not (is_service_of s p m.service)) (disconnect_messages s p (spm_of old).connections) kept n so_far names
+    (ap (λ (b : SpmState). b.connections_made) is_after) (ap (λ (b : SpmState). b.messages) is_after) (one-message (spm_of old) pairs) (disconnects-apart s (spm_of old) p pairs)

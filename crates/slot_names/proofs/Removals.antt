@@ -17,9 +17,9 @@ use Rattle.counting_law.specs.Objects.{ObjectsFit, Mark, is_awaited, connection_
 use Rattle.counting_law.proofs.Counts.{bit, count-le}
 use Rattle.counting_law.proofs.Parts.{both-le-left, both-le-right, unique}
 use Rattle.spm_tables.specs.declared.item.QueuedMessage.{QueuedMessage}
-use Rattle.spm_tables.specs.Desk.{Desk, held_message, spm_of}
+use Rattle.spm_tables.specs.TablesView.{TablesView, held_message, spm_of}
 use Rattle.slot_names.specs.Named.{KeepsNames, NamesAre}
-use Rattle.slot_names.specs.Changes.{OneMessageEach, PairsOff, Relinks, is_like}
+use Rattle.slot_names.specs.Changes.{OneMessageEach, PairsOff, KeepsConnectionNames, is_like}
 use Rattle.slot_names.proofs.Kept.{kept-where, like_itself, message_list, name_list, stays-is}
 use Rattle.slot_names.proofs.Moves.{names-with, relinks-item, relinks-same, relinks-to, relinks-without}
 use Rattle.slot_names.proofs.Changes.{after-is, kept_names}
@@ -43,14 +43,14 @@ pub fitting-messages : (s : System) (b : SpmState) → ObjectsFit s b → OneMes
 fitting-messages s b h = one-message b (fitting-pairs-off s b h)
 
 -- the same, of the items
-pub one-item : (d : Desk) → OneMessageEach (spm_of d) → (n : ℕ) → count_by (λ h. h.item.serial == n) d.waiting.held ≤ 1
+pub one-item : (d : TablesView) → OneMessageEach (spm_of d) → (n : ℕ) → count_by (λ h. h.item.serial == n) d.waiting.held ≤ 1
 one-item d one n = omega (arith, one n, count-map held_message (λ m. m.connection == n) d.waiting.held)
 
 pub like-narrow : (h x : Held QueuedMessage) → bit (is_like h x) ≤ bit (x.item.serial == h.item.serial)
 like-narrow h x = both-le-left (x.item.serial == h.item.serial) (int_eq x.item.kind h.item.kind)
 
 -- the messages that pass the test stay, and the others go
-pub names-removed : (s : System) (old new : Desk) (q : Held QueuedMessage → Bool) → OneMessageEach (spm_of old) → Relinks old.linked new.linked
+pub names-removed : (s : System) (old new : TablesView) (q : Held QueuedMessage → Bool) → OneMessageEach (spm_of old) → KeepsConnectionNames old.linked new.linked
     → new.waiting ≡ record old.waiting { held = filter q old.waiting.held } → KeepsNames s old new
 names-removed s old new q one linked waiting = λ k was.
     let hs : List (Held QueuedMessage) = old.waiting.held in
@@ -71,20 +71,20 @@ names-removed s old new q one linked waiting = λ k was.
 -- ---- a reply
 
 -- the message of a slot goes
-pub names-dropped : (s : System) (old new : Desk) (place : Slot) → OneMessageEach (spm_of old) → Relinks old.linked new.linked → new.waiting ≡ without old.waiting place → KeepsNames s old new
+pub names-dropped : (s : System) (old new : TablesView) (place : Slot) → OneMessageEach (spm_of old) → KeepsConnectionNames old.linked new.linked → new.waiting ≡ without old.waiting place → KeepsNames s old new
 names-dropped s old new place one linked waiting = names-removed s old new (λ h. not (has_slot place h)) one linked waiting
 
 -- and its connection stays as it is
-pub names-replied : (s : System) (old new : Desk) (place : Slot) → OneMessageEach (spm_of old) → new.linked ≡ old.linked → new.waiting ≡ without old.waiting place → KeepsNames s old new
+pub names-replied : (s : System) (old new : TablesView) (place : Slot) → OneMessageEach (spm_of old) → new.linked ≡ old.linked → new.waiting ≡ without old.waiting place → KeepsNames s old new
 names-replied s old new place one linked waiting = names-dropped s old new place one (relinks-same old.linked new.linked linked) waiting
 
 -- or changes in its slot
-pub names-answered : (s : System) (old new : Desk) (place slot : Slot) (c changed : OpenConnection) → OneMessageEach (spm_of old) → IsKept 256 old.linked → item_at old.linked slot ≡ Some c → changed.serial ≡ c.serial
+pub names-answered : (s : System) (old new : TablesView) (place slot : Slot) (c changed : OpenConnection) → OneMessageEach (spm_of old) → IsKept 256 old.linked → item_at old.linked slot ≡ Some c → changed.serial ≡ c.serial
     → new.linked ≡ with_item old.linked slot changed → new.waiting ≡ without old.waiting place → KeepsNames s old new
 names-answered s old new place slot c changed one kept live serial linked waiting =
     names-dropped s old new place one (relinks-to old.linked new.linked (with_item old.linked slot changed) linked (relinks-item 256 old.linked slot c changed kept live serial)) waiting
 
 -- or goes too
-pub names-ended : (s : System) (old new : Desk) (place slot : Slot) → OneMessageEach (spm_of old) → new.linked ≡ without old.linked slot → new.waiting ≡ without old.waiting place → KeepsNames s old new
+pub names-ended : (s : System) (old new : TablesView) (place slot : Slot) → OneMessageEach (spm_of old) → new.linked ≡ without old.linked slot → new.waiting ≡ without old.waiting place → KeepsNames s old new
 names-ended s old new place slot one linked waiting =
     names-dropped s old new place one (relinks-to old.linked new.linked (without old.linked slot) linked (relinks-without old.linked slot)) waiting

@@ -11,11 +11,11 @@ use Rattle.object_pools.specs.Pool.{Places}
 use Rattle.handle_table.specs.Handles.{live_names, slot_name}
 use Rattle.counting_law.specs.Objects.{Mark, RisesTo, connection_marked, message_marked}
 use Rattle.spm_tables.specs.declared.item.QueuedMessage.{QueuedMessage}
-use Rattle.spm_tables.specs.Desk.{Desk}
+use Rattle.spm_tables.specs.TablesView.{TablesView}
 use Rattle.slot_names.specs.Named.{IsNamedBy, NamesAre}
 
 -- no connection is made, and those that are there have the slots and serial numbers that they had: what names the old ones names them
-pub record Relinks (old new : Places OpenConnection) : Type 0 where
+pub record KeepsConnectionNames (old new : Places OpenConnection) : Type 0 where
   pub generations : new.generations ≡ old.generations
   pub takes : new.takes ≡ old.takes
   pub held : (ts : List SlotName) → All (IsNamedBy ts) old.held → All (IsNamedBy ts) new.held
@@ -25,7 +25,7 @@ abbrev pub is_like : Held QueuedMessage → Held QueuedMessage → Bool
 is_like h n = (n.item.serial == h.item.serial) && int_eq n.item.kind h.item.kind
 
 -- no message comes or goes, and each has the slot, connection and kind that it had
-pub record Rewaits (old new : Places QueuedMessage) : Type 0 where
+pub record KeepsMessageNames (old new : Places QueuedMessage) : Type 0 where
   pub generations : new.generations ≡ old.generations
   pub takes : new.takes ≡ old.takes
   pub names : live_names new ≡ live_names old
@@ -36,7 +36,7 @@ abbrev pub names_of : (Held QueuedMessage → Bool) → Places QueuedMessage →
 names_of q p = map (λ (h : Held QueuedMessage). slot_name h.slot) (filter q p.held)
 
 -- since the tables `old`, only the messages whose slots are `kept` stayed, and then n more were taken in
-abbrev pub TakesOn : ℕ → Desk → List SlotName → ℕ → Desk → Type 0
+abbrev pub TakesOn : ℕ → TablesView → List SlotName → ℕ → TablesView → Type 0
 TakesOn size old kept n d = (k : NamesSoFar) → NamesAre old k → NamesAre d (with_messages size n (record k { messages = kept }))
 
 -- no two messages are of one connection

@@ -26,62 +26,62 @@ ghost use Rattle.handle_table.specs.Table.{IsTable};
 ghost use Rattle.counting_law.specs.Objects.{ObjectsFit};
 ghost use Rattle.spm_tables.specs.declared.item.QueuedMessage.{QueuedMessage};
 ghost use Rattle.spm_tables.specs.Answers.{state_with};
-ghost use Rattle.spm_tables.specs.Desk.{Desk, MadeFor, spm_of, waits_for};
+ghost use Rattle.spm_tables.specs.TablesView.{TablesView, MadeFor, spm_of, waits_for};
 ghost use Rattle.slot_names.specs.Named.{KeepsNames, NamesAre};
-ghost use Rattle.slot_names.specs.Changes.{OneMessageEach, PairsOff, Relinks, TakesOn, names_of};
+ghost use Rattle.slot_names.specs.Changes.{OneMessageEach, PairsOff, KeepsConnectionNames, TakesOn, names_of};
 
 /// Tables whose slots have the machine's names keep them through each change that a call makes: a connection or
 /// a message stays in its slot, is taken in, or goes.
 pub fn slots_follow_names()
-    ensures untouched { (s : System) (old new : Desk) → new.linked ≡ old.linked → new.waiting ≡ old.waiting → KeepsNames s old new }
-    ensures connection_changes { (s : System) (old new : Desk) (slot : Slot) (c changed : OpenConnection) → IsKept 256 old.linked → item_at old.linked slot ≡ Some c → changed.serial ≡ c.serial
+    ensures untouched { (s : System) (old new : TablesView) → new.linked ≡ old.linked → new.waiting ≡ old.waiting → KeepsNames s old new }
+    ensures connection_changes { (s : System) (old new : TablesView) (slot : Slot) (c changed : OpenConnection) → IsKept 256 old.linked → item_at old.linked slot ≡ Some c → changed.serial ≡ c.serial
         → new.linked ≡ with_item old.linked slot changed → new.waiting ≡ old.waiting → KeepsNames s old new }
-    ensures message_changes { (s : System) (old new : Desk) (place : Slot) (m changed : QueuedMessage) → IsKept 256 old.waiting → item_at old.waiting place ≡ Some m → changed.serial ≡ m.serial → changed.kind ≡ m.kind
+    ensures message_changes { (s : System) (old new : TablesView) (place : Slot) (m changed : QueuedMessage) → IsKept 256 old.waiting → item_at old.waiting place ≡ Some m → changed.serial ≡ m.serial → changed.kind ≡ m.kind
         → new.linked ≡ old.linked → new.waiting ≡ with_item old.waiting place changed → KeepsNames s old new }
 
     // psa_connect
-    ensures connection_is_made { (s : System) (old new : Desk) (slot place : Slot) (c : OpenConnection) (m : QueuedMessage) → MadeFor old s → IsTable old.linked
+    ensures connection_is_made { (s : System) (old new : TablesView) (slot place : Slot) (c : OpenConnection) (m : QueuedMessage) → MadeFor old s → IsTable old.linked
         → free_slot old.linked ≡ Some slot → c.serial ≡ old.linked.takes → new.linked ≡ taken old.linked slot c
         → free_slot old.waiting ≡ Some place → new.waiting ≡ taken old.waiting place m → KeepsNames s old new }
 
     // psa_call, and psa_close of a connection that isn't dead
-    ensures message_is_sent { (s : System) (old new : Desk) (slot place : Slot) (c changed : OpenConnection) (m : QueuedMessage) → MadeFor old s → IsKept 256 old.linked
+    ensures message_is_sent { (s : System) (old new : TablesView) (slot place : Slot) (c changed : OpenConnection) (m : QueuedMessage) → MadeFor old s → IsKept 256 old.linked
         → item_at old.linked slot ≡ Some c → changed.serial ≡ c.serial → new.linked ≡ with_item old.linked slot changed
         → free_slot old.waiting ≡ Some place → new.waiting ≡ taken old.waiting place m → KeepsNames s old new }
 
     // psa_close of a dead connection
-    ensures connection_goes { (s : System) (old new : Desk) (slot : Slot) → new.linked ≡ without old.linked slot → new.waiting ≡ old.waiting → KeepsNames s old new }
+    ensures connection_goes { (s : System) (old new : TablesView) (slot : Slot) → new.linked ≡ without old.linked slot → new.waiting ≡ old.waiting → KeepsNames s old new }
 
     // psa_reply
-    ensures message_goes { (s : System) (old new : Desk) (place : Slot) → OneMessageEach (spm_of old) → new.linked ≡ old.linked → new.waiting ≡ without old.waiting place → KeepsNames s old new }
-    ensures message_is_answered { (s : System) (old new : Desk) (place slot : Slot) (c changed : OpenConnection) → OneMessageEach (spm_of old) → IsKept 256 old.linked → item_at old.linked slot ≡ Some c → changed.serial ≡ c.serial
+    ensures message_goes { (s : System) (old new : TablesView) (place : Slot) → OneMessageEach (spm_of old) → new.linked ≡ old.linked → new.waiting ≡ without old.waiting place → KeepsNames s old new }
+    ensures message_is_answered { (s : System) (old new : TablesView) (place slot : Slot) (c changed : OpenConnection) → OneMessageEach (spm_of old) → IsKept 256 old.linked → item_at old.linked slot ≡ Some c → changed.serial ≡ c.serial
         → new.linked ≡ with_item old.linked slot changed → new.waiting ≡ without old.waiting place → KeepsNames s old new }
-    ensures both_go { (s : System) (old new : Desk) (place slot : Slot) → OneMessageEach (spm_of old) → new.linked ≡ without old.linked slot → new.waiting ≡ without old.waiting place → KeepsNames s old new }
+    ensures both_go { (s : System) (old new : TablesView) (place slot : Slot) → OneMessageEach (spm_of old) → new.linked ≡ without old.linked slot → new.waiting ≡ without old.waiting place → KeepsNames s old new }
 {}
 
 /// An event that first removes connections and messages and then takes messages in, one after another, keeps the
 /// names: so does a panic. A reply and the panic that it owes are one event.
 pub fn panics_follow_names()
-    ensures messages_go { (size : ℕ) (old new : Desk) (stay : Held QueuedMessage → Bool) → Relinks old.linked new.linked → new.waiting ≡ record old.waiting { held = filter stay old.waiting.held }
+    ensures messages_go { (size : ℕ) (old new : TablesView) (stay : Held QueuedMessage → Bool) → KeepsConnectionNames old.linked new.linked → new.waiting ≡ record old.waiting { held = filter stay old.waiting.held }
         → TakesOn size old (names_of stay old.waiting) 0 new }
-    ensures connections_go { (size : ℕ) (old mid new : Desk) (kept : List SlotName) (n : ℕ) → TakesOn size old kept n mid → Relinks mid.linked new.linked → new.waiting ≡ mid.waiting → TakesOn size old kept n new }
-    ensures message_comes { (size : ℕ) (old mid new : Desk) (kept : List SlotName) (n : ℕ) (place : Slot) (m : QueuedMessage) → TakesOn size old kept n mid → length mid.waiting.generations ≡ size
-        → free_slot mid.waiting ≡ Some place → Relinks mid.linked new.linked → new.waiting ≡ taken mid.waiting place m → TakesOn size old kept (n + 1) new }
-    ensures panic { (s : System) (old new : Desk) (partition : ℕ) (kept : List SlotName) (n : ℕ) → PairsOff (spm_of old) → spm_of new ≡ panic_effect s (spm_of old) partition
+    ensures connections_go { (size : ℕ) (old mid new : TablesView) (kept : List SlotName) (n : ℕ) → TakesOn size old kept n mid → KeepsConnectionNames mid.linked new.linked → new.waiting ≡ mid.waiting → TakesOn size old kept n new }
+    ensures message_comes { (size : ℕ) (old mid new : TablesView) (kept : List SlotName) (n : ℕ) (place : Slot) (m : QueuedMessage) → TakesOn size old kept n mid → length mid.waiting.generations ≡ size
+        → free_slot mid.waiting ≡ Some place → KeepsConnectionNames mid.linked new.linked → new.waiting ≡ taken mid.waiting place m → TakesOn size old kept (n + 1) new }
+    ensures panic { (s : System) (old new : TablesView) (partition : ℕ) (kept : List SlotName) (n : ℕ) → PairsOff (spm_of old) → spm_of new ≡ panic_effect s (spm_of old) partition
         → kept ≡ names_of (λ h. not (is_service_of s partition h.item.service)) old.waiting → TakesOn (capacity s) old kept n new → KeepsNames s old new }
-    ensures both { (s : System) (old mid new : Desk) (stay : PendingMessage → Bool) → KeepsNames s old mid → KeepsNames s mid new
+    ensures both { (s : System) (old mid new : TablesView) (stay : PendingMessage → Bool) → KeepsNames s old mid → KeepsNames s mid new
         → (spm_of mid).messages ≡ filter stay (spm_of old).messages → mid.linked.takes ≡ old.linked.takes → new.linked.takes ≡ mid.linked.takes
         → All (λ m. stay m ≡ false → (stays (spm_of mid).messages m ≡ false) × (stays (spm_of new).messages m ≡ false)) (spm_of old).messages → KeepsNames s old new }
-    ensures owed { (s : System) (old mid new : Desk) (a partition : ℕ) (h : Handle) (status : ℤ) → ObjectsFit s (spm_of old)
+    ensures owed { (s : System) (old mid new : TablesView) (a partition : ℕ) (h : Handle) (status : ℤ) → ObjectsFit s (spm_of old)
         → reply_on s (spm_of old) a h status ≡ Some (record { spm = spm_of mid; owing = Some partition }) → spm_of new ≡ panic_effect s (spm_of mid) partition
         → KeepsNames s old mid → KeepsNames s mid new → KeepsNames s old new }
 {}
 
 /// Tables begin without names, and the handle of a slot is the name that a call has to show.
 pub fn handles_are_names()
-    ensures opening { (s : System) (d : Desk) → IsKept 256 d.linked → IsKept 256 d.waiting → spm_of d ≡ opening_spm s → d.waiting.takes ≡ 0 → NamesAre d no_names }
-    ensures at_return { (s : System) (d : Desk) (given : List Handle) (m : ByteMap) (a : ℕ) (k : NamesSoFar) (slot : Slot) (c : OpenConnection) → NamesAre d k → item_at d.linked slot ≡ Some c
+    ensures opening { (s : System) (d : TablesView) → IsKept 256 d.linked → IsKept 256 d.waiting → spm_of d ≡ opening_spm s → d.waiting.takes ≡ 0 → NamesAre d no_names }
+    ensures at_return { (s : System) (d : TablesView) (given : List Handle) (m : ByteMap) (a : ℕ) (k : NamesSoFar) (slot : Slot) (c : OpenConnection) → NamesAre d k → item_at d.linked slot ≡ Some c
         → phase_of (spm_of d) a ≡ actor.Connected c.serial → name_due s (state_with d given m) a call.Resume k ≡ Some (handle_at family.Connection slot) }
-    ensures at_get { (s : System) (d : Desk) (given : List Handle) (m : ByteMap) (a signal msg service : ℕ) (k : NamesSoFar) (h : Held QueuedMessage) → NamesAre d k → service_of_signal s a signal ≡ Some service
+    ensures at_get { (s : System) (d : TablesView) (given : List Handle) (m : ByteMap) (a signal msg service : ℕ) (k : NamesSoFar) (h : Held QueuedMessage) → NamesAre d k → service_of_signal s a signal ≡ Some service
         → find (waits_for service) d.waiting.held ≡ Some h → name_due s (state_with d given m) a (call.Get signal msg) k ≡ Some (handle_at family.Message h.slot) }
 {}

@@ -29,7 +29,7 @@ use Rattle.std.proofs.lemmas.List.Elements.{All-head, All-tail}
 use Rattle.object_pools.specs.declared.slot.Slot.{Slot}
 use Rattle.object_pools.specs.Pool.{Places, IsKept, item_at, with_item}
 use Rattle.spm_tables.specs.Answers.{state_with}
-use Rattle.spm_tables.specs.Desk.{Desk, spm_of}
+use Rattle.spm_tables.specs.TablesView.{TablesView, spm_of}
 use Rattle.spm_core.specs.Performed.{IsEffect, IsReturned, ShowsName}
 use Rattle.spm_core.proofs.Attempted.{shows-due}
 
@@ -84,7 +84,7 @@ accepted-first a n cs (Some c) one is least =
     omega (arith, below, above, own.1)
 
 -- a client that is still to be told has an accepted connection
-pub joined-accepted : (s : System) (d : Desk) (a n : ℕ) → ObjectsFit s (spm_of d) → phase_of (spm_of d) a ≡ phase.Connected n → count_by (accepted_as a n) (spm_of d).connections ≡ 1
+pub joined-accepted : (s : System) (d : TablesView) (a n : ℕ) → ObjectsFit s (spm_of d) → phase_of (spm_of d) a ≡ phase.Connected n → count_by (accepted_as a n) (spm_of d).connections ≡ 1
 joined-accepted s d a n fits is =
     let cs : List OpenConnection = (spm_of d).connections in
     let fit : PhaseFits (phase.Connected n) (count_by (awaited_of a) cs) (count_by (asking_of a) cs) (λ m. count_by (accepted_as a m) cs) =
@@ -101,7 +101,7 @@ live-nameable p s n kept live =
     go (item_at p s) refl live
 
 -- the handle of its slot is the name of the connection
-pub accepted-name : (d : Desk) (k : NamesSoFar) (slot : Slot) (n : ℕ) → NamesAre d k → IsSomeAnd (item_at d.linked slot) (λ c. c.serial ≡ n)
+pub accepted-name : (d : TablesView) (k : NamesSoFar) (slot : Slot) (n : ℕ) → NamesAre d k → IsSomeAnd (item_at d.linked slot) (λ c. c.serial ≡ n)
     → name_of 0 (get_or k.connections n no_slot) ≡ handle_at Connection slot
 accepted-name d k slot n are live =
     let go : (o : Option OpenConnection) → item_at d.linked slot ≡ o → IsSomeAnd o (λ c. c.serial ≡ n) → name_of 0 (get_or k.connections n no_slot) ≡ handle_at Connection slot = elim [
@@ -111,21 +111,21 @@ accepted-name d k slot n are live =
     go (item_at d.linked slot) refl live
 
 -- the return of a call that waited for a signal
-pub returned-waiting : (s : System) (a mask word : ℕ) (old new : Desk) → phase_of (spm_of old) a ≡ phase.Waiting mask → spm_of new ≡ with_phase (spm_of old) a phase.Running → word ≡ signals_of s (spm_of old) a
+pub returned-waiting : (s : System) (a mask word : ℕ) (old new : TablesView) → phase_of (spm_of old) a ≡ phase.Waiting mask → spm_of new ≡ with_phase (spm_of old) a phase.Running → word ≡ signals_of s (spm_of old) a
     → IsReturned s a old (Signals (bit_and word mask)) new
 returned-waiting s a mask word old new waits is asserted given m =
     subst (λ (p : ActorPhase). IsEffect (returned s (state_with old given m) a p (record { 0 = pos 0 })) (Signals (bit_and word mask)) new m) (sym waits)
     (record { outcome = ap (λ (w : ℕ). Signals (bit_and w mask)) (sym asserted); spm = sym is; memory = refl })
 
 -- the handle that is told is the name due
-pub told-name : (s : System) (a n : ℕ) (old : Desk) (m : ByteMap) (slot : Slot) (h : Handle) → phase_of (spm_of old) a ≡ phase.Connected n
+pub told-name : (s : System) (a n : ℕ) (old : TablesView) (m : ByteMap) (slot : Slot) (h : Handle) → phase_of (spm_of old) a ≡ phase.Connected n
     → IsSomeAnd (item_at old.linked slot) (λ c. c.serial ≡ n) → h ≡ handle_at Connection slot → ShowsName s a call.Resume old m (Value h.0)
 told-name s a n old m slot h waits live is =
     shows-due s a call.Resume old m (Value h.0)
     (λ given k are. ap (name_at_return k) waits ∙ ap (λ (x : Handle). Some x) (accepted-name old k slot n are live ∙ sym is))
 
 -- and the telling keeps the names
-pub told-names : (s : System) (old mid new : Desk) (slot : Slot) (n : ℕ) (h : Handle) → IsKept 256 mid.linked → mid.linked ≡ old.linked → mid.waiting ≡ old.waiting
+pub told-names : (s : System) (old mid new : TablesView) (slot : Slot) (n : ℕ) (h : Handle) → IsKept 256 mid.linked → mid.linked ≡ old.linked → mid.waiting ≡ old.waiting
     → IsSomeAnd (item_at mid.linked slot) (λ c. c.serial ≡ n) → IfSome (item_at mid.linked slot) (λ c. new ≡ record mid { linked = with_item mid.linked slot (record c { handle = Some h }) })
     → KeepsNames s old new
 told-names s old mid new slot n h kept linked waiting live told =
@@ -133,6 +133,6 @@ told-names s old mid new slot n h kept linked waiting live told =
       | None ↦ λ is l t. absurd l
       | Some c ↦ λ is l t.
           names-connection s old new slot c (record c { handle = Some h }) (subst (IsKept 256) linked kept) (sym (ap (λ (p : Places OpenConnection). item_at p slot) linked) ∙ is) refl
-          (ap (λ (d : Desk). d.linked) t ∙ ap (λ (p : Places OpenConnection). with_item p slot (record c { handle = Some h })) linked) (ap (λ (d : Desk). d.waiting) t ∙ waiting)
+          (ap (λ (d : TablesView). d.linked) t ∙ ap (λ (p : Places OpenConnection). with_item p slot (record c { handle = Some h })) linked) (ap (λ (d : TablesView). d.waiting) t ∙ waiting)
     ] in
     go (item_at mid.linked slot) refl live told

@@ -22,14 +22,14 @@ use Rattle.ffm_model.specs.Step.{handle_shown}
 use Rattle.memory_image.specs.Pieces.{byte_at}
 use Rattle.slot_names.specs.Named.{NamesAre}
 use Rattle.spm_tables.specs.Answers.{Answers, state_with}
-use Rattle.spm_tables.specs.Desk.{Desk, spm_of}
+use Rattle.spm_tables.specs.TablesView.{TablesView, spm_of}
 use Rattle.spm_core.specs.Performed.{Attempts, Does, IsEffect, IsRefusedCall, IsReturned, ShowsName, entry_of}
 
 pub some-and : {X : Type 0} (P : X → Type 0) (o : Option X) (x : X) → o ≡ Some x → P x → IsSomeAnd o P
 some-and P o x is p = subst (λ y. IsSomeAnd y P) (sym is) p
 
 -- a call that leaves the memory, by what it answers of the tables
-pub attempts-move : {R : Type 0} (s : System) (a : ℕ) (c : Call) (old new : Desk) (bytes : List Bytes) (shown : R → Outcome) (due : List Handle → Option Move) (r : R)
+pub attempts-move : {R : Type 0} (s : System) (a : ℕ) (c : Call) (old new : TablesView) (bytes : List Bytes) (shown : R → Outcome) (due : List Handle → Option Move) (r : R)
     → ((given : List Handle) (h : Handle) → call_case s (state_with old given (byte_at bytes)) a c h ≡ option_map (in_state (state_with old given (byte_at bytes))) (due given))
     → ((given : List Handle) → due given ≡ Some (move (shown r) (spm_of new))) → Attempts s a c old bytes (Ok (shown r)) new bytes
 attempts-move s a c old new bytes shown due r case is given =
@@ -37,13 +37,13 @@ attempts-move s a c old new bytes shown due r case is given =
     some-and (λ e. IsEffect e (shown r) new (byte_at bytes)) _ (effect (shown r) (record st { spm = spm_of new }))
     (case given (handle_shown (shown r)) ∙ ap (option_map (in_state st)) (is given)) (record { outcome = refl; spm = refl; memory = refl })
 
-pub attempts-fault : (s : System) (a : ℕ) (c : Call) (old new : Desk) (bytes after : List Bytes) (fault : Fault) (due : List Handle → Option Effect)
+pub attempts-fault : (s : System) (a : ℕ) (c : Call) (old new : TablesView) (bytes after : List Bytes) (fault : Fault) (due : List Handle → Option Effect)
     → ((given : List Handle) (h : Handle) → call_case s (state_with old given (byte_at bytes)) a c h ≡ due given)
     → ((given : List Handle) → due given ≡ None) → new ≡ old → after ≡ bytes → Attempts s a c old bytes (Err fault) new after
 attempts-fault s a c old new bytes after fault due case none same kept = (λ given h. case given h ∙ none given, (same, kept))
 
 -- the same for the whole answer
-pub attempts-answer : (s : System) (a : ℕ) (c : Call) (old new : Desk) (bytes : List Bytes) (due : List Handle → Option Move) (r : Result Outcome Fault)
+pub attempts-answer : (s : System) (a : ℕ) (c : Call) (old new : TablesView) (bytes : List Bytes) (due : List Handle → Option Move) (r : Result Outcome Fault)
     → ((given : List Handle) (h : Handle) → call_case s (state_with old given (byte_at bytes)) a c h ≡ option_map (in_state (state_with old given (byte_at bytes))) (due given))
     → ((given : List Handle) → Answers (λ o. o) (due given) old r new) → Attempts s a c old bytes r new bytes
 attempts-answer s a c old new bytes due (Ok o) case is = attempts-move s a c old new bytes (λ x. x) due o case is
@@ -52,14 +52,14 @@ attempts-answer s a c old new bytes due (Err fault) case is =
     (λ given. ap (option_map (in_state (state_with old given (byte_at bytes)))) (is given).0) (is []).1 refl
 
 -- a call that may change memory, by the effect that is due
-pub attempts-effect : (s : System) (a : ℕ) (c : Call) (old new : Desk) (bytes after : List Bytes) (o : Outcome) (st : List Handle → State)
+pub attempts-effect : (s : System) (a : ℕ) (c : Call) (old new : TablesView) (bytes after : List Bytes) (o : Outcome) (st : List Handle → State)
     → ((given : List Handle) → call_case s (state_with old given (byte_at bytes)) a c (handle_shown o) ≡ Some (effect o (st given)))
     → ((given : List Handle) → (st given).spm ≡ spm_of new) → ((given : List Handle) → (st given).memory ≡ byte_at after) → Attempts s a c old bytes (Ok o) new after
 attempts-effect s a c old new bytes after o st is spm memory given =
     some-and (λ e. IsEffect e o new (byte_at after)) _ (effect o (st given)) (is given) (record { outcome = refl; spm = spm given; memory = memory given })
 
 -- an error, whatever error it is
-pub attempts-err : (s : System) (a : ℕ) (c : Call) (old new : Desk) (bytes after : List Bytes) (r : Result Outcome Fault) → IsErr r
+pub attempts-err : (s : System) (a : ℕ) (c : Call) (old new : TablesView) (bytes after : List Bytes) (r : Result Outcome Fault) → IsErr r
     → ((given : List Handle) (h : Handle) → call_case s (state_with old given (byte_at bytes)) a c h ≡ None) → new ≡ old → after ≡ bytes → Attempts s a c old bytes r new after
 attempts-err s a c old new bytes after (Ok o) is none same kept = absurd (cc)
 attempts-err s a c old new bytes after (Err fault) is none same kept = (none, (same, kept))
@@ -71,21 +71,21 @@ or_true true b h = refl
 or_true false b h = h
 
 -- no name is due
-pub shows-nothing : (s : System) (a : ℕ) (c : Call) (old : Desk) (m : ByteMap) (o : Outcome) → ((st : State) (k : NamesSoFar) → name_due s st a c k ≡ None) → ShowsName s a c old m o
+pub shows-nothing : (s : System) (a : ℕ) (c : Call) (old : TablesView) (m : ByteMap) (o : Outcome) → ((st : State) (k : NamesSoFar) → name_due s st a c k ≡ None) → ShowsName s a c old m o
 shows-nothing s a c old m o none given k are = or_true (programmer_error s (state_with old given m) a c) _ (rw (none (state_with old given m) k) refl)
 
 -- the name is due that is shown
-pub shows-due : (s : System) (a : ℕ) (c : Call) (old : Desk) (m : ByteMap) (o : Outcome)
+pub shows-due : (s : System) (a : ℕ) (c : Call) (old : TablesView) (m : ByteMap) (o : Outcome)
     → ((given : List Handle) (k : NamesSoFar) → NamesAre old k → name_due s (state_with old given m) a c k ≡ Some (handle_shown o)) → ShowsName s a c old m o
 shows-due s a c old m o due given k are =
     let same : handle_eq (handle_shown o) (handle_shown o) ≡ true = int_eq-self (handle_shown o).0 in
     or_true (programmer_error s (state_with old given m) a c) _ (rw (due given k are) same)
 
 -- none is due at a return that tells no handle
-pub shows-return : (s : System) (a : ℕ) (old : Desk) (m : ByteMap) (o : Outcome) → ((k : NamesSoFar) → name_at_return k (phase_of (spm_of old) a) ≡ None) → ShowsName s a call.Resume old m o
+pub shows-return : (s : System) (a : ℕ) (old : TablesView) (m : ByteMap) (o : Outcome) → ((k : NamesSoFar) → name_at_return k (phase_of (spm_of old) a) ≡ None) → ShowsName s a call.Resume old m o
 shows-return s a old m o none given k are = or_true (programmer_error s (state_with old given m) a call.Resume) _ (rw (none k) refl)
 
-pub shows-all : (s : System) (a : ℕ) (c : Call) (old : Desk) (m : ByteMap) (r : Result Outcome Fault) → ((st : State) (k : NamesSoFar) → name_due s st a c k ≡ None) → IfOk r (ShowsName s a c old m)
+pub shows-all : (s : System) (a : ℕ) (c : Call) (old : TablesView) (m : ByteMap) (r : Result Outcome Fault) → ((st : State) (k : NamesSoFar) → name_due s st a c k ≡ None) → IfOk r (ShowsName s a c old m)
 shows-all s a c old m (Ok o) none = shows-nothing s a c old m o none
 shows-all s a c old m (Err fault) none = tt
 
@@ -95,7 +95,7 @@ or-error : (P : Effect → Type 0) (x : Option Effect) (k : ActorKind) (s : Syst
 or-error P (Some e) k s st a c h = h
 or-error P None k s st a c h = absurd h
 
-pub does-attempted : (s : System) (a : ℕ) (c : Call) (old new : Desk) (bytes after : List Bytes) (o : Outcome) → has_call (kind_of s a) c ≡ true
+pub does-attempted : (s : System) (a : ℕ) (c : Call) (old new : TablesView) (bytes after : List Bytes) (o : Outcome) → has_call (kind_of s a) c ≡ true
     → Attempts s a c old bytes (Ok o) new after → Does s a c old bytes o new after
 does-attempted s a c old new bytes after o has attempts given =
     let st : State = state_with old given (byte_at bytes) in
@@ -103,7 +103,7 @@ does-attempted s a c old new bytes after o has attempts given =
     subst (λ (b : Bool). IsEffect (effect_or_error (if b then call_case s st a c h else None) (kind_of s a) s st a c) o new (byte_at after)) (sym has)
     (or-error (λ e. IsEffect e o new (byte_at after)) (call_case s st a c h) (kind_of s a) s st a c (attempts given))
 
-pub does-refused : (s : System) (a : ℕ) (c : Call) (old new : Desk) (bytes : List Bytes) (o : Outcome) → ((given : List Handle) (h : Handle) → case_of s (state_with old given (byte_at bytes)) a c h ≡ None)
+pub does-refused : (s : System) (a : ℕ) (c : Call) (old new : TablesView) (bytes : List Bytes) (o : Outcome) → ((given : List Handle) (h : Handle) → case_of s (state_with old given (byte_at bytes)) a c h ≡ None)
     → IsRefusedCall s a c old o new → Does s a c old bytes o new bytes
 does-refused s a c old new bytes o none refused given =
     let st : State = state_with old given (byte_at bytes) in
@@ -120,20 +120,20 @@ case-fault s st a c h none =
     go (has_call (kind_of s a) c)
 
 -- and so it shows no name
-pub shows-refused : (s : System) (a : ℕ) (c : Call) (old : Desk) (m : ByteMap) (o : Outcome) → ((given : List Handle) (h : Handle) → case_of s (state_with old given m) a c h ≡ None) → ShowsName s a c old m o
+pub shows-refused : (s : System) (a : ℕ) (c : Call) (old : TablesView) (m : ByteMap) (o : Outcome) → ((given : List Handle) (h : Handle) → case_of s (state_with old given m) a c h ≡ None) → ShowsName s a c old m o
 shows-refused s a c old m o none given k are =
     let wrong : programmer_error s (state_with old given m) a c ≡ true = ap is_none (none given _) in
     rw wrong refl
 
 -- a PROGRAMMER ERROR that was found, and then refused
-pub does-after : (s : System) (a : ℕ) (c : Call) (old mid new : Desk) (bytes after : List Bytes) (o : Outcome)
+pub does-after : (s : System) (a : ℕ) (c : Call) (old mid new : TablesView) (bytes after : List Bytes) (o : Outcome)
     → ((given : List Handle) (h : Handle) → call_case s (state_with old given (byte_at bytes)) a c h ≡ None) → mid ≡ old → after ≡ bytes → IsRefusedCall s a c mid o new → Does s a c old bytes o new after
 does-after s a c old mid new bytes after o none same kept refused =
     subst (λ (x : List Bytes). Does s a c old bytes o new x) (sym kept)
-    (does-refused s a c old new bytes o (λ given h. case-fault s (state_with old given (byte_at bytes)) a c h (none given h)) (subst (λ (d : Desk). IsRefusedCall s a c d o new) same refused))
+    (does-refused s a c old new bytes o (λ given h. case-fault s (state_with old given (byte_at bytes)) a c h (none given h)) (subst (λ (d : TablesView). IsRefusedCall s a c d o new) same refused))
 
 -- a return; every kind of actor has it
-pub does-return : (s : System) (a : ℕ) (old new : Desk) (bytes : List Bytes) (o : Outcome) → IsReturned s a old o new → Does s a call.Resume old bytes o new bytes
+pub does-return : (s : System) (a : ℕ) (old new : TablesView) (bytes : List Bytes) (o : Outcome) → IsReturned s a old o new → Does s a call.Resume old bytes o new bytes
 does-return s a old new bytes o is given =
     let st : State = state_with old given (byte_at bytes) in
     let h : Handle = handle_shown o in

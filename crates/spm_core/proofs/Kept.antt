@@ -47,7 +47,7 @@ use Rattle.slot_names.specs.Named.{NamesAre}
 use Rattle.slot_names.proofs.Due.{names-begin}
 use Rattle.object_pools.specs.Pool.{IsKept}
 use Rattle.spm_tables.specs.Answers.{state_with}
-use Rattle.spm_tables.specs.Desk.{Desk, spm_of, shape_of, MadeFor}
+use Rattle.spm_tables.specs.TablesView.{TablesView, spm_of, shape_of, MadeFor}
 use Rattle.spm_core.specs.Manager.{Answers, Managed, Opening, refusal, refusal_at, is_gone, is_resume, is_actor_gone, awaits_return, CallDue, IsMade, state_after}
 use Rattle.spm_core.specs.Performed.{Holds, IsEffect, Keeps, entry_of}
 use Rattle.spm_core.proofs.Made.{IsCalled, named-on}
@@ -67,11 +67,11 @@ named-run s m es w h =
 -- ---- the state behind the history
 
 -- the state is that of the tables and the bytes, with some handles given
-pub record IsStateOf (s : System) (m : ByteMap) (es : List Entry) (d : Desk) (bytes : List Bytes) : Type 0 where
+pub record IsStateOf (s : System) (m : ByteMap) (es : List Entry) (d : TablesView) (bytes : List Bytes) : Type 0 where
   pub given : List Handle
   pub is : after s m es ≡ Some (state_with d given (byte_at bytes))
 
-pub state-held : (s : System) (m : ByteMap) (es : List Entry) (d : Desk) (bytes : List Bytes) → IsSomeAnd (named_after s m es) (Holds d bytes) → IsStateOf s m es d bytes
+pub state-held : (s : System) (m : ByteMap) (es : List Entry) (d : TablesView) (bytes : List Bytes) → IsSomeAnd (named_after s m es) (Holds d bytes) → IsStateOf s m es d bytes
 state-held s m es d bytes holds =
     let go : (x : Option NamedState) → named_after s m es ≡ x → IsSomeAnd x (Holds d bytes) → IsStateOf s m es d bytes = elim [
       | None ↦ λ is h. absurd h
@@ -82,28 +82,28 @@ state-held s m es d bytes holds =
     ] in
     go (named_after s m es) refl holds
 
-pub state-kept : (o : Opening) (history : List Entry) (bytes : List Bytes) (d : Desk) (capacity : ℕ) → Keeps o history bytes d capacity → IsStateOf o.system (byte_at o.memory) history d bytes
+pub state-kept : (o : Opening) (history : List Entry) (bytes : List Bytes) (d : TablesView) (capacity : ℕ) → Keeps o history bytes d capacity → IsStateOf o.system (byte_at o.memory) history d bytes
 state-kept o history bytes d capacity keeps = state-held o.system (byte_at o.memory) history d bytes keeps.run
 
 -- the objects fit
-pub objects-kept : (o : Opening) (history : List Entry) (bytes : List Bytes) (d : Desk) (capacity : ℕ) → Keeps o history bytes d capacity → ObjectsFit o.system (spm_of d)
+pub objects-kept : (o : Opening) (history : List Entry) (bytes : List Bytes) (d : TablesView) (capacity : ℕ) → Keeps o history bytes d capacity → ObjectsFit o.system (spm_of d)
 objects-kept o history bytes d capacity keeps =
     let at : IsStateOf o.system (byte_at o.memory) history d bytes = state-kept o history bytes d capacity keeps in
     run-objects o.system (byte_at o.memory) history (state_with d at.given (byte_at bytes)) at.is
 
 -- the vectors of the messages lie in the regions
-pub vectors-kept : (o : Opening) (history : List Entry) (bytes : List Bytes) (d : Desk) (capacity : ℕ) → Keeps o history bytes d capacity
+pub vectors-kept : (o : Opening) (history : List Entry) (bytes : List Bytes) (d : TablesView) (capacity : ℕ) → Keeps o history bytes d capacity
     → All (λ m. AreWithin (regions_of bytes) m.vectors) (spm_of d).messages
 vectors-kept o history bytes d capacity keeps =
     let at : IsStateOf o.system (byte_at o.memory) history d bytes = state-kept o history bytes d capacity keeps in
     rw keeps.regions (run-vectors o.system (byte_at o.memory) history (state_with d at.given (byte_at bytes)) at.is)
 
 -- takes are left
-pub record LeavesTakes (d : Desk) : Type 0 where
+pub record LeavesTakes (d : TablesView) : Type 0 where
   pub connections : d.linked.takes + 256 ≤ 1048575
   pub messages : d.waiting.takes + 256 ≤ 1048575
 
-pub takes-kept : (o : Opening) (history : List Entry) (bytes : List Bytes) (d : Desk) (capacity : ℕ) → Keeps o history bytes d capacity → LeavesTakes d
+pub takes-kept : (o : Opening) (history : List Entry) (bytes : List Bytes) (d : TablesView) (capacity : ℕ) → Keeps o history bytes d capacity → LeavesTakes d
 takes-kept o history bytes d capacity keeps =
     let go : (x : Option NamedState) → named_after o.system (byte_at o.memory) history ≡ x → IsSomeAnd x (Holds d bytes) → LeavesTakes d = elim [
       | None ↦ λ is h. absurd h
@@ -126,7 +126,7 @@ some-enabled s b a below on =
     list_any_at (enabled s b) (all_actors s) a 0 (rw (length-range_with_len 0 (actor_count s)) below) (rw here on)
 
 -- the refusal is that of the tables
-pub refusal-kept : (o : Opening) (history : List Entry) (bytes : List Bytes) (d : Desk) (capacity a : ℕ) → Keeps o history bytes d capacity
+pub refusal-kept : (o : Opening) (history : List Entry) (bytes : List Bytes) (d : TablesView) (capacity a : ℕ) → Keeps o history bytes d capacity
     → refusal o history a ≡ refusal_at o.system o.limit (length history) (spm_of d) a
 refusal-kept o history bytes d capacity a keeps =
     ap (λ st. option_and_then (λ x. refusal_at o.system o.limit (length history) x.spm a) st) (state-kept o history bytes d capacity keeps).is
@@ -160,7 +160,7 @@ due-call _ p h = rw (← h) refl
 three : (x y z : Bool) → x ≡ true → y ≡ true → z ≡ true → (x && (y && z)) ≡ true
 three x y z h k l = rw (h, k, l) refl
 
-pub may-kept : (o : Opening) (history : List Entry) (bytes : List Bytes) (d : Desk) (capacity a : ℕ) (c : Call) → Keeps o history bytes d capacity → a < actor_count o.system
+pub may-kept : (o : Opening) (history : List Entry) (bytes : List Bytes) (d : TablesView) (capacity a : ℕ) (c : Call) → Keeps o history bytes d capacity → a < actor_count o.system
     → CallDue o history a c → refusal_at o.system o.limit (length history) (spm_of d) a ≡ None → may_call o.system (spm_of d) a c ≡ true
 may-kept o history bytes d capacity a c keeps below due none =
     let at : IsStateOf o.system (byte_at o.memory) history d bytes = state-kept o history bytes d capacity keeps in
@@ -183,7 +183,7 @@ gone-or-awaits (phase.Ready o) panicked h = refl
 gone-or-awaits (phase.Connected n) panicked h = refl
 gone-or-awaits _ panicked h = cc
 
-pub last-kept : (o : Opening) (history : List Entry) (bytes : List Bytes) (d : Desk) (capacity a : ℕ) → Keeps o history bytes d capacity → is_actor_gone o history a ≡ false
+pub last-kept : (o : Opening) (history : List Entry) (bytes : List Bytes) (d : TablesView) (capacity a : ℕ) → Keeps o history bytes d capacity → is_actor_gone o history a ≡ false
     → is_pending (phase_of (spm_of d) a) ≡ awaits_return history a
 last-kept o history bytes d capacity a keeps stays =
     let at : IsStateOf o.system (byte_at o.memory) history d bytes = state-kept o history bytes d capacity keeps in
@@ -195,7 +195,7 @@ last-kept o history bytes d capacity a keeps stays =
 -- ---- the manager's own calls
 
 -- a manager at its start
-pub keeps-first : (o : Opening) (d : Desk) (capacity : ℕ) → o.limit ≤ MAX_ENTRIES → o.limit ≤ capacity → regions_of o.memory ≡ ranges_of o.system.regions → MadeFor d o.system
+pub keeps-first : (o : Opening) (d : TablesView) (capacity : ℕ) → o.limit ≤ MAX_ENTRIES → o.limit ≤ capacity → regions_of o.memory ≡ ranges_of o.system.regions → MadeFor d o.system
     → IsKept 256 d.linked → IsKept 256 d.waiting → spm_of d ≡ opening_spm o.system → d.waiting.takes ≡ 0 → Keeps o [] o.memory d capacity
 keeps-first o d capacity limited room regions made linked waiting opens untaken = record {
   limited = limited;
@@ -207,7 +207,7 @@ keeps-first o d capacity limited room regions made linked waiting opens untaken 
 }
 
 -- an entry more
-pub keeps-next : (o : Opening) (history : List Entry) (bytes after : List Bytes) (d new : Desk) (capacity more a : ℕ) (c : Call) (x : Outcome)
+pub keeps-next : (o : Opening) (history : List Entry) (bytes after : List Bytes) (d new : TablesView) (capacity more a : ℕ) (c : Call) (x : Outcome)
     → Keeps o history bytes d capacity → IsCalled o.system d bytes a c x new after → regions_of after ≡ regions_of bytes → shape_of new ≡ shape_of d
     → nat_le o.limit (length history) ≡ false → more ≡ capacity → Keeps o (history ++ entry_of a c x ∷ []) after new more
 keeps-next o history bytes after d new capacity more a c x keeps called regions shape full same = record {
@@ -220,7 +220,7 @@ keeps-next o history bytes after d new capacity more a c x keeps called regions 
 }
 
 -- and that it is made
-pub made-next : (o : Opening) (history : List Entry) (bytes after : List Bytes) (d new : Desk) (capacity a : ℕ) (c : Call) (x : Outcome) (place : ℕ)
+pub made-next : (o : Opening) (history : List Entry) (bytes after : List Bytes) (d new : TablesView) (capacity a : ℕ) (c : Call) (x : Outcome) (place : ℕ)
     → Keeps o history bytes d capacity → IsCalled o.system d bytes a c x new after
     → refusal_at o.system o.limit (length history) (spm_of d) a ≡ None → place ≡ length history + 1
     → IsMade o history a c place (entry_of a c x) (history ++ entry_of a c x ∷ [])
@@ -239,7 +239,7 @@ made-next o history bytes after d new capacity a c x place keeps called none las
     }
 
 -- bytes that it changed lie in reach
-pub reach-next : (o : Opening) (history : List Entry) (bytes after : List Bytes) (d new : Desk) (capacity a : ℕ) (c : Call) (x : Outcome)
+pub reach-next : (o : Opening) (history : List Entry) (bytes after : List Bytes) (d new : TablesView) (capacity a : ℕ) (c : Call) (x : Outcome)
     → Keeps o history bytes d capacity → IsCalled o.system d bytes a c x new after
     → IfSome (state_after o history) (λ st. (y : ℕ) → write_reach o.system st.spm a y ≡ false → byte_at after y ≡ byte_at bytes y)
 reach-next o history bytes after d new capacity a c x keeps called =
@@ -257,13 +257,13 @@ reach-still o history bytes a =
     go (state_after o history)
 
 -- the verdict is that of the tables
-pub verdict-kept : (o : Opening) (history : List Entry) (bytes : List Bytes) (d : Desk) (capacity : ℕ) → Keeps o history bytes d capacity
+pub verdict-kept : (o : Opening) (history : List Entry) (bytes : List Bytes) (d : TablesView) (capacity : ℕ) → Keeps o history bytes d capacity
     → verdict_of o.system (byte_at o.memory) o.limit history ≡ verdict_at o.system o.limit (length history) (spm_of d)
 verdict-kept o history bytes d capacity keeps =
     ap (λ st. option_and_then (λ x. verdict_at o.system o.limit (length history) x.spm) st) (state-kept o history bytes d capacity keeps).is
 
 -- and so is what is shown of an actor
-pub phase-kept : (o : Opening) (history : List Entry) (bytes : List Bytes) (d : Desk) (capacity a : ℕ) (shown : Phase) → Keeps o history bytes d capacity
+pub phase-kept : (o : Opening) (history : List Entry) (bytes : List Bytes) (d : TablesView) (capacity a : ℕ) (shown : Phase) → Keeps o history bytes d capacity
     → ((k : NamesSoFar) → NamesAre d k → shown ≡ shown_phase k (phase_of (spm_of d) a)) → phase_in (record { opening = o; history = history; bytes = bytes }) a ≡ Some shown
 phase-kept o history bytes d capacity a shown keeps is =
     let go : (x : Option NamedState) → IsSomeAnd x (Holds d bytes) → option_map (λ w. shown_phase w.names (phase_of w.state.spm a)) x ≡ Some shown = elim [
@@ -272,10 +272,10 @@ phase-kept o history bytes d capacity a shown keeps is =
     ] in
     go (named_after o.system (byte_at o.memory) history) keeps.run
 
-pub run-kept : (o : Opening) (history : List Entry) (bytes : List Bytes) (d : Desk) (capacity : ℕ) → Keeps o history bytes d capacity → IsSome (after o.system (byte_at o.memory) history)
+pub run-kept : (o : Opening) (history : List Entry) (bytes : List Bytes) (d : TablesView) (capacity : ℕ) → Keeps o history bytes d capacity → IsSome (after o.system (byte_at o.memory) history)
 run-kept o history bytes d capacity keeps = ap is_some (state-kept o history bytes d capacity keeps).is
 
-pub names-kept : (o : Opening) (history : List Entry) (bytes : List Bytes) (d : Desk) (capacity : ℕ) → Keeps o history bytes d capacity → names o.system (byte_at o.memory) history ≡ true
+pub names-kept : (o : Opening) (history : List Entry) (bytes : List Bytes) (d : TablesView) (capacity : ℕ) → Keeps o history bytes d capacity → names o.system (byte_at o.memory) history ≡ true
 names-kept o history bytes d capacity keeps =
     let go : (x : Option NamedState) → IsSomeAnd x (Holds d bytes) → is_some x ≡ true = elim [ None ↦ λ h. absurd h | Some w ↦ λ h. refl ] in
     go (named_after o.system (byte_at o.memory) history) keeps.run
@@ -283,14 +283,14 @@ names-kept o history bytes d capacity keeps =
 abbrev pub managed : Opening → List Entry → List Bytes → Managed
 managed o history bytes = record { opening = o; history = history; bytes = bytes }
 
-pub memory-kept : (o : Opening) (history : List Entry) (bytes : List Bytes) (d : Desk) (capacity : ℕ) → Keeps o history bytes d capacity → memory_in (managed o history bytes) ≡ Some (byte_at bytes)
+pub memory-kept : (o : Opening) (history : List Entry) (bytes : List Bytes) (d : TablesView) (capacity : ℕ) → Keeps o history bytes d capacity → memory_in (managed o history bytes) ≡ Some (byte_at bytes)
 memory-kept o history bytes d capacity keeps = ap (option_map (λ (st : State). st.memory)) (state-kept o history bytes d capacity keeps).is
 
-pub enabled-kept : (o : Opening) (history : List Entry) (bytes : List Bytes) (d : Desk) (capacity a : ℕ) → Keeps o history bytes d capacity
+pub enabled-kept : (o : Opening) (history : List Entry) (bytes : List Bytes) (d : TablesView) (capacity a : ℕ) → Keeps o history bytes d capacity
     → enabled_in (managed o history bytes) a ≡ Some (enabled o.system (spm_of d) a)
 enabled-kept o history bytes d capacity a keeps = ap (option_map (λ (st : State). enabled o.system st.spm a)) (state-kept o history bytes d capacity keeps).is
 
-pub pending-kept : (o : Opening) (history : List Entry) (bytes : List Bytes) (d : Desk) (capacity a : ℕ) → Keeps o history bytes d capacity
+pub pending-kept : (o : Opening) (history : List Entry) (bytes : List Bytes) (d : TablesView) (capacity a : ℕ) → Keeps o history bytes d capacity
     → pending_in (managed o history bytes) a ≡ Some (is_pending (phase_of (spm_of d) a))
 pending-kept o history bytes d capacity a keeps = ap (option_map (λ (st : State). is_pending (phase_of st.spm a))) (state-kept o history bytes d capacity keeps).is
 
@@ -303,7 +303,7 @@ never-made false true true on place e h = cc
 never-made false true false true place e h = cc
 never-made false true false false place e h = cc
 
-pub refused-answers : (o : Opening) (history : List Entry) (bytes : List Bytes) (d : Desk) (capacity a : ℕ) (c : Call) (x : Answer) → Keeps o history bytes d capacity
+pub refused-answers : (o : Opening) (history : List Entry) (bytes : List Bytes) (d : TablesView) (capacity a : ℕ) (c : Call) (x : Answer) → Keeps o history bytes d capacity
     → refusal_at o.system o.limit (length history) (spm_of d) a ≡ Some x → Answers o history a c x history
 refused-answers o history bytes d capacity a c (answer.Made place e) keeps h =
     absurd (never-made (is_gone (phase_of (spm_of d) a)) (some_enabled o.system (spm_of d)) (nat_le o.limit (length history)) (enabled o.system (spm_of d) a) place e h)

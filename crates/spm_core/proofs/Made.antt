@@ -31,7 +31,7 @@ use Rattle.counting_law.proofs.Fresh.{run-names}
 use Rattle.memory_image.specs.Pieces.{byte_at}
 use Rattle.slot_names.specs.Named.{NamesAre, KeepsNames}
 use Rattle.spm_tables.specs.Answers.{state_with}
-use Rattle.spm_tables.specs.Desk.{Desk, spm_of}
+use Rattle.spm_tables.specs.TablesView.{TablesView, spm_of}
 use Rattle.spm_core.specs.Performed.{Does, IsEffect, ShowsName, Holds, entry_of}
 
 -- ---- a handle that is shown is the name that is due, and that is fresh
@@ -97,20 +97,20 @@ allowed s es w e fit few shows =
 -- ---- one entry more
 
 -- a call that was made
-pub record IsCalled (s : System) (d : Desk) (bytes : List Bytes) (a : ℕ) (c : Call) (o : Outcome) (new : Desk) (after : List Bytes) : Type 0 where
+pub record IsCalled (s : System) (d : TablesView) (bytes : List Bytes) (a : ℕ) (c : Call) (o : Outcome) (new : TablesView) (after : List Bytes) : Type 0 where
   pub may : may_call s (spm_of d) a c ≡ true
   pub does : Does s a c d bytes o new after
   pub shown : ShowsName s a c d (byte_at bytes) o
   pub names : KeepsNames s d new
 
 -- a state with the names behind it, of these tables and bytes
-abbrev named_of : Desk → List Handle → ByteMap → NamesSoFar → NamedState
+abbrev named_of : TablesView → List Handle → ByteMap → NamesSoFar → NamedState
 named_of d given m k = record { state = state_with d given m; names = k }
 
-holds-is : (d : Desk) (bytes : List Bytes) (w : NamedState) → Holds d bytes w → w ≡ named_of d w.state.handles_given (byte_at bytes) w.names
+holds-is : (d : TablesView) (bytes : List Bytes) (w : NamedState) → Holds d bytes w → w ≡ named_of d w.state.handles_given (byte_at bytes) w.names
 holds-is d bytes w h = λ j. record { state = record { spm = h.spm j; handles_given = w.state.handles_given; memory = h.memory j }; names = w.names }
 
-named-made : (s : System) (es : List Entry) (d new : Desk) (bytes after : List Bytes) (a : ℕ) (c : Call) (o : Outcome) (given : List Handle) (k : NamesSoFar)
+named-made : (s : System) (es : List Entry) (d new : TablesView) (bytes after : List Bytes) (a : ℕ) (c : Call) (o : Outcome) (given : List Handle) (k : NamesSoFar)
     → NamesFit s es (named_of d given (byte_at bytes) k) → NamesAre d k → length es ≤ MAX_ENTRIES → IsCalled s d bytes a c o new after
     → IsSomeAnd (named_step s (named_of d given (byte_at bytes) k) (entry_of a c o)) (Holds new after)
 named-made s es d new bytes after a c o given k fit are few called =
@@ -129,7 +129,7 @@ named-made s es d new bytes after a c o given k fit are few called =
     rw (shows, stepped) holds
 
 -- the history with the entry is a named run, to the state of the new tables and bytes
-pub named-on : (s : System) (m : ByteMap) (es : List Entry) (d new : Desk) (bytes after : List Bytes) (a : ℕ) (c : Call) (o : Outcome)
+pub named-on : (s : System) (m : ByteMap) (es : List Entry) (d new : TablesView) (bytes after : List Bytes) (a : ℕ) (c : Call) (o : Outcome)
     → IsSomeAnd (named_after s m es) (Holds d bytes) → length es ≤ MAX_ENTRIES → IsCalled s d bytes a c o new after
     → IsSomeAnd (named_after s m (es ++ entry_of a c o ∷ [])) (Holds new after)
 named-on s m es d new bytes after a c o holds few called =

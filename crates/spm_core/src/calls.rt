@@ -8,7 +8,7 @@ ghost use Rattle.counting_law.specs.Objects.{ObjectsFit};
 ghost use Rattle.memory_image.specs.Pieces.{byte_at, regions_of, ranges_of};
 ghost use Rattle.message_vectors.specs.Vectors.{AreWithin};
 ghost use Rattle.slot_names.specs.Named.{KeepsNames};
-ghost use Rattle.spm_tables.specs.Desk.{Desk, spm_of, shape_of, MadeFor};
+ghost use Rattle.spm_tables.specs.TablesView.{TablesView, spm_of, shape_of, MadeFor};
 ghost use Rattle.spm_core.specs.Groups.{group_of, is_transfer};
 ghost use Rattle.spm_core.specs.declared.groups.Group.TheVariants as group;
 ghost use Rattle.spm_core.specs.Performed.{Attempts, ShowsName};
@@ -198,7 +198,7 @@ pub(crate) fn memory_call(
 ) -> Result<Outcome, Fault>
     requires group { group_of call ≡ group.Memory }
     requires regions { regions_of image.old ≡ ranges_of system.now.regions }
-    ensures attempts { (d : Desk) → Attempts system.now actor.0 call d image.old result d image.new }
+    ensures attempts { (d : TablesView) → Attempts system.now actor.0 call d image.old result d image.new }
     ensures regions { regions_of image.new ≡ regions_of image.old }
 {
     match call {

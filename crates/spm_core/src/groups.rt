@@ -1,9 +1,8 @@
-//! Which calls belong together, and who has which.
+//! Which calls belong together.
 ghost use Rattle.std.specs.Prelude.{◌≡◌};
-ghost use Rattle.ffm_model.specs.Calls.{client_has, has_call};
 ghost use Rattle.spm_core.specs.Groups.{group_of};
 
-use ffm_model::{ActorKind, Call};
+use ffm_model::Call;
 
 /// Calls that belong together.
 #[derive(Clone, Copy)]
@@ -40,32 +39,4 @@ pub(crate) fn group_of(call: Call) -> Group
         Call::Load { .. } | Call::Store { .. } => Group::Memory,
         Call::Panic | Call::Stop { .. } | Call::Resume => Group::Actor,
     }
-}
-
-/// Whether actors of that kind have the call.
-pub(crate) fn has_call(kind: ActorKind, call: Call) -> bool
-    ensures { result ≡ has_call kind call }
-{
-    match kind {
-        ActorKind::Partition => !matches!(call, Call::Raise { .. }),
-        ActorKind::Client => is_for_clients(call),
-        ActorKind::Device => matches!(call, Call::Raise { .. } | Call::Stop { .. } | Call::Resume),
-    }
-}
-
-fn is_for_clients(call: Call) -> bool
-    ensures { result ≡ client_has call }
-{
-    matches!(
-        call,
-        Call::FrameworkVersion
-            | Call::Version { .. }
-            | Call::Connect { .. }
-            | Call::Invoke { .. }
-            | Call::Close { .. }
-            | Call::Load { .. }
-            | Call::Store { .. }
-            | Call::Stop { .. }
-            | Call::Resume
-    )
 }

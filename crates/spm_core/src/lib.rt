@@ -8,7 +8,5 @@ mod groups;
 mod perform;
 mod returns;
 mod spm;
-#[cfg(test)]
-mod tests;
 
 pub use spm::Spm;

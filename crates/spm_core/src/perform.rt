@@ -4,7 +4,6 @@ ghost use Rattle.ffm_model.specs.declared.scenario.Bytes.{Bytes as BytesSeen};
 ghost use Rattle.ffm_model.specs.declared.system.System.{System as SystemSeen};
 ghost use Rattle.ffm_model.specs.declared.objects.ActorPhase.{ActorPhase as PhaseSeen};
 ghost use Rattle.ffm_model.specs.Actors.{actor_count, kind_of};
-ghost use Rattle.ffm_model.specs.Calls.{refusal_of};
 ghost use Rattle.ffm_model.specs.Signals.{may_resume};
 ghost use Rattle.ffm_model.specs.State.{phase_of};
 ghost use Rattle.ffm_model.specs.Step.{may_call};
@@ -12,18 +11,18 @@ ghost use Rattle.counting_law.specs.Objects.{ObjectsFit};
 ghost use Rattle.memory_image.specs.Pieces.{byte_at, regions_of, ranges_of};
 ghost use Rattle.message_vectors.specs.Vectors.{AreWithin};
 ghost use Rattle.slot_names.specs.Named.{KeepsNames};
-ghost use Rattle.spm_tables.specs.Desk.{spm_of, shape_of, MadeFor};
+ghost use Rattle.spm_tables.specs.TablesView.{spm_of, shape_of, MadeFor};
 ghost use Rattle.spm_core.specs.Groups.{group_of};
 ghost use Rattle.spm_core.specs.declared.groups.Group.TheVariants as group;
 ghost use Rattle.spm_core.specs.Manager.{is_resume};
 ghost use Rattle.spm_core.specs.Performed.{Attempts, Does, IsRefusedCall, ShowsName};
 
 use crate::calls::{client_call, memory_call, service_call, signal_call};
-use crate::groups::{Group, group_of, has_call};
+use crate::groups::{Group, group_of};
 use crate::returns::resume;
 use ffm_model::{
-    ActorId, ActorKind, ActorPhase, Call, Fault, Outcome, PSA_ERROR_CONNECTION_REFUSED,
-    PSA_ERROR_PROGRAMMER_ERROR, System,
+    ActorId, ActorKind, ActorPhase, Call, Fault, Outcome, PSA_ERROR_PROGRAMMER_ERROR, System,
+    has_call, refusal_of,
 };
 use memory_image::Image;
 use panic_state::panic;
@@ -75,17 +74,6 @@ fn end(tables: &mut Tables, actor: ActorId, call: Call) -> Result<Outcome, Fault
         }
         Call::Panic => Err(Fault),
         _ => unreachable!(),
-    }
-}
-
-// What a non-secure client is answered at a PROGRAMMER ERROR.
-fn refusal_of(call: Call) -> Outcome
-    ensures { result ≡ refusal_of call }
-{
-    match call {
-        Call::Connect { .. } => Outcome::Value(PSA_ERROR_CONNECTION_REFUSED),
-        Call::Close { .. } => Outcome::Done,
-        _ => Outcome::Value(PSA_ERROR_PROGRAMMER_ERROR),
     }
 }
 

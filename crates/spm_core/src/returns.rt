@@ -8,7 +8,7 @@ ghost use Rattle.counting_law.specs.Objects.{ObjectsFit, accepted_as};
 ghost use Rattle.handle_table.specs.Handles.{IsNameable};
 ghost use Rattle.object_pools.specs.Pool.{IsKept, item_at};
 ghost use Rattle.slot_names.specs.Named.{KeepsNames};
-ghost use Rattle.spm_tables.specs.Desk.{spm_of, shape_of, MadeFor};
+ghost use Rattle.spm_tables.specs.TablesView.{spm_of, shape_of, MadeFor};
 ghost use Rattle.spm_core.specs.Performed.{IsReturned, ShowsName};
 
 use ffm_model::{ActorId, ActorPhase, Outcome, System};

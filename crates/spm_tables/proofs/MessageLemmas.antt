@@ -22,7 +22,7 @@ use Rattle.handle_table.proofs.SlotLemmas.{both, has_own, one_slot, slot-is, hel
 use Rattle.handle_table.proofs.Twins.{find-passes, count-found, twin-put, twin-out, twin-find, find-all_fail}
 use Rattle.spm_tables.specs.declared.item.QueuedMessage.{QueuedMessage}
 use Rattle.spm_tables.specs.declared.signals.OwnedSignal.{OwnedSignal}
-use Rattle.spm_tables.specs.Desk.{Desk, Shape, MadeFor, spm_of, message_of, message_at, held_message, shown_handle, waits_for, is_owned, service_signal}
+use Rattle.spm_tables.specs.TablesView.{TablesView, Shape, MadeFor, spm_of, message_of, message_at, held_message, shown_handle, waits_for, is_owned, service_signal}
 
 -- ---- lists
 
@@ -115,7 +115,7 @@ shows-own h m s item slot on =
 
 -- ---- changes of a delivered message
 
-pub vectors-state : (d : Desk) (s : Slot) (m : QueuedMessage) (v : Vectors) → IsKept 256 d.waiting → item_at d.waiting s ≡ Some m → m.delivered ≡ true
+pub vectors-state : (d : TablesView) (s : Slot) (m : QueuedMessage) (v : Vectors) → IsKept 256 d.waiting → item_at d.waiting s ≡ Some m → m.delivered ≡ true
     → spm_of (record d { waiting = with_item d.waiting s (record m { vectors = v }) }) ≡ with_vectors (spm_of d) (handle_at Message s) v
 vectors-state d s m v kept live on =
     let it = held-of d.waiting s m live in
@@ -127,7 +127,7 @@ vectors-state d s m v kept live on =
     (shows-own it.0 m s it.2 it.3 on) d.waiting.held it.1 (one_slot 256 d.waiting s kept) (shown-once d.waiting s kept named) in
     ap (λ (ms : List PendingMessage). record (spm_of d) { messages = ms }) messages
 
-pub dropped-state : (d : Desk) (s : Slot) (m : QueuedMessage) → IsKept 256 d.waiting → item_at d.waiting s ≡ Some m → m.delivered ≡ true
+pub dropped-state : (d : TablesView) (s : Slot) (m : QueuedMessage) → IsKept 256 d.waiting → item_at d.waiting s ≡ Some m → m.delivered ≡ true
     → spm_of (record d { waiting = without d.waiting s }) ≡ without_message (spm_of d) (handle_at Message s)
 dropped-state d s m kept live on =
     let it = held-of d.waiting s m live in
@@ -185,7 +185,7 @@ live-put p s m n live =
 pub oldest-item : (p : Places QueuedMessage) (v : ℕ) (s : Slot) (o : IsOldest p v s) → item_at p s ≡ Some (o.held).item
 oldest-item p v s o = ap (option_map (λ (h : Held QueuedMessage). h.item)) o.here
 
-pub oldest-message : (d : Desk) (v : ℕ) (s : Slot) → IsOldest d.waiting v s → message_at d s ≡ find (is_undelivered v) (spm_of d).messages
+pub oldest-message : (d : TablesView) (v : ℕ) (s : Slot) → IsOldest d.waiting v s → message_at d s ≡ find (is_undelivered v) (spm_of d).messages
 oldest-message d v s o =
     ap (option_map (message_of s)) (oldest-item d.waiting v s o)
     ∙ ap (λ (t : Slot). Some (message_of t (o.held).item)) (sym o.slot)
@@ -223,7 +223,7 @@ delivered-put v s m (x ∷ xs) h slot item f one =
     ] in
     go (waits_for v x) refl f
 
-pub delivered-state : (d : Desk) (v : ℕ) (s : Slot) (m : QueuedMessage) → IsKept 256 d.waiting → IsOldest d.waiting v s → item_at d.waiting s ≡ Some m
+pub delivered-state : (d : TablesView) (v : ℕ) (s : Slot) (m : QueuedMessage) → IsKept 256 d.waiting → IsOldest d.waiting v s → item_at d.waiting s ≡ Some m
     → spm_of (record d { waiting = with_item d.waiting s (record m { delivered = true }) }) ≡ record (spm_of d) { messages = delivered v (handle_at Message s) (spm_of d).messages }
 delivered-state d v s m kept o live =
     let was : (o.held).item ≡ m = same_item (o.held).item m (sym (oldest-item d.waiting v s o) ∙ live) in
@@ -272,7 +272,7 @@ found-by p q k s kept names gives =
           ap (λ (t : Slot). cond (q h.item.service && has_handle (shown_handle h.item.delivered t) k) (Some (message_of t h.item)) None) same
           ∙ ap (λ (b : Bool). cond (q h.item.service && b) (Some (message_of s h.item)) None) (shown h.item.delivered)
 
-owned-is : (s : System) (d : Desk) (p v : ℕ) → MadeFor d s → is_owned d.services p v ≡ is_service_of s p v
+owned-is : (s : System) (d : TablesView) (p v : ℕ) → MadeFor d s → is_owned d.services p v ≡ is_service_of s p v
 owned-is s d p v made =
     ap (λ (xs : List OwnedSignal). is_owned xs p v) (ap (λ (h : Shape). h.services) made)
     ∙ ap (λ (o : Option OwnedSignal). option_map_or (λ x. x.owner == p) o false) (slice_get-map service_signal s.services v)
@@ -285,20 +285,20 @@ same-find : {X : Type 0} (p q : X → Bool) → ((x : X) → p x ≡ q x) → (x
 same-find p q same [] = refl
 same-find p q same (x ∷ xs) = ap (λ (b : Bool). cond b (Some x) (find p xs)) (same x) ∙ ap (λ (o : Option _). cond (q x) (Some x) o) (same-find p q same xs)
 
-pub held-is : (s : System) (d : Desk) (p : ℕ) (k : Handle) → MadeFor d s → find (held_by (is_owned d.services p) k) (map held_message d.waiting.held) ≡ message_held s (spm_of d) p k
+pub held-is : (s : System) (d : TablesView) (p : ℕ) (k : Handle) → MadeFor d s → find (held_by (is_owned d.services p) k) (map held_message d.waiting.held) ≡ message_held s (spm_of d) p k
 held-is s d p k made =
     same-find (held_by (is_owned d.services p) k) (held_by (is_service_of s p) k) (λ m. ap (λ (b : Bool). b && has_handle m.handle k) (owned-is s d p m.service made)) (map held_message d.waiting.held)
 
-pub find-none : (d : Desk) (s : System) (p : ℕ) (k : Handle) → IsKept 256 d.waiting → Names None k → MadeFor d s → None ≡ message_held s (spm_of d) p k
+pub find-none : (d : TablesView) (s : System) (p : ℕ) (k : Handle) → IsKept 256 d.waiting → Names None k → MadeFor d s → None ≡ message_held s (spm_of d) p k
 find-none d s p k kept names made = sym (none-by d.waiting (is_owned d.services p) k kept names) ∙ held-is s d p k made
 
-pub find-gone : (d : Desk) (s : System) (p : ℕ) (k : Handle) (t : Slot) → IsKept 256 d.waiting → Names (Some t) k → handle_at Message t ≡ k → MadeFor d s → None ≡ item_at d.waiting t
+pub find-gone : (d : TablesView) (s : System) (p : ℕ) (k : Handle) (t : Slot) → IsKept 256 d.waiting → Names (Some t) k → handle_at Message t ≡ k → MadeFor d s → None ≡ item_at d.waiting t
     → None ≡ message_held s (spm_of d) p k
 find-gone d s p k t kept names gives made gone =
     ap (option_and_then (λ m. cond (is_owned d.services p m.service && m.delivered) (Some (message_of t m)) None)) gone
     ∙ sym (found-by d.waiting (is_owned d.services p) k t kept names gives) ∙ held-is s d p k made
 
-pub find-shown : (d : Desk) (s : System) (p : ℕ) (k : Handle) (t : Slot) (m : QueuedMessage) (b : Bool) → IsKept 256 d.waiting → Names (Some t) k → handle_at Message t ≡ k → MadeFor d s → Some m ≡ item_at d.waiting t
+pub find-shown : (d : TablesView) (s : System) (p : ℕ) (k : Handle) (t : Slot) (m : QueuedMessage) (b : Bool) → IsKept 256 d.waiting → Names (Some t) k → handle_at Message t ≡ k → MadeFor d s → Some m ≡ item_at d.waiting t
     → b ≡ (is_owned d.services p m.service && m.delivered) → cond b (Some (message_of t m)) None ≡ message_held s (spm_of d) p k
 find-shown d s p k t m b kept names gives made live test =
     ap (λ (x : Bool). cond x (Some (message_of t m)) None) test

@@ -21,7 +21,7 @@ use Rattle.spm_tables.specs.declared.item.QueuedMessage.{QueuedMessage}
 use Rattle.spm_tables.specs.declared.queues.Link.{Link}
 use Rattle.spm_tables.specs.declared.queues.Ends.{Ends}
 use Rattle.spm_tables.specs.declared.signals.OwnedSignal.{OwnedSignal}
-use Rattle.spm_tables.specs.Desk.{waits_for, shown_handle}
+use Rattle.spm_tables.specs.TablesView.{waits_for, shown_handle}
 use Rattle.spm_tables.specs.Queues.{first_of, no_ends, link_at, ends_at, AreQueues, queue_in, KeepsQueues, joined, unlinked, joined_ends, unlinked_ends}
 use Rattle.spm_tables.proofs.MessageLemmas.{all-found, found-too, found-live, found-index, IsOldest, oldest-item}
 use Rattle.spm_tables.proofs.QueueLemmas.{out, out-none}

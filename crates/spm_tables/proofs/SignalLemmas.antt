@@ -6,7 +6,7 @@ use Rattle.ffm_model.specs.declared.system.System.{System}
 use Rattle.ffm_model.specs.State.{is_undelivered, no_flags}
 use Rattle.ffm_model.specs.Signals.{union_of, signals_of, service_signals, source_signals, has_undelivered, doorbell_signal}
 use Rattle.spm_tables.specs.declared.signals.OwnedSignal.{OwnedSignal}
-use Rattle.spm_tables.specs.Desk.{Desk, Shape, MadeFor, spm_of, asserted, waits_for, held_message, service_signal, source_signal}
+use Rattle.spm_tables.specs.TablesView.{TablesView, Shape, MadeFor, spm_of, asserted, waits_for, held_message, service_signal, source_signal}
 
 -- the asserted signals from a place on
 abbrev pub from_place : (ℕ → Bool) → List OwnedSignal → ℕ → ℕ → List ℕ
@@ -31,7 +31,7 @@ some-any f p (x ∷ xs) =
     elim [ true ↦ λ e. ap (λ (c : Bool). c || list_any p (map f xs)) (sym e) | false ↦ λ e. rest ∙ ap (λ (c : Bool). c || list_any p (map f xs)) (sym e) ] in
     go (p (f x)) refl
 
-pub word-of : (d : Desk) (s : System) (p : ℕ) → MadeFor d s
+pub word-of : (d : TablesView) (s : System) (p : ℕ) → MadeFor d s
     → bit_or (union_of (asserted (λ v. is_some (find (waits_for v) d.waiting.held)) d.services p))
     (bit_or (doorbell_signal (spm_of d) p) (union_of (asserted (λ i. (get_or d.flags i no_flags).asserted) d.sources p)))
     ≡ signals_of s (spm_of d) p

@@ -1,5 +1,5 @@
 -- Which connection a message belongs to, after a connection or a message comes, changes or goes.
-use Rattle.std.proofs.Common.{ℕ, ◌≡◌, ◌<◌, ◌≤◌, ◌+◌, ◌==◌, Bool, true, false, cond, not, List, [], ◌∷◌, arith, ◌∙◌, ap, sym, refl, subst}
+use Rattle.std.proofs.Common.{ℕ, ◌≡◌, ◌<◌, ◌≤◌, ◌+◌, ◌==◌, ◌⊎◌, inl, inr, ⊎_elim, Bool, true, false, cond, not, List, [], ◌∷◌, arith, ◌∙◌, ap, sym, refl, subst}
 use Rattle.std.specs.Prelude.{count_by, find, Option, Some, None, map, All, IsSome, IfSome, option_and_then, if◌then◌else◌}
 use Rattle.std.specs.Option.{option_map, option_map_or}
 use Rattle.std.proofs.lemmas.List.Elements.{All-nil, All-cons, All-push, All-filter, All-weaker, All-map, All-head, All-tail}
@@ -14,7 +14,7 @@ use Rattle.handle_table.proofs.Twins.{find-passes, count-map}
 use Rattle.spm_tables.specs.declared.item.MessageItem.{MessageItem}
 use Rattle.spm_tables.specs.declared.item.QueuedMessage.{QueuedMessage}
 use Rattle.spm_tables.specs.declared.item.TheConstants.{NO_CONNECTION}
-use Rattle.spm_tables.specs.Desk.{queued, queued_as, serial_at}
+use Rattle.spm_tables.specs.TablesView.{queued, queued_as, serial_at}
 use Rattle.spm_tables.specs.Slots.{BelongsTo, KeepSlots}
 use Rattle.spm_tables.proofs.MessageLemmas.{find-map, found-too}
 
@@ -44,15 +44,16 @@ pub slots-start : (p : Places OpenConnection) (w : Places QueuedMessage) (s : Sl
 slots-start p w s c serial few k =
     All-weaker (λ h. BelongsTo p h.item) (λ h. BelongsTo (taken p s c) h.item)
     (λ h b. record {
-      past = λ above. b.past (omega arith);
-      slot = All-push (Slotted h.item) p.held (record { slot = s; item = c }) b.slot (λ e. absurd (omega (arith, b.past (omega arith))));
+      made = ⊎_elim (λ (l : h.item.serial < p.takes). inl (omega arith)) (λ (n : h.item.serial ≡ NO_CONNECTION). inr n) b.made;
+      slot = All-push (Slotted h.item) p.held (record { slot = s; item = c }) b.slot
+          (λ e. ⊎_elim (λ (l : h.item.serial < p.takes). absurd (omega arith)) (λ (n : h.item.serial ≡ NO_CONNECTION). absurd (omega arith)) b.made);
     }) w.held k
 
 pub slots-change : (p : Places OpenConnection) (w : Places QueuedMessage) (s : Slot) (c d : OpenConnection) → item_at p s ≡ Some c → d.serial ≡ c.serial → KeepSlots p w → KeepSlots (with_item p s d) w
 slots-change p w s c d live same k =
     All-weaker (λ h. BelongsTo p h.item) (λ h. BelongsTo (with_item p s d) h.item)
     (λ h b. record {
-      past = b.past;
+      made = b.made;
       slot = All-map (Slotted h.item) (item_put s d) p.held
           (All-weaker (Slotted h.item) (λ x. Slotted h.item (item_put s d x)) (λ x old. put h.item b x old (has_slot s x) refl) p.held b.slot);
     }) w.held k where
@@ -73,7 +74,7 @@ slots-changed p q w s f same some change k =
 pub slots-free : (p : Places OpenConnection) (w : Places QueuedMessage) (s : Slot) → KeepSlots p w → KeepSlots (without p s) w
 slots-free p w s k =
     All-weaker (λ h. BelongsTo p h.item) (λ h. BelongsTo (without p s) h.item)
-    (λ h b. record { past = b.past; slot = All-filter (λ x. not (has_slot s x)) (Slotted h.item) p.held b.slot }) w.held k
+    (λ h b. record { made = b.made; slot = All-filter (λ x. not (has_slot s x)) (Slotted h.item) p.held b.slot }) w.held k
 
 -- ---- changes of the messages
 
@@ -91,7 +92,7 @@ slots-put p w s m n live serial slot k =
     All-map (λ h. BelongsTo p h.item) (item_put s n) w.held
     (All-weaker (λ h. BelongsTo p h.item) (λ h. BelongsTo p (item_put s n h).item) (λ h old. put h old (has_slot s h)) w.held k) where
       new : BelongsTo p m → BelongsTo p n
-      new b = record { past = λ above. omega (arith, b.past (omega arith)); slot = All-weaker (Slotted m) (Slotted n) (λ h old e. slot ∙ old (e ∙ serial)) p.held b.slot }
+      new b = record { made = subst (λ k. (k < p.takes) ⊎ (k ≡ NO_CONNECTION)) (sym serial) b.made; slot = All-weaker (Slotted m) (Slotted n) (λ h old e. slot ∙ old (e ∙ serial)) p.held b.slot }
 
       put : (h : Held QueuedMessage) → BelongsTo p h.item → (b : Bool) → BelongsTo p (cond b (record h { item = n }) h).item
       put h old true = new (belongs-at p w s m k live)
@@ -141,7 +142,7 @@ belongs-to p s c m t live serial names =
     let it = held-of p s c live in
     let same : (it.0).item.serial ≡ c.serial = ap (λ (d : OpenConnection). d.serial) it.2 in
     record {
-      past = λ above. absurd (omega (arith, All-found (λ h. h.item.serial < p.takes) (has_slot s) p.held it.0 (below-made 0 p.takes p.held t.rising) it.1));
+      made = inl (omega (arith, All-found (λ h. h.item.serial < p.takes) (has_slot s) p.held it.0 (below-made 0 p.takes p.held t.rising) it.1));
       slot = All-weaker (λ h. h.item.serial ≡ (it.0).item.serial → h.slot ≡ (it.0).slot) (Slotted m)
           (λ h one e. names ∙ ap (λ (u : Slot). Some u) (sym (one (e ∙ serial ∙ sym same) ∙ it.3))) p.held (one-place 0 p.takes p.held (has_slot s) it.0 t.rising it.1);
     }
@@ -149,7 +150,7 @@ belongs-to p s c m t live serial names =
 -- of none
 belongs-nowhere : (p : Places OpenConnection) (m : QueuedMessage) → IsKept 256 p → IsTable p → m.serial ≡ NO_CONNECTION → BelongsTo p m
 belongs-nowhere p m kept t serial = record {
-  past = λ above. omega arith;
+  made = inr serial;
   slot = All-weaker (λ h. h.item.serial < p.takes) (Slotted m) (λ h below e. absurd (omega (arith, kept.takes_left))) p.held (below-made 0 p.takes p.held t.rising);
 }
 

@@ -17,7 +17,7 @@ use Rattle.ffm_model.specs.Signals.{union_of, signals_of, service_signals, sourc
 use Rattle.ffm_model.specs.WellFormed.{is_well_formed, signal_fits, is_signal_bit, signals_fit, budgets_fit, each_pair}
 use Rattle.spm_tables.specs.declared.queues.Ends.{Ends}
 use Rattle.spm_tables.specs.declared.signals.OwnedSignal.{OwnedSignal}
-use Rattle.spm_tables.specs.Desk.{Desk, Shape, MadeFor, spm_of, asserted}
+use Rattle.spm_tables.specs.TablesView.{TablesView, Shape, MadeFor, spm_of, asserted}
 use Rattle.spm_tables.specs.declared.queues.Link.{Link}
 use Rattle.object_pools.specs.Pool.{empty}
 use Rattle.spm_tables.specs.Queues.{no_link, no_ends, ends_at, KeepsQueues}
@@ -214,7 +214,7 @@ owners-low : (a b c d e : Bool) → (a && b && c && d && e) ≡ true → (a ≡ 
 owners-low a b c d e h = both a b (both (a && b) c (both (a && b && c) d (both (a && b && c && d) e h).0).0).0
 
 -- no partition is there, so no signal is asserted
-pub none-there : (d : Desk) (s : System) (p : ℕ) → length d.doorbells ≤ p → MadeFor d s → 0 ≡ signals_of s (spm_of d) p
+pub none-there : (d : TablesView) (s : System) (p : ℕ) → length d.doorbells ≤ p → MadeFor d s → 0 ≡ signals_of s (spm_of d) p
 none-there d s p past made =
     let many : length d.doorbells ≡ length s.partitions = ap (λ (h : Shape). h.partitions) made in
     let beyond : length s.partitions ≤ p = subst (λ n. n ≤ p) many past in
@@ -227,7 +227,7 @@ none-there d s p past made =
     ∙ ap (λ (b : Bool). bit_or 0 (bit_or (if b then PSA_DOORBELL else 0) 0)) bell)
 
 -- the stored word of a partition is what the machine asserts
-pub stored : (d : Desk) (s : System) (links : List Link) (ends : List Ends) (words : List ℕ) (p : ℕ)
+pub stored : (d : TablesView) (s : System) (links : List Link) (ends : List Ends) (words : List ℕ) (p : ℕ)
     → KeepsQueues d.waiting d.services links ends → KeepsWords d.services ends d.doorbells d.sources d.flags words → MadeFor d s
     → get_or words p 0 ≡ signals_of s (spm_of d) p
 stored d s links ends words p queues k made =

@@ -7,13 +7,13 @@ use Rattle.ffm_model.specs.declared.machine.Outcome.{Outcome}
 use Rattle.ffm_model.specs.ClientCalls.{Move, move}
 use Rattle.ffm_model.specs.Memory.{ByteMap}
 use Rattle.ffm_model.specs.State.{State}
-use Rattle.spm_tables.specs.Desk.{Desk, spm_of}
+use Rattle.spm_tables.specs.TablesView.{TablesView, spm_of}
 
 -- the machine's state that tables, the handles given so far and a memory make up
-abbrev pub state_with : Desk → List Handle → ByteMap → State
+abbrev pub state_with : TablesView → List Handle → ByteMap → State
 state_with d given m = record { spm = spm_of d; handles_given = given; memory = m }
 
 -- the outcome and the state are those due; a fault comes exactly where none are due, and then nothing changed
-abbrev pub Answers : {R : Type 0} → (R → Outcome) → Option Move → Desk → Result R Fault → Desk → Type 0
+abbrev pub Answers : {R : Type 0} → (R → Outcome) → Option Move → TablesView → Result R Fault → TablesView → Type 0
 Answers shown due old (Ok r) new = due ≡ Some (move (shown r) (spm_of new))
 Answers shown due old (Err fault) new = (due ≡ None) × (new ≡ old)

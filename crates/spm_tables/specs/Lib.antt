@@ -1,5 +1,5 @@
 pub mod Answers
-pub mod Desk
+pub mod TablesView
 pub mod Queues
 pub mod Slots
 pub mod Words

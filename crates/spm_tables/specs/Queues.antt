@@ -6,7 +6,7 @@ use Rattle.spm_tables.specs.declared.queues.Link.{Link}
 use Rattle.spm_tables.specs.declared.queues.Ends.{Ends}
 use Rattle.spm_tables.specs.declared.item.QueuedMessage.{QueuedMessage}
 use Rattle.spm_tables.specs.declared.signals.OwnedSignal.{OwnedSignal}
-use Rattle.spm_tables.specs.Desk.{waits_for}
+use Rattle.spm_tables.specs.TablesView.{waits_for}
 
 abbrev pub first_of : List ℕ → Option ℕ
 first_of [] = None

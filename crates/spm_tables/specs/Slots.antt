@@ -1,13 +1,14 @@
 -- Which connection a message belongs to: the one of its serial number, in the slot that the message names, or none.
 -- Source: FF-M 1.0, a message is of one connection; the slots are this manager's.
-use Rattle.std.specs.Prelude.{◌≡◌, ◌≤◌, Some, All}
+use Rattle.std.specs.Prelude.{◌≡◌, ◌<◌, ◌⊎◌, Some, All}
 use Rattle.ffm_model.specs.declared.objects.OpenConnection.{OpenConnection}
 use Rattle.object_pools.specs.Pool.{Places}
 use Rattle.spm_tables.specs.declared.item.QueuedMessage.{QueuedMessage}
+use Rattle.spm_tables.specs.declared.item.TheConstants.{NO_CONNECTION}
 
 pub record BelongsTo (linked : Places OpenConnection) (m : QueuedMessage) : Type 0 where
-  -- no connection that is yet to be made will have its serial number: those stay below 1,048,575
-  pub past : linked.takes ≤ m.serial → 1048575 ≤ m.serial
+  -- its serial number is that of a connection that was made, or the one that says that it has none
+  pub made : (m.serial < linked.takes) ⊎ (m.serial ≡ NO_CONNECTION)
   -- and while its connection is there, it is in the slot that the message names
   pub slot : All (λ h. h.item.serial ≡ m.serial → m.connection ≡ Some h.slot) linked.held
 

@@ -8,7 +8,7 @@ use Rattle.ffm_model.specs.State.{no_flags}
 use Rattle.ffm_model.specs.Signals.{union_of}
 use Rattle.spm_tables.specs.declared.queues.Ends.{Ends}
 use Rattle.spm_tables.specs.declared.signals.OwnedSignal.{OwnedSignal}
-use Rattle.spm_tables.specs.Desk.{asserted}
+use Rattle.spm_tables.specs.TablesView.{asserted}
 use Rattle.spm_tables.specs.Queues.{ends_at}
 
 -- a partition's signals: of its services whose queues aren't empty, of its doorbell if that rang, and of its asserted sources

@@ -3,7 +3,7 @@
 ghost use Rattle.std.specs.Prelude.{◌≡◌, ◌≤◌, find, IsSome, IsNone, IfSome, Some, All, option_and_then};
 ghost use Rattle.std.specs.Option.{option_map};
 ghost use Rattle.object_pools.specs.Pool.{item_at, is_at};
-ghost use Rattle.spm_tables.specs.Desk.{item_of, queued, serial_at, waits_for};
+ghost use Rattle.spm_tables.specs.TablesView.{item_of, queued, serial_at, waits_for};
 ghost use Rattle.spm_tables.specs.Queues.{ends_at, first_of, queue_in};
 
 use crate::queues::{Ends, ends_at};
@@ -25,7 +25,7 @@ pub struct MessageItem {
     pub delivered: bool,
 }
 
-/// The serial number of a message whose connection isn't there: no connection has it.
+/// The serial number of a message that was taken in for no live connection: no connection has it.
 pub const NO_CONNECTION: u32 = u32::MAX;
 
 /// A message as the tables hold it: beside the slot of its connection there is the connection's serial number.
@@ -36,7 +36,7 @@ pub struct QueuedMessage {
     pub client: ActorId,
     /// The slot of its connection, as long as that is there.
     pub connection: Option<Slot>,
-    /// The serial number of its connection.
+    /// The serial number of its connection, or `NO_CONNECTION`.
     pub serial: u32,
     pub kind: i32,
     pub vectors: Vectors,

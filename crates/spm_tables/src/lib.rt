@@ -9,6 +9,3 @@ mod tables;
 pub use item::{MessageItem, NO_CONNECTION, QueuedMessage};
 pub use signals::OwnedSignal;
 pub use tables::Tables;
-
-#[cfg(test)]
-mod tests;

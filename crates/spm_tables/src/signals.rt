@@ -2,7 +2,7 @@
 
 ghost use Rattle.std.specs.Prelude.{◌≡◌, map, IfOk, is_some};
 ghost use Rattle.ffm_model.specs.Signals.{union_of};
-ghost use Rattle.spm_tables.specs.Desk.{asserted, service_signal, source_signal};
+ghost use Rattle.spm_tables.specs.TablesView.{asserted, service_signal, source_signal};
 ghost use Rattle.spm_tables.specs.Queues.{ends_at};
 ghost use Rattle.ffm_model.specs.State.{no_flags};
 ghost use Rattle.std.specs.Prelude.{get_or, false, if◌then◌else◌};

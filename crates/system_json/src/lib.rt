@@ -10,6 +10,3 @@ mod text_bytes;
 
 pub use manifests::read_system;
 pub use scenario::read_scenario;
-
-#[cfg(test)]
-mod tests;

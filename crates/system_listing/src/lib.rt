@@ -5,6 +5,3 @@ mod lines;
 mod words;
 
 pub use lines::listing;
-
-#[cfg(test)]
-mod tests;

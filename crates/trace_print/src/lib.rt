@@ -8,10 +8,6 @@ mod line;
 mod number;
 mod outcome;
 mod read;
-#[cfg(test)]
-mod read_tests;
-#[cfg(test)]
-mod tests;
 mod whole;
 
 pub use error::TraceError;

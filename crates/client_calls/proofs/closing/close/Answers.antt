@@ -8,7 +8,7 @@ use Rattle.ffm_model.specs.Panic.{is_dead}
 use Rattle.ffm_model.specs.State.{SpmState}
 use Rattle.ffm_model.specs.ClientCalls.{is_busy, move}
 use Rattle.client_calls.proofs.HeldLemmas.{held-item, told-phase, may-send, has-room, sent-state, not-busy, not-dead, close-sends}
-use Rattle.spm_tables.specs.Desk.{spm_of}
+use Rattle.spm_tables.specs.TablesView.{spm_of}
 use Rattle.client_calls.proofs.NameLemmas.{names_kept, names_gone, names-held}
 use Rattle.client_calls.proofs.closing.close.Goals as goal
 

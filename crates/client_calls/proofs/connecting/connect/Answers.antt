@@ -7,7 +7,7 @@ use Rattle.ffm_model.specs.Memory.{no_vectors}
 use Rattle.ffm_model.specs.ClientCalls.{new_connection, connect_issued, move}
 use Rattle.ffm_model.specs.declared.machine.Outcome.TheVariants.{Blocked as Blocks}
 use Rattle.object_pools.specs.Pool.{item_at}
-use Rattle.spm_tables.specs.Desk.{Desk, spm_of}
+use Rattle.spm_tables.specs.TablesView.{TablesView, spm_of}
 use Rattle.spm_tables.proofs.PoolLemmas.{item-taken}
 use Rattle.client_calls.proofs.ServiceLemmas.{taking-service, made-services}
 use Rattle.client_calls.proofs.SendLemmas.{at-item, has-item, room-for-connection, room-for-message}
@@ -29,10 +29,10 @@ send-requires-clause-connection c =
     let d = c.args.tables.now in
     let m = c.start-slot.new.self in
     let new : OpenConnection = new_connection (spm_of d) c.args.actor.0 c.in-Some.place in
-    let live : item_at m.linked c.start-slot.result ≡ Some new = ap (λ (x : Desk). item_at x.linked c.start-slot.result) c.start-slot.ensures.after ∙ item-taken d.linked c.start-slot.result new c.start-slot.ensures.slot in
+    let live : item_at m.linked c.start-slot.result ≡ Some new = ap (λ (x : TablesView). item_at x.linked c.start-slot.result) c.start-slot.ensures.after ∙ item-taken d.linked c.start-slot.result new c.start-slot.ensures.slot in
     let there : c.in-Some.place < length s.services = taking-service s c.in-Some.place c.args.version (search rules) in
     has-item (item_at m.linked c.start-slot.result) new (λ x. x.service < length m.services) live
-    (omega (arith, made-services d s c.requires.made, ap (λ (x : Desk). length x.services) c.start-slot.ensures.after))
+    (omega (arith, made-services d s c.requires.made, ap (λ (x : TablesView). length x.services) c.start-slot.ensures.after))
 
 pub send-requires-clause-room : goal.send-requires-clause-room
 send-requires-clause-room c =
@@ -41,7 +41,7 @@ send-requires-clause-room c =
     let free : in_use (spm_of d) c.args.actor.0 c.in-Some.place ≡ c.in-Some-budget.budget → ⊥ = λ e. c.if-in_use-budget.false (cc) in
     let rooms = connect-rooms s (spm_of d) c.args.actor.0 c.in-Some.place c.in-Some-budget.budget c.requires.fits c.requires.running (sym c.in-Some-budget.ensures) free in
     let room : length (spm_of d).messages < length d.waiting.generations = room-for-message d s c.requires.made rooms.1 in
-    let P : Desk → Type 0 = λ x. length (spm_of x).messages < length x.waiting.generations in
+    let P : TablesView → Type 0 = λ x. length (spm_of x).messages < length x.waiting.generations in
     subst P (sym c.start-slot.ensures.after) room
 
 pub returns-clause-answer : goal.returns-clause-answer
@@ -52,7 +52,7 @@ returns-clause-answer c =
     let a = c.args.actor.0 in
     let new : OpenConnection = new_connection (spm_of d) c.args.actor.0 c.in-Some.place in
     let free : in_use (spm_of d) c.args.actor.0 c.in-Some.place ≡ c.in-Some-budget.budget → ⊥ = λ e. c.if-in_use-budget.false (cc) in
-    let live : item_at m.linked c.start-slot.result ≡ Some new = ap (λ (x : Desk). item_at x.linked c.start-slot.result) c.start-slot.ensures.after ∙ item-taken d.linked c.start-slot.result new c.start-slot.ensures.slot in
+    let live : item_at m.linked c.start-slot.result ≡ Some new = ap (λ (x : TablesView). item_at x.linked c.start-slot.result) c.start-slot.ensures.after ∙ item-taken d.linked c.start-slot.result new c.start-slot.ensures.slot in
     let sent : spm_of c.send.new.tables ≡ with_phase (with_message (spm_of m) new PSA_IPC_CONNECT no_vectors) a Blocked =
     at-item (item_at m.linked c.start-slot.result) new (λ x. spm_of c.send.new.tables ≡ with_phase (with_message (spm_of m) x PSA_IPC_CONNECT no_vectors) x.client.0 Blocked) live c.send.ensures.state in
     let issued : spm_of c.send.new.tables ≡ connect_issued (spm_of d) a c.in-Some.place =

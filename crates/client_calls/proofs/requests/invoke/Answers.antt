@@ -8,7 +8,7 @@ use Rattle.ffm_model.specs.declared.objects.Vectors.{Vectors}
 use Rattle.ffm_model.specs.State.{SpmState, with_connection_phase, with_message, with_phase}
 use Rattle.ffm_model.specs.ClientCalls.{move, refuses_requests}
 use Rattle.client_calls.proofs.HeldLemmas.{held-item, told-phase, may-send, has-room, sent-state, call-sends}
-use Rattle.spm_tables.specs.Desk.{spm_of}
+use Rattle.spm_tables.specs.TablesView.{spm_of}
 use Rattle.spm_tables.specs.Answers.{state_with}
 use Rattle.memory_image.specs.Pieces.{byte_at}
 use Rattle.client_calls.proofs.NameLemmas.{names_kept, names-held}

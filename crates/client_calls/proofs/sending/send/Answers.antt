@@ -7,7 +7,7 @@ use Rattle.ffm_model.specs.declared.objects.OpenConnection.{OpenConnection}
 use Rattle.ffm_model.specs.State.{SpmState, with_message, with_phase}
 use Rattle.object_pools.specs.Pool.{free_slot, item_at, taken}
 use Rattle.spm_tables.specs.declared.item.QueuedMessage.{QueuedMessage}
-use Rattle.spm_tables.specs.Desk.{Desk, fresh_message, queued, spm_of}
+use Rattle.spm_tables.specs.TablesView.{TablesView, fresh_message, queued, spm_of}
 use Rattle.client_calls.specs.Sending.{item_on, message_on}
 use Rattle.client_calls.proofs.SendLemmas.{at-items, has-item, queued-on}
 use Rattle.client_calls.proofs.sending.send.Goals as goal
@@ -20,11 +20,11 @@ queued-so c =
 pub returns-clause-waiting : goal.returns-clause-waiting
 returns-clause-waiting c =
     let d = c.args.tables.now in
-    let lies : OpenConnection → Desk → Type 0 = λ x new. IsSomeAnd (free_slot d.waiting) (λ place. new.waiting ≡ taken d.waiting place (message_on c.args.slot x c.args.kind c.args.vectors)) in
+    let lies : OpenConnection → TablesView → Type 0 = λ x new. IsSomeAnd (free_slot d.waiting) (λ place. new.waiting ≡ taken d.waiting place (message_on c.args.slot x c.args.kind c.args.vectors)) in
     at-items (item_at d.linked c.args.slot) (λ x. queued d.linked c.item_on-item.result ≡ message_on c.args.slot x c.args.kind c.args.vectors) (λ x. lies x c.set_phase.new.self)
     (λ x is.
     has-item (free_slot d.waiting) c.enqueue.result (λ place. c.set_phase.new.self.waiting ≡ taken d.waiting place (message_on c.args.slot x c.args.kind c.args.vectors)) c.enqueue.ensures.slot
-    (ap (λ (e : Desk). e.waiting) c.set_phase.ensures.after ∙ ap (λ (e : Desk). e.waiting) c.enqueue.ensures.after ∙ ap (λ (m : QueuedMessage). taken d.waiting c.enqueue.result m) is))
+    (ap (λ (e : TablesView). e.waiting) c.set_phase.ensures.after ∙ ap (λ (e : TablesView). e.waiting) c.enqueue.ensures.after ∙ ap (λ (m : QueuedMessage). taken d.waiting c.enqueue.result m) is))
     (queued-so c)
 
 pub returns-clause-state : goal.returns-clause-state

@@ -5,9 +5,9 @@ use Rattle.ffm_model.specs.declared.objects.OpenConnection.{OpenConnection}
 use Rattle.ffm_model.specs.declared.objects.PendingMessage.{PendingMessage}
 use Rattle.ffm_model.specs.State.{SpmState}
 use Rattle.object_pools.specs.Pool.{Places, item_at, taken}
-use Rattle.spm_tables.specs.Desk.{Desk, fresh_message, held_message, queued}
+use Rattle.spm_tables.specs.TablesView.{TablesView, fresh_message, held_message, queued}
 use Rattle.spm_tables.proofs.SlotLemmas.{queued-live}
-use Rattle.panic_state.specs.Losses.{goodbye}
+use Rattle.panic_state.specs.Losses.{disconnect_message}
 use Rattle.panic_state.proofs.Leaving.{messages_of, leaves-other, leaves-dead, dead-shorter, leaves-closing, closing-both, closing-length, room-left, takes-left, service-known, left-linked, left-messages, left-names, left-takes}
 use Rattle.panic_state.proofs.client.leave_services.Goals as goal
 
@@ -51,7 +51,7 @@ enqueue-requires-clause-few c =
     (same c.connection_at-held.result.item.client.0 c.args.partition.0 c.if-held-partition.false) (sym c.is_dead.ensures ∙ c.if-is_dead.false) c.requires.few
 
 pub set_connection_phase-requires : goal.set_connection_phase-requires
-set_connection_phase-requires c = subst (λ (d : Desk). IsSome (item_at d.linked c.connection_at-held.result.slot)) (sym c.enqueue.ensures.after) c.connection_at-held.ensures.live
+set_connection_phase-requires c = subst (λ (d : TablesView). IsSome (item_at d.linked c.connection_at-held.result.slot)) (sym c.enqueue.ensures.after) c.connection_at-held.ensures.live
 
 pub loop-place-smaller : goal.loop-place-smaller
 loop-place-smaller c =
@@ -63,8 +63,8 @@ loop-place-smaller c =
 pub loop-place-preserved : goal.loop-place-preserved
 loop-place-preserved c =
     let as_queued = queued-live c.loop-place.tables.linked c.connection_at-held.result.slot c.connection_at-held.result.item c.disconnection.result c.disconnection.ensures.connection c.connection_at-held.ensures.item in
-    let sent : map held_message (taken c.loop-place.tables.waiting c.enqueue.result (queued c.loop-place.tables.linked c.disconnection.result)).held ≡ messages_of c.loop-place.tables ++ goodbye c.connection_at-held.result.item ∷ [] =
-    sym (ap (λ (d : Desk). messages_of d) c.enqueue.ensures.after) ∙ ap (λ (b : SpmState). b.messages) c.enqueue.ensures.state ∙ ap (λ (m : PendingMessage). messages_of c.loop-place.tables ++ m ∷ []) (ap fresh_message as_queued ∙ c.disconnection.ensures.message) in
+    let sent : map held_message (taken c.loop-place.tables.waiting c.enqueue.result (queued c.loop-place.tables.linked c.disconnection.result)).held ≡ messages_of c.loop-place.tables ++ disconnect_message c.connection_at-held.result.item ∷ [] =
+    sym (ap (λ (d : TablesView). messages_of d) c.enqueue.ensures.after) ∙ ap (λ (b : SpmState). b.messages) c.enqueue.ensures.state ∙ ap (λ (m : PendingMessage). messages_of c.loop-place.tables ++ m ∷ []) (ap fresh_message as_queued ∙ c.disconnection.ensures.message) in
     leaves-closing c.args.partition.0 c.loop-place.place c.args.tables.now c.loop-place.tables c.set_connection_phase.new.self c.connection_at-held.result c.enqueue.result (queued c.loop-place.tables.linked c.disconnection.result) c.loop-place.invariant c.connection_at-held.ensures.kept c.connection_at-held.ensures.at
     c.connection_at-held.ensures.item c.enqueue.ensures.slot (same c.connection_at-held.result.item.client.0 c.args.partition.0 c.if-held-partition.false) (sym c.is_dead.ensures ∙ c.if-is_dead.false) sent
     (closing-both c.loop-place.tables c.enqueue.new.self c.set_connection_phase.new.self (taken c.loop-place.tables.waiting c.enqueue.result (queued c.loop-place.tables.linked c.disconnection.result)) c.connection_at-held.result.slot c.connection_at-held.result.item c.enqueue.ensures.after c.connection_at-held.ensures.item c.set_connection_phase.ensures.item)

@@ -1,15 +1,15 @@
 use Rattle.std.proofs.Common.{◌<◌, ◌+◌, length, arith, ap, sym, subst}
 use Rattle.std.specs.Prelude.{All}
-use Rattle.spm_tables.specs.Desk.{Desk, Shape}
-use Rattle.panic_state.specs.Losses.{goodbyes}
-use Rattle.panic_state.proofs.EffectLemmas.{effect-is, names-are, shape-is, room-of, services-of, few-goodbyes}
+use Rattle.spm_tables.specs.TablesView.{TablesView, Shape}
+use Rattle.panic_state.specs.Losses.{disconnect_messages}
+use Rattle.panic_state.proofs.EffectLemmas.{effect-is, names-are, shape-is, room-of, services-of, few-disconnects}
 use Rattle.panic_state.proofs.effect.panic.Goals as goal
 
 pub leave_services-requires-clause-services : goal.leave_services-requires-clause-services
 leave_services-requires-clause-services c =
     let s = c.args.system.now in
     let p = c.args.partition.0 in
-    subst (λ (d : Desk). All (λ h. h.item.service < length d.services) d.linked.held) (sym c.end_services.ensures) (services-of s p c.args.tables.now c.requires.made c.requires.fits)
+    subst (λ (d : TablesView). All (λ h. h.item.service < length d.services) d.linked.held) (sym c.end_services.ensures) (services-of s p c.args.tables.now c.requires.made c.requires.fits)
 
 pub leave_services-requires-clause-room : goal.leave_services-requires-clause-room
 leave_services-requires-clause-room c =
@@ -19,8 +19,8 @@ leave_services-requires-clause-room c =
       arith,
       room-of s p c.args.tables.now c.requires.made c.requires.partition c.requires.fits,
       ap (λ (x : Shape). x.messages) c.requires.made,
-      ap (λ (d : Desk). length d.waiting.held + length (goodbyes p d.linked)) c.end_services.ensures,
-      ap (λ (d : Desk). length d.waiting.generations) c.end_services.ensures,
+      ap (λ (d : TablesView). length d.waiting.held + length (disconnect_messages p d.linked)) c.end_services.ensures,
+      ap (λ (d : TablesView). length d.waiting.generations) c.end_services.ensures,
     )
 
 pub leave_services-requires-clause-few : goal.leave_services-requires-clause-few
@@ -29,9 +29,9 @@ leave_services-requires-clause-few c =
     let p = c.args.partition.0 in
     omega (
       arith,
-      few-goodbyes s p c.args.tables.now c.requires.made c.requires.partition c.requires.fits,
+      few-disconnects s p c.args.tables.now c.requires.made c.requires.partition c.requires.fits,
       c.requires.few,
-      ap (λ (d : Desk). d.waiting.takes + length (goodbyes p d.linked)) c.end_services.ensures,
+      ap (λ (d : TablesView). d.waiting.takes + length (disconnect_messages p d.linked)) c.end_services.ensures,
     )
 
 pub returns-clause-state : goal.returns-clause-state
@@ -59,7 +59,7 @@ returns-clause-message_takes c =
     let p = c.args.partition.0 in
     omega (
       arith,
-      few-goodbyes s p c.args.tables.now c.requires.made c.requires.partition c.requires.fits,
+      few-disconnects s p c.args.tables.now c.requires.made c.requires.partition c.requires.fits,
       c.leave_services.ensures.takes,
-      ap (λ (d : Desk). d.waiting.takes + length (goodbyes p d.linked)) c.end_services.ensures,
+      ap (λ (d : TablesView). d.waiting.takes + length (disconnect_messages p d.linked)) c.end_services.ensures,
     )

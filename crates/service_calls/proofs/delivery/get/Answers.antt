@@ -4,7 +4,7 @@ use Rattle.ffm_model.specs.Actors.{actor_count}
 use Rattle.ffm_model.specs.State.{connection_by_serial, is_undelivered}
 use Rattle.memory_image.proofs.Systems.{buffer_inside}
 use Rattle.spm_tables.specs.declared.item.QueuedMessage.{QueuedMessage}
-use Rattle.spm_tables.specs.Desk.{Desk, message_of, spm_of}
+use Rattle.spm_tables.specs.TablesView.{TablesView, message_of, spm_of}
 use Rattle.service_calls.proofs.Partners.{connection-there, client-counted}
 use Rattle.service_calls.proofs.DeliveryLemmas.{was-delivered, get-due}
 use Rattle.service_calls.proofs.Kept.{unchanged-names}
@@ -21,7 +21,7 @@ shown-shown-requires-clause-there c =
     let there : IsSome (connection_by_serial (spm_of c.args.tables.now) it.item.serial) =
     connection-there c.args.system.now (spm_of c.args.tables.now) (is_undelivered c.in-Some.service) (message_of c.in-Some-dequeue.slot it.item) c.requires.fits it.first in
     let same : it.item.serial ≡ c.queued-message.result.serial = ap (λ (m : QueuedMessage). m.serial) (sym it.since) in
-    subst (λ (d : Desk). IsSome (connection_by_serial (spm_of d) c.queued-message.result.serial)) (sym it.after)
+    subst (λ (d : TablesView). IsSome (connection_by_serial (spm_of d) c.queued-message.result.serial)) (sym it.after)
     (subst (λ n. IsSome (connection_by_serial (spm_of c.args.tables.now) n)) same there)
 
 pub shown-shown-requires-clause-client : goal.shown-shown-requires-clause-client

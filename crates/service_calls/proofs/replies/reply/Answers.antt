@@ -6,14 +6,14 @@ use Rattle.ffm_model.specs.State.{has_handle}
 use Rattle.memory_image.specs.Pieces.{regions_of}
 use Rattle.message_vectors.specs.Vectors.{AreWithin}
 use Rattle.spm_tables.specs.declared.item.MessageItem.{MessageItem}
-use Rattle.spm_tables.specs.Desk.{item_of, message_of, spm_of}
+use Rattle.spm_tables.specs.TablesView.{item_of, message_of, spm_of}
 use Rattle.service_calls.proofs.Held.{holds-at, message-is}
 use Rattle.service_calls.proofs.Partners.{connection-there}
 use Rattle.service_calls.proofs.ReplyLemmas.{IsReplied, reply-held, was-replied, left-due, reply-due, owing-fits}
 use Rattle.service_calls.proofs.Kept.{unchanged-names}
 use Rattle.std.proofs.Common.{refl, subst}
 use Rattle.std.specs.Prelude.{All}
-use Rattle.spm_tables.specs.Desk.{Desk}
+use Rattle.spm_tables.specs.TablesView.{TablesView}
 use Rattle.service_calls.proofs.Kept.{all-out, reply-names}
 use Rattle.service_calls.proofs.replies.reply.Goals as goal
 
@@ -55,7 +55,7 @@ returns-in_default-clause-names c = unchanged-names c.args.system.now c.args.tab
 
 pub returns-clause-vectors : goal.returns-clause-vectors
 returns-clause-vectors c =
-    let waiting = c.answer.ensures.waiting ∙ ap (λ (d : Desk). d.waiting) c.drop_message.ensures.after in
+    let waiting = c.answer.ensures.waiting ∙ ap (λ (d : TablesView). d.waiting) c.drop_message.ensures.after in
     subst (λ rs. All (λ m. AreWithin rs m.vectors) (spm_of c.answer.new.tables).messages) (sym c.tell_lengths.ensures.regions)
     (all-out (λ m. AreWithin (regions_of c.args.image.now) m.vectors) c.args.tables.now c.answer.new.tables c.in-Some.slot waiting c.requires.vectors)
 

@@ -1,7 +1,7 @@
 use Rattle.ffm_model.specs.State.{has_handle}
 use Rattle.ffm_model.specs.Actors.{is_service_of}
 use Rattle.std.specs.Prelude.{◌&&◌}
-use Rattle.spm_tables.specs.Desk.{message_of, spm_of}
+use Rattle.spm_tables.specs.TablesView.{message_of, spm_of}
 use Rattle.service_calls.proofs.Held.{message-is}
 use Rattle.service_calls.proofs.Partners.{connection-there}
 use Rattle.service_calls.proofs.Kept.{unchanged-names}

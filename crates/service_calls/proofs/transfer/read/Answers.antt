@@ -7,7 +7,7 @@ use Rattle.service_calls.proofs.TransferLemmas.{read-due}
 use Rattle.service_calls.proofs.Kept.{unchanged-names}
 use Rattle.std.proofs.Common.{refl, subst}
 use Rattle.std.specs.Prelude.{All}
-use Rattle.spm_tables.specs.Desk.{spm_of}
+use Rattle.spm_tables.specs.TablesView.{spm_of}
 use Rattle.service_calls.proofs.transfer.read.Goals as goal
 
 pub read-count-requires-clause-within : goal.read-count-requires-clause-within

@@ -9,7 +9,7 @@ use Rattle.ffm_model.specs.Names.{NamesSoFar, name_of, no_slot}
 use Rattle.ffm_model.specs.State.{phase_of}
 use Rattle.handle_table.specs.Handles.{handle_at}
 use Rattle.handle_table.specs.declared.handles.Family.TheVariants.{Connection}
-use Rattle.spm_tables.specs.Desk.{spm_of}
+use Rattle.spm_tables.specs.TablesView.{spm_of}
 use Rattle.spm_core.specs.Views.{shown_phase}
 use Rattle.spm_core.proofs.Accepted.{accepted-name, joined-accepted}
 use Rattle.spm_core.proofs.actors.shown.Goals as goal

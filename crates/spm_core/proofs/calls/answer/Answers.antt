@@ -2,7 +2,7 @@ use Rattle.std.proofs.Common.{◌≡◌, refl, rules, subst}
 use Rattle.std.specs.Prelude.{Result, Ok, Some}
 use Rattle.ffm_model.specs.ServiceCalls.{reply_on}
 use Rattle.slot_names.proofs.Owed.{names-owed}
-use Rattle.spm_tables.specs.Desk.{spm_of}
+use Rattle.spm_tables.specs.TablesView.{spm_of}
 use Rattle.spm_core.proofs.calls.answer.Goals as goal
 
 pub returns-in-Some-clause-names : goal.returns-in-Some-clause-names

@@ -4,7 +4,7 @@ use Rattle.ffm_model.specs.Calls.{has_call}
 use Rattle.memory_image.specs.Pieces.{byte_at}
 use Rattle.slot_names.specs.Named.{KeepsNames}
 use Rattle.spm_tables.specs.Answers.{state_with}
-use Rattle.spm_tables.specs.Desk.{Desk}
+use Rattle.spm_tables.specs.TablesView.{TablesView}
 use Rattle.spm_core.proofs.Attempted.{case-not_had, does-after, does-attempted, does-refused}
 use Rattle.spm_core.proofs.perform.issue.Goals as goal
 
@@ -26,4 +26,4 @@ returns-in-Err-clause-does c =
 
 pub returns-in-Err-clause-names : goal.returns-in-Err-clause-names
 returns-in-Err-clause-names c =
-    subst (λ (d : Desk). KeepsNames c.args.system.now d c.refuse-in-Err.new.tables) c.in-Err.ensures.attempts.1.0 c.refuse-in-Err.ensures.names
+    subst (λ (d : TablesView). KeepsNames c.args.system.now d c.refuse-in-Err.new.tables) c.in-Err.ensures.attempts.1.0 c.refuse-in-Err.ensures.names

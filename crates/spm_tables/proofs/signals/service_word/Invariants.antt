@@ -1,7 +1,7 @@
 use Rattle.std.proofs.Common.{◌≡◌}
 use Rattle.std.specs.Prelude.{fold, bit_or, is_some}
 use Rattle.ffm_model.specs.Signals.{union_of}
-use Rattle.spm_tables.specs.Desk.{asserted}
+use Rattle.spm_tables.specs.TablesView.{asserted}
 use Rattle.spm_tables.specs.Queues.{ends_at}
 use Rattle.spm_tables.proofs.SignalLemmas.{from_place}
 use Rattle.spm_tables.proofs.signals.service_word.Given as goal

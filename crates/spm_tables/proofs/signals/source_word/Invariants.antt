@@ -2,7 +2,7 @@ use Rattle.std.proofs.Common.{◌≡◌}
 use Rattle.std.specs.Prelude.{fold, bit_or, get_or}
 use Rattle.ffm_model.specs.State.{no_flags}
 use Rattle.ffm_model.specs.Signals.{union_of}
-use Rattle.spm_tables.specs.Desk.{asserted}
+use Rattle.spm_tables.specs.TablesView.{asserted}
 use Rattle.spm_tables.proofs.SignalLemmas.{from_place}
 use Rattle.spm_tables.proofs.signals.source_word.Given as goal
 

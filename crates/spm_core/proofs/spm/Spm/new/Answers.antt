@@ -5,7 +5,7 @@ use Rattle.ffm_model.specs.State.{opening_spm}
 use Rattle.ffm_model.specs.Names.{capacity}
 use Rattle.object_pools.specs.Pool.{Places, empty}
 use Rattle.spm_tables.specs.declared.item.QueuedMessage.{QueuedMessage}
-use Rattle.spm_tables.specs.Desk.{MadeFor, spm_of}
+use Rattle.spm_tables.specs.TablesView.{MadeFor, spm_of}
 use Rattle.spm_core.proofs.Kept.{keeps-first}
 use Rattle.spm_core.proofs.spm.Spm.new.Goals as goal
 

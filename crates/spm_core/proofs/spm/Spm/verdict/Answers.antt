@@ -2,7 +2,7 @@ use Rattle.std.proofs.Common.{◌≡◌, length, sym, refl, rules, ◌∙◌, tr
 use Rattle.std.specs.Prelude.{Some, None}
 use Rattle.ffm_model.specs.declared.machine.Verdict.TheVariants.{Quiet, Stalled, Full}
 use Rattle.ffm_model.specs.Verdicts.{verdict_at}
-use Rattle.spm_tables.specs.Desk.{spm_of}
+use Rattle.spm_tables.specs.TablesView.{spm_of}
 use Rattle.spm_core.proofs.Kept.{verdict-kept}
 use Rattle.spm_core.proofs.spm.Spm.verdict.Goals as goal
 

@@ -1,7 +1,7 @@
 use Rattle.spm_tables.proofs.QueueMessages.{keeps-take}
 use Rattle.spm_tables.proofs.SlotLemmas.{belongs-queued, slots-take}
 use Rattle.spm_tables.proofs.WordLemmas.{keeps-ends}
-use Rattle.spm_tables.specs.Desk.{queued}
+use Rattle.spm_tables.specs.TablesView.{queued}
 use Rattle.spm_tables.proofs.tables.Tables.enqueue.Goals as goal
 
 pub invariant_of-self : goal.invariant_of-self

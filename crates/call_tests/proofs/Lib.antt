@@ -1,0 +1,2 @@
+mod IdleStates
+mod AskedLemmas

@@ -1,0 +1,392 @@
+//! What no clause says: that the statuses come with ample memory, and that the texts are the ones wanted.
+
+use ffm_model::{List, OpenGate};
+use ffm_top::ffm;
+use outside_io::{Failed, MemoryFiles, MemorySink, Sink};
+use std::alloc::Global;
+use std::test::Fail;
+
+const ONE_CLIENT: &str =
+    r#"{"isolation_level":3,"manifests":[{"psa_framework_version":1.0,"name":"VAULT","type":"APPLICATION-ROT","priority":"NORMAL","entry_point":"vault_main","stack_size":"0x400","services":[{"name":"VAULT","sid":"0x40","non_secure_clients":true},{"name":"ADMIN","sid":"0x41","non_secure_clients":false,"version":2}]}],"clients":["NS"]}"#;
+
+const ASKING: &str =
+    r#"{"scripts":[{"actor":"NS","lines":["framework_version","version 0x40","version 0x99","version 0x41"]}],"schedule":["NS","NS","NS","NS"]}"#;
+
+const ASKED: &str =
+    "n1 framework_version -> number 256\nn1 version 0x00000040 -> number 1\nn1 version 0x00000099 -> number 0\nn1 version 0x00000041 -> number 0\np1 stop end -> done\nn1 stop end -> done\nquiet 6\n";
+
+/// A system file and a scenario file, and what comes of them.
+struct Worked {
+    system: &'static str,
+    scenario: &'static str,
+    status: u8,
+    text: &'static str,
+}
+
+static WORKED: [Worked; 17] = [
+    Worked {
+        system: ONE_CLIENT,
+        scenario: ASKING,
+        status: 0,
+        text: ASKED,
+    },
+    Worked {
+        system: r#"{"isolation_level":1,"manifests":[]}"#,
+        scenario: "{}",
+        status: 0,
+        text: "quiet 0\n",
+    },
+    Worked {
+        system: r#"{"isolation_level":1,"manifests":[],"clients":["A","B"]}"#,
+        scenario: r#"{"schedule":["B"]}"#,
+        status: 0,
+        text: "n2 stop end -> done\nn1 stop end -> done\nquiet 2\n",
+    },
+    Worked {
+        system: ONE_CLIENT,
+        scenario: r#"{"event_limit":1}"#,
+        status: 5,
+        text: "p1 stop end -> done\nfull 1\n",
+    },
+    Worked {
+        system: ONE_CLIENT,
+        scenario: r#"{"scripts":[{"actor":"NS","lines":["again:","set r1 2","jmp again"]}]}"#,
+        status: 0,
+        text: "p1 stop end -> done\nn1 stop spent -> done\nquiet 2\n",
+    },
+    Worked {
+        system: r#"{"isolation_level":1,"manifests":[{"psa_framework_version":1.0,"name":"DRIVER","type":"PSA-ROT","priority":"NORMAL","entry_point":"main","stack_size":0,"irqs":[{"source":17,"signal":"TICK_SIGNAL"},{"source":"DMA","signal":"DMA_SIGNAL"}]}]}"#,
+        scenario: r#"{"interrupts":["DMA",17],"scripts":[{"actor":"DRIVER","lines":["wait 0x30 0x80000000","eoi 0x20"]}]}"#,
+        status: 0,
+        text: "p1 wait 0x00000030 0x80000000 -> blocked\ndev raise 1 -> done\np1 resume -> signals 0x00000020\ndev raise 0 -> done\np1 eoi 0x00000020 -> done\ndev stop end -> done\np1 stop end -> done\nquiet 7\n",
+    },
+    Worked {
+        system: ONE_CLIENT,
+        scenario: r#"{"scripts":[{"actor":"NS","lines":["connect 0x40 1"]}]}"#,
+        status: 4,
+        text: "p1 stop end -> done\nn1 connect 0x00000040 1 -> blocked\nstalled 2\n",
+    },
+    Worked {
+        system: r#"{"isolation_level":"#,
+        scenario: "{}",
+        status: 1,
+        text: "refused 1 Json system\n",
+    },
+    Worked {
+        system: "[]",
+        scenario: "{}",
+        status: 1,
+        text: "refused 3 WrongType system\n",
+    },
+    Worked {
+        system: r#"{"isolation_level":3,"manifests":[{"psa_framework_version":1.}]}"#,
+        scenario: "{}",
+        status: 1,
+        text: "refused 4 BadValue system /manifests/0/psa_framework_version\n",
+    },
+    Worked {
+        system: r#"{"isolation_level":3}"#,
+        scenario: "{}",
+        status: 1,
+        text: "refused 2 MissingAttribute system /manifests\n",
+    },
+    Worked {
+        system: r#"{"isolation_level":1,"manifests":[],"clients":["A","A"]}"#,
+        scenario: "{}",
+        status: 1,
+        text: "refused 5 DuplicatePartition system /clients/1\n",
+    },
+    Worked {
+        system: r#"{"isolation_level":1,"manifests":["long"]}"#,
+        scenario: "{}",
+        status: 1,
+        text: "refused 23 FileTooLong system /manifests/0\n",
+    },
+    Worked {
+        system: ONE_CLIENT,
+        scenario: r#"{"schedule":["NS","device"]}"#,
+        status: 1,
+        text: "refused 20 UnknownActor scenario /schedule/1\n",
+    },
+    Worked {
+        system: ONE_CLIENT,
+        scenario: r#"{"scripts":[{"actor":"NS","lines":["connect 0x40 1","set r5 r0","call r5 0"]}]}"#,
+        status: 1,
+        text: "refused 19 ScriptSyntax scenario /scripts/0/lines/2\n",
+    },
+    Worked {
+        system: ONE_CLIENT,
+        scenario: r#"{"interrupts":[1]}"#,
+        status: 1,
+        text: "refused 20 UnknownActor scenario /interrupts/0\n",
+    },
+    Worked {
+        system: ONE_CLIENT,
+        scenario: "",
+        status: 1,
+        text: "refused 1 Json scenario\n",
+    },
+];
+
+/// The words of a command line.
+fn words_of(alloc: Global, words: &[&str]) -> Result<Vec<String>, Fail> {
+    let mut list = Vec::new(alloc);
+    for word in words {
+        list.push(String::from_str(alloc, word)?)?;
+    }
+    Ok(list)
+}
+
+/// The two files, and one that is a byte longer than may be.
+fn files_of(alloc: Global, system: &str, scenario: &str) -> Result<MemoryFiles, Fail> {
+    let mut files = MemoryFiles::new(alloc);
+    files.add(alloc, "system", system.as_bytes())?;
+    files.add(alloc, "scenario", scenario.as_bytes())?;
+    let long = vec![in alloc; b' '; 1_048_577]?;
+    files.add(alloc, "long", &long)?;
+    Ok(files)
+}
+
+#[test]
+fn worked_files(rt: HostRuntime) -> Result<(), Fail> {
+    let words = words_of(rt.alloc(), &["ffm", "run", "system", "scenario"])?;
+    for worked in &WORKED {
+        let mut files = files_of(rt.alloc(), worked.system, worked.scenario)?;
+        let mut sink = MemorySink::new(rt.alloc(), 4096, 7, List::of(Vec::new(rt.alloc())))?;
+        let status = ffm(&rt, rt.alloc(), &words, &mut files, &mut sink, &OpenGate);
+        assert_eq!(rt; status, worked.status, "{}", worked.text);
+        assert_eq!(rt; sink.bytes(), worked.text.as_bytes());
+    }
+    Ok(())
+}
+
+/// A list of words, a failing read and a failing put, by their numbers, and what comes of them.
+struct Outside {
+    words: &'static [&'static str],
+    failing_read: u32,
+    failing_put: u32,
+    status: u8,
+    text: &'static str,
+}
+
+const USAGE: &str =
+    "usage: ffm compile SYSTEM | ffm run [--threads] SYSTEM SCENARIO | ffm replay SYSTEM SCENARIO TRACE | ffm audit SYSTEM SCENARIO TRACE | ffm make N\n";
+
+const RUN: &[&str] = &["ffm", "run", "system", "scenario"];
+
+static OUTSIDE: [Outside; 9] = [
+    Outside {
+        words: RUN,
+        failing_read: 0,
+        failing_put: 3,
+        status: 8,
+        text: "n1 framework_version -> number 256\nn1 version 0x00000040 -> number 1\n",
+    },
+    Outside {
+        words: RUN,
+        failing_read: 1,
+        failing_put: 0,
+        status: 7,
+        text: "",
+    },
+    Outside {
+        words: RUN,
+        failing_read: 2,
+        failing_put: 0,
+        status: 7,
+        text: "",
+    },
+    Outside {
+        words: &["ffm", "run", "nothing", "scenario"],
+        failing_read: 0,
+        failing_put: 0,
+        status: 7,
+        text: "",
+    },
+    Outside {
+        words: &["ffm", "run", "system", "nothing"],
+        failing_read: 0,
+        failing_put: 0,
+        status: 7,
+        text: "",
+    },
+    Outside {
+        words: &["ffm", "run", "a"],
+        failing_read: 1,
+        failing_put: 0,
+        status: 2,
+        text: USAGE,
+    },
+    Outside {
+        words: &["ffm", "run", "-a", "scenario"],
+        failing_read: 0,
+        failing_put: 0,
+        status: 2,
+        text: USAGE,
+    },
+    Outside {
+        words: &[],
+        failing_read: 0,
+        failing_put: 0,
+        status: 2,
+        text: USAGE,
+    },
+    Outside {
+        words: &["ffm", "help"],
+        failing_read: 0,
+        failing_put: 1,
+        status: 8,
+        text: "",
+    },
+];
+
+#[test]
+fn faults_and_words(rt: HostRuntime) -> Result<(), Fail> {
+    for case in &OUTSIDE {
+        let words = words_of(rt.alloc(), case.words)?;
+        let mut files = files_of(rt.alloc(), ONE_CLIENT, ASKING)?;
+        files.fail_at(List::of(vec![in rt.alloc(); case.failing_read]?));
+        let failing = List::of(vec![in rt.alloc(); case.failing_put]?);
+        let mut sink = MemorySink::new(rt.alloc(), 4096, 256, failing)?;
+        let status = ffm(&rt, rt.alloc(), &words, &mut files, &mut sink, &OpenGate);
+        assert_eq!(rt; status, case.status, "{}", case.text);
+        assert_eq!(rt; sink.bytes(), case.text.as_bytes());
+    }
+    Ok(())
+}
+
+/// Lists of words, and the status that comes of each over the two files, a trace and a part of one.
+const LISTS: [(&[&str], u8); 23] = [
+    (&["ffm", "make"], 2),
+    (&["ffm", "make", ""], 2),
+    (&["ffm", "make", "0"], 2),
+    (&["ffm", "make", "01"], 2),
+    (&["ffm", "make", "+1"], 2),
+    (&["ffm", "make", "-1"], 2),
+    (&["ffm", "make", "1x"], 2),
+    (&["ffm", "make", "0x1"], 2),
+    (&["ffm", "make", "2001"], 2),
+    (&["ffm", "make", "20000"], 2),
+    (&["ffm", "make", "4294967297"], 2),
+    (&["ffm", "make", "1", "2"], 2),
+    (&["ffm", "make", "1"], 0),
+    (&["ffm", "make", "10"], 0),
+    (&["ffm", "replay"], 2),
+    (&["ffm", "replay", "system", "scenario"], 2),
+    (&["ffm", "replay", "system", "scenario", "trace", "a"], 2),
+    (&["ffm", "replay", "system", "scenario", "-a"], 2),
+    (&["ffm", "replay", "system", "scenario", ""], 2),
+    (&["ffm", "replay", "--", "system", "scenario", "trace"], 2),
+    (&["ffm", "replay", "system", "scenario", "nothing"], 7),
+    (&["ffm", "replay", "nothing", "scenario", "trace"], 7),
+    (&["ffm", "replay", "system", "scenario", "cut"], 1),
+];
+
+#[test]
+fn lists_of_words(rt: HostRuntime) -> Result<(), Fail> {
+    let alloc = rt.alloc();
+    for (list, wanted) in LISTS {
+        let words = words_of(alloc, list)?;
+        let mut files = files_of(alloc, ONE_CLIENT, ASKING)?;
+        files.add(alloc, "trace", ASKED.as_bytes())?;
+        files.add(alloc, "cut", b"p1 stop end -> done\nquiet 2\n")?;
+        let mut sink = MemorySink::new(alloc, 4096, 256, List::of(Vec::new(alloc)))?;
+        let status = ffm(&rt, alloc, &words, &mut files, &mut sink, &OpenGate);
+        assert_eq!(rt; status, wanted, "{list:?}");
+    }
+    Ok(())
+}
+
+/// The text of the words over the two files and a trace file.
+fn text_of(rt: &HostRuntime, words: &[&str], scenario: &str, trace: &str) -> Result<Vec<u8>, Fail> {
+    let alloc = rt.alloc();
+    let words = words_of(alloc, words)?;
+    let mut files = files_of(alloc, ONE_CLIENT, scenario)?;
+    files.add(alloc, "trace", trace.as_bytes())?;
+    let mut sink = MemorySink::new(alloc, 4096, 256, List::of(Vec::new(alloc)))?;
+    ffm(rt, alloc, &words, &mut files, &mut sink, &OpenGate);
+    Ok(sink.bytes().to_vec(alloc)?)
+}
+
+#[test]
+fn generated_runs(rt: HostRuntime) -> Result<(), Fail> {
+    for (rounds, text) in [
+        ("1", "make 1 entries 352 bytes 128 quiet\n"),
+        ("17", "make 17 entries 2400 bytes 2176 quiet\n"),
+        ("2000", "make 2000 entries 256224 bytes 256000 quiet\n"),
+    ] {
+        let written = text_of(&rt, &["ffm", "make", rounds], ASKING, "")?;
+        assert_eq!(rt; written.as_slice(), text.as_bytes());
+    }
+    Ok(())
+}
+
+#[test]
+fn refused_traces(rt: HostRuntime) -> Result<(), Fail> {
+    const WRONG: &str = r#"{"scripts":[{"actor":"NS","lines":["nothing"]}]}"#;
+    for (scenario, trace, text) in [
+        (ASKING, "", "refused 24 TraceSyntax trace /1\n"),
+        (ASKING, "quiet 0", "refused 24 TraceSyntax trace /1\n"),
+        (
+            ASKING,
+            "p1 stop end -> done\nquiet 2\n",
+            "refused 24 TraceSyntax trace /2\n",
+        ),
+        (
+            ASKING,
+            "p2 stop end -> done\nquiet 1\n",
+            "refused 24 TraceSyntax trace /1\n",
+        ),
+        (
+            ASKING,
+            "n1 stop end -> done\nquiet 1\n\n",
+            "refused 24 TraceSyntax trace /3\n",
+        ),
+        // The scripts come first, though a replay uses none.
+        (
+            WRONG,
+            "",
+            "refused 19 ScriptSyntax scenario /scripts/0/lines/0\n",
+        ),
+    ] {
+        let words = ["ffm", "replay", "system", "scenario", "trace"];
+        let written = text_of(&rt, &words, scenario, trace)?;
+        assert_eq!(rt; written.as_slice(), text.as_bytes());
+    }
+    Ok(())
+}
+
+/// A sink that gathers everything and can hand nothing on.
+#[derive(Drop)]
+struct Lost {
+    faults: u64,
+}
+
+impl Sink for Lost {
+    ghost use Rattle.std.specs.Prelude.{None};
+
+    ghost taken = { λ _. None };
+
+    ghost faults = { λ s. s.faults };
+
+    ghost is_handed_on = { λ _. ⊥ };
+
+    fn put(&mut self, piece: &[u8]) -> Result<usize, Failed> {
+        Ok(piece.len())
+    }
+
+    fn flush(&mut self) -> Result<(), Failed> {
+        self.faults = self.faults.saturating_add(1);
+        Err(Failed)
+    }
+}
+
+#[test]
+fn lost_output(rt: HostRuntime) -> Result<(), Fail> {
+    let words = words_of(rt.alloc(), RUN)?;
+    let mut files = files_of(rt.alloc(), ONE_CLIENT, ASKING)?;
+    let mut sink = Lost { faults: 0 };
+    let status = ffm(&rt, rt.alloc(), &words, &mut files, &mut sink, &OpenGate);
+    assert_eq!(rt; status, 8);
+    Ok(())
+}

@@ -1,0 +1,201 @@
+//! Scripts by their texts: the first wrong line of each, and the instructions of one. The script
+//! of a device.
+
+use ffm_model::{
+    ActorKind, CallName, Comparison, Instruction, Key, Lines, List, Memory, Name, Operand,
+    Operation, PathStep, ReadError, Root, SCRIPT_SYNTAX,
+};
+use script_asm::{assemble, device_script};
+use std::alloc::Global;
+use std::process::Abort;
+use std::test::Fail;
+
+// Scripts of clients, each with its first wrong line where it has one.
+const SCRIPTS: [(&str, Option<u32>); 45] = [
+    ("", None),
+    (" \t \n# set\n#\nend", None),
+    ("set\tr0 \t 1\t", None),
+    ("SET r0 1", Some(0)),
+    ("set r0", Some(0)),
+    ("set r0 1 2", Some(0)),
+    ("set 1 r0", Some(0)),
+    ("set r15 r9", None),
+    ("set r16 0", Some(0)),
+    ("set r01 0", Some(0)),
+    ("set r0 r", Some(0)),
+    ("add r0 4294967295", None),
+    ("add r0 4294967296", Some(0)),
+    ("add r0 0004294967295", None),
+    ("sub r0 -1", None),
+    ("sub r0 -2147483648", None),
+    ("sub r0 -2147483649", Some(0)),
+    ("sub r0 -0", Some(0)),
+    ("sub r0 -", Some(0)),
+    ("sub r0 +1", Some(0)),
+    ("and r0 0xFfFfFfFf", None),
+    ("and r0 0x", Some(0)),
+    ("and r0 0x123456789", Some(0)),
+    ("or r0 0X1", Some(0)),
+    ("xor r0 0x1g", Some(0)),
+    ("top:\njmp top", None),
+    (" top: \njmp top", None),
+    ("top :\njmp top", Some(0)),
+    ("top: end", Some(0)),
+    ("jmp top", Some(0)),
+    ("jmp top\nend\ntop:", None),
+    ("jmp top\nbad\ntop:", Some(1)),
+    ("top:\nend\ntop:", Some(2)),
+    ("top:\nbad\ntop:", Some(1)),
+    ("end\njmp nowhere\ntop:\ntop:", Some(1)),
+    ("jeq r0 1 top\njne r0 r1 top\njlt r0 -1 top\ntop:", None),
+    ("top:\njeq r0 1", Some(1)),
+    ("top:\njlt 0 1 top", Some(1)),
+    ("set:\nr0:\n_9:", None),
+    ("device:", Some(0)),
+    ("9a:", Some(0)),
+    (":", Some(0)),
+    ("jmp top\ntop:\ntop:", Some(2)),
+    ("jmp top\ntop:\nTop:", None),
+    ("end\nend\ncall r5 0", Some(2)),
+];
+
+// Each call: a right line, one with another number of operands, and whether clients have it.
+const CALLS: [(&str, &str, bool); 19] = [
+    ("framework_version", "framework_version 1", true),
+    ("version 0x40", "version", true),
+    ("connect 0x40 r1", "connect 0x40", true),
+    ("call r5 -1 0 0 0 0", "call 1 2 3 4 5 6 7", true),
+    ("close r5", "close r5 0", true),
+    ("load 0x20000000 4", "load 0x20000000", true),
+    ("store r1 4 -1", "store r1 4", true),
+    ("end", "end 0", true),
+    ("wait 0xffffffff 1", "wait 1", false),
+    ("get r1 r2", "get r1 r2 r3", false),
+    ("set_rhandle r2 7", "set_rhandle r2", false),
+    ("read r2 0 r3 4", "read r2 0 r3", false),
+    ("skip r2 0 4", "skip r2 0 r3 4", false),
+    ("write r2 0 r3 4", "write r2 0 4", false),
+    ("reply r2 -129", "reply r2", false),
+    ("notify -1", "notify", false),
+    ("clear", "clear 8", false),
+    ("eoi 16", "eoi", false),
+    ("panic", "panic 0", false),
+];
+
+fn lines_of(alloc: Global, text: &str) -> Result<Lines, Memory> {
+    let mut lines = Vec::new(alloc);
+    for line in text.split('\n') {
+        lines.push(Name::of(String::from_str(alloc, line)?))?;
+    }
+    Ok(List::of(lines))
+}
+
+// The first wrong line of a script, by the place of its refusal.
+fn first_wrong(
+    rt: &impl Abort,
+    alloc: Global,
+    kind: ActorKind,
+    text: &str,
+) -> Result<Option<u32>, Fail> {
+    let lines = lines_of(alloc, text)?;
+    assert!(rt; lines.len() < 10);
+    match assemble(alloc, &lines, kind, 7) {
+        Ok(_) => Ok(None),
+        Err(ReadError::Memory) => Err(Fail::from("no memory was found")),
+        Err(ReadError::Refused(refusal)) => {
+            assert_eq!(rt; refusal.code, SCRIPT_SYNTAX);
+            assert_eq!(rt; refusal.place.root, Root::Scenario);
+            assert!(rt; refusal.cycle.is_empty());
+            match refusal.place.steps.as_slice() {
+                [
+                    PathStep::Key(Key::Scripts),
+                    PathStep::Index(7),
+                    PathStep::Key(Key::Lines),
+                    PathStep::Index(line),
+                ] => Ok(Some(*line)),
+                _ => Err(Fail::from("another place")),
+            }
+        }
+    }
+}
+
+#[test]
+fn first_wrong_lines(rt: HostRuntime) -> Result<(), Fail> {
+    for (text, wrong) in &SCRIPTS {
+        let found = first_wrong(&rt, rt.alloc(), ActorKind::Client, text)?;
+        assert_eq!(rt; found, *wrong, "{text:?}");
+    }
+    Ok(())
+}
+
+#[test]
+fn calls_of_kinds(rt: HostRuntime) -> Result<(), Fail> {
+    for (right, wrong, of_clients) in &CALLS {
+        let in_partition = first_wrong(&rt, rt.alloc(), ActorKind::Partition, right)?;
+        assert_eq!(rt; in_partition, None, "{right:?}");
+        let other_count = first_wrong(&rt, rt.alloc(), ActorKind::Partition, wrong)?;
+        assert_eq!(rt; other_count, Some(0), "{wrong:?}");
+        let in_client = first_wrong(&rt, rt.alloc(), ActorKind::Client, right)?;
+        assert_eq!(rt; in_client.is_none(), *of_clients, "{right:?}");
+    }
+    Ok(())
+}
+
+#[test]
+fn no_line_raises(rt: HostRuntime) -> Result<(), Fail> {
+    for kind in [ActorKind::Partition, ActorKind::Client, ActorKind::Device] {
+        let found = first_wrong(&rt, rt.alloc(), kind, "end\nraise 0")?;
+        assert_eq!(rt; found, Some(1), "{kind:?}");
+    }
+    Ok(())
+}
+
+// A call line with one operand.
+fn make_one(name: CallName, number: u32) -> Instruction {
+    let mut operands = [Operand::Number(0); 6];
+    operands[0] = Operand::Number(number);
+    Instruction::Make { name, operands }
+}
+
+#[test]
+fn instructions_of_a_script(rt: HostRuntime) -> Result<(), Fail> {
+    let text = "# counts\nset r1 -2\n\ntop:\nadd r1 0x1\njlt r1 r2 top\nversion 64\njmp out\nout:";
+    let lines = lines_of(rt.alloc(), text)?;
+    assert!(rt; lines.len() < 10);
+    let script = assemble(rt.alloc(), &lines, ActorKind::Partition, 0)?;
+    let expected = [
+        Instruction::Change {
+            operation: Operation::Set,
+            register: 1,
+            operand: Operand::Number(4294967294),
+        },
+        Instruction::Change {
+            operation: Operation::Add,
+            register: 1,
+            operand: Operand::Number(1),
+        },
+        Instruction::JumpIf {
+            comparison: Comparison::Less,
+            register: 1,
+            operand: Operand::Register(2),
+            target: 1,
+        },
+        make_one(CallName::Version, 64),
+        Instruction::Jump { target: 5 },
+    ];
+    assert_eq!(rt; script.instructions(), expected.as_slice());
+    Ok(())
+}
+
+#[test]
+fn raises_of_a_device(rt: HostRuntime) -> Result<(), Fail> {
+    let raises = List::of(vec![in rt.alloc(); 0, 3, 0]?);
+    let script = device_script(rt.alloc(), &raises)?;
+    let expected = [
+        make_one(CallName::Raise, 0),
+        make_one(CallName::Raise, 3),
+        make_one(CallName::Raise, 0),
+    ];
+    assert_eq!(rt; script.instructions(), expected.as_slice());
+    Ok(())
+}

@@ -1,0 +1,10 @@
+use Rattle.std.proofs.Common.{◌≡◌}
+use Rattle.memory_image.specs.Pieces.{regions_of, ranges_of}
+use Rattle.message_vectors.specs.Vectors.{AreWithin}
+use Rattle.table_tests.proofs.vectors.bytes_are_moved.Given as goal
+
+abbrev pub invariant-loop-row : goal.invariant-loop-row
+invariant-loop-row g l = record {
+  regions : regions_of l.image ≡ ranges_of l.system.regions;
+  within : AreWithin (regions_of l.image) l.vectors;
+}

@@ -1,0 +1,102 @@
+//! Worked cases.
+
+use ffm_model::{ActorId, ConnPhase, Handle};
+use handle_table::{Connection, Connections, Family, handle_of, slot_of};
+use object_pools::Slot;
+use std::process::Abort;
+
+fn slot(index: u32, generation: u32) -> Slot {
+    Slot { index, generation }
+}
+
+#[test]
+fn handles_of_slots(rt: HostRuntime) {
+    let first = Slot {
+        index: 0,
+        generation: 1,
+    };
+    assert_eq!(rt; handle_of(Family::Connection, first), Handle(1024));
+    assert_eq!(rt; handle_of(Family::Message, first), Handle(1536));
+    for (number, index, generation) in [
+        (1024, 0, 1),
+        (1279, 255, 1),
+        (2051, 3, 2),
+        (1073741055, 255, 1048575),
+    ] {
+        let named = slot(index, generation);
+        let message: i32 = number + 512;
+        assert_eq!(rt; slot_of(Handle(number)), Some((Family::Connection, named)));
+        assert_eq!(rt; slot_of(Handle(message)), Some((Family::Message, named)));
+    }
+    for number in [
+        0,
+        -1,
+        255,
+        1023,
+        1280,
+        1535,
+        1792,
+        0x40000000,
+        i32::MIN,
+        i32::MAX,
+    ] {
+        assert_eq!(rt; slot_of(Handle(number)), None);
+    }
+}
+
+fn start(rt: &impl Abort, table: &mut Connections, owner: u32, service: u32) -> Slot {
+    assert!(rt; table.live() < table.size());
+    assert!(rt; table.made() < 1000);
+    table.start(ActorId(owner), service)
+}
+
+fn tell(rt: &impl Abort, table: &mut Connections, slot: Slot) -> Handle {
+    assert!(rt; table.is_live(slot));
+    table.tell(slot)
+}
+
+fn free(rt: &impl Abort, table: &mut Connections, slot: Slot) {
+    assert!(rt; table.is_live(slot));
+    table.free(slot);
+}
+
+#[test]
+fn connections_of_two_clients(rt: HostRuntime) {
+    let mut table = Connections::new(2);
+    let first = start(&rt, &mut table, 4, 7);
+    let second = start(&rt, &mut table, 5, 7);
+    assert_eq!(rt; table.find(ActorId(4), Handle(1024)), None);
+    assert_eq!(rt; tell(&rt, &mut table, first), Handle(1024));
+    assert_eq!(rt; tell(&rt, &mut table, second), Handle(1025));
+    assert_eq!(rt; table.find(ActorId(4), Handle(1024)), Some(first));
+    assert_eq!(rt; table.find(ActorId(5), Handle(1024)), None);
+    assert_eq!(rt; table.find(ActorId(4), Handle(1536)), None);
+    assert_eq!(rt; table.in_use(ActorId(4), 7), 1);
+    assert_eq!(rt; table.in_use(ActorId(4), 5), 0);
+    free(&rt, &mut table, first);
+    let third = start(&rt, &mut table, 4, 7);
+    assert_eq!(rt; table.find(ActorId(4), Handle(1024)), None);
+    assert_eq!(rt; tell(&rt, &mut table, third), Handle(2048));
+    assert_eq!(rt; table.first_of(ActorId(4), 0), Some(third));
+    assert_eq!(rt; table.first_of(ActorId(5), 0), Some(second));
+    assert_eq!(rt; table.first_of(ActorId(5), 2), None);
+}
+
+#[test]
+fn a_connection_changes(rt: HostRuntime) {
+    let mut table = Connections::new(1);
+    let slot = start(&rt, &mut table, 4, 7);
+    assert!(rt; table.is_live(slot));
+    table.set_phase(slot, ConnPhase::Idle);
+    assert!(rt; table.is_live(slot));
+    table.set_rhandle(slot, 9);
+    assert!(rt; table.is_live(slot));
+    let shown = Connection {
+        owner: ActorId(4),
+        service: 7,
+        phase: ConnPhase::Idle,
+        rhandle: 9,
+        serial: 0,
+    };
+    assert_eq!(rt; table.connection(slot), shown);
+}

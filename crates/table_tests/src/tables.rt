@@ -1,0 +1,228 @@
+//! Tables beside a plain list of messages.
+
+ghost use Rattle.std.specs.Prelude.{◌≡◌, false};
+
+use ffm_model::{ActorId, ActorPhase, ConnPhase, Handle, PSA_DOORBELL, SourceFlags, Span, Vectors};
+use object_pools::Slot;
+use sample_systems::system_of;
+use spm_tables::{MessageItem, NO_CONNECTION, Tables};
+use std::alloc::Global;
+use std::process::Abort;
+use std::test::Fail;
+
+const VAULT: ActorId = ActorId(0);
+
+const CLIENT: ActorId = ActorId(1);
+
+// One partition with two services and a source, and a client with four connections.
+const SYSTEM: &str = r#"{"isolation_level":3,"manifests":[
+{"psa_framework_version":1.0,"name":"VAULT","type":"APPLICATION-ROT",
+"priority":"NORMAL","entry_point":"main","stack_size":"0x400",
+"services":[{"name":"KEYS","sid":"0x40","non_secure_clients":true},
+{"name":"COINS","sid":"0x41","non_secure_clients":true}],
+"irqs":[{"source":"TIMER_IRQ","signal":"TIMER_SIGNAL"}]}],
+"non_secure_ram":"0x1000","clients":["NS"],
+"connections":[{"client":"NS","service":"KEYS","count":3}]}"#;
+
+fn request(connection: Option<Slot>, service: u32, kind: i32) -> MessageItem
+    ensures service { result.service ≡ service }
+    ensures delivered { result.delivered ≡ false }
+{
+    let none = Span::default();
+    MessageItem {
+        service,
+        client: CLIENT,
+        connection,
+        kind,
+        vectors: Vectors {
+            input: [none; 4],
+            output: [none; 4],
+            out_vec: 0,
+            out_len: 0,
+        },
+        delivered: false,
+    }
+}
+
+fn start(rt: &impl Abort, tables: &mut Tables) -> Slot {
+    assert!(rt; tables.connections().live() < tables.connections().size());
+    assert!(rt; tables.connections().made() < 1000);
+    tables.start(CLIENT, 0)
+}
+
+// Sends a message of a connection, or of none.
+fn enqueue(
+    rt: &impl Abort,
+    tables: &mut Tables,
+    connection: Option<Slot>,
+    service: u32,
+    kind: i32,
+) -> Slot {
+    assert!(rt; tables.has_service(service));
+    assert!(rt; tables.messages().live() < tables.messages().size());
+    assert!(rt; tables.messages().takes() < 1000);
+    tables.enqueue(request(connection, service, kind))
+}
+
+fn message(rt: &impl Abort, tables: &Tables, slot: Slot) -> MessageItem {
+    assert!(rt; tables.messages().get(slot).is_some());
+    tables.message(slot)
+}
+
+fn drop_message(rt: &impl Abort, tables: &mut Tables, slot: Slot) -> MessageItem {
+    assert!(rt; tables.messages().get(slot).is_some());
+    tables.drop_message(slot)
+}
+
+fn serial(rt: &impl Abort, tables: &Tables, slot: Slot) -> u32 {
+    assert!(rt; tables.messages().get(slot).is_some());
+    tables.queued(slot).serial
+}
+
+/// A message of the plain list.
+#[derive(Clone, Copy)]
+struct Plain {
+    slot: Slot,
+    service: u32,
+    kind: i32,
+    delivered: bool,
+}
+
+// a and b send a message to the first and the second service, A and B deliver the oldest of it, a digit gives up the
+// message at that place of the list.
+const STEPS: &[u8] = b"AaabAA0bB1AaaBA00a0A00B";
+
+fn deliver(rt: &impl Abort, tables: &mut Tables, plain: &mut [Plain], service: u32) {
+    let found = tables.dequeue(service);
+    for message in plain.iter_mut() {
+        if message.service == service && !message.delivered {
+            message.delivered = true;
+            assert_eq!(rt; found, Some(message.slot));
+            return;
+        }
+    }
+    assert_eq!(rt; found, None);
+}
+
+fn expected_signals(plain: &[Plain]) -> u32 {
+    let mut signals = 0;
+    for message in plain {
+        if !message.delivered {
+            signals |= if message.service == 0 { 0x10 } else { 0x20 };
+        }
+    }
+    signals
+}
+
+#[test]
+fn does_what_a_plain_list_does(rt: HostRuntime) -> Result<(), Fail> {
+    let system = system_of(rt.alloc(), SYSTEM)?;
+    let mut tables = Tables::new(rt.alloc(), &system)?;
+    let connection = start(&rt, &mut tables);
+    let mut plain: Vec<Plain> = Vec::new(rt.alloc());
+    for (place, step) in STEPS.iter().enumerate() {
+        match step {
+            b'a' | b'b' => {
+                let service: u32 = if *step == b'a' { 0 } else { 1 };
+                let kind = *step as i32;
+                let slot = enqueue(&rt, &mut tables, Some(connection), service, kind);
+                plain.push(Plain {
+                    slot,
+                    service,
+                    kind,
+                    delivered: false,
+                })?;
+            }
+            b'A' => deliver(&rt, &mut tables, plain.as_mut_slice(), 0),
+            b'B' => deliver(&rt, &mut tables, plain.as_mut_slice(), 1),
+            _ => {
+                let at = step.wrapping_sub(b'0') as usize;
+                assert!(rt; at < plain.len());
+                let message = plain.remove(at);
+                assert_eq!(rt;
+                    drop_message(&rt, &mut tables, message.slot).kind,
+                    message.kind
+                );
+            }
+        }
+        assert_eq!(rt;
+            tables.messages().live() as usize,
+            plain.len(),
+            "at {place}"
+        );
+        assert_eq!(rt;
+            tables.signals(VAULT),
+            expected_signals(plain.as_slice()),
+            "at {place}"
+        );
+        assert_eq!(rt; tables.signals(CLIENT), 0);
+        for expected in plain.iter() {
+            let found = message(&rt, &tables, expected.slot);
+            assert_eq!(rt; found.delivered, expected.delivered);
+        }
+    }
+    Ok(())
+}
+
+#[test]
+fn signals_and_handles(rt: HostRuntime) -> Result<(), Fail> {
+    let system = system_of(rt.alloc(), SYSTEM)?;
+    let mut tables = Tables::new(rt.alloc(), &system)?;
+    assert_eq!(rt; tables.phase(CLIENT), ActorPhase::Running);
+    tables.set_phase(CLIENT, ActorPhase::Blocked);
+    assert_eq!(rt; tables.phase(CLIENT), ActorPhase::Blocked);
+    tables.set_doorbell(VAULT, true);
+    let asserted = SourceFlags {
+        enabled: true,
+        pending: false,
+        asserted: true,
+    };
+    tables.set_source_flags(0, asserted);
+    assert_eq!(rt; tables.source_flags(0), asserted);
+    assert_eq!(rt; tables.signals(VAULT), PSA_DOORBELL | 0x40);
+    let connection = start(&rt, &mut tables);
+    let slot = enqueue(&rt, &mut tables, Some(connection), 1, 7);
+    assert_eq!(rt; tables.message_to(1), Some(slot));
+    assert_eq!(rt; tables.message_to(0), None);
+    assert_eq!(rt; tables.find_message(VAULT, Handle(1536)), None);
+    assert_eq!(rt; tables.dequeue(1), Some(slot));
+    assert_eq!(rt; tables.find_message(VAULT, Handle(1536)), Some(slot));
+    assert_eq!(rt; tables.find_message(CLIENT, Handle(1536)), None);
+    assert!(rt; tables.connections().is_live(connection));
+    tables.set_connection_phase(connection, ConnPhase::Idle);
+    assert!(rt; tables.connections().is_live(connection));
+    assert_eq!(rt; tables.tell(connection), Handle(1024));
+    assert_eq!(rt;
+        tables.connections().find(CLIENT, Handle(1024)),
+        Some(connection)
+    );
+    Ok(())
+}
+
+// A message of that slot is delivered and dropped, and has that serial number.
+fn passes_through(rt: &impl Abort, tables: &mut Tables, connection: Option<Slot>, number: u32) {
+    let slot = enqueue(rt, tables, connection, 0, 1);
+    assert_eq!(rt; message(rt, tables, slot).connection, connection);
+    assert_eq!(rt; serial(rt, tables, slot), number);
+    assert_eq!(rt; tables.signals(VAULT), 0x10);
+    assert_eq!(rt; tables.dequeue(0), Some(slot));
+    let dropped = drop_message(rt, tables, slot);
+    assert_eq!(rt; dropped.connection, connection);
+    assert!(rt; dropped.delivered);
+    assert_eq!(rt; tables.messages().live(), 0);
+}
+
+#[test]
+fn messages_of_no_connection(rt: HostRuntime) -> Result<(), Fail> {
+    let system = system_of(rt.alloc(), SYSTEM)?;
+    let mut tables = Tables::new(rt.alloc(), &system)?;
+    let first = start(&rt, &mut tables);
+    let second = start(&rt, &mut tables);
+    passes_through(&rt, &mut tables, Some(second), 1);
+    assert!(rt; tables.connections().is_live(second));
+    tables.free(second);
+    passes_through(&rt, &mut tables, Some(second), NO_CONNECTION);
+    passes_through(&rt, &mut tables, None, NO_CONNECTION);
+    passes_through(&rt, &mut tables, Some(first), 0);
+    Ok(())
+}

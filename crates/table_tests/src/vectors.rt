@@ -1,0 +1,326 @@
+//! Worked requests: vectors at edges, moves in a row, and what the client is told.
+ghost use Rattle.std.specs.Prelude.{◌≡◌, ◌<◌, length, IfOk};
+ghost use Rattle.memory_image.specs.Pieces.{regions_of, ranges_of};
+ghost use Rattle.message_vectors.specs.Vectors.{AreWithin};
+
+use crate::parts::{partition, region};
+use ffm_model::{ActorId, Bytes, Class, List, Name, System, Vectors};
+use memory_image::{Image, open_within, valid_buffer};
+use message_vectors::{finish, read, skip, snapshot, write};
+use std::alloc::Global;
+use std::process::Abort;
+use std::test::Fail;
+
+const VAULT: ActorId = ActorId(0);
+
+const SPY: ActorId = ActorId(1);
+
+const CLIENT: ActorId = ActorId(2);
+
+// Two partitions, of which the second one's RAM ends at 2^32, MMIO of the first one, and a client.
+fn system(alloc: Global) -> Result<System, Fail> {
+    let mmio = Class::Mmio {
+        owner: 0,
+        writable: true,
+    };
+    let regions = vec![in alloc;
+        region(0x3000_0000, 0x100, Class::Ram { domain: 0 }),
+        region(0xffff_ff00, 0x100, Class::Ram { domain: 1 }),
+        region(0x2000_0000, 0x100, Class::NonSecure),
+        region(0x4000_0000, 0x20, mmio),
+    ]?;
+    let system = System::new(
+        3,
+        List::of(vec![in alloc; partition(alloc, 0, 0), partition(alloc, 1, 1)]?),
+        List::of(Vec::new(alloc)),
+        List::of(Vec::new(alloc)),
+        List::of(regions),
+        List::of(vec![in alloc; Name::of(String::new(alloc))]?),
+        List::of(Vec::new(alloc)),
+    );
+    Ok(system.ok_or("the parts fit")?)
+}
+
+fn piece(alloc: Global, address: u32, bytes: &[u8]) -> Result<Bytes, Fail> {
+    Ok(Bytes {
+        address,
+        content: List::of(bytes.to_vec(alloc)?),
+    })
+}
+
+// Eight descriptors of the client, one at the end of its memory, and two of the second partition
+// with the bytes of its input vector.
+fn image_of(rt: &impl Abort, alloc: Global, system: &System) -> Result<Image, Fail>
+    ensures { IfOk result (λ image. regions_of image ≡ ranges_of system.now.regions) }
+{
+    let opening = vec![in alloc;
+        piece(
+            alloc,
+            0x2000_0000,
+            b"\x80\0\0\x20\x05\0\0\0\xff\0\0\x20\x01\0\0\0"
+        )?,
+        piece(
+            alloc,
+            0x2000_0010,
+            b"\xff\0\0\x20\x02\0\0\0\0\0\0\0\0\0\0\0"
+        )?,
+        piece(
+            alloc,
+            0x2000_0020,
+            b"\0\0\0\x40\x04\0\0\0\0\0\0\x30\x04\0\0\0"
+        )?,
+        piece(
+            alloc,
+            0x2000_0030,
+            b"\x90\0\0\x20\x08\0\0\0\xf0\xff\xff\xff\x20\0\0\0"
+        )?,
+        piece(alloc, 0x2000_00f8, b"\0\0\0\x20\0\x01\0\0")?,
+        piece(
+            alloc,
+            0xffff_ff00,
+            b"\xf0\xff\xff\xff\x10\0\0\0\x80\xff\xff\xff\x08\0\0\0"
+        )?,
+        piece(alloc, 0xffff_fff0, b"0123456789abcdef")?,
+    ]?;
+    assert!(rt; open_within(system.regions.as_slice(), opening.as_slice()));
+    assert!(rt; system.regions.len() < 2147483648);
+    Ok(Image::new(alloc, &system.regions, &List::of(opening))?)
+}
+
+// Where the descriptors of inputs and outputs lie, how many there are, and whether a client may
+// hand them to a call.
+struct CallRow(u32, u32, u32, u32, bool);
+
+const CALLS: [CallRow; 17] = [
+    CallRow(0, 0, 0, 0, true),
+    CallRow(0x2000_0000, 1, 0x2000_0030, 1, true),
+    CallRow(0x2000_0000, 2, 0x2000_0000, 2, true),
+    CallRow(0x2000_0000, 2, 0x2000_0000, 3, false),
+    CallRow(0x2000_0000, 3, 0, 0, false),
+    CallRow(0x2000_0018, 1, 0, 0, true),
+    CallRow(0x2000_0020, 1, 0, 0, false),
+    CallRow(0, 0, 0x2000_0020, 1, false),
+    CallRow(0x2000_0028, 1, 0, 0, false),
+    CallRow(0x2000_0038, 1, 0, 0, false),
+    CallRow(0x2000_00f8, 1, 0, 0, true),
+    CallRow(0x2000_00f8, 2, 0, 0, false),
+    CallRow(0x2000_00f9, 1, 0, 0, false),
+    CallRow(0xffff_ff00, 1, 0, 0, false),
+    CallRow(0x2000_0000, 1, 0x2000_0000, 0xffff_ffff, false),
+    CallRow(0x2000_0000, 0xffff_ffff, 0x2000_0000, 3, false),
+    CallRow(0x2000_0000, 0x8000_0001, 0x2000_0000, 0x8000_0001, false),
+];
+
+#[test]
+fn clients_hand_over_vectors(rt: HostRuntime) -> Result<(), Fail> {
+    let system = system(rt.alloc())?;
+    let image = image_of(&rt, rt.alloc(), &system)?;
+    for CallRow(in_vec, in_len, out_vec, out_len, given) in &CALLS {
+        let vectors = snapshot(
+            &system, &image, CLIENT, *in_vec, *in_len, *out_vec, *out_len,
+        );
+        assert_eq!(rt;
+            vectors.is_some(),
+            *given,
+            "{in_vec:#x} {in_len} {out_vec:#x} {out_len}"
+        );
+    }
+    Ok(())
+}
+
+// What a partition does with a request, with its buffer in its own memory.
+#[derive(Clone, Copy, Debug)]
+enum Move {
+    Read { index: u32, buffer: u32, len: u32 },
+    Skip { index: u32, len: u32 },
+    Write { index: u32, buffer: u32, len: u32 },
+}
+
+// The number of bytes that were moved. None where there was a fault, or the move isn't allowed.
+fn moved(system: &System, image: &mut Image, vectors: &mut Vectors, row: Move) -> Option<u32>
+    requires regions { regions_of image.old ≡ ranges_of system.now.regions }
+    requires within { AreWithin (regions_of image.old) vectors.old }
+    ensures regions { regions_of image.new ≡ ranges_of system.now.regions }
+    ensures within { AreWithin (regions_of image.new) vectors.new }
+{
+    match row {
+        Move::Read { index, buffer, len } if index < 4 => {
+            if !valid_buffer(system, VAULT, buffer, len) {
+                return None;
+            }
+            Some(read(image, vectors, index, buffer, len))
+        }
+        Move::Skip { index, len } if index < 4 => Some(skip(vectors, index, len)),
+        Move::Write { index, buffer, len } if index < 4 => {
+            if !valid_buffer(system, VAULT, buffer, len) {
+                return None;
+            }
+            write(image, vectors, index, buffer, len).ok()?;
+            Some(len)
+        }
+        _ => None,
+    }
+}
+
+fn load_as(system: &System, image: &Image, actor: ActorId, address: u32) -> Option<u32>
+    requires { regions_of image.now ≡ ranges_of system.now.regions }
+{
+    if valid_buffer(system, actor, address, 4) {
+        return Some(image.load(address, 4));
+    }
+    None
+}
+
+const BUFFER: u32 = 0x3000_0000;
+
+// A move, and the number of bytes that it moves, if it isn't a fault.
+const MOVES: [(Move, Option<u32>); 16] = [
+    (
+        Move::Read {
+            index: 0,
+            buffer: 0x3000_00ff,
+            len: 0,
+        },
+        Some(0),
+    ),
+    (
+        Move::Read {
+            index: 0,
+            buffer: 0x3000_00ff,
+            len: 1,
+        },
+        Some(1),
+    ),
+    (Move::Skip { index: 0, len: 3 }, Some(3)),
+    (
+        Move::Read {
+            index: 0,
+            buffer: BUFFER,
+            len: 4,
+        },
+        Some(4),
+    ),
+    (Move::Skip { index: 0, len: 0 }, Some(0)),
+    (
+        Move::Read {
+            index: 0,
+            buffer: 0x3000_0010,
+            len: 100,
+        },
+        Some(8),
+    ),
+    (
+        Move::Read {
+            index: 0,
+            buffer: BUFFER,
+            len: 100,
+        },
+        Some(0),
+    ),
+    (
+        Move::Skip {
+            index: 0,
+            len: 0xffff_ffff,
+        },
+        Some(0),
+    ),
+    (
+        Move::Read {
+            index: 3,
+            buffer: BUFFER,
+            len: 4,
+        },
+        Some(0),
+    ),
+    (
+        Move::Read {
+            index: 4,
+            buffer: BUFFER,
+            len: 4,
+        },
+        None,
+    ),
+    (
+        Move::Write {
+            index: 0,
+            buffer: 0x2000_0000,
+            len: 1,
+        },
+        None,
+    ),
+    (
+        Move::Write {
+            index: 0,
+            buffer: BUFFER,
+            len: 9,
+        },
+        None,
+    ),
+    (
+        Move::Write {
+            index: 0,
+            buffer: BUFFER,
+            len: 3,
+        },
+        Some(3),
+    ),
+    (
+        Move::Write {
+            index: 0,
+            buffer: 0x3000_0001,
+            len: 5,
+        },
+        Some(5),
+    ),
+    (
+        Move::Write {
+            index: 0,
+            buffer: BUFFER,
+            len: 1,
+        },
+        None,
+    ),
+    (
+        Move::Write {
+            index: 3,
+            buffer: BUFFER,
+            len: 0,
+        },
+        Some(0),
+    ),
+];
+
+// An actor, an address, and the word that is there in the end.
+const WORDS: [(ActorId, u32, u32); 7] = [
+    (VAULT, 0x3000_0000, 0x3736_3534),
+    (VAULT, 0x3000_0010, 0x6261_3938),
+    (VAULT, 0x3000_00fc, 0x3000_0000),
+    (SPY, 0xffff_ff80, 0x3536_3534),
+    (SPY, 0xffff_ff84, 0x0000_3736),
+    (SPY, 0xffff_ff08, 0xffff_ff80),
+    (SPY, 0xffff_ff0c, 8),
+];
+
+#[test]
+fn bytes_are_moved(rt: HostRuntime) -> Result<(), Fail> {
+    let system = system(rt.alloc())?;
+    let mut image = image_of(&rt, rt.alloc(), &system)?;
+    let given = snapshot(&system, &image, SPY, 0xffff_ff00, 1, 0xffff_ff08, 1);
+    let mut vectors = given.ok_or("the vectors are valid")?;
+    for (row, count) in &MOVES {
+        assert_eq!(rt;
+            moved(&system, &mut image, &mut vectors, *row),
+            *count,
+            "{row:?}"
+        );
+    }
+    finish(&mut image, &vectors);
+    for (actor, address, word) in &WORDS {
+        assert_eq!(rt;
+            load_as(&system, &image, *actor, *address),
+            Some(*word),
+            "{address:#x}"
+        );
+    }
+    Ok(())
+}
