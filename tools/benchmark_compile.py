@@ -9,17 +9,10 @@ the line that the program wrote last. Each kind comes in half and in whole size;
 work the second row of a pair takes about twice the time of the first."""
 
 import argparse
-import json
 import os
-import subprocess
 import tempfile
-import time
 
-LIMIT = 1_048_576
-
-
-def compact(tree):
-    return json.dumps(tree, separators=(",", ":"))
+from timing import MAX_FILE_BYTES, compact, timed
 
 
 def manifest(name, **more):
@@ -91,16 +84,6 @@ KINDS = [
 ]
 
 
-def timed(program, folder, repeats):
-    times = []
-    for _ in range(repeats):
-        start = time.perf_counter()
-        done = subprocess.run([program, "compile", "system.json"], cwd=folder, stdout=subprocess.PIPE)
-        times.append((time.perf_counter() - start) * 1000)
-    lines = done.stdout.decode().splitlines()
-    return sorted(times), done.returncode, lines[-1] if lines else ""
-
-
 def main():
     words = argparse.ArgumentParser(description=__doc__.splitlines()[0])
     words.add_argument("program")
@@ -110,12 +93,13 @@ def main():
     for name, make in KINDS:
         for part in (1, 2):
             text = compact(make(part))
-            if len(text) > LIMIT:
+            if len(text) > MAX_FILE_BYTES:
                 raise SystemExit(f"{name}: {len(text)} bytes")
             with tempfile.TemporaryDirectory() as folder:
-                with open(os.path.join(folder, "system.json"), "w") as file:
+                path = os.path.join(folder, "system.json")
+                with open(path, "w") as file:
                     file.write(text)
-                times, status, last = timed(program, folder, asked.repeats)
+                times, status, last = timed(program, ["compile", path], asked.repeats)
             middle = times[len(times) // 2]
             print(f"{name:45} {len(text):9} {times[0]:8.1f} {middle:8.1f} {status} {last[:70]}")
 

@@ -9,19 +9,13 @@ least and the middle time in milliseconds, the status, and the line that the pro
 With linear reading, the second row of each pair takes about twice the time of the first."""
 
 import argparse
-import json
 import os
-import subprocess
 import tempfile
-import time
 
-LIMIT = 1_048_576
+from timing import MAX_FILE_BYTES, compact, timed
+
 MOST_LINES = 4096
 MOST_MANIFESTS = 256
-
-
-def compact(tree):
-    return json.dumps(tree, separators=(",", ":"))
 
 
 def padded(text, size):
@@ -55,7 +49,7 @@ def system_of(size):
     """A system file of about so many bytes: manifests of 28 services each, then regions."""
     tree = {"isolation_level": 3, "manifests": [], "regions": []}
     used, number = len(compact(tree)), 0
-    while len(tree["manifests"]) < MOST_MANIFESTS * size // LIMIT:
+    while len(tree["manifests"]) < MOST_MANIFESTS * size // MAX_FILE_BYTES:
         one = manifest(f"P{number}", [service(number + i) for i in range(28)])
         used += len(compact(one)) + 1
         if used > size:
@@ -103,16 +97,6 @@ def scenario_of(size, clients):
     return padded(compact(tree), size)
 
 
-def timed(program, words, repeats):
-    times = []
-    for _ in range(repeats):
-        begun = time.perf_counter()
-        ran = subprocess.run([program, *words], capture_output=True)
-        times.append((time.perf_counter() - begun) * 1000)
-    lines = ran.stdout.decode(errors="replace").splitlines()
-    return sorted(times), ran.returncode, lines[-1] if lines else ""
-
-
 def main():
     parser = argparse.ArgumentParser(description=__doc__, formatter_class=argparse.RawDescriptionHelpFormatter)
     parser.add_argument("program")
@@ -129,9 +113,9 @@ def main():
         empty = put("empty.json", "{}")
         small = put("small.json", small_system(given.clients))
         rows = [("start alone", len(small_system(given.clients)), [small, empty])]
-        for size in (LIMIT // 2, LIMIT):
+        for size in (MAX_FILE_BYTES // 2, MAX_FILE_BYTES):
             rows.append(("system", size, [put(f"system{size}.json", system_of(size)), empty]))
-        for size in (LIMIT // 2, LIMIT):
+        for size in (MAX_FILE_BYTES // 2, MAX_FILE_BYTES):
             rows.append(("scenario", size, [small, put(f"scenario{size}.json", scenario_of(size, given.clients))]))
         print(f"{'file':12} {'bytes':>8} {'least ms':>9} {'middle ms':>9} {'status':>6}  last line")
         for what, size, files in rows:
