@@ -8,7 +8,7 @@ use outside_io::{HostFiles, StdoutSink};
 use std::alloc::{AllocError, Global};
 use std::io;
 
-const EXAMPLES: [&str; 13] = [
+const EXAMPLES: [&str; 17] = [
     "two_requests",
     "rhandle",
     "version_policies",
@@ -22,6 +22,10 @@ const EXAMPLES: [&str; 13] = [
     "partition_as_client",
     "full_run",
     "stalled_run",
+    "storage_stack",
+    "serial_driver",
+    "hostile_clients",
+    "firmware",
 ];
 
 // The words of a command over an example's files.
