@@ -1,0 +1,204 @@
+#!/usr/bin/env python3
+"""Holds the schemas against all examples, and against wrong files.
+
+    python3 tools/check_schemas.py [FILE ..]
+
+Run at the top of the repository, with the Python package `jsonschema`. Each example has to be accepted. Each
+name of an attribute in it is then misspelt in its turn, each value that the schemas restrict is replaced by a
+wrong one, and each such file has to be refused.
+
+With files, these alone are looked at: a file with `scripts`, `schedule`, `interrupts`, `memory` or
+`event_limit` is taken for a scenario, one with `manifests` or `isolation_level` for a system, any other one
+for a manifest. What is wrong is printed with its place. The status is 1 where something is wrong."""
+
+import copy
+import json
+import pathlib
+import sys
+
+import jsonschema
+import referencing
+
+SCHEMAS = pathlib.Path("schemas")
+EXAMPLES = pathlib.Path("examples")
+SCENARIO_NAMES = {"event_limit", "scripts", "schedule", "interrupts", "memory"}
+SYSTEM_NAMES = {"isolation_level", "manifests"}
+
+MANIFEST = {
+    "psa_framework_version": 1.0, "name": "P", "type": "PSA-ROT", "priority": "LOW", "entry_point": "p_main",
+    "stack_size": 1024, "heap_size": "0x0", "mmio_regions": [{"base": "0x40000000", "size": 4, "permission": "READ-ONLY"}],
+    "services": [{"name": "S", "sid": "0x40", "non_secure_clients": True, "version": 1, "version_policy": "STRICT"}],
+    "dependencies": ["T"], "irqs": [{"source": 9, "signal": "I"}],
+}
+SYSTEM = {
+    "isolation_level": 1, "manifests": [MANIFEST], "regions": [{"name": "R", "base": 0, "size": 1}],
+    "non_secure_ram": 65536, "clients": ["NS"], "connections": [{"client": "NS", "service": "S", "count": 2}],
+}
+SCENARIO = {
+    "event_limit": 8, "scripts": [{"actor": "NS", "lines": ["end"]}], "schedule": ["device"], "interrupts": [9],
+    "memory": [{"address": 0, "bytes": "00ff"}],
+}
+
+# Places in the three files above, and values that are wrong there.
+WRONG = {
+    "system": [
+        (("isolation_level",), [0, 4, "1", None]),
+        (("manifests",), [{}, [5], [None], [MANIFEST] * 257]),
+        (("regions", 0, "size"), [0, "4", -1, 4294967296]),
+        (("non_secure_ram",), [-1, "65536", None]),
+        (("clients",), [["device"], ["1N"], ["a b"], [""], ["N"] * 17]),
+        (("connections", 0, "count"), [257, -1, "2"]),
+    ],
+    "manifest": [
+        (("psa_framework_version",), [1.1, "1.1", None]),
+        (("name",), ["", "device", "A-B", "A" * 65, 5]),
+        (("type",), ["PSA_ROT", "psa-rot"]),
+        (("priority",), ["LOWEST", "low"]),
+        (("stack_size",), ["CRYPTO_STACK_SIZE", "1024", "0X400", "0x", "0x123456789"]),
+        (("mmio_regions", 0, "permission"), ["READ_ONLY", "READ-WRITE-EXECUTE"]),
+        (("services", 0, "sid"), ["40", "SID", 4294967296]),
+        (("services", 0, "non_secure_clients"), ["true", 1]),
+        (("services", 0, "version"), [0, "1"]),
+        (("services", 0, "version_policy"), ["strict", "LATEST"]),
+        (("dependencies", 0), ["T-U", 5]),
+        (("irqs", 0, "source"), [-1, "device", "I R"]),
+    ],
+    "scenario": [
+        (("event_limit",), [0, 262145, "8"]),
+        (("scripts", 0, "actor"), ["device", "N S"]),
+        (("scripts", 0, "lines"), ["end", [5], ["end"] * 4097]),
+        (("schedule", 0), [5, None]),
+        (("interrupts", 0), [-1, "I R"]),
+        (("memory", 0, "address"), ["20000000", -1]),
+        (("memory", 0, "bytes"), ["0", "0x00", "zz", "00 ff"]),
+    ],
+}
+REQUIRED = {
+    "system": [("isolation_level",), ("manifests",), ("regions", 0, "base"), ("connections", 0, "client")],
+    "manifest": [("psa_framework_version",), ("stack_size",), ("services", 0, "sid"), ("irqs", 0, "signal"), ("mmio_regions", 0, "permission"), ("mmio_regions", 0, "size")],
+    "scenario": [("scripts", 0, "lines"), ("memory", 0, "bytes")],
+}
+
+
+def validators():
+    trees = {name: json.loads((SCHEMAS / f"{name}.schema.json").read_text()) for name in ("system", "manifest", "scenario")}
+    resources = [(f"{name}.schema.json", referencing.Resource.from_contents(tree)) for name, tree in trees.items()]
+    registry = referencing.Registry().with_resources(resources)
+    for tree in trees.values():
+        jsonschema.Draft202012Validator.check_schema(tree)
+    return {name: jsonschema.Draft202012Validator(tree, registry=registry) for name, tree in trees.items()}
+
+
+def kind_of(tree):
+    names = set(tree) if isinstance(tree, dict) else set()
+    if names & SCENARIO_NAMES:
+        return "scenario"
+    return "system" if names & SYSTEM_NAMES else "manifest"
+
+
+def inner(error):
+    """The wrong place itself, where a list of choices was tried. A wrong manifest is told by what is wrong in it,
+    and not as no name of a file."""
+    while error.context:
+        objects = [e for e in error.context if e.validator != "type"] or list(error.context)
+        error = max(objects, key=lambda e: len(e.absolute_path))
+    return error
+
+
+def problems(validator, tree):
+    for error in sorted(validator.iter_errors(tree), key=lambda e: list(map(str, e.absolute_path))):
+        error = inner(error)
+        place = "".join(f"/{step}" for step in error.absolute_path)
+        message = error.message if len(error.message) < 300 else f"is not as the schema's {error.validator} asks"
+        yield f"{place or 'the file'}: {message}"
+
+
+def at(tree, place):
+    for step in place:
+        tree = tree[step]
+    return tree
+
+
+def altered(tree, place, change):
+    tree = copy.deepcopy(tree)
+    change(at(tree, place[:-1]), place[-1])
+    return tree
+
+
+def objects(tree, place=()):
+    """The places of all objects."""
+    if isinstance(tree, dict):
+        yield place
+    for step, value in tree.items() if isinstance(tree, dict) else enumerate(tree) if isinstance(tree, list) else ():
+        yield from objects(value, (*place, step))
+
+
+def misspellings(name):
+    middle = len(name) // 2
+    yield name[:middle] + name[middle:][1:2] + name[middle:][:1] + name[middle:][2:]
+    yield name[:-1]
+    yield name + "s"
+    yield name.replace("_", "-") if "_" in name else name.upper()
+
+
+def misspelt(tree):
+    """The files in which one name of an attribute is another."""
+    for place in objects(tree):
+        names = set(at(tree, place))
+        for name in names:
+            for other in set(misspellings(name)) - names - {""}:
+                wrong = copy.deepcopy(tree)
+                found = at(wrong, place)
+                found[other] = found.pop(name)
+                yield (*place, other), wrong
+
+
+def wrong_files():
+    """The kind, what is wrong, and the file."""
+    for kind, right in (("system", SYSTEM), ("manifest", MANIFEST), ("scenario", SCENARIO)):
+        for place, values in WRONG[kind]:
+            for value in values:
+                yield kind, f"{place} is {str(value)[:40]}", altered(right, place, lambda tree, step, value=value: tree.__setitem__(step, value))
+        for place in REQUIRED[kind]:
+            yield kind, f"{place} isn't there", altered(right, place, lambda tree, step: tree.pop(step))
+        for place, tree in misspelt(right):
+            yield kind, f"{place} is no name", tree
+    both = dict(MANIFEST, mmio_regions=[{"name": "R", "base": 0, "size": 1, "permission": "READ-ONLY"}])
+    yield "manifest", "an MMIO region by its name and by its base", both
+
+
+def check_examples(checks):
+    wrong, right = [], 0
+    for path in sorted(EXAMPLES.glob("*/*.json")):
+        tree = json.loads(path.read_text())
+        kind = kind_of(tree)
+        wrong += [f"{path}: {problem}" for problem in problems(checks[kind], tree)]
+        for place, other in misspelt(tree):
+            if checks[kind].is_valid(other):
+                wrong.append(f"{path}: accepted with the name {place}")
+            right += 1
+    return wrong, right
+
+
+def main():
+    checks = validators()
+    if sys.argv[1:]:
+        wrong = []
+        for path in sys.argv[1:]:
+            tree = json.loads(pathlib.Path(path).read_text())
+            wrong += [f"{path}: {problem}" for problem in problems(checks[kind_of(tree)], tree)]
+        print("\n".join(wrong) if wrong else f"accepted {len(sys.argv) - 1}")
+        sys.exit(1 if wrong else 0)
+    wrong = [f"the plain {kind}: {p}" for kind, tree in (("system", SYSTEM), ("manifest", MANIFEST), ("scenario", SCENARIO)) for p in problems(checks[kind], tree)]
+    more, right = check_examples(checks)
+    wrong += more
+    for kind, what, tree in wrong_files():
+        right += 1
+        if checks[kind].is_valid(tree):
+            wrong.append(f"{kind}: accepted although {what}")
+    print("\n".join(wrong) if wrong else f"accepted {len(list(EXAMPLES.glob('*/*.json')))} examples, refused {right} wrong files")
+    sys.exit(1 if wrong else 0)
+
+
+if __name__ == "__main__":
+    main()
