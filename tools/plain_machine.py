@@ -9,6 +9,7 @@ This is a model for readers. It is written from the rules of the calls alone and
 program: one list of connections, one list of messages in order of arrival, and a map of bytes; signals are
 computed where they are asked for. It takes system files and scenario files that hold by the rules of the
 formats, and doesn't look for what is wrong with others. Traces it reads exactly, as the program has to.
+It has no stateless services and no sources that start disabled, for no file can state them.
 
 An actor is numbered from 0: the partitions, then the clients, then the device. A call is its word in the
 trace with its numbers behind it, as `("connect", 64, 1)`, and so is an outcome, as `("value", -130)`. An
@@ -35,8 +36,8 @@ MAXIMUM_TRACE = 50_331_648
 CALLS = {
     "framework_version": "", "version": "h", "connect": "hu", "call": "ddhuhu", "close": "d",
     "wait": "hh", "get": "hh", "set_rhandle": "dh", "read": "duhu", "skip": "duu", "write": "duhu",
-    "reply": "dd", "notify": "d", "clear": "", "eoi": "h", "panic": "", "load": "hu", "store": "huh",
-    "raise": "u", "stop": "w", "resume": "",
+    "reply": "dd", "notify": "d", "clear": "", "eoi": "h", "irq_enable": "h", "irq_disable": "h", "reset_signal": "h",
+    "panic": "", "load": "hu", "store": "huh", "raise": "u", "fire": "uu", "stop": "w", "resume": "",
 }
 OUTCOMES = {
     "value": "d", "number": "u", "signals": "h", "message": "dddhuuuuuuuu",
@@ -44,9 +45,9 @@ OUTCOMES = {
 }
 VERDICTS = ("quiet", "stalled", "full")
 
-PARTITION_CALLS = set(CALLS) - {"raise"}
+PARTITION_CALLS = set(CALLS) - {"raise", "fire"}
 CLIENT_CALLS = {"framework_version", "version", "connect", "call", "close", "load", "store", "stop", "resume"}
-DEVICE_CALLS = {"raise", "stop", "resume"}
+DEVICE_CALLS = {"raise", "fire", "stop", "resume"}
 
 RUNNING, BLOCKED, ENDED, PANICKED = ("running",), ("blocked",), ("ended",), ("panicked",)
 PENDING = ("waiting", "ready", "connected")
@@ -67,8 +68,10 @@ class Service:
 
 @dataclass
 class Source:
+    """`flih` says whether it has a first-level handler, which no file says so far."""
     owner: int
     signal: int
+    flih: bool = False
 
 
 @dataclass
@@ -222,8 +225,8 @@ class Flags:
     pending: bool = False
     asserted: bool = False
 
-    def forward(self):
-        if self.enabled and self.pending and not self.asserted:
+    def forward(self, flih):
+        if self.enabled and self.pending and (flih or not self.asserted):
             self.pending, self.asserted = False, True
 
 
@@ -593,24 +596,57 @@ class Machine:
         self.doorbells[actor] = False
         return DONE
 
-    def make_eoi(self, actor, signal):
+    def own_source(self, actor, signal):
+        """The source of the partition that has the signal, with its flags."""
         require(is_one_bit(signal))
         for source, flags in zip(self.system.sources, self.flags):
-            if source.owner == actor and source.signal == signal and flags.asserted:
-                flags.asserted = False
-                flags.forward()
-                return DONE
+            if source.owner == actor and source.signal == signal:
+                return source, flags
         raise Fault
+
+    def make_eoi(self, actor, signal):
+        source, flags = self.own_source(actor, signal)
+        require(flags.asserted and not source.flih)
+        flags.asserted = False
+        flags.forward(source.flih)
+        return DONE
+
+    def make_reset_signal(self, actor, signal):
+        source, flags = self.own_source(actor, signal)
+        require(flags.asserted and source.flih)
+        flags.asserted = False
+        return DONE
+
+    def make_irq_enable(self, actor, signal):
+        source, flags = self.own_source(actor, signal)
+        flags.enabled = True
+        flags.forward(source.flih)
+        return DONE
+
+    def make_irq_disable(self, actor, signal):
+        _, flags = self.own_source(actor, signal)
+        was_enabled, flags.enabled = flags.enabled, False
+        return ("number", int(was_enabled))
 
     def make_panic(self, actor):
         raise Fault
 
-    # The call of the device
+    # The calls of the device
 
-    def make_raise(self, actor, source):
-        require(source < len(self.flags))
-        self.flags[source].pending = True
-        self.flags[source].forward()
+    def interrupt(self, number):
+        source, flags = self.system.sources[number], self.flags[number]
+        flags.pending = True
+        flags.forward(source.flih)
+
+    def make_raise(self, actor, number):
+        require(number < len(self.flags) and not self.system.sources[number].flih)
+        self.interrupt(number)
+        return DONE
+
+    def make_fire(self, actor, number, result):
+        require(number < len(self.flags) and self.system.sources[number].flih and result <= 1)
+        if result == 1:
+            self.interrupt(number)
         return DONE
 
 

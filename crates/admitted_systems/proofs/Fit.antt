@@ -1,5 +1,5 @@
 -- Where no rule is broken, the parts fit each other and make a system.
-use Rattle.std.proofs.Common.{ℕ, ◌≡◌, ◌*◌, ◌^◌, ◌≤◌, true, List, [], ◌∷◌, ◌++◌, length, Option, Some, None, Ok, Err, IsOkAnd, refl, ap, ap₂, sym, arith, nat_lt, le-leb, lt-ltb, ltb-false}
+use Rattle.std.proofs.Common.{ℕ, ◌≡◌, ◌*◌, ◌^◌, ◌≤◌, true, List, [], ◌∷◌, ◌++◌, length, Ok, Err, IsOkAnd, refl, ap, ap₂, sym, arith, nat_lt, le-leb, lt-ltb, ltb-false}
 use Rattle.ffm_model.specs.declared.place.Refusal.{Refusal}
 use Rattle.ffm_model.specs.declared.system.System.{System}
 use Rattle.ffm_model.specs.declared.system.Partition.{Partition}
@@ -16,7 +16,8 @@ use Rattle.ffm_model.specs.Permissions.{budgets_of}
 use Rattle.ffm_model.specs.Reading.{refused}
 use Rattle.ffm_model.proofs.PartsLemmas.{system_of_parts}
 use Rattle.ffm_model.specs.Rules.{broken, duplicate_partitions, duplicate_sids, unknown_dependencies, self_dependencies, dependency_cycle, too_many_signals, unknown_regions, overlapping_regions, too_many_partitions, too_many_connections, budgets_without_permission, duplicate_sources, memory_too_large}
-use Rattle.admitted_systems.proofs.Lists.{append_nil, only_if_nil, four, six}
+use Rattle.admitted_systems.proofs.Lists.{append_nil, only_if_nil, four, seven}
+use Rattle.admitted_systems.proofs.Stateless.{stateless_do_fit}
 use Rattle.admitted_systems.proofs.Partitions.{length_partitions, partitions_do_fit}
 use Rattle.admitted_systems.proofs.Regions.{regions_do_fit}
 use Rattle.admitted_systems.proofs.Signals.{signals_do_fit}
@@ -71,8 +72,9 @@ parts_fit p parts none =
     let rules : Kept p = kept p none in
     let few : length p.manifests ≤ 32 = few_partitions p rules.partitions in
     let counted : length (partitions_of p) ≡ length p.manifests = sym (length_partitions p) in
-    six _ _ _ _ _ _
+    seven _ _ _ _ _ _ _
     (four _ _ _ _ (le-leb _ _ parts.level) (le-leb _ _ parts.level_end) (le-leb (length (partitions_of p)) 32 (omega arith)) (le-leb _ _ parts.client_count))
+    (stateless_do_fit p (budgets_of p))
     (partitions_do_fit p parts rules.memory)
     (regions_do_fit p (length (partitions_of p)) counted parts few rules.apart rules.memory)
     (signals_do_fit p (length (partitions_of p)) counted rules.signals)

@@ -7,3 +7,4 @@ pub mod Partitions
 pub mod Services
 pub mod Budgets
 pub mod Fit
+pub mod Stateless

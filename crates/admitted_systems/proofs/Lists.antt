@@ -16,8 +16,8 @@ four a b c d h i j k = rw (h, i, j, k) refl
 pub five : (a b c d e : Bool) → a ≡ true → b ≡ true → c ≡ true → d ≡ true → e ≡ true → (a && b && c && d && e) ≡ true
 five a b c d e h i j k l = rw (h, i, j, k, l) refl
 
-pub six : (a b c d e f : Bool) → a ≡ true → b ≡ true → c ≡ true → d ≡ true → e ≡ true → f ≡ true → (a && b && c && d && e && f) ≡ true
-six a b c d e f h i j k l m = rw (h, i, j, k, l, m) refl
+pub seven : (a b c d e f g : Bool) → a ≡ true → b ≡ true → c ≡ true → d ≡ true → e ≡ true → f ≡ true → g ≡ true → (a && b && c && d && e && f && g) ≡ true
+seven a b c d e f g h i j k l m n = rw (h, i, j, k, l, m, n) refl
 
 -- ---- lists that are empty
 

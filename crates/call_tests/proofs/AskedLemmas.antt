@@ -16,7 +16,7 @@ use Rattle.ffm_model.specs.declared.objects.PendingMessage.{PendingMessage}
 use Rattle.ffm_model.specs.declared.objects.Vectors.{Vectors}
 use Rattle.ffm_model.specs.Actors.{actor_count}
 use Rattle.ffm_model.specs.State.{SpmState, has_handle, with_connection_handle, with_connection_phase}
-use Rattle.counting_law.specs.Objects.{ObjectsFit, accepted_as, allowed, asking_of, awaited_of, connection_marked, is_asking, is_accepted, is_awaited, is_joining, is_opening, message_marked, phase_for, same, wrongly_shown}
+use Rattle.counting_law.specs.Objects.{ObjectsFit, accepted_as, allowed, asked_by, asking_of, awaited_by, awaited_of, called_by, connection_marked, is_asking, is_accepted, is_awaited, is_joining, is_opening, message_marked, phase_for, same, wrongly_called, wrongly_shown}
 use Rattle.counting_law.proofs.Counts.{bit, bit-le, count-cons}
 use Rattle.counting_law.proofs.Parts.{equal_from, fitting-set, flipped, is_itself, off_left, on_left, phase_same}
 use Rattle.counting_law.proofs.Runs.{opening-balanced}
@@ -72,12 +72,13 @@ asked-fits s client ph kind v told shown budget there kind_is awaited opening ap
         ap (λ (p : ConnPhase). bit (t 0 a 0 p)) kind_is,
         on_left (is_awaited ph) (t 0 a 0 ph) awaited,
       );
+      called = omega (arith, count-one (wrongly_called s) m);
       rising = (omega arith, omega arith);
-      phases = fitting-set running a Blocked (λ x. count_by (awaited_of x) []) (λ x. count_by (awaited_of x) (c ∷ [])) (λ x. count_by (asking_of x) []) (λ x. count_by (asking_of x) (c ∷ []))
+      phases = fitting-set running a Blocked (awaited_by [] []) (awaited_by (c ∷ []) (m ∷ [])) (asked_by [] []) (asked_by (c ∷ []) (m ∷ []))
           (λ x k. count_by (accepted_as x k) []) (λ x k. count_by (accepted_as x k) (c ∷ [])) inside
-          (omega (arith, count-one (awaited_of a) c, on_left (a == a) (is_awaited ph) (is_itself a), ap bit awaited))
-          (λ x e. omega (arith, count-one (awaited_of x) c, off_left (a == x) (is_awaited ph) (flipped x a e)))
-          (λ x e. omega (arith, count-one (asking_of x) c, off_left (a == x) (is_asking ph) (flipped x a e)))
+          (omega (arith, count-one (called_by a) m, count-one (awaited_of a) c, on_left (a == a) (is_awaited ph) (is_itself a), ap bit awaited))
+          (λ x e. omega (arith, count-one (called_by x) m, count-one (awaited_of x) c, off_left (a == x) (is_awaited ph) (flipped x a e)))
+          (λ x e. omega (arith, count-one (called_by x) m, count-one (asking_of x) c, off_left (a == x) (is_asking ph) (flipped x a e)))
           (λ x k e. omega (arith, count-one (accepted_as x k) c, off_second (0 == k) (a == x) (is_accepted ph) (flipped x a e)))
           (opening-balanced s).fitting;
       shown =
@@ -130,7 +131,7 @@ handle-told s d new u client ph h is live changed =
 pub apart-untold : (shown : Option Handle) → Apart None shown
 apart-untold shown = λ h. omega (arith, bit-le (has_handle shown h))
 
-pub apart-handles : (u t : Slot) → u.index < 256 → t.index < 256 → Apart (Some (handle_at Connection u)) (Some (handle_at Message t))
+pub apart-handles : (u t : Slot) → u.index < 256 → t.index < 304 → Apart (Some (handle_at Connection u)) (Some (handle_at Message t))
 apart-handles u t below under = λ h.
     let told : Handle = handle_at Connection u in
     let shown : Handle = handle_at Message t in

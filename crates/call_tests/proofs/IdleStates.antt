@@ -1,6 +1,6 @@
 -- States of the tests whose objects fit.
 use Rattle.std.proofs.Common.{ℕ, zero, suc, ◌≡◌, ◌<◌, ◌≤◌, ◌==◌, Bool, true, false, not, ◌&&◌, ◌||◌, List, [], ◌∷◌, length, get_or, arith, ◌∙◌, ap, sym, refl, subst}
-use Rattle.std.specs.Prelude.{Option, Some, None, is_some, is_none, count_by, slice_set, slice_get, replicate, IsSome, IfSome}
+use Rattle.std.specs.Prelude.{Option, Some, None, is_some, is_none, slice_set, slice_get, replicate, IsSome, IfSome}
 use Rattle.std.proofs.lemmas.List.{set-get_or}
 use Rattle.ffm_model.specs.declared.system.System.{System}
 use Rattle.ffm_model.specs.declared.machine.Handle.{Handle}
@@ -10,7 +10,7 @@ use Rattle.ffm_model.specs.declared.objects.ConnPhase.TheVariants.{Idle}
 use Rattle.ffm_model.specs.declared.objects.ActorPhase.TheVariants.{Running, Ended}
 use Rattle.ffm_model.specs.State.{SpmState, phase_of, with_phase, has_handle}
 use Rattle.object_pools.specs.Pool.{Places}
-use Rattle.counting_law.specs.Objects.{ObjectsFit, PhaseFits, allowed, is_awaited, is_opening, is_joining, same, awaited_of, wrongly_shown, connection_marked}
+use Rattle.counting_law.specs.Objects.{ObjectsFit, PhaseFits, allowed, is_awaited, is_opening, is_joining, same, awaited_by, awaited_of, wrongly_shown, connection_marked}
 use Rattle.counting_law.proofs.Counts.{bit, bit-le, count-cons}
 use Rattle.counting_law.proofs.Parts.{equal_from, left_true, right_true}
 use Rattle.spm_tables.specs.TablesView.{TablesView}
@@ -61,9 +61,10 @@ idle-alone s b n c idle shown room made =
     record {
       budgets = λ a v. omega (arith, count-cons (λ (d : OpenConnection). (d.client.0 == a) && (d.service == v)) c [], one-within s c a v room);
       paired = λ t. omega (arith, count-cons (connection_marked t) c [], ap (λ (x : Bool). bit (x && t c.serial c.client.0 c.service c.phase)) awaits);
+      called = refl;
       rising = (omega arith, omega (arith, made));
       phases = λ a.
-          quiet n a (count_by (awaited_of a) (c ∷ [])) _ _ (omega (arith, count-cons (awaited_of a) c [], off (c.client.0 == a), ap (λ (x : Bool). bit ((c.client.0 == a) && x)) awaits));
+          quiet n a (awaited_by (c ∷ []) [] a) _ _ (omega (arith, count-cons (awaited_of a) c [], off (c.client.0 == a), ap (λ (x : Bool). bit ((c.client.0 == a) && x)) awaits));
       shown =
           omega (
             arith,

@@ -1,6 +1,6 @@
 -- A state in which one client waits for the answer to one message, and nothing else happened.
 -- Source: FF-M 1.0, IPC model: a message belongs to a connection of its client; worked cases begin with such a state.
-use Rattle.std.specs.Prelude.{ℤ, [], ◌∷◌, Option, replicate, slice_set}
+use Rattle.std.specs.Prelude.{ℤ, [], ◌∷◌, Option, Some, replicate, slice_set}
 use Rattle.ffm_model.specs.declared.system.System.{System}
 use Rattle.ffm_model.specs.declared.machine.Handle.{Handle}
 use Rattle.ffm_model.specs.declared.objects.OpenConnection.{OpenConnection}
@@ -18,7 +18,7 @@ first_connection client phase told = record { serial = 0; client = client; servi
 
 -- its message
 abbrev pub first_message : ActorId → ℤ → Vectors → Option Handle → PendingMessage
-first_message client kind v shown = record { service = 0; client = client; connection = 0; kind = kind; vectors = v; handle = shown }
+first_message client kind v shown = record { service = 0; client = client; connection = Some 0; kind = kind; vectors = v; handle = shown }
 
 -- that connection alone
 abbrev pub with_first : System → OpenConnection → SpmState

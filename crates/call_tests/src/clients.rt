@@ -30,7 +30,7 @@ const SYSTEM: &str = r#"{"isolation_level":3,"manifests":[
 {"name":"SECURE","sid":"0x42","non_secure_clients":false}]}],
 "non_secure_ram":"0x400","clients":["NS"]}"#;
 
-fn runs(tables: &Tables, actor: ActorId) -> bool
+pub(crate) fn runs(tables: &Tables, actor: ActorId) -> bool
     ensures { IsTrue result → phase_of (spm_of tables.now) actor.0 ≡ ActorPhase.Running }
 {
     matches!(tables.phase(actor), ActorPhase::Running)

@@ -37,6 +37,7 @@ fn raise_timer(rt: &impl Abort, system: &System, tables: &mut Tables)
     ensures { MadeFor tables.new system.now }
 {
     assert!(rt; !system.sources.is_empty());
+    assert!(rt; !tables.has_flih(0));
     raise(tables, 0);
 }
 

@@ -8,6 +8,10 @@ mod clients;
 #[cfg(test)]
 mod doorbells;
 #[cfg(test)]
+mod handling;
+#[cfg(test)]
 mod panics;
 #[cfg(test)]
 mod services;
+#[cfg(test)]
+mod stateless;

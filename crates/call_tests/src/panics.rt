@@ -1,6 +1,6 @@
 //! Panics in a system of two partitions and a non-secure client.
 
-ghost use Rattle.std.specs.Prelude.{◌≡◌, ℕ, false, IsTrue, replicate, Some, None, IfOk};
+ghost use Rattle.std.specs.Prelude.{◌≡◌, ℕ, false, IsTrue, replicate, Option, Some, None, IfOk};
 ghost use Rattle.ffm_model.specs.declared.constants.TheConstants.{PSA_IPC_CONNECT};
 ghost use Rattle.ffm_model.specs.declared.objects.ActorPhase.TheVariants as actor_phase;
 ghost use Rattle.ffm_model.specs.declared.objects.ConnPhase.TheVariants as connection_phase;
@@ -58,7 +58,7 @@ fn is_idle(phase: ConnPhase) -> bool
 }
 
 // Tables at the system's start.
-fn opening(alloc: Global, system: &System) -> Result<Tables, Memory>
+pub(crate) fn opening(alloc: Global, system: &System) -> Result<Tables, Memory>
     ensures made { IfOk result (λ t. MadeFor t system.now) }
     ensures fits { IfOk result (λ t. ObjectsFit system.now (spm_of t)) }
 {
@@ -69,7 +69,7 @@ fn opening(alloc: Global, system: &System) -> Result<Tables, Memory>
 // What a connection's client sends first.
 fn greeting(client: ActorId, service: u32, connection: Slot) -> MessageItem
     ensures service { result.service ≡ service }
-    ensures message { (serial : ℕ) → fresh_message (queued_as serial result) ≡ record { service = service; client = client; connection = serial; kind = PSA_IPC_CONNECT; vectors = no_vectors; handle = None } }
+    ensures message { (serial : Option ℕ) → fresh_message (queued_as serial result) ≡ record { service = service; client = client; connection = serial; kind = PSA_IPC_CONNECT; vectors = no_vectors; handle = None } }
     ensures connection { result.connection ≡ Some connection }
     ensures undelivered { result.delivered ≡ false }
 {
@@ -150,7 +150,7 @@ fn connected(
 }
 
 // A partition that runs panics.
-fn panics(rt: &impl Abort, system: &System, tables: &mut Tables, partition: ActorId)
+pub(crate) fn panics(rt: &impl Abort, system: &System, tables: &mut Tables, partition: ActorId)
     requires made { MadeFor tables.old system.now }
     requires fits { ObjectsFit system.now (spm_of tables.old) }
     ensures made { MadeFor tables.new system.now }

@@ -113,7 +113,7 @@ fn accept(rt: &impl Abort, tables: &mut Tables, slot: Slot, phase: ConnPhase)
 
 // A message of the first connection, before its delivery.
 fn message_on(slot: Slot, client: ActorId, kind: i32, vectors: Vectors) -> MessageItem
-    ensures message { fresh_message (queued_as 0 result) ≡ first_message client kind vectors None }
+    ensures message { fresh_message (queued_as (Some 0) result) ≡ first_message client kind vectors None }
     ensures connection { result.connection ≡ Some slot }
     ensures undelivered { result.delivered ≡ false }
 {
@@ -151,12 +151,12 @@ fn send(
 fn deliver(rt: &impl Abort, tables: &mut Tables) -> Slot
     ensures state { (s : SystemSeen) (c : ConnectionSeen) (client : ActorSeen) (kind : ℤ) (v : VectorsSeen) → spm_of tables.old ≡ asked s c (first_message client kind v None) → spm_of tables.new ≡ asked s c (first_message client kind v (Some (handle_at family.Message result))) }
     ensures shape { shape_of tables.new ≡ shape_of tables.old }
-    ensures index { result.index < 256 }
+    ensures index { result.index < 304 }
 {
     let Some(slot) = tables.dequeue(0) else {
         panic!(rt; "no message");
     };
-    assert!(rt; slot.index < 256);
+    assert!(rt; slot.index < 304);
     slot
 }
 

@@ -14,7 +14,7 @@ use Rattle.ffm_model.specs.declared.objects.ActorPhase.TheVariants.{Blocked, Run
 use Rattle.ffm_model.specs.Memory.{no_vectors, vectors_of}
 use Rattle.ffm_model.specs.Panic.{is_dead}
 use Rattle.ffm_model.specs.State.{SpmState, State, connection_held, has_handle, phase_of, with_connection_phase, with_message, with_phase}
-use Rattle.ffm_model.specs.ClientCalls.{is_busy, move, psa_call, psa_close, refuses_requests}
+use Rattle.ffm_model.specs.ClientCalls.{connection_called, is_busy, move, psa_close, refuses_requests}
 use Rattle.object_pools.specs.declared.slot.Slot.{Slot}
 use Rattle.object_pools.specs.Pool.{Places, item_at, with_item}
 use Rattle.handle_table.specs.declared.connections.Connection.{Connection as TheConnection}
@@ -118,5 +118,5 @@ close-sends b a k c some held free alive = rw (some, held, free, alive) refl
 
 pub call-sends : (y : System) (st : State) (a : ℕ) (k : Handle) (c : OpenConnection) (kind : ℤ) (in_vec in_len out_vec out_len : ℕ) (v : Vectors) → connection_held st.spm a k ≡ Some c
     → vectors_of y st.memory a in_vec in_len out_vec out_len ≡ Some v → refuses_requests c.phase ≡ false → int_lt kind (pos 0) ≡ false → is_dead c.phase ≡ false
-    → psa_call y st a k kind in_vec in_len out_vec out_len ≡ Some (move Blocks (with_phase (with_message (with_connection_phase st.spm c.serial Busy) c kind v) a Blocked))
+    → connection_called y st a k kind in_vec in_len out_vec out_len ≡ Some (move Blocks (with_phase (with_message (with_connection_phase st.spm c.serial Busy) c kind v) a Blocked))
 call-sends y st a k c kind in_vec in_len out_vec out_len v held given ready request alive = rw (held, given, ready, request, alive) refl

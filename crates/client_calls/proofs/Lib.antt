@@ -3,3 +3,4 @@ mod SendLemmas
 mod ConnectLemmas
 mod HeldLemmas
 mod NameLemmas
+mod RequestLemmas

@@ -12,7 +12,8 @@ use Rattle.handle_table.specs.Table.{IsTable}
 use Rattle.spm_tables.specs.declared.item.QueuedMessage.{QueuedMessage}
 use Rattle.spm_tables.specs.TablesView.{TablesView, MadeFor}
 use Rattle.slot_names.specs.Named.{KeepsNames}
-use Rattle.slot_names.proofs.Changes.{names-same, names-freed, names-asked, names-connected}
+use Rattle.slot_names.proofs.Changes.{names-added, names-same, names-freed, names-asked, names-connected}
+use Rattle.slot_names.proofs.Moves.{relinks-same}
 use Rattle.client_calls.specs.Sending.{message_on}
 use Rattle.spm_tables.proofs.PoolLemmas.{item-taken}
 use Rattle.client_calls.proofs.SendLemmas.{at-item}
@@ -61,3 +62,9 @@ names-held y d m new a k s c ph kind v h phased made kept same sent =
     let at = placed m.waiting new.waiting (message_on s changed kind v) (at-item (item_at m.linked s) changed P (item-phased d m a k s c ph h phased) sent) in
     names-asked y d new s at.0 c changed (message_on s changed kind v) made kept h.live refl (same ∙ ap (λ (x : TablesView). x.linked) after)
     (ap (λ (w : Places QueuedMessage). free_slot w) (sym waiting) ∙ at.1) (at.2 ∙ ap (λ (w : Places QueuedMessage). taken w at.0 (message_on s changed kind v)) waiting)
+
+-- psa_call by a stateless handle
+pub names-asked-of : (y : System) (d new : TablesView) (x : QueuedMessage) → MadeFor d y → new.linked ≡ d.linked → IsSomeAnd (free_slot d.waiting) (λ place. new.waiting ≡ taken d.waiting place x) → KeepsNames y d new
+names-asked-of y d new x made same sent =
+    let at = placed d.waiting new.waiting x sent in
+    names-added y d new at.0 x made (relinks-same d.linked new.linked same) at.1 at.2

@@ -4,7 +4,7 @@ use Rattle.std.specs.Prelude.{Option, Some, None, IsSomeAnd, IfSome}
 use Rattle.ffm_model.specs.declared.objects.OpenConnection.{OpenConnection}
 use Rattle.ffm_model.specs.declared.objects.Vectors.{Vectors}
 use Rattle.ffm_model.specs.declared.system.System.{System}
-use Rattle.ffm_model.specs.Names.{capacity}
+use Rattle.ffm_model.specs.Names.{capacity, message_capacity}
 use Rattle.object_pools.specs.declared.slot.Slot.{Slot}
 use Rattle.object_pools.specs.Pool.{Places, item_at}
 use Rattle.spm_tables.specs.declared.item.MessageItem.{MessageItem}
@@ -34,7 +34,7 @@ queued-on p s kind v m = by (item_at p s) refl where
   by (Some c) live is = ap (queued p) is ∙ queued-live p s c (item_on s c kind v) refl live
 
 -- the pool has room for one more message
-pub room-for-message : (d : TablesView) (s : System) → MadeFor d s → length (spm_of d).messages + 1 ≤ capacity s → length (spm_of d).messages < length d.waiting.generations
+pub room-for-message : (d : TablesView) (s : System) → MadeFor d s → length (spm_of d).messages + 1 ≤ message_capacity s → length (spm_of d).messages < length d.waiting.generations
 room-for-message d s made room = omega (arith, ap (λ (x : Shape). x.messages) made)
 
 -- and for one more connection

@@ -10,7 +10,7 @@ use Rattle.ffm_model.specs.declared.system.Service.{Service}
 use Rattle.ffm_model.specs.declared.system.System.{System}
 use Rattle.ffm_model.specs.declared.objects.OpenConnection.{OpenConnection}
 use Rattle.ffm_model.specs.WellFormed.{is_well_formed, budgets_fit, budget_before, each_pair}
-use Rattle.ffm_model.specs.Actors.{version_fits}
+use Rattle.ffm_model.specs.Actors.{is_stateless, version_fits}
 use Rattle.ffm_model.specs.ClientCalls.{takes_version}
 use Rattle.ffm_model.specs.State.{SpmState, in_use}
 use Rattle.handle_table.proofs.SlotLemmas.{both}
@@ -80,3 +80,10 @@ taking-service s i asked takes =
 -- tables have as many services as the system that they were made for
 pub made-services : (d : TablesView) (s : System) → MadeFor d s → length d.services ≡ length s.services
 made-services d s made = ap (λ (x : Shape). length x.services) made ∙ length-map s.services service_signal
+
+-- a stateless one
+pub stateless-service : (s : System) (i : ℕ) → is_stateless s i ≡ true → i < length s.services
+stateless-service s i stateless =
+    let go : (o : Option Service) → slice_get s.services i ≡ o → option_map_or (λ v. not (v.stateless == 0)) o false ≡ true → i < length s.services =
+    elim [ None ↦ λ f g. cc | Some v ↦ λ f g. slice_get_within s.services i v f ] in
+    go (slice_get s.services i) refl stateless

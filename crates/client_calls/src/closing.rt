@@ -17,8 +17,8 @@ use spm_tables::Tables;
 /// `psa_close` (`psa/client.h`): closes the connection, and the actor is Blocked until the service answers. A Dead
 /// connection is gone at once. `PSA_NULL_HANDLE` closes nothing.
 ///
-/// A fault where the handle isn't `PSA_NULL_HANDLE` and the actor has no connection with it, or the connection is Busy;
-/// nothing changes then.
+/// A fault where the handle isn't `PSA_NULL_HANDLE` and the actor has no connection with it, as with each stateless handle, or
+/// the connection is Busy; nothing changes then.
 ///
 /// Connections and messages fit the tables' system as in every state of a run, the actor runs, and messages can be made 256
 /// times more.

@@ -1,5 +1,6 @@
 //! `psa_connect`.
 ghost use Rattle.std.specs.Prelude.{◌≡◌, ◌+◌, ◌≤◌};
+ghost use Rattle.ffm_model.specs.Actors.{is_stateless};
 ghost use Rattle.ffm_model.specs.State.{phase_of};
 ghost use Rattle.ffm_model.specs.ClientCalls.{takes_version, is_service_panicked, psa_connect};
 ghost use Rattle.counting_law.specs.Objects.{ObjectsFit};
@@ -26,7 +27,16 @@ fn takes_version(system: &System, place: u32, asked: u32) -> bool
     }
 }
 
-fn is_service_panicked(system: &System, tables: &Tables, place: u32) -> bool
+fn is_stateless(system: &System, place: u32) -> bool
+    ensures { result ≡ is_stateless system.now place }
+{
+    match system.services.as_slice().get(place as usize) {
+        Some(service) => service.stateless != 0,
+        None => false,
+    }
+}
+
+pub(crate) fn is_service_panicked(system: &System, tables: &Tables, place: u32) -> bool
     ensures { result ≡ is_service_panicked system.now (spm_of tables.now) place }
 {
     match system.services.as_slice().get(place as usize) {
@@ -39,7 +49,8 @@ fn is_service_panicked(system: &System, tables: &Tables, place: u32) -> bool
 /// service answers. Where the service's partition panicked it answers `PSA_ERROR_CONNECTION_REFUSED` at once, and else
 /// `PSA_ERROR_CONNECTION_BUSY` where the actor has all the connections to the service that the system declares.
 ///
-/// A fault where no service has the SID, the actor may not use it or it doesn't take the version; nothing changes then.
+/// A fault where no service has the SID, it is stateless, the actor may not use it or it doesn't take the version; nothing
+/// changes then.
 ///
 /// The system is the one that the tables were made for, connections and messages fit it as in every state of a run, the
 /// actor runs, and connections and messages can each be made 256 times more.
@@ -65,7 +76,7 @@ pub fn connect(
     let Some(budget) = system.budget(actor, place) else {
         return Err(Fault);
     };
-    if !takes_version(system, place, version) {
+    if is_stateless(system, place) || !takes_version(system, place, version) {
         return Err(Fault);
     }
     if is_service_panicked(system, tables, place) {

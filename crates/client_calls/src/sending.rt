@@ -1,11 +1,11 @@
-//! Messages of connections.
+//! Messages of connections, and requests without one.
 ghost use Rattle.std.specs.Prelude.{◌≡◌, ◌<◌, length, false, IsSome, IsSomeAnd, IfSome};
-ghost use Rattle.ffm_model.specs.State.{with_phase, with_message};
+ghost use Rattle.ffm_model.specs.State.{with_phase, with_message, with_request};
 ghost use Rattle.object_pools.specs.Pool.{free_slot, item_at, taken};
 ghost use Rattle.spm_tables.specs.TablesView.{spm_of, shape_of};
-ghost use Rattle.client_calls.specs.Sending.{item_on, message_on};
+ghost use Rattle.client_calls.specs.Sending.{item_on, message_on, request_message};
 
-use ffm_model::{ActorPhase, Span, Vectors};
+use ffm_model::{ActorId, ActorPhase, Span, Vectors};
 use handle_table::Connections;
 use object_pools::Slot;
 use spm_tables::{MessageItem, Tables};
@@ -54,4 +54,31 @@ pub(crate) fn send(tables: &mut Tables, slot: Slot, kind: i32, vectors: Vectors)
     let item = item_on(tables.connections(), slot, kind, vectors);
     tables.enqueue(item);
     tables.set_phase(item.client, ActorPhase::Blocked);
+}
+
+/// Sends a request without a connection to a service. The client is Blocked from then on.
+pub(crate) fn send_request(
+    tables: &mut Tables,
+    client: ActorId,
+    service: u32,
+    kind: i32,
+    vectors: Vectors,
+)
+    requires service { service < length tables.old.services }
+    requires room { length (spm_of tables.old).messages < (shape_of tables.old).messages }
+    requires few { tables.old.waiting.takes < 1048575 }
+    ensures linked { tables.new.linked ≡ tables.old.linked }
+    ensures waiting { IsSomeAnd (free_slot tables.old.waiting) (λ place. tables.new.waiting ≡ taken tables.old.waiting place (request_message client service kind vectors)) }
+    ensures state { spm_of tables.new ≡ with_phase (with_request (spm_of tables.old) client.0 service kind vectors) client.0 ActorPhase.Blocked }
+    ensures shape { shape_of tables.new ≡ shape_of tables.old }
+{
+    tables.enqueue(MessageItem {
+        service,
+        client,
+        connection: None,
+        kind,
+        vectors,
+        delivered: false,
+    });
+    tables.set_phase(client, ActorPhase::Blocked);
 }

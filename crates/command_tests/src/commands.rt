@@ -15,6 +15,16 @@ const ASKING: &str =
 const ASKED: &str =
     "n1 framework_version -> number 256\nn1 version 0x00000040 -> number 1\nn1 version 0x00000099 -> number 0\nn1 version 0x00000041 -> number 0\np1 stop end -> done\nn1 stop end -> done\nquiet 6\n";
 
+// A partition with an interrupt source.
+const TIMER: &str =
+    r#"{"isolation_level":1,"manifests":[{"psa_framework_version":1.0,"name":"TIMER","type":"PSA-ROT","priority":"NORMAL","entry_point":"main","stack_size":0,"irqs":[{"source":17,"signal":"TICK_SIGNAL"}]}]}"#;
+
+const DISABLING: &str =
+    r#"{"interrupts":[17],"scripts":[{"actor":"TIMER","lines":["irq_disable 0x10","irq_disable 0x10","wait 0x10 0","irq_enable 0x10","wait 0x10 0","reset_signal 0x10"]}]}"#;
+
+const DISABLED: &str =
+    "p1 irq_disable 0x00000010 -> number 1\ndev raise 0 -> done\np1 irq_disable 0x00000010 -> number 0\ndev stop end -> done\np1 wait 0x00000010 0x00000000 -> signals 0x00000000\np1 irq_enable 0x00000010 -> done\np1 wait 0x00000010 0x00000000 -> signals 0x00000010\np1 reset_signal 0x00000010 -> panicked\nquiet 8\n";
+
 /// A system file and a scenario file, and what comes of them.
 struct Worked {
     system: &'static str,
@@ -23,7 +33,7 @@ struct Worked {
     text: &'static str,
 }
 
-static WORKED: [Worked; 17] = [
+static WORKED: [Worked; 18] = [
     Worked {
         system: ONE_CLIENT,
         scenario: ASKING,
@@ -59,6 +69,12 @@ static WORKED: [Worked; 17] = [
         scenario: r#"{"interrupts":["DMA",17],"scripts":[{"actor":"DRIVER","lines":["wait 0x30 0x80000000","eoi 0x20"]}]}"#,
         status: 0,
         text: "p1 wait 0x00000030 0x80000000 -> blocked\ndev raise 1 -> done\np1 resume -> signals 0x00000020\ndev raise 0 -> done\np1 eoi 0x00000020 -> done\ndev stop end -> done\np1 stop end -> done\nquiet 7\n",
+    },
+    Worked {
+        system: TIMER,
+        scenario: DISABLING,
+        status: 0,
+        text: DISABLED,
     },
     Worked {
         system: ONE_CLIENT,
@@ -173,6 +189,8 @@ const USAGE: &str =
     "usage: ffm compile SYSTEM | ffm run [--threads] SYSTEM SCENARIO | ffm replay SYSTEM SCENARIO TRACE | ffm audit SYSTEM SCENARIO TRACE | ffm make N\n";
 
 const RUN: &[&str] = &["ffm", "run", "system", "scenario"];
+
+const REPLAY: &[&str] = &["ffm", "replay", "system", "scenario", "trace"];
 
 static OUTSIDE: [Outside; 9] = [
     Outside {
@@ -298,10 +316,16 @@ fn lists_of_words(rt: HostRuntime) -> Result<(), Fail> {
 }
 
 /// The text of the words over the two files and a trace file.
-fn text_of(rt: &HostRuntime, words: &[&str], scenario: &str, trace: &str) -> Result<Vec<u8>, Fail> {
+fn text_of(
+    rt: &HostRuntime,
+    words: &[&str],
+    system: &str,
+    scenario: &str,
+    trace: &str,
+) -> Result<Vec<u8>, Fail> {
     let alloc = rt.alloc();
     let words = words_of(alloc, words)?;
-    let mut files = files_of(alloc, ONE_CLIENT, scenario)?;
+    let mut files = files_of(alloc, system, scenario)?;
     files.add(alloc, "trace", trace.as_bytes())?;
     let mut sink = MemorySink::new(alloc, 4096, 256, List::of(Vec::new(alloc)))?;
     ffm(rt, alloc, &words, &mut files, &mut sink, &OpenGate);
@@ -315,7 +339,19 @@ fn generated_runs(rt: HostRuntime) -> Result<(), Fail> {
         ("17", "make 17 entries 2400 bytes 2176 quiet\n"),
         ("2000", "make 2000 entries 256224 bytes 256000 quiet\n"),
     ] {
-        let written = text_of(&rt, &["ffm", "make", rounds], ASKING, "")?;
+        let written = text_of(&rt, &["ffm", "make", rounds], ONE_CLIENT, ASKING, "")?;
+        assert_eq!(rt; written.as_slice(), text.as_bytes());
+    }
+    Ok(())
+}
+
+#[test]
+fn judged_traces(rt: HostRuntime) -> Result<(), Fail> {
+    for (system, scenario, trace, text) in [
+        (ONE_CLIENT, ASKING, ASKED, "legal 6\n"),
+        (TIMER, DISABLING, DISABLED, "legal 8\n"),
+    ] {
+        let written = text_of(&rt, REPLAY, system, scenario, trace)?;
         assert_eq!(rt; written.as_slice(), text.as_bytes());
     }
     Ok(())
@@ -349,8 +385,7 @@ fn refused_traces(rt: HostRuntime) -> Result<(), Fail> {
             "refused 19 ScriptSyntax scenario /scripts/0/lines/0\n",
         ),
     ] {
-        let words = ["ffm", "replay", "system", "scenario", "trace"];
-        let written = text_of(&rt, &words, scenario, trace)?;
+        let written = text_of(&rt, REPLAY, ONE_CLIENT, scenario, trace)?;
         assert_eq!(rt; written.as_slice(), text.as_bytes());
     }
     Ok(())

@@ -43,6 +43,7 @@ fn service(alloc: Global) -> Result<Service, AllocError> {
         version: 2,
         policy: Policy::Relaxed,
         signal: 0x10,
+        stateless: 0,
     })
 }
 
@@ -52,6 +53,8 @@ fn source(alloc: Global) -> Result<Source, AllocError> {
         signal_name: name(alloc, "FLASH_SIGNAL")?,
         owner: 0,
         signal: 0x20,
+        flih: false,
+        enabled: true,
     })
 }
 

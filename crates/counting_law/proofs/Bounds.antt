@@ -1,15 +1,14 @@
--- At most as many connections as the budgets allow together, and at most as many messages as connections.
+-- At most as many connections as the budgets allow together.
 use Rattle.std.proofs.Common.{ℕ, ◌≡◌, ◌≤◌, ◌+◌, ◌==◌, Bool, true, false, cond, not, ◌&&◌, List, [], ◌∷◌, length, arith, ◌∙◌, ap, refl}
 use Rattle.std.specs.Prelude.{count_by, sum_by, find, Some, filter}
 use Rattle.std.specs.Option.{option_map_or, option_map}
-use Rattle.std.proofs.lemmas.List.Sums.{sum_by-cons, count_by-le-length}
+use Rattle.std.proofs.lemmas.List.Sums.{sum_by-cons}
 use Rattle.ffm_model.specs.declared.system.System.{System}
 use Rattle.ffm_model.specs.declared.system.Budget.{Budget}
 use Rattle.ffm_model.specs.declared.objects.OpenConnection.{OpenConnection}
 use Rattle.ffm_model.specs.State.{SpmState}
 use Rattle.ffm_model.specs.Names.{capacity}
 use Rattle.counting_law.specs.Objects.{ObjectsFit}
-use Rattle.counting_law.specs.Objects.{is_awaited}
 use Rattle.counting_law.proofs.Counts.{bit, count-cons, count-filter-le}
 use Rattle.counting_law.proofs.Parts.{equal_from, is_itself, left_true, right_true}
 
@@ -67,6 +66,3 @@ count-all (x ∷ xs) = omega (arith, count-cons (λ y. true) x xs, count-all xs)
 
 pub few-connections : (s : System) (b : SpmState) → ObjectsFit s b → length b.connections ≤ capacity s
 few-connections s b h = connections-le s.budgets b.connections h.budgets
-
-pub few-messages : (s : System) (b : SpmState) → ObjectsFit s b → length b.messages ≤ length b.connections
-few-messages s b h = omega (arith, h.paired (λ n a v ph. true), count-all b.messages, count_by-le-length (λ c. is_awaited c.phase && true) b.connections)

@@ -15,7 +15,7 @@ use Rattle.ffm_model.specs.State.{SpmState, phase_of, has_handle, phase_put, con
 use Rattle.ffm_model.specs.ClientCalls.{close_on, Move}
 use Rattle.ffm_model.specs.Panic.{is_dead}
 use Rattle.counting_law.proofs.Balance.{Balanced}
-use Rattle.counting_law.specs.Objects.{is_joining, is_awaited, awaited_of, accepted_as, message_marked}
+use Rattle.counting_law.specs.Objects.{is_joining, is_awaited, awaited_by, called_by, wrongly_called, awaited_of, accepted_as, message_marked}
 use Rattle.counting_law.proofs.Counts.{bit, count-push, count-found, find-passes}
 use Rattle.counting_law.proofs.Parts.{is_there, found-serial, off_left, on_left, is_itself, running-quiet, left_true, right_true, equal_from, off_from, set_same}
 use Rattle.counting_law.proofs.Updates.{put, out, moved-keeps, removed-keeps}
@@ -29,19 +29,19 @@ close-own : (s : System) (limit : Handle → ℕ) (b : SpmState) (h : Handle) (c
 close-own s limit b h c balanced running held =
     let a : ℕ = c.client.0 in
     let inside : a < length b.phases = is_there b.phases a (λ ended. cc) in
-    let quiet : count_by (awaited_of a) b.connections ≡ 0 = running-quiet (phase_of b a) _ _ (λ n. count_by (accepted_as a n) b.connections) running (balanced.fitting a) in
+    let quiet : awaited_by b.connections b.messages a ≡ 0 = running-quiet (phase_of b a) _ _ (λ n. count_by (accepted_as a n) b.connections) running (balanced.fitting a) in
     let own : bit (is_awaited c.phase) ≡ 0 =
     omega (arith, quiet, on_left (a == a) (is_awaited c.phase) (is_itself a), count-found (λ d. (d.client.0 == a) && has_handle d.handle h) (awaited_of a) b.connections c held) in
     let known : is_none c.handle ≡ false = shown_some c.handle h (right_true (a == a) (has_handle c.handle h) (find-passes (λ d. (d.client.0 == a) && has_handle d.handle h) b.connections c held)) in
     let here : find (λ d. d.serial == c.serial) b.connections ≡ Some c = found-serial 0 b.connections_made _ b.connections c balanced.rising held in
-    let m : PendingMessage = record { service = c.service; client = c.client; connection = c.serial; kind = negsuc 1; vectors = no_vectors; handle = None } in
+    let m : PendingMessage = record { service = c.service; client = c.client; connection = Some c.serial; kind = negsuc 1; vectors = no_vectors; handle = None } in
     let go : (d : Bool) → is_dead c.phase ≡ d → Balanced s limit (cond {A = Move} d (record { outcome = Done; spm = without_connection b c.serial }) (record { outcome = Blocks; spm = record b { connections = map (phase_put c.serial Closing) b.connections; messages = b.messages ++ m ∷ []; phases = slice_set b.phases a Blocked } })).spm =
     elim [
       | true ↦ λ e.
           let still : slice_set b.phases a Running ≡ b.phases = set_same b.phases a Running running in
           subst (λ (ps : List ActorPhase). Balanced s limit (record b { connections = filter (λ d. not (d.serial == c.serial)) b.connections; phases = ps })) still
           (removed-keeps s limit b c Running b.messages
-          (record { balanced = balanced; here = here; client = inside; joined = λ k. ap (λ p. is_joining p k) running; joins = λ k x. refl; handles = λ k. omega arith })
+          (record { balanced = balanced; here = here; client = inside; joined = λ k. ap (λ p. is_joining p k) running; joins = λ k x. refl; handles = λ k. omega arith; calls = λ x. refl; called = balanced.called })
           (λ t. omega (arith, off_left (is_awaited c.phase) (t c.serial c.client.0 c.service c.phase) (off_from _ own)))
           (omega (arith, quiet, out b c balanced.rising here (awaited_of a))))
       | false ↦ λ e.
@@ -53,9 +53,11 @@ close-own s limit b h c balanced running held =
             joined = λ k. ap (λ p. is_joining p k) running;
             joins = λ k x. refl;
             handles = λ k. omega (arith, count-push (λ n. has_handle n.handle k) b.messages m);
+            calls = λ x. omega (arith, count-push (called_by x) b.messages m);
+            called = omega (arith, count-push (wrongly_called s) b.messages m, balanced.called);
           })
           (λ t. omega (arith, off_left (is_awaited c.phase) (t c.serial c.client.0 c.service c.phase) (off_from _ own), count-push (message_marked t) b.messages m))
-          (omega (arith, quiet, put b c Closing balanced.rising here (awaited_of a), on_left (a == a) (is_awaited c.phase) (is_itself a), on_left (a == a) true (is_itself a), own))
+          (omega (arith, quiet, count-push (called_by a) b.messages m, put b c Closing balanced.rising here (awaited_of a), on_left (a == a) (is_awaited c.phase) (is_itself a), on_left (a == a) true (is_itself a), own))
           (ap (λ k. same k false) known)
     ] in
     go (is_dead c.phase) refl

@@ -1,11 +1,13 @@
 -- The kinds of change that an event makes of a state, and that each event's effect is one of them; so a law that each kind keeps is one that each step keeps.
-use Rattle.std.proofs.Common.{ℕ, ◌≡◌, ◌==◌, Bool, true, false, cond, not, ◌&&◌, ◌||◌, List, [], ◌∷◌, ◌++◌, ◌∙◌, sym, refl, subst}
-use Rattle.std.specs.Prelude.{ℤ, pos, negsuc, int_lt, bit_and, nat_lt, nat_le, find, Option, Some, None, option_and_then, is_none, if◌then◌else◌}
+use Rattle.std.proofs.Common.{ℕ, zero, suc, ◌≡◌, ◌<◌, ◌==◌, Bool, true, false, cond, not, ◌&&◌, ◌||◌, List, [], ◌∷◌, ◌++◌, length, get_or, arith, ◌∙◌, ap, sym, refl, subst}
+use Rattle.std.proofs.lemmas.List.Quantifiers.{position-Some}
+use Rattle.std.specs.Prelude.{ℤ, pos, negsuc, int_lt, bit_and, nat_lt, nat_le, find, position, slice_get, Option, Some, None, option_and_then, is_none, if◌then◌else◌}
 use Rattle.std.specs.List.{list_any}
-use Rattle.std.specs.Option.{option_map}
+use Rattle.std.specs.Option.{option_map, option_map_or}
 use Rattle.std.specs.Ordering.{int_eq}
 use Rattle.ffm_model.specs.declared.constants.TheConstants.{PSA_BLOCK, PSA_IPC_CONNECT, PSA_NULL_HANDLE, PSA_ERROR_CONNECTION_REFUSED, PSA_ERROR_CONNECTION_BUSY}
 use Rattle.ffm_model.specs.declared.system.System.{System}
+use Rattle.ffm_model.specs.declared.system.Service.{Service}
 use Rattle.ffm_model.specs.declared.machine.Handle.{Handle}
 use Rattle.ffm_model.specs.declared.machine.Sid.{Sid}
 use Rattle.ffm_model.specs.declared.machine.Message.{Message}
@@ -19,17 +21,18 @@ use Rattle.ffm_model.specs.declared.objects.OpenConnection.{OpenConnection}
 use Rattle.ffm_model.specs.declared.objects.PendingMessage.{PendingMessage}
 use Rattle.ffm_model.specs.declared.objects.ActorPhase.{ActorPhase}
 use Rattle.ffm_model.specs.declared.objects.ActorPhase.TheVariants.{Running, Blocked, Waiting, Ready, Connected, Ended, Panicked}
-use Rattle.ffm_model.specs.Actors.{permits, service_at}
+use Rattle.ffm_model.specs.Accesses.{interrupted}
+use Rattle.ffm_model.specs.Actors.{is_stateless, permits, service_at, stateless_at, stateless_index}
 use Rattle.ffm_model.specs.Memory.{vectors_of, valid_buffer}
-use Rattle.ffm_model.specs.State.{SpmState, State, handle_eq, phase_of, with_phase, in_use, connection_held, message_held, fresh, is_undelivered, delivered, with_vectors, with_rhandle, with_connection_handle, flags_at}
+use Rattle.ffm_model.specs.State.{SpmState, State, handle_eq, phase_of, with_phase, in_use, connection_held, message_held, fresh, is_undelivered, delivered, with_vectors, with_rhandle, with_connection_handle}
 use Rattle.ffm_model.specs.Signals.{enabled, can_go_on, may_resume, signals_of, has_signal_of, assigned_to}
 use Rattle.ffm_model.specs.Panic.{panic_effect}
-use Rattle.ffm_model.specs.ClientCalls.{Move, Effect, move, in_state, psa_connect, psa_call, psa_close, connect_to, connect_issued, call_on, close_on, is_service_panicked, refuses_requests, is_busy, returned, takes_version}
-use Rattle.ffm_model.specs.ServiceCalls.{psa_wait, psa_get, psa_reply, psa_skip, psa_read, psa_write, psa_eoi, psa_set_rhandle, request_held, message_size, get_of, reply_of, replied, owes_panic, skip_of, read_of, write_of, rest_of, output_at, service_of_signal, source_of_signal, is_connect_status, with_flags, forwarded}
+use Rattle.ffm_model.specs.ClientCalls.{Move, Effect, move, in_state, psa_connect, psa_call, psa_close, connect_to, connect_issued, connection_called, service_called, call_on, call_to, close_on, is_service_panicked, refuses_requests, is_busy, returned, takes_version}
+use Rattle.ffm_model.specs.ServiceCalls.{psa_wait, psa_get, psa_reply, psa_skip, psa_read, psa_write, psa_set_rhandle, request_held, message_size, get_of, reply_of, replied, owes_panic, skip_of, read_of, write_of, rest_of, output_at, service_of_signal, source_of_signal, is_connect_status}
 use Rattle.ffm_model.specs.Calls.{call_case}
 use Rattle.ffm_model.specs.Step.{may_call, returns_when_due, gives_handle}
 use Rattle.counting_law.specs.Objects.{allowed}
-use Rattle.counting_law.proofs.Parts.{is_plain, left_true, right_true}
+use Rattle.counting_law.proofs.Parts.{is_plain, equal_from, left_true, right_true}
 use Rattle.counting_law.proofs.Resume.{fresh-new}
 use Rattle.counting_law.proofs.Reply.{settled}
 use Rattle.counting_law.proofs.Owed.{replied-settled, owed-settled, owed-request}
@@ -50,6 +53,8 @@ pub record EachKind (s : System) (b : SpmState) (given : List Handle) (a : ℕ) 
       → Q (outcome.Value h.0) (with_phase (with_connection_handle b n h) a Running) (given ++ h ∷ [])
   pub connects : phase_of b a ≡ Running → (v : ℕ) → (in_use b a v == allowed s a v) ≡ false → Q outcome.Blocked (connect_issued b a v) given
   pub calls : phase_of b a ≡ Running → (h : Handle) (c : OpenConnection) (n : ℕ) (v : Vectors) → connection_held b a h ≡ Some c → refuses_requests c.phase ≡ false → Q (call_on b a c (pos n) v).outcome (call_on b a c (pos n) v).spm given
+  -- a request by a stateless handle to the service v
+  pub asks : phase_of b a ≡ Running → (v n : ℕ) (vs : Vectors) → is_stateless s v ≡ true → permits s a v ≡ true → Q (call_to s b a v (pos n) vs).outcome (call_to s b a v (pos n) vs).spm given
   pub closes : phase_of b a ≡ Running → (h : Handle) (c : OpenConnection) → connection_held b a h ≡ Some c → Q (close_on b a c).outcome (close_on b a c).spm given
   pub gets : phase_of b a ≡ Running → (signal msg v : ℕ) → d ≡ call.Get signal msg → service_of_signal s a signal ≡ Some v → (first : PendingMessage) → find (is_undelivered v) b.messages ≡ Some first → (h : Handle) (shown : Message) → shown.handle ≡ h → list_any (handle_eq h) given ≡ false
       → Q (outcome.Got shown) (record b { messages = delivered v h b.messages }) (given ++ h ∷ [])
@@ -104,9 +109,9 @@ moved st Q (Some m) h = h
 connects : (s : System) (b : SpmState) (given : List Handle) (a : ℕ) (sid : Sid) (version : ℕ) (d : Call) (Q : Outcome → SpmState → List Handle → Type 0) → EachKind s b given a d Q → phase_of b a ≡ Running
     → IfMoved Q given (psa_connect s b a sid version)
 connects s b given a sid version d Q k running =
-    elim (service_at s sid) as (λ (o : Option ℕ). IfMoved Q given (option_and_then (λ i. if permits s a i && takes_version s i version then Some (connect_to s b a i) else None) o)) [
+    elim (service_at s sid) as (λ (o : Option ℕ). IfMoved Q given (option_and_then (λ i. if permits s a i && (not (is_stateless s i) && takes_version s i version) then Some (connect_to s b a i) else None) o)) [
       | None ↦ tt
-      | Some i ↦ elim (permits s a i && takes_version s i version) as (λ (x : Bool). IfMoved Q given (if x then Some (connect_to s b a i) else None)) [
+      | Some i ↦ elim (permits s a i && (not (is_stateless s i) && takes_version s i version)) as (λ (x : Bool). IfMoved Q given (if x then Some (connect_to s b a i) else None)) [
         | true ↦ connect-kind s b given a i d Q k running
         | false ↦ tt
       ]
@@ -118,9 +123,9 @@ kind_from kind true P e f = cc
 kind_from (pos n) false P e f = f refl n refl
 kind_from (negsuc n) false P e f = cc
 
-calls : (s : System) (st : State) (a : ℕ) (h : Handle) (kind : ℤ) (in_vec in_len out_vec out_len : ℕ) (d : Call) (Q : Outcome → SpmState → List Handle → Type 0) → EachKind s st.spm st.handles_given a d Q → phase_of st.spm a ≡ Running
-    → IfMoved Q st.handles_given (psa_call s st a h kind in_vec in_len out_vec out_len)
-calls s st a h kind in_vec in_len out_vec out_len d Q k running =
+on_connection : (s : System) (st : State) (a : ℕ) (h : Handle) (kind : ℤ) (in_vec in_len out_vec out_len : ℕ) (d : Call) (Q : Outcome → SpmState → List Handle → Type 0) → EachKind s st.spm st.handles_given a d Q → phase_of st.spm a ≡ Running
+    → IfMoved Q st.handles_given (connection_called s st a h kind in_vec in_len out_vec out_len)
+on_connection s st a h kind in_vec in_len out_vec out_len d Q k running =
     let b : SpmState = st.spm in
     let vs : Option Vectors = vectors_of s st.memory a in_vec in_len out_vec out_len in
     let on : (c : OpenConnection) (v : Vectors) → connection_held b a h ≡ Some c → (x : Bool) → (refuses_requests c.phase || int_lt kind (pos 0)) ≡ x → IfMoved Q st.handles_given (if x then None else Some (call_on b a c kind v)) =
@@ -138,6 +143,60 @@ calls s st a h kind in_vec in_len out_vec out_len d Q k running =
       ]
     ] in
     go _ refl
+
+-- the item at a place that was found passes
+passes-at : {X : Type 0} (q : X → Bool) (xs : List X) (i : ℕ) → i < length xs → ((d : X) → q (get_or xs i d) ≡ true) → option_map_or q (slice_get xs i) false ≡ true
+passes-at q [] i lt h = absurd (omega (arith, lt))
+passes-at q (x ∷ xs) zero lt h = h x
+passes-at q (x ∷ xs) (suc i) lt h = passes-at q xs i (omega (arith, lt)) h
+
+position-passes : {X : Type 0} (q : X → Bool) (xs : List X) (i : ℕ) → position q xs ≡ Some i → option_map_or q (slice_get xs i) false ≡ true
+position-passes q [] i e = absurd (cc)
+position-passes q (x ∷ xs) i e = passes-at q (x ∷ xs) i (position-Some q (x ∷ xs) i x e).0 (λ d. (position-Some q (x ∷ xs) i d e).1)
+
+-- an index is not 0
+other-index : (index : ℕ) → (index == 0) ≡ false → (o : Option Service) → option_map_or (λ x. x.stateless == index) o false ≡ true → option_map_or (λ x. not (x.stateless == 0)) o false ≡ true
+other-index index other None e = cc
+other-index index other (Some x) e = let same : x.stateless ≡ index = equal_from x.stateless index e in ap (λ n. not (n == 0)) same ∙ ap not other
+
+pub stateless_is : (s : System) (index v : ℕ) → stateless_at s index ≡ Some v → is_stateless s v ≡ true
+stateless_is s index v e =
+    let q : Service → Bool = λ x. x.stateless == index in
+    let passes : (xs : List Service) (x : Bool) → (index == 0) ≡ x → (if x then None else position q xs) ≡ Some v → option_map_or (λ y. not (y.stateless == 0)) (slice_get xs v) false ≡ true =
+    λ xs. elim [ true ↦ λ k f. cc | false ↦ λ k f. let at : option_map_or q (slice_get xs v) false ≡ true = position-passes q xs v f in other-index index k (slice_get xs v) at ] in
+    passes s.services (index == 0) refl e
+
+by_index : (s : System) (st : State) (a index : ℕ) (kind : ℤ) (in_vec in_len out_vec out_len : ℕ) (d : Call) (Q : Outcome → SpmState → List Handle → Type 0) → EachKind s st.spm st.handles_given a d Q → phase_of st.spm a ≡ Running
+    → IfMoved Q st.handles_given (service_called s st a index kind in_vec in_len out_vec out_len)
+by_index s st a index kind in_vec in_len out_vec out_len d Q k running =
+    let b : SpmState = st.spm in
+    let vs : Option Vectors = vectors_of s st.memory a in_vec in_len out_vec out_len in
+    let on : (i : ℕ) (v : Vectors) → is_stateless s i ≡ true → (x y : Bool) → permits s a i ≡ x → int_lt kind (pos 0) ≡ y → IfMoved Q st.handles_given (if x && not y then Some (call_to s b a i kind v) else None) =
+    λ i v stateless. elim [
+      | true ↦ elim [
+        | true ↦ λ e f. tt
+        | false ↦ λ e f. kind_from kind false _ f (λ takes n it. subst (λ (z : ℤ). Q (call_to s b a i z v).outcome (call_to s b a i z v).spm st.handles_given) (sym it) (k.asks running i n v stateless e))
+      ]
+      | false ↦ λ y e f. tt
+    ] in
+    let go : (o : Option ℕ) → stateless_at s index ≡ o
+    → IfMoved Q st.handles_given (option_and_then (λ i. option_and_then (λ v. if permits s a i && not (int_lt kind (pos 0)) then Some (call_to s b a i kind v) else None) vs) o) =
+    elim [
+      | None ↦ λ e. tt
+      | Some i ↦ λ e. elim vs as (λ (w : Option Vectors). IfMoved Q st.handles_given (option_and_then (λ v. if permits s a i && not (int_lt kind (pos 0)) then Some (call_to s b a i kind v) else None) w)) [
+        | None ↦ tt
+        | Some v ↦ on i v (stateless_is s index i e) _ _ refl refl
+      ]
+    ] in
+    go _ refl
+
+calls : (s : System) (st : State) (a : ℕ) (h : Handle) (kind : ℤ) (in_vec in_len out_vec out_len : ℕ) (d : Call) (Q : Outcome → SpmState → List Handle → Type 0) → EachKind s st.spm st.handles_given a d Q → phase_of st.spm a ≡ Running
+    → IfMoved Q st.handles_given (psa_call s st a h kind in_vec in_len out_vec out_len)
+calls s st a h kind in_vec in_len out_vec out_len d Q k running =
+    elim (stateless_index h) as (λ (o : Option ℕ). IfMoved Q st.handles_given (option_map_or (λ index. service_called s st a index kind in_vec in_len out_vec out_len) o (connection_called s st a h kind in_vec in_len out_vec out_len))) [
+      | None ↦ on_connection s st a h kind in_vec in_len out_vec out_len d Q k running
+      | Some index ↦ by_index s st a index kind in_vec in_len out_vec out_len d Q k running
+    ]
 
 -- psa_close
 closes : (s : System) (b : SpmState) (given : List Handle) (a : ℕ) (h : Handle) (d : Call) (Q : Outcome → SpmState → List Handle → Type 0) → EachKind s b given a d Q → phase_of b a ≡ Running → IfMoved Q given (psa_close b a h)
@@ -187,7 +246,7 @@ gets s st a signal msg h Q k running new =
 -- psa_set_rhandle
 marks : (s : System) (b : SpmState) (given : List Handle) (a : ℕ) (h : Handle) (r : ℕ) (d : Call) (Q : Outcome → SpmState → List Handle → Type 0) → EachKind s b given a d Q → phase_of b a ≡ Running → IfMoved Q given (psa_set_rhandle s b a h r)
 marks s b given a h r d Q k running =
-    elim (message_held s b a h) as (λ (o : Option PendingMessage). IfMoved Q given (option_map (λ m. move outcome.Done (with_rhandle b m.connection r)) o)) [ None ↦ tt | Some m ↦ k.marks running m.connection r ]
+    elim (option_and_then (λ m. m.connection) (message_held s b a h)) as (λ (o : Option ℕ). IfMoved Q given (option_map (λ n. move outcome.Done (with_rhandle b n r)) o)) [ None ↦ tt | Some n ↦ k.marks running n r ]
 
 -- psa_skip, psa_read and psa_write
 skips : (s : System) (b : SpmState) (given : List Handle) (a : ℕ) (h : Handle) (index len : ℕ) (d : Call) (Q : Outcome → SpmState → List Handle → Type 0) → EachKind s b given a d Q → phase_of b a ≡ Running → IfMoved Q given (psa_skip s b a h index len)
@@ -241,11 +300,22 @@ choice_of : (P : Option Move → Type 0) (x : Bool) (m : Move) → P None → P 
 choice_of P true m none some = some
 choice_of P false m none some = none
 
-eois : (s : System) (b : SpmState) (given : List Handle) (a signal : ℕ) (d : Call) (Q : Outcome → SpmState → List Handle → Type 0) → EachKind s b given a d Q → phase_of b a ≡ Running → IfMoved Q given (psa_eoi s b a signal)
-eois s b given a signal d Q k running =
-    elim (source_of_signal s a signal) as (λ (o : Option ℕ). IfMoved Q given (option_and_then (λ i. if (flags_at b i).asserted then Some (move outcome.Done (with_flags b i (forwarded (record (flags_at b i) { asserted = false })))) else None) o)) [
+-- whatever becomes of the flags of the source that has a signal
+sources : (s : System) (b : SpmState) (given : List Handle) (a signal : ℕ) (d : Call) (Q : Outcome → SpmState → List Handle → Type 0) (test : ℕ → Bool) (says : ℕ → Outcome) (flags : ℕ → List SourceFlags) → EachKind s b given a d Q
+    → phase_of b a ≡ Running → ((i : ℕ) → is_plain (says i) ≡ true)
+    → IfMoved Q given (option_and_then (λ i. if test i then Some (move (says i) (record b { sources = flags i })) else None) (source_of_signal s a signal))
+sources s b given a signal d Q test says flags k running plain =
+    elim (source_of_signal s a signal) as (λ (o : Option ℕ). IfMoved Q given (option_and_then (λ i. if test i then Some (move (says i) (record b { sources = flags i })) else None) o)) [
       | None ↦ tt
-      | Some i ↦ choice_of (IfMoved Q given) ((flags_at b i).asserted) _ tt (k.beside running outcome.Done b.doorbells _ refl)
+      | Some i ↦ choice_of (IfMoved Q given) (test i) _ tt (k.beside running (says i) b.doorbells (flags i) (plain i))
+    ]
+
+any_source : (s : System) (b : SpmState) (given : List Handle) (a signal : ℕ) (d : Call) (Q : Outcome → SpmState → List Handle → Type 0) (says : ℕ → Outcome) (flags : ℕ → List SourceFlags) → EachKind s b given a d Q
+    → phase_of b a ≡ Running → ((i : ℕ) → is_plain (says i) ≡ true) → IfMoved Q given (option_map (λ i. move (says i) (record b { sources = flags i })) (source_of_signal s a signal))
+any_source s b given a signal d Q says flags k running plain =
+    elim (source_of_signal s a signal) as (λ (o : Option ℕ). IfMoved Q given (option_map (λ i. move (says i) (record b { sources = flags i })) o)) [
+      | None ↦ tt
+      | Some i ↦ k.beside running (says i) b.doorbells (flags i) (plain i)
     ]
 
 -- each call that isn't a PROGRAMMER ERROR
@@ -267,7 +337,14 @@ call-kind s st a (call.Notify id) h Q k may new =
     moved st Q _ (choice_of (IfMoved Q st.handles_given) _ _ tt (k.beside (caller-running s st.spm a (call.Notify id) (λ p. refl) may) outcome.Done _ st.spm.sources refl))
 call-kind s st a call.Clear h Q k may new =
     moved st Q _ (choice_of (IfMoved Q st.handles_given) _ _ tt (k.beside (caller-running s st.spm a call.Clear (λ p. refl) may) outcome.Done _ st.spm.sources refl))
-call-kind s st a (call.Eoi signal) h Q k may new = moved st Q _ (eois s st.spm st.handles_given a signal (call.Eoi signal) Q k (caller-running s st.spm a (call.Eoi signal) (λ p. refl) may))
+call-kind s st a (call.Eoi signal) h Q k may new =
+    moved st Q _ (sources s st.spm st.handles_given a signal (call.Eoi signal) Q _ (λ i. outcome.Done) _ k (caller-running s st.spm a (call.Eoi signal) (λ p. refl) may) (λ i. refl))
+call-kind s st a (call.IrqEnable signal) h Q k may new =
+    moved st Q _ (any_source s st.spm st.handles_given a signal (call.IrqEnable signal) Q (λ i. outcome.Done) _ k (caller-running s st.spm a (call.IrqEnable signal) (λ p. refl) may) (λ i. refl))
+call-kind s st a (call.IrqDisable signal) h Q k may new =
+    moved st Q _ (any_source s st.spm st.handles_given a signal (call.IrqDisable signal) Q _ _ k (caller-running s st.spm a (call.IrqDisable signal) (λ p. refl) may) (λ i. refl))
+call-kind s st a (call.ResetSignal signal) h Q k may new =
+    moved st Q _ (sources s st.spm st.handles_given a signal (call.ResetSignal signal) Q _ (λ i. outcome.Done) _ k (caller-running s st.spm a (call.ResetSignal signal) (λ p. refl) may) (λ i. refl))
 call-kind s st a call.Panic h Q k may new = tt
 call-kind s st a (call.Load at size) h Q k may new =
     choice (λ o. IfThere o (Says Q)) _ _ tt (k.beside (caller-running s st.spm a (call.Load at size) (λ p. refl) may) _ st.spm.doorbells st.spm.sources refl)
@@ -275,6 +352,11 @@ call-kind s st a (call.Store at size v) h Q k may new =
     choice (λ o. IfThere o (Says Q)) _ _ tt (k.beside (caller-running s st.spm a (call.Store at size v) (λ p. refl) may) outcome.Done st.spm.doorbells st.spm.sources refl)
 call-kind s st a (call.Raise source) h Q k may new =
     moved st Q _ (choice_of (IfMoved Q st.handles_given) _ _ tt (k.beside (caller-running s st.spm a (call.Raise source) (λ p. refl) may) outcome.Done st.spm.doorbells _ refl))
+call-kind s st a (call.Fire source result) h Q k may new =
+    let running : phase_of st.spm a ≡ Running = caller-running s st.spm a (call.Fire source result) (λ p. refl) may in
+    let fired : (x : Bool) → IfMoved Q st.handles_given (Some (move outcome.Done (if x then interrupted s st.spm source else st.spm))) =
+    elim [ true ↦ k.beside running outcome.Done st.spm.doorbells _ refl | false ↦ k.beside running outcome.Done st.spm.doorbells st.spm.sources refl ] in
+    moved st Q _ (choice_of (IfMoved Q st.handles_given) _ _ tt (fired (result == 1)))
 call-kind s st a (call.Stop spent) h Q k may new = k.ends (caller-running s st.spm a (call.Stop spent) (λ p. refl) may)
 call-kind s st a call.Resume h Q k may new =
     returns s st a h Q (phase_of st.spm a) k refl (right_true (enabled s st.spm a) _ (right_true _ _ may)) (λ e. new e refl)

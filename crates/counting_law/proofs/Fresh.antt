@@ -1,10 +1,12 @@
 -- In a named run each handle given is the name of a slot, and a name that is due was never given.
 use Rattle.std.proofs.Common.{ℕ, zero, suc, ◌≡◌, ◌<◌, ◌≤◌, ◌+◌, ◌-◌, ◌*◌, ◌==◌, Bool, true, false, cond, not, ◌&&◌, ◌||◌, List, [], ◌∷◌, ◌++◌, length, get_or, inl, inr, arith, ◌∙◌, ap, sym, refl, subst}
 use Rattle.std.specs.Prelude.{ℤ, pos, count_by, find, int_le, nat_le, nat_lt, map, filter, position, Option, Some, None, is_none, option_and_then}
-use Rattle.std.specs.List.{list_any, position_or_len}
+use Rattle.std.specs.List.{list_any, position_or_len, range_with_len}
 use Rattle.std.specs.Option.{option_map}
 use Rattle.std.specs.Ordering.{int_eq}
 use Rattle.std.proofs.lemmas.Bool.Decides.{nat_tests}
+use Rattle.std.proofs.lemmas.List.Sums.{count_by-le-length}
+use Rattle.std.proofs.lemmas.List.FromFn.{length-range_with_len}
 use Rattle.ffm_model.specs.declared.constants.TheConstants.{MAX_ENTRIES}
 use Rattle.ffm_model.specs.declared.system.System.{System}
 use Rattle.ffm_model.specs.declared.machine.Handle.{Handle}
@@ -23,8 +25,9 @@ use Rattle.ffm_model.specs.ServiceCalls.{service_of_signal}
 use Rattle.ffm_model.specs.Calls.{programmer_error}
 use Rattle.ffm_model.specs.Step.{handle_shown, outcome_eq}
 use Rattle.ffm_model.specs.WellFormed.{is_well_formed}
-use Rattle.ffm_model.specs.Names.{NamedState, NamesSoFar, SlotName, capacity, first_named, name_at_return, name_due, name_of, named_after, named_step, names_after, no_slot, shows_name, slots_kept, stays, with_connection, with_messages}
-use Rattle.counting_law.specs.Objects.{PhaseFits, RisesTo, is_joining, is_opening, accepted_as, awaited_of, asking_of}
+use Rattle.ffm_model.proofs.ActorLemmas.{few_partitions, few_clients}
+use Rattle.ffm_model.specs.Names.{NamedState, NamesSoFar, SlotName, calls_stateless, capacity, message_capacity, first_named, name_at_return, name_due, name_of, named_after, named_step, names_after, no_slot, shows_name, slots_kept, stays, with_connection, with_messages}
+use Rattle.counting_law.specs.Objects.{PhaseFits, RisesTo, is_joining, is_opening, accepted_as, awaited_by, asked_by}
 use Rattle.counting_law.specs.Takes.{TakesFew, last_generation}
 use Rattle.counting_law.specs.Fresh.{NamesFit, slots_named}
 use Rattle.counting_law.proofs.Balance.{Balanced, balanced-fit}
@@ -43,13 +46,18 @@ use Rattle.counting_law.proofs.Shapes.{Got, Joined, Quiet, Shape, kinds-shape}
 use Rattle.counting_law.proofs.Walk.{Extends, Joins, extend, join, was_shown, kept-alike, count-kept, shown-push, slots-append, slots-delivered, slots-kept, slots-member, slots-right, slots-sum, with_slots, place-found, place-passes}
 use Rattle.counting_law.proofs.NameLemmas.{get-made, get-shows, names-still, resume-shows, shown-alike}
 
--- ---- at most 256 connections are declared
+-- ---- at most 256 connections are declared, and at most 48 partitions and clients call
 
 pub capacity_le : (s : System) → capacity s ≤ 256
 unfolding is_well_formed
 capacity_le s =
     let test : nat_le (capacity s) 256 ≡ true = right_true _ _ (right_true _ _ s.well_formed) in
     grind (arith, nat_tests)
+
+pub message_capacity_le : (s : System) → message_capacity s ≤ 512
+message_capacity_le s =
+    let actors : ℕ = length s.partitions + length s.clients in
+    omega (arith, capacity_le s, few_partitions s, few_clients s, count_by-le-length (calls_stateless s) (range_with_len 0 actors), length-range_with_len 0 actors)
 
 -- ---- what the names of a run keep
 
@@ -90,14 +98,15 @@ quiet-names s es w new e h balanced spends it =
     let given : List Handle = w.state.handles_given in
     let k : NamesSoFar = w.names in
     let size : ℕ = capacity s in
-    let small : size ≤ 256 = capacity_le s in
+    let small : size ≤ 512 = omega (arith, capacity_le s) in
+    let slots : ℕ = message_capacity s in
     let kept : List SlotName = slots_kept (stays new.spm.messages) old.messages k.messages in
     let one : NamesSoFar = record k { messages = kept } in
     let two : NamesSoFar = with_connection size old new.spm one in
     let n : ℕ = length new.spm.messages - length kept in
-    let three : NamesSoFar = with_messages size n two in
+    let three : NamesSoFar = with_messages slots n two in
     let joins : Joins given one two (nat_lt old.connections_made new.spm.connections_made) = join given size old new.spm one small h.conns h.past h.has in
-    let ext : Extends given two three n = extend given size n two small joins.taken (subst Taken (sym joins.past) h.past) joins.has in
+    let ext : Extends given two three n = extend given slots n two (message_capacity_le s) joins.taken (subst Taken (sym joins.past) h.past) joins.has in
     let few : TakesFew (es ++ e ∷ []) (record { state = new; names = three }) = names-lengths s es e w new (balanced-fit s _ w.state.spm h.balanced) h.few spends in
     let back : (x : ℕ) → x ≡ length k.connections → was_shown 0 given (get_or two.connections (length k.connections) no_slot) ≡ false → was_shown 0 given (get_or two.connections x no_slot) ≡ false =
     λ x same off. ap (λ y. was_shown 0 given (get_or two.connections y no_slot)) same ∙ off in
@@ -112,7 +121,7 @@ quiet-names s es w new e h balanced spends it =
     let q : PendingMessage → Bool = it.ordered.q in
     let f : PendingMessage → PendingMessage = it.ordered.f in
     let like : (m x : PendingMessage) → same_message m (f x) ≡ same_message m x =
-    λ m x. let c : (f x).connection ≡ x.connection = it.ordered.connection x in let z : (f x).kind ≡ x.kind = it.ordered.kind x in cc in
+    λ m x. let c : (f x).connection ≡ x.connection = it.ordered.connection x in let y : (f x).client.0 ≡ x.client.0 = it.ordered.client x in let z : (f x).kind ≡ x.kind = it.ordered.kind x in cc in
     let stay : (m : PendingMessage) → count_by (λ x. q x && same_message m x) old.messages ≤ count_by (same_message m) new.spm.messages =
     λ m.
     omega (
@@ -216,7 +225,7 @@ connected-one p x y m j e h = (subst (λ (q : ActorPhase). PhaseFits q x y j) e 
 
 live : (s : System) (limit : Handle → ℕ) (b : SpmState) (a n : ℕ) → Balanced s limit b → phase_of b a ≡ Connected n → Live b a n
 live s limit b a n h phase =
-    let one : count_by (accepted_as a n) b.connections ≡ 1 = connected-one (phase_of b a) (count_by (awaited_of a) b.connections) (count_by (asking_of a) b.connections) n (λ m. count_by (accepted_as a m) b.connections) phase (h.fitting a) in
+    let one : count_by (accepted_as a n) b.connections ≡ 1 = connected-one (phase_of b a) (awaited_by b.connections b.messages a) (asked_by b.connections b.messages a) n (λ m. count_by (accepted_as a m) b.connections) phase (h.fitting a) in
     let it = some-found (accepted_as a n) b.connections (omega (arith, one)) in
     let passes : accepted_as a n it.0 ≡ true = find-passes (accepted_as a n) b.connections it.0 it.1 in
     let serial : it.0.serial ≡ n = equal_from it.0.serial n (left_true _ _ passes) in
@@ -386,12 +395,12 @@ run-named s m es w h =
 
 -- a slot that was taken, in numbers
 record Numbers (t : SlotName) : Type 0 where
-  pub small : t.index < 256
+  pub small : t.index < 512
   pub first : 1 ≤ t.generation
   pub last : t.generation < last_generation
 
-below-256 : (x : ℕ) → bit (not (nat_lt x 256)) ≤ 0 → x < 256
-below-256 x h = grind (arith, nat_tests)
+below-512 : (x : ℕ) → bit (not (nat_lt x 512)) ≤ 0 → x < 512
+below-512 x h = grind (arith, nat_tests)
 
 not-zero : (x : ℕ) → bit (x == 0) ≤ 0 → 1 ≤ x
 not-zero x h = grind arith
@@ -404,7 +413,7 @@ numbers : (ts all : List SlotName) (i : ℕ) → Taken all → ((p : SlotName �
 numbers ts all i h inside lt few =
     let t : SlotName = get_or ts i no_slot in
     record {
-      small = below-256 t.index (omega (arith, member-counts (λ u. not (nat_lt u.index 256)) ts i no_slot lt, inside (λ u. not (nat_lt u.index 256)), h.small));
+      small = below-512 t.index (omega (arith, member-counts (λ u. not (nat_lt u.index 512)) ts i no_slot lt, inside (λ u. not (nat_lt u.index 512)), h.small));
       first = not-zero t.generation (omega (arith, member-counts (λ u. u.generation == 0) ts i no_slot lt, inside (λ u. u.generation == 0), h.positive));
       last =
           let bound : t.generation ≤ length all =
@@ -459,7 +468,7 @@ message-due s es w v h limit below =
     let ts : List SlotName = w.names.messages in
     let given : List Handle = w.state.handles_given in
     let j : ℕ = position_or_len (is_undelivered v) ms in
-    let nobody : PendingMessage = record { service = 0; client = record { 0 = 0 }; connection = 0; kind = pos 0; vectors = no_vectors; handle = None } in
+    let nobody : PendingMessage = record { service = 0; client = record { 0 = 0 }; connection = None; kind = pos 0; vectors = no_vectors; handle = None } in
     let m : PendingMessage = get_or ms j nobody in
     let waits : is_undelivered v m ≡ true = place-passes (is_undelivered v) ms nobody below in
     let none : is_none m.handle ≡ true = left_true (is_none m.handle) (m.service == v) waits in

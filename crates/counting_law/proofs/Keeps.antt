@@ -1,6 +1,7 @@
 -- Each kind of change keeps the balance.
-use Rattle.std.proofs.Common.{ℕ, ◌≡◌, ◌<◌, ◌≤◌, ◌+◌, ◌==◌, Bool, true, false, cond, ◌&&◌, List, [], ◌∷◌, ◌++◌, length, get_or, arith, ◌∙◌, ap, sym, refl, subst}
-use Rattle.std.specs.Prelude.{ℤ, pos, int_lt, count_by, find, Some, None, map, slice_set, is_none}
+use Rattle.std.proofs.Common.{ℕ, ◌≡◌, ◌<◌, ◌≤◌, ◌+◌, ◌==◌, Bool, true, false, cond, not, ◌&&◌, List, [], ◌∷◌, ◌++◌, length, get_or, arith, ◌∙◌, ap, sym, refl, subst}
+use Rattle.std.specs.Prelude.{ℤ, pos, int_le, int_lt, count_by, find, Some, None, map, slice_set, is_none}
+use Rattle.std.specs.Option.{option_map_or}
 use Rattle.std.specs.Ordering.{int_eq}
 use Rattle.ffm_model.specs.declared.constants.TheConstants.{PSA_IPC_CALL, PSA_IPC_CONNECT, PSA_ERROR_PROGRAMMER_ERROR, PSA_ERROR_COMMUNICATION_FAILURE}
 use Rattle.ffm_model.specs.declared.system.System.{System}
@@ -12,28 +13,30 @@ use Rattle.ffm_model.specs.declared.objects.Vectors.{Vectors}
 use Rattle.ffm_model.specs.declared.objects.SourceFlags.{SourceFlags}
 use Rattle.ffm_model.specs.declared.objects.OpenConnection.{OpenConnection}
 use Rattle.ffm_model.specs.declared.objects.PendingMessage.{PendingMessage}
+use Rattle.ffm_model.specs.declared.objects.ConnPhase.{ConnPhase}
 use Rattle.ffm_model.specs.declared.objects.ConnPhase.TheVariants.{Idle, Error, Busy}
 use Rattle.ffm_model.specs.declared.objects.ActorPhase.{ActorPhase}
 use Rattle.ffm_model.specs.declared.objects.ActorPhase.TheVariants.{Running, Blocked, Waiting, Ready, Ended}
-use Rattle.ffm_model.specs.State.{SpmState, phase_of, in_use, has_handle, rhandle_put, with_rhandle, phase_put, connection_held, message_held, with_phase, with_connection_phase, without_message}
+use Rattle.ffm_model.specs.Actors.{is_stateless, permits}
+use Rattle.ffm_model.specs.State.{SpmState, phase_of, in_use, has_handle, rhandle_put, with_rhandle, phase_put, connection_held, message_held, with_phase, with_request, without_message}
 use Rattle.ffm_model.specs.Panic.{is_dead, panic_effect}
-use Rattle.ffm_model.specs.ClientCalls.{Move, move, call_on, is_busy}
-use Rattle.ffm_model.specs.ServiceCalls.{connect_answered, close_answered}
-use Rattle.counting_law.specs.Objects.{PhaseFits, phase_for, same, is_joining, is_awaited, is_asking, allowed, awaited_of, asking_of, accepted_as, wrongly_shown, message_marked, connection_marked}
+use Rattle.ffm_model.specs.ClientCalls.{Move, move, call_on, call_to, is_service_panicked}
+use Rattle.ffm_model.specs.ServiceCalls.{connect_answered, close_answered, with_request_phase}
+use Rattle.counting_law.specs.Objects.{PhaseFits, same, is_joining, is_awaited, allowed, awaited_by, called_by, wrongly_called, awaited_of, asking_of, accepted_as, wrongly_shown, message_marked, connection_marked}
 use Rattle.counting_law.proofs.Balance.{Balanced}
 use Rattle.counting_law.proofs.Counts.{bit, count-push, count-found, count-map-same, find-passes}
-use Rattle.counting_law.proofs.Parts.{fits_same, is_there, phase_same, found-serial, off_left, on_left, is_itself, running-quiet, left_true, right_true, equal_from, off_from, rising-map}
-use Rattle.counting_law.proofs.Updates.{put, moved-keeps, phased-keeps}
+use Rattle.counting_law.proofs.Parts.{fits_same, is_there, phase_same, found-serial, flipped, off_left, on_left, is_itself, running-quiet, left_true, right_true, equal_from, off_from, rising-map}
+use Rattle.counting_law.proofs.Updates.{put, moved-keeps, phased-keeps, sent-keeps}
 use Rattle.counting_law.proofs.Connect.{connected-keeps}
 use Rattle.counting_law.proofs.Close.{close-keeps, shown_some}
-use Rattle.counting_law.proofs.Reply.{settled, request_settled, settled-keeps, partner, client-blocked, busy_is, not_negative}
+use Rattle.counting_law.proofs.Reply.{settled, request_settled, settled-keeps, request-blocked, request-phases, not_negative}
 use Rattle.counting_law.proofs.Resume.{times, named-keeps, delivered-keeps, vectors-keep, put-same}
 use Rattle.counting_law.proofs.Panic.{panic-keeps}
 use Rattle.counting_law.proofs.Events.{EachKind}
 
 -- parts that do not count
 pub beside : (s : System) (limit : Handle → ℕ) (b : SpmState) (doorbells : List Bool) (sources : List SourceFlags) → Balanced s limit b → Balanced s limit (record b { doorbells = doorbells; sources = sources })
-beside s limit b doorbells sources h = record { within = h.within; paired = h.paired; rising = h.rising; fitting = h.fitting; shown = h.shown; handles = h.handles; single = h.single }
+beside s limit b doorbells sources h = record { within = h.within; paired = h.paired; called = h.called; rising = h.rising; fitting = h.fitting; shown = h.shown; handles = h.handles; single = h.single }
 
 -- a Running actor's phase becomes one that waits for nothing of a connection
 pub phase-keeps : (s : System) (limit : Handle → ℕ) (b : SpmState) (a : ℕ) (p : ActorPhase) → Balanced s limit b → phase_of b a ≡ Running → ((k : ℕ) → is_joining p k ≡ false)
@@ -48,12 +51,12 @@ invoke-own : (s : System) (limit : Handle → ℕ) (b : SpmState) (h : Handle) (
 invoke-own s limit b h c n v balanced running held =
     let a : ℕ = c.client.0 in
     let inside : a < length b.phases = is_there b.phases a (λ ended. cc) in
-    let quiet : count_by (awaited_of a) b.connections ≡ 0 = running-quiet (phase_of b a) _ _ (λ k. count_by (accepted_as a k) b.connections) running (balanced.fitting a) in
+    let quiet : awaited_by b.connections b.messages a ≡ 0 = running-quiet (phase_of b a) _ _ (λ k. count_by (accepted_as a k) b.connections) running (balanced.fitting a) in
     let own : bit (is_awaited c.phase) ≡ 0 =
     omega (arith, quiet, on_left (a == a) (is_awaited c.phase) (is_itself a), count-found (λ d. (d.client.0 == a) && has_handle d.handle h) (awaited_of a) b.connections c held) in
     let known : is_none c.handle ≡ false = shown_some c.handle h (right_true (a == a) (has_handle c.handle h) (find-passes (λ d. (d.client.0 == a) && has_handle d.handle h) b.connections c held)) in
     let here : find (λ d. d.serial == c.serial) b.connections ≡ Some c = found-serial 0 b.connections_made _ b.connections c balanced.rising held in
-    let m : PendingMessage = record { service = c.service; client = c.client; connection = c.serial; kind = pos n; vectors = v; handle = None } in
+    let m : PendingMessage = record { service = c.service; client = c.client; connection = Some c.serial; kind = pos n; vectors = v; handle = None } in
     let go : (d : Bool) → Balanced s limit (cond {A = Move} d (move (Value PSA_ERROR_COMMUNICATION_FAILURE) b) (record { outcome = Blocks; spm = record b { connections = map (phase_put c.serial Busy) b.connections; messages = b.messages ++ m ∷ []; phases = slice_set b.phases a Blocked } })).spm =
     elim [
       | true ↦ balanced
@@ -66,9 +69,11 @@ invoke-own s limit b h c n v balanced running held =
             joined = λ k. ap (λ p. is_joining p k) running;
             joins = λ k x. refl;
             handles = λ k. omega (arith, count-push (λ x. has_handle x.handle k) b.messages m);
+            calls = λ x. omega (arith, count-push (called_by x) b.messages m);
+            called = omega (arith, count-push (wrongly_called s) b.messages m, balanced.called);
           })
           (λ t. omega (arith, off_left (is_awaited c.phase) (t c.serial c.client.0 c.service c.phase) (off_from _ own), count-push (message_marked t) b.messages m))
-          (omega (arith, quiet, put b c Busy balanced.rising here (awaited_of a), on_left (a == a) (is_awaited c.phase) (is_itself a), on_left (a == a) true (is_itself a), own))
+          (omega (arith, quiet, count-push (called_by a) b.messages m, put b c Busy balanced.rising here (awaited_of a), on_left (a == a) (is_awaited c.phase) (is_itself a), on_left (a == a) true (is_itself a), own))
           (ap (λ k. same k false) known)
     ] in
     go (is_dead c.phase)
@@ -94,12 +99,16 @@ rhandle-keeps s limit b n r h =
     record {
       within = λ x w. omega (arith, h.within x w, blind (λ c. (c.client.0 == x) && (c.service == w)) (λ c. refl));
       paired = λ t. h.paired t ∙ sym (blind (connection_marked t) (λ c. refl));
+      called = h.called;
       rising = rising-map 0 b.connections_made (rhandle_put n r) (serial-rhandle_put n r) b.connections h.rising;
-      fitting = λ a. fits_same (phase_of b a) _ _ _ _ _ (λ m. count_by (accepted_as a m) after) (blind (awaited_of a) (λ c. refl)) (blind (asking_of a) (λ c. refl)) (λ m. blind (accepted_as a m) (λ c. refl)) (h.fitting a);
+      fitting = λ a. fits_same (phase_of b a) _ _ _ _ _ (λ m. count_by (accepted_as a m) after) (ap (λ n. n + count_by (called_by a) b.messages) (blind (awaited_of a) (λ c. refl))) (ap (λ n. n + count_by (called_by a) b.messages) (blind (asking_of a) (λ c. refl))) (λ m. blind (accepted_as a m) (λ c. refl)) (h.fitting a);
       shown = blind (wrongly_shown b.phases) (λ c. refl) ∙ h.shown;
       handles = λ k. omega (arith, h.handles k, blind (λ c. has_handle c.handle k) (λ c. refl));
       single = h.single;
     }
+
+request_kind : (n : ℕ) → int_le (pos 0) (pos n) ≡ true
+request_kind n = grind arith
 
 pub ready-quiet : (p : ActorPhase) (o : Outcome) (n k : ℕ) (j : ℕ → ℕ) → p ≡ Ready o → PhaseFits p n k j → n ≡ 0
 ready-quiet p o n k j e h = subst (λ (q : ActorPhase). PhaseFits q n k j) e h
@@ -111,21 +120,49 @@ waiting-quiet p m n k j e h = subst (λ (q : ActorPhase). PhaseFits q n k j) e h
 pub request-ready : (s : System) (limit : Handle → ℕ) (b : SpmState) (p : ℕ) (h : Handle) (status : ℤ) (m : PendingMessage) (n : ℕ) → Balanced s limit b → message_held s b p h ≡ Some m → m.kind ≡ pos n
     → (o : Outcome) × (phase_of (settled b h status m) m.client.0 ≡ Ready o)
 request-ready s limit b p h status m n balanced found e =
-    let it = partner s limit b _ m is_busy balanced found (ap (λ k. is_busy (phase_for k)) e) in
-    let blocked : phase_of b m.client.0 ≡ Blocked =
-    subst (λ (x : ℕ). phase_of b x ≡ Blocked) it.1.client (client-blocked s limit b it.0 balanced it.1.here (ap is_asking (busy_is it.0.phase it.1.passes))) in
-    let inside : m.client.0 < length b.phases = is_there b.phases m.client.0 (λ x. cc) in
-    let set_to : (o : Outcome) → get_or (slice_set b.phases m.client.0 (Ready o)) m.client.0 Ended ≡ Ready o = λ o. phase_same b.phases m.client.0 (Ready o) inside in
     let rest : SpmState = without_message b h in
-    let either : (x : Bool) → (o : Outcome) × (phase_of (cond {A = SpmState} x (with_phase (with_connection_phase rest m.connection Error) m.client.0 (Ready (Value PSA_ERROR_PROGRAMMER_ERROR)))
-    (with_phase (with_connection_phase rest m.connection Idle) m.client.0 (Ready (Value status)))) m.client.0 ≡ Ready o) =
-    elim [ true ↦ (Value PSA_ERROR_PROGRAMMER_ERROR, set_to (Value PSA_ERROR_PROGRAMMER_ERROR)) | false ↦ (Value status, set_to (Value status)) ] in
-    let answer : ℤ → SpmState = λ z. cond {A = SpmState} (int_eq z PSA_IPC_CONNECT) (connect_answered rest m status) (cond {A = SpmState} (int_lt z PSA_IPC_CALL) (close_answered rest m) (request_settled rest m status)) in
-    let request : cond {A = SpmState} (int_lt (pos n) PSA_IPC_CALL) (close_answered rest m) (request_settled rest m status) ≡ request_settled rest m status =
-    ap (λ (x : Bool). cond {A = SpmState} x (close_answered rest m) (request_settled rest m status)) (not_negative n) in
+    let blocked : phase_of b m.client.0 ≡ Blocked = request-blocked s limit b _ m n balanced found e in
+    let inside : m.client.0 < length b.phases = is_there b.phases m.client.0 (λ x. cc) in
+    let set_to : (ph : ConnPhase) (o : Outcome) → phase_of (with_phase (with_request_phase rest m ph) m.client.0 (Ready o)) m.client.0 ≡ Ready o =
+    λ ph o. ap (λ (ps : List ActorPhase). get_or (slice_set ps m.client.0 (Ready o)) m.client.0 Ended) (request-phases rest m ph) ∙ phase_same b.phases m.client.0 (Ready o) inside in
+    let either : (x : Bool) → (o : Outcome) × (phase_of (cond {A = SpmState} x (with_phase (with_request_phase rest m Error) m.client.0 (Ready (Value PSA_ERROR_PROGRAMMER_ERROR)))
+    (with_phase (with_request_phase rest m Idle) m.client.0 (Ready (Value status)))) m.client.0 ≡ Ready o) =
+    elim [ true ↦ (Value PSA_ERROR_PROGRAMMER_ERROR, set_to Error (Value PSA_ERROR_PROGRAMMER_ERROR)) | false ↦ (Value status, set_to Idle (Value status)) ] in
+    let A : SpmState = option_map_or (λ k. connect_answered rest k m status) m.connection rest in
+    let C : SpmState = option_map_or (λ k. close_answered rest k m) m.connection rest in
+    let answer : ℤ → SpmState = λ z. cond {A = SpmState} (int_eq z PSA_IPC_CONNECT) A (cond {A = SpmState} (int_lt z PSA_IPC_CALL) C (request_settled rest m status)) in
+    let request : cond {A = SpmState} (int_lt (pos n) PSA_IPC_CALL) C (request_settled rest m status) ≡ request_settled rest m status =
+    ap (λ (x : Bool). cond {A = SpmState} x C (request_settled rest m status)) (not_negative n) in
     let at_kind : answer m.kind ≡ request_settled rest m status = ap answer e ∙ request in
     let now = either (int_eq status PSA_ERROR_PROGRAMMER_ERROR) in
     (now.0, subst (λ (x : SpmState). phase_of x m.client.0 ≡ Ready now.0) (sym at_kind) now.1)
+
+-- a request by a stateless handle
+pub issued-keeps : (s : System) (limit : Handle → ℕ) (b : SpmState) (a v n : ℕ) (vs : Vectors) → Balanced s limit b → phase_of b a ≡ Running → is_stateless s v ≡ true → permits s a v ≡ true
+    → Balanced s limit (with_phase (with_request b a v (pos n) vs) a Blocked)
+issued-keeps s limit b a v n vs h running stateless may =
+    let m : PendingMessage = record { service = v; client = record { 0 = a }; connection = None; kind = pos n; vectors = vs; handle = None } in
+    let quiet : awaited_by b.connections b.messages a ≡ 0 = running-quiet (phase_of b a) _ _ (λ k. count_by (accepted_as a k) b.connections) running (h.fitting a) in
+    let lawful : bit (wrongly_called s m) ≡ 0 =
+    ap (λ (x : Bool). bit (not (int_le PSA_IPC_CALL (pos n) && (x && permits s a v)))) stateless ∙ ap (λ (x : Bool). bit (not (int_le PSA_IPC_CALL (pos n) && x))) may ∙ ap (λ (x : Bool). bit (not (x && true))) (request_kind n) in
+    sent-keeps s limit b a Blocked (b.messages ++ m ∷ [])
+    (record {
+      balanced = h;
+      client = is_there b.phases a (λ ended. cc);
+      joined = λ k. ap (λ p. is_joining p k) running;
+      joins = λ k. refl;
+      handles = λ k. omega (arith, count-push (λ x. has_handle x.handle k) b.messages m);
+      paired = λ t. omega (arith, count-push (message_marked t) b.messages m);
+      others = λ x e. omega (arith, count-push (called_by x) b.messages m, ap bit (flipped x a e));
+      called = omega (arith, count-push (wrongly_called s) b.messages m, h.called, lawful);
+    })
+    (omega (arith, quiet, count-push (called_by a) b.messages m, ap bit (is_itself a)))
+
+pub asked-keeps : (s : System) (limit : Handle → ℕ) (b : SpmState) (a v n : ℕ) (vs : Vectors) → Balanced s limit b → phase_of b a ≡ Running → is_stateless s v ≡ true → permits s a v ≡ true → Balanced s limit (call_to s b a v (pos n) vs).spm
+asked-keeps s limit b a v n vs h running stateless may =
+    let go : (x : Bool) → Balanced s limit (cond {A = Move} x (move (Value PSA_ERROR_COMMUNICATION_FAILURE) b) (move Blocks (with_phase (with_request b a v (pos n) vs) a Blocked))).spm =
+    elim [ true ↦ h | false ↦ issued-keeps s limit b a v n vs h running stateless may ] in
+    go (is_service_panicked s b v)
 
 -- a partition that was told Ready panics
 pub owed-keeps : (s : System) (limit : Handle → ℕ) (b : SpmState) (p : ℕ) (h : Handle) (status : ℤ) (m : PendingMessage) (n : ℕ) → Balanced s limit b → message_held s b p h ≡ Some m → m.kind ≡ pos n
@@ -150,7 +187,7 @@ panics-keep s limit b a h running =
 -- each kind of change
 pub kinds-balance : (s : System) (b : SpmState) (given : List Handle) (a : ℕ) (d : Call) → Balanced s (times given) b → EachKind s b given a d (λ o new all. Balanced s (times all) new)
 kinds-balance s b given a d h =
-    let wake : (p : ActorPhase) → phase_of b a ≡ p → (p ≡ Ended → ⊥) → ((k : ℕ) → is_joining p k ≡ false) → count_by (awaited_of a) b.connections ≡ 0 → Balanced s (times given) (with_phase b a Running) =
+    let wake : (p : ActorPhase) → phase_of b a ≡ p → (p ≡ Ended → ⊥) → ((k : ℕ) → is_joining p k ≡ false) → awaited_by b.connections b.messages a ≡ 0 → Balanced s (times given) (with_phase b a Running) =
     λ p e there free quiet.
     phased-keeps s (times given) b a Running h (is_there b.phases a (λ x. there (sym e ∙ x))) (λ k. ap (λ q. is_joining q k) e ∙ free k) (λ k. refl) quiet in
     record {
@@ -162,6 +199,7 @@ kinds-balance s b given a d h =
       joins = λ is n k e new. named-keeps s given b a n k h e new;
       connects = λ running v free. connected-keeps s (times given) b a v h running (less (in_use b a v) (allowed s a v) (h.within a v) free);
       calls = λ running k c n v held takes. invoke-keeps s (times given) b a k c n v h running held;
+      asks = λ running v n vs stateless may. asked-keeps s (times given) b a v n vs h running stateless may;
       closes = λ running k c held. close-keeps s (times given) b a k c h running held;
       gets = λ running signal msg v is has first at k shown tells new. delivered-keeps s given b v k h new;
       moves = λ running o k v plain. vectors-keep s (times given) b k v h;

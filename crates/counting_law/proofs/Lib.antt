@@ -20,6 +20,7 @@ pub mod Turns
 pub mod Returns
 pub mod Takes
 pub mod Slots
+pub mod Callers
 pub mod SlotNames
 pub mod Shapes
 pub mod Walk

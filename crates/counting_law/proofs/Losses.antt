@@ -13,7 +13,7 @@ use Rattle.ffm_model.specs.declared.objects.ActorPhase.TheVariants.{Panicked}
 use Rattle.ffm_model.specs.Actors.{is_service_of}
 use Rattle.ffm_model.specs.Memory.{no_vectors}
 use Rattle.ffm_model.specs.State.{SpmState}
-use Rattle.ffm_model.specs.Panic.{is_dead, lost, without_service, without_client, disconnection, clients_answered, panic_effect}
+use Rattle.ffm_model.specs.Panic.{is_dead, lost, without_service, without_client, disconnection, clients_answered, callers_answered, panic_effect}
 
 -- whether the connection outlives the panic of its service
 abbrev pub survives : ConnPhase → Bool
@@ -34,7 +34,7 @@ all_left s p (c ∷ cs) = left_as (is_service_of s p c.service) (c.client.0 == p
 
 -- the disconnection of one of the partition's own
 abbrev pub disconnect_message : OpenConnection → PendingMessage
-disconnect_message c = record { service = c.service; client = c.client; connection = c.serial; kind = PSA_IPC_DISCONNECT; vectors = no_vectors; handle = None }
+disconnect_message c = record { service = c.service; client = c.client; connection = Some c.serial; kind = PSA_IPC_DISCONNECT; vectors = no_vectors; handle = None }
 
 abbrev pub disconnect_as : Bool → Bool → ConnPhase → OpenConnection → List PendingMessage
 disconnect_as o k ph c = if o then [] else (if k then (if is_dead ph then [] else disconnect_message c ∷ []) else [])
@@ -124,7 +124,7 @@ disconnects-is s p (c ∷ cs) =
 -- the effect of a panic in these words
 abbrev pub after_panic : System → SpmState → ℕ → SpmState
 after_panic s b p = record b {
-  phases = clients_answered s p b.connections (slice_set b.phases p Panicked);
+  phases = callers_answered s p b.messages (clients_answered s p b.connections (slice_set b.phases p Panicked));
   connections = all_left s p b.connections;
   messages = filter (λ m. not (is_service_of s p m.service)) b.messages ++ disconnect_messages s p b.connections;
 }

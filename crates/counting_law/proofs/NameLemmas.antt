@@ -23,7 +23,7 @@ use Rattle.ffm_model.specs.ClientCalls.{Effect}
 use Rattle.ffm_model.specs.ServiceCalls.{service_of_signal}
 use Rattle.ffm_model.specs.Calls.{call_case, case_of, effect_or_error, error_effect, has_call, programmer_error}
 use Rattle.ffm_model.specs.Step.{handle_shown, outcome_eq}
-use Rattle.ffm_model.specs.Names.{NamesSoFar, SlotName, capacity, name_at_return, name_due, live_connections, name_of, names_after, next_slot, no_slot, shows_name, slots_kept, stays, with_connection, with_messages}
+use Rattle.ffm_model.specs.Names.{NamesSoFar, SlotName, capacity, message_capacity, name_at_return, name_due, live_connections, name_of, names_after, next_slot, no_slot, shows_name, slots_kept, stays, with_connection, with_messages}
 use Rattle.counting_law.proofs.Parts.{left_true, right_true}
 use Rattle.counting_law.proofs.Resume.{int_same}
 use Rattle.counting_law.proofs.Steps.{Stepped, alike}
@@ -127,7 +127,7 @@ pub names-still : (s : System) (old new : SpmState) (k : NamesSoFar) → length 
 names-still s old new k slots len made same =
     let size : ℕ = capacity s in
     let ts : List SlotName = slots_kept (stays new.messages) old.messages k.messages in
-    let after : List SlotName → NamesSoFar = λ us. with_messages size (length new.messages - length us) (with_connection size old new (record k { messages = us })) in
+    let after : List SlotName → NamesSoFar = λ us. with_messages (message_capacity s) (length new.messages - length us) (with_connection size old new (record k { messages = us })) in
     let stay : ts ≡ k.messages =
     kept-alike (stays new.messages) (λ m. true) old.messages k.messages (stays-at old.messages new.messages (λ m. true) same) (all-stay new.messages old.messages)
     ∙ kept-all (λ m. true) old.messages k.messages slots (λ m. refl) in
@@ -135,4 +135,4 @@ names-still s old new k slots len made same =
     let not_less : nat_lt old.connections_made new.connections_made ≡ false = grind (arith, nat_tests) in
     let unjoined : with_connection size old new k ≡ k =
     ap (λ (x : Bool). cond {A = NamesSoFar} x (record k { connections = k.connections ++ next_slot size (live_connections k old) k.connections ∷ [] }) k) not_less in
-    ap after stay ∙ ap (λ n. with_messages size n (with_connection size old new k)) none ∙ unjoined
+    ap after stay ∙ ap (λ n. with_messages (message_capacity s) n (with_connection size old new k)) none ∙ unjoined

@@ -1,6 +1,7 @@
 -- A reply, and the panic that it may owe, in the words of a reply that tells its client whoever that is.
 use Rattle.std.proofs.Common.{ℕ, zero, suc, ◌≡◌, Bool, true, false, ◌&&◌, List, [], ◌∷◌, ap, sym, refl, arith}
 use Rattle.std.specs.Prelude.{ℤ, pos, negsuc, int_lt, int_le, slice_set, if◌then◌else◌}
+use Rattle.std.specs.Option.{option_map_or}
 use Rattle.std.specs.Ordering.{int_eq}
 use Rattle.ffm_model.specs.declared.constants.TheConstants.{PSA_IPC_CALL, PSA_IPC_CONNECT, PSA_ERROR_PROGRAMMER_ERROR}
 use Rattle.ffm_model.specs.declared.system.System.{System}
@@ -11,9 +12,9 @@ use Rattle.ffm_model.specs.declared.objects.ConnPhase.TheVariants.{Error, Idle}
 use Rattle.ffm_model.specs.declared.objects.ActorPhase.{ActorPhase}
 use Rattle.ffm_model.specs.declared.objects.ActorPhase.TheVariants.{Ready, Panicked}
 use Rattle.ffm_model.specs.Actors.{kind_of, is_partition}
-use Rattle.ffm_model.specs.State.{SpmState, with_phase, with_connection_phase, without_message}
-use Rattle.ffm_model.specs.Panic.{panic_effect, clients_answered}
-use Rattle.ffm_model.specs.ServiceCalls.{connect_answered, close_answered, replied, owes_panic}
+use Rattle.ffm_model.specs.State.{SpmState, with_phase, without_message}
+use Rattle.ffm_model.specs.Panic.{panic_effect, clients_answered, callers_answered}
+use Rattle.ffm_model.specs.ServiceCalls.{connect_answered, close_answered, with_request_phase, replied, owes_panic}
 use Rattle.counting_law.proofs.Reply.{settled, not_negative}
 
 set-twice : (xs : List ActorPhase) (i : ℕ) (x y : ActorPhase) → slice_set (slice_set xs i x) i y ≡ slice_set xs i y
@@ -24,7 +25,7 @@ set-twice (z ∷ zs) (suc i) x y = ap (λ (ws : List ActorPhase). z ∷ ws) (set
 -- a panic forgets what the phase of its partition was
 panic-phase : (s : System) (b : SpmState) (a : ℕ) (p : ActorPhase) → panic_effect s b a ≡ panic_effect s (with_phase b a p) a
 panic-phase s b a p =
-    ap (λ (ps : List ActorPhase). record (panic_effect s b a) { phases = clients_answered s a b.connections ps }) (sym (set-twice b.phases a p Panicked))
+    ap (λ (ps : List ActorPhase). record (panic_effect s b a) { phases = callers_answered s a b.messages (clients_answered s a b.connections ps) }) (sym (set-twice b.phases a p Panicked))
 
 not_low : (k : ℤ) → int_lt k (pos 0) ≡ false → int_le (pos 0) k ≡ true
 not_low (pos n) e = grind arith
@@ -56,20 +57,24 @@ high (negsuc n) e = cc
 pub replied-settled : (s : System) (b : SpmState) (h : Handle) (status : ℤ) (m : PendingMessage) → owes_panic s m status ≡ false → replied s b h status m ≡ settled b h status m
 replied-settled s b h status m e =
     let rest : SpmState = without_message b h in
-    let failed : SpmState = with_connection_phase rest m.connection Error in
+    let failed : SpmState = with_request_phase rest m Error in
+    let A : SpmState = option_map_or (λ n. connect_answered rest n m status) m.connection rest in
+    let C : SpmState = option_map_or (λ n. close_answered rest n m) m.connection rest in
     same-answer (int_eq m.kind PSA_IPC_CONNECT) (int_lt m.kind PSA_IPC_CALL) (int_le PSA_IPC_CALL m.kind) (int_eq status PSA_ERROR_PROGRAMMER_ERROR) (is_partition (kind_of s m.client.0))
-    (connect_answered rest m status) (close_answered rest m) failed (with_phase failed m.client.0 (Ready (Value PSA_ERROR_PROGRAMMER_ERROR)))
-    (with_phase (with_connection_phase rest m.connection Idle) m.client.0 (Ready (Value status))) (not_low m.kind) e
+    A C failed (with_phase failed m.client.0 (Ready (Value PSA_ERROR_PROGRAMMER_ERROR)))
+    (with_phase (with_request_phase rest m Idle) m.client.0 (Ready (Value status))) (not_low m.kind) e
 
 -- with one
 pub owed-settled : (s : System) (b : SpmState) (h : Handle) (status : ℤ) (m : PendingMessage) → owes_panic s m status ≡ true
     → panic_effect s (replied s b h status m) m.client.0 ≡ panic_effect s (settled b h status m) m.client.0
 owed-settled s b h status m e =
     let rest : SpmState = without_message b h in
-    let failed : SpmState = with_connection_phase rest m.connection Error in
+    let failed : SpmState = with_request_phase rest m Error in
+    let A : SpmState = option_map_or (λ n. connect_answered rest n m status) m.connection rest in
+    let C : SpmState = option_map_or (λ n. close_answered rest n m) m.connection rest in
     same-panic s m.client.0 (int_eq m.kind PSA_IPC_CONNECT) (int_lt m.kind PSA_IPC_CALL) (int_le PSA_IPC_CALL m.kind) (int_eq status PSA_ERROR_PROGRAMMER_ERROR) (is_partition (kind_of s m.client.0))
-    (connect_answered rest m status) (close_answered rest m) failed (with_phase failed m.client.0 (Ready (Value PSA_ERROR_PROGRAMMER_ERROR)))
-    (with_phase (with_connection_phase rest m.connection Idle) m.client.0 (Ready (Value status))) (high m.kind) (panic-phase s failed m.client.0 (Ready (Value PSA_ERROR_PROGRAMMER_ERROR))) e
+    A C failed (with_phase failed m.client.0 (Ready (Value PSA_ERROR_PROGRAMMER_ERROR)))
+    (with_phase (with_request_phase rest m Idle) m.client.0 (Ready (Value status))) (high m.kind) (panic-phase s failed m.client.0 (Ready (Value PSA_ERROR_PROGRAMMER_ERROR))) e
 
 -- a panic is owed to a request alone
 pub owed-request : (s : System) (m : PendingMessage) (status : ℤ) (P : Type 0) → owes_panic s m status ≡ true → ((n : ℕ) → m.kind ≡ pos n → P) → P

@@ -1,9 +1,10 @@
 -- From the counts of a fitting state to its sentences on single messages and connections.
 use Rattle.std.proofs.Common.{ℕ, zero, suc, ◌≡◌, ◌<◌, ◌≤◌, ◌+◌, ◌==◌, Bool, true, false, cond, not, ◌&&◌, ◌||◌, List, [], ◌∷◌, length, get_or, arith, ◌∙◌, ap, refl, subst}
-use Rattle.std.specs.Prelude.{ℤ, pos, negsuc, count_by, is_none, if◌then◌else◌}
+use Rattle.std.specs.Prelude.{ℤ, pos, negsuc, int_le, count_by, is_none, Option, Some, None, if◌then◌else◌}
+use Rattle.std.specs.Option.{option_map_or}
 use Rattle.std.specs.Ordering.{int_eq}
 use Rattle.std.proofs.lemmas.List.Sums.{get_or-le-sum_by}
-use Rattle.ffm_model.specs.declared.constants.TheConstants.{PSA_IPC_DISCONNECT}
+use Rattle.ffm_model.specs.declared.constants.TheConstants.{PSA_IPC_CALL, PSA_IPC_DISCONNECT}
 use Rattle.ffm_model.specs.declared.system.System.{System}
 use Rattle.ffm_model.specs.declared.objects.OpenConnection.{OpenConnection}
 use Rattle.ffm_model.specs.declared.objects.PendingMessage.{PendingMessage}
@@ -11,13 +12,14 @@ use Rattle.ffm_model.specs.declared.objects.ConnPhase.{ConnPhase}
 use Rattle.ffm_model.specs.declared.objects.ConnPhase.TheVariants.{Opening, Idle, Busy, Error, Closing, Dead}
 use Rattle.ffm_model.specs.declared.objects.ActorPhase.{ActorPhase}
 use Rattle.ffm_model.specs.declared.objects.ActorPhase.TheVariants.{Running, Blocked, Waiting, Ready, Connected, Ended, Panicked}
+use Rattle.ffm_model.specs.Actors.{is_stateless, permits}
 use Rattle.ffm_model.specs.State.{SpmState, phase_of}
 use Rattle.ffm_model.specs.Panic.{is_dead}
-use Rattle.counting_law.specs.Objects.{ObjectsFit, PhaseFits, Mark, phase_for, is_awaited, is_asking, is_opening, is_joining, awaited_of, asking_of, accepted_as, wrongly_shown, message_marked, connection_marked}
-use Rattle.counting_law.specs.Pairs.{MessagesPair, kind_fits, is_message_of, client_waits, is_disconnection}
+use Rattle.counting_law.specs.Objects.{ObjectsFit, PhaseFits, Mark, phase_for, is_awaited, is_asking, is_opening, is_joining, awaited_by, asked_by, called_by, wrongly_called, awaited_of, asking_of, accepted_as, wrongly_shown, message_marked, connection_marked}
+use Rattle.counting_law.specs.Pairs.{MessagesPair, IsCall, is_numbered, kind_fits, is_message_of, client_waits, is_disconnection}
 use Rattle.counting_law.proofs.Counts.{bit, bit-le, count-cons, count-ext, count-le}
 use Rattle.counting_law.proofs.Parts.{is_itself, off_from, on_left, unique, and_on, both-le-left, asking-blocked}
-use Rattle.counting_law.proofs.Reply.{asking_le, both_same, blocked-one}
+use Rattle.counting_law.proofs.Reply.{asking_le, both_same, blocked-one, marked_as}
 
 -- an item of a list counts
 pub member-counts : {X : Type 0} (q : X → Bool) (xs : List X) (i : ℕ) (d : X) → i < length xs → bit (q (get_or xs i d)) ≤ count_by q xs
@@ -48,10 +50,36 @@ fits_own (negsuc zero) e = refl
 fits_own (negsuc (suc zero)) e = refl
 fits_own (negsuc (suc (suc n))) e = cc
 
-no-dead : (s : System) (b : SpmState) → ObjectsFit s b → (i : ℕ) (d : PendingMessage) → i < length b.messages → is_dead (phase_for (get_or b.messages i d).kind) ≡ false
-no-dead s b h i d lt =
+pub count-sum : {X : Type 0} (p q r : X → Bool) → ((x : X) → bit (p x) ≤ bit (q x) + bit (r x)) → (xs : List X) → count_by p xs ≤ count_by q xs + count_by r xs
+count-sum p q r le [] = omega arith
+count-sum p q r le (x ∷ xs) = omega (arith, count-cons p x xs, count-cons q x xs, count-cons r x xs, le x, count-sum p q r le xs)
+
+-- a kind that no message has
+dead-wrong : (s : System) (m : PendingMessage) → bit (is_dead (phase_for m.kind)) ≤ bit (message_marked (λ n a v ph. is_dead ph) m) + bit (wrongly_called s m)
+dead-wrong s m =
+    let go : (o : Option ℕ) (kind : ℤ) (x : Bool) → bit (is_dead (phase_for kind)) ≤ bit (option_map_or (λ n. is_dead (phase_for kind)) o false) + bit (is_none o && not (int_le PSA_IPC_CALL kind && x)) =
+    elim [
+      | Some n ↦ λ kind x. omega arith
+      | None ↦ elim [
+        | pos n ↦ λ x. omega arith
+        | negsuc n ↦ λ x. bit-le (is_dead (phase_for (negsuc n)))
+      ]
+    ] in
+    go m.connection m.kind (is_stateless s m.service && permits s m.client.0 m.service)
+
+none-dead : (s : System) (b : SpmState) → ObjectsFit s b → count_by (λ m. is_dead (phase_for m.kind)) b.messages ≡ 0
+none-dead s b h =
     let t : Mark = λ n a v ph. is_dead ph in
-    off_from _ (omega (arith, member-counts (message_marked t) b.messages i d lt, h.paired t, none-counts (connection_marked t) (λ c. dead_unawaited c.phase) b.connections))
+    omega (
+      arith,
+      count-sum (λ m. is_dead (phase_for m.kind)) (message_marked t) (wrongly_called s) (dead-wrong s) b.messages,
+      h.paired t,
+      none-counts (connection_marked t) (λ c. dead_unawaited c.phase) b.connections,
+      h.called,
+    )
+
+no-dead : (s : System) (b : SpmState) → ObjectsFit s b → (i : ℕ) (d : PendingMessage) → i < length b.messages → is_dead (phase_for (get_or b.messages i d).kind) ≡ false
+no-dead s b h i d lt = off_from _ (omega (arith, member-counts (λ m. is_dead (phase_for m.kind)) b.messages i d lt, none-dead s b h))
 
 fitting_awaited : (p : ConnPhase) (kind : ℤ) (x : Bool) → (is_awaited p && (x && kind_fits p kind)) ≡ (x && kind_fits p kind)
 fitting_awaited Opening kind x = refl
@@ -71,16 +99,20 @@ and_assoc4 false true true false k e = refl
 and_assoc4 false true false z k e = refl
 and_assoc4 false false y z k e = refl
 
-belongs : (s : System) (b : SpmState) → ObjectsFit s b → (i : ℕ) (d : PendingMessage) → i < length b.messages → count_by (λ c. is_message_of c (get_or b.messages i d)) b.connections ≡ 1
+belongs : (s : System) (b : SpmState) → ObjectsFit s b → (i : ℕ) (d : PendingMessage) → i < length b.messages
+    → count_by (λ c. is_message_of c (get_or b.messages i d)) b.connections ≡ (if is_none (get_or b.messages i d).connection then 0 else 1)
 belongs s b h i d lt =
     let m : PendingMessage = get_or b.messages i d in
-    let t : Mark = λ n a v ph. (n == m.connection) && ((a == m.client.0) && ((v == m.service) && kind_fits ph m.kind)) in
+    let of : Option ℕ → OpenConnection → Bool = λ o c. option_map_or (λ k. c.serial == k) o false && ((c.client.0 == m.client.0) && ((c.service == m.service) && kind_fits c.phase m.kind)) in
+    let on : (k : ℕ) → m.connection ≡ Some k → count_by (of (Some k)) b.connections ≡ 1 =
+    λ k conn.
+    let t : Mark = λ n a v ph. (n == k) && ((a == m.client.0) && ((v == m.service) && kind_fits ph m.kind)) in
     let own : message_marked t m ≡ true =
-    and_on _ _ (is_itself m.connection) (and_on _ _ (is_itself m.client.0) (and_on _ _ (is_itself m.service) (fits_own m.kind (no-dead s b h i d lt)))) in
-    let alike : count_by (connection_marked t) b.connections ≡ count_by (λ c. is_message_of c m) b.connections =
-    count-ext (connection_marked t) (λ c. is_message_of c m)
-    (λ c. and_assoc4 (is_awaited c.phase) (c.serial == m.connection) (c.client.0 == m.client.0) (c.service == m.service) (kind_fits c.phase m.kind)
-    (fitting_awaited c.phase m.kind ((c.serial == m.connection) && ((c.client.0 == m.client.0) && (c.service == m.service)))))
+    marked_as m k t conn ∙ and_on _ _ (is_itself k) (and_on _ _ (is_itself m.client.0) (and_on _ _ (is_itself m.service) (fits_own m.kind (no-dead s b h i d lt)))) in
+    let alike : count_by (connection_marked t) b.connections ≡ count_by (of (Some k)) b.connections =
+    count-ext (connection_marked t) (of (Some k))
+    (λ c. and_assoc4 (is_awaited c.phase) (c.serial == k) (c.client.0 == m.client.0) (c.service == m.service) (kind_fits c.phase m.kind)
+    (fitting_awaited c.phase m.kind ((c.serial == k) && ((c.client.0 == m.client.0) && (c.service == m.service)))))
     b.connections in
     omega (
       arith,
@@ -88,20 +120,55 @@ belongs s b h i d lt =
       ap bit own,
       h.paired t,
       alike,
-      count-le (λ c. is_message_of c m) (λ c. c.serial == m.connection) (λ c. both-le-left (c.serial == m.connection) _) b.connections,
-      unique 0 b.connections_made m.connection b.connections h.rising,
-    )
+      count-le (of (Some k)) (λ c. c.serial == k) (λ c. both-le-left (c.serial == k) _) b.connections,
+      unique 0 b.connections_made k b.connections h.rising,
+    ) in
+    let go : (o : Option ℕ) → m.connection ≡ o → count_by (of o) b.connections ≡ (if is_none o then 0 else 1) = elim [ None ↦ λ e. none-counts (of None) (λ c. refl) b.connections | Some k ↦ λ e. on k e ] in
+    go m.connection refl
+
+and_first : (x y : Bool) → (x && y) ≡ true → x ≡ true
+and_first true y e = refl
+and_first false y e = cc
+
+and_second : (x y : Bool) → (x && y) ≡ true → y ≡ true
+and_second true y e = e
+and_second false y e = cc
+
+not_wrong : (x y : Bool) → x ≡ true → bit (x && not y) ≡ 0 → y ≡ true
+not_wrong true true e h = refl
+not_wrong true false e h = absurd (omega (arith, h))
+not_wrong false y e h = cc
+
+asking-awaited : (s : System) (b : SpmState) (a : ℕ) → ObjectsFit s b → asked_by b.connections b.messages a ≤ awaited_by b.connections b.messages a
+asking-awaited s b a h = omega (arith, count-le (asking_of a) (awaited_of a) (asking_le a) b.connections)
+
+called : (s : System) (b : SpmState) → ObjectsFit s b → (i : ℕ) (d : PendingMessage) → i < length b.messages → is_none (get_or b.messages i d).connection ≡ true → IsCall s b (get_or b.messages i d)
+called s b h i d lt none =
+    let m : PendingMessage = get_or b.messages i d in
+    let a : ℕ = m.client.0 in
+    let lawful : (int_le PSA_IPC_CALL m.kind && (is_stateless s m.service && permits s a m.service)) ≡ true = not_wrong _ _ none (omega (arith, member-counts (wrongly_called s) b.messages i d lt, h.called)) in
+    let own : called_by a m ≡ true = and_on (is_none m.connection) (a == a) none (is_itself a) in
+    record {
+      request = and_first _ _ lawful;
+      stateless = and_first _ _ (and_second _ _ lawful);
+      permitted = and_second _ _ (and_second _ _ lawful);
+      blocked = asking-blocked (phase_of b a) (awaited_by b.connections b.messages a) (asked_by b.connections b.messages a) (λ n. count_by (accepted_as a n) b.connections) (h.phases a)
+          (omega (arith, member-counts (called_by a) b.messages i d lt, ap bit own)) (asking-awaited s b a h);
+    }
 
 pub carries : (s : System) (b : SpmState) → ObjectsFit s b → (i : ℕ) (d : OpenConnection) → i < length b.connections
-    → count_by (λ m. m.connection == (get_or b.connections i d).serial) b.messages ≡ (if is_awaited (get_or b.connections i d).phase then 1 else 0)
+    → count_by (is_numbered (get_or b.connections i d).serial) b.messages ≡ (if is_awaited (get_or b.connections i d).phase then 1 else 0)
 carries s b h i d lt =
     let c : OpenConnection = get_or b.connections i d in
-    let t : Mark = λ n a v ph. n == c.serial in
+    let t : Mark = λ n a v ph. c.serial == n in
+    let turn : (x n : ℕ) → (n == x) ≡ (x == n) = λ x n. grind arith in
     let here : bit (is_awaited c.phase && (c.serial == c.serial)) ≤ count_by (connection_marked t) b.connections = member-counts (connection_marked t) b.connections i d lt in
     let rest : bit (not (is_awaited c.phase) && (c.serial == c.serial)) ≤ count_by (λ x. not (is_awaited x.phase) && (x.serial == c.serial)) b.connections =
     member-counts (λ x. not (is_awaited x.phase) && (x.serial == c.serial)) b.connections i d lt in
     let all : count_by (connection_marked t) b.connections + count_by (λ x. not (is_awaited x.phase) && (x.serial == c.serial)) b.connections ≡ count_by (λ x. x.serial == c.serial) b.connections =
-    count-split (λ x. is_awaited x.phase) (λ x. x.serial == c.serial) b.connections in
+    ap (λ n. n + count_by (λ x. not (is_awaited x.phase) && (x.serial == c.serial)) b.connections)
+    (count-ext (connection_marked t) (λ x. is_awaited x.phase && (x.serial == c.serial)) (λ x. ap (λ y. is_awaited x.phase && y) (turn x.serial c.serial)) b.connections)
+    ∙ count-split (λ x. is_awaited x.phase) (λ x. x.serial == c.serial) b.connections in
     let few : count_by (λ x. x.serial == c.serial) b.connections ≤ 1 = unique 0 b.connections_made c.serial b.connections h.rising in
     let go : (x : Bool) → bit (x && (c.serial == c.serial)) ≤ count_by (connection_marked t) b.connections → bit (not x && (c.serial == c.serial)) ≤ count_by (λ x. not (is_awaited x.phase) && (x.serial == c.serial)) b.connections
     → count_by (connection_marked t) b.connections ≡ (if x then 1 else 0) =
@@ -131,7 +198,7 @@ waits : (s : System) (b : SpmState) → ObjectsFit s b → (i : ℕ) (d : OpenCo
 waits s b h i d lt e =
     let c : OpenConnection = get_or b.connections i d in
     let a : ℕ = c.client.0 in
-    waits-by (phase_of b a) c.phase (count_by (awaited_of a) b.connections) (count_by (asking_of a) b.connections) (λ n. count_by (accepted_as a n) b.connections) (h.phases a) e
+    waits-by (phase_of b a) c.phase (awaited_by b.connections b.messages a) (asked_by b.connections b.messages a) (λ n. count_by (accepted_as a n) b.connections) (h.phases a) e
     (omega (arith, member-counts (awaited_of a) b.connections i d lt, on_left (a == a) (is_awaited c.phase) (is_itself a), ap bit e))
     (omega (arith, member-counts (asking_of a) b.connections i d lt, on_left (a == a) (is_asking c.phase) (is_itself a)))
 
@@ -160,9 +227,17 @@ asking_awaited Error false = refl
 asking_awaited Dead true = refl
 asking_awaited Dead false = refl
 
-asks-count : (s : System) (b : SpmState) (a : ℕ) → ObjectsFit s b → count_by (λ m. (m.client.0 == a) && is_asking (phase_for m.kind)) b.messages ≡ count_by (asking_of a) b.connections
+asks-count : (s : System) (b : SpmState) (a : ℕ) → ObjectsFit s b → count_by (λ m. (m.client.0 == a) && is_asking (phase_for m.kind)) b.messages ≤ asked_by b.connections b.messages a
 asks-count s b a h =
-    h.paired (λ n x v ph. (x == a) && is_asking ph) ∙ count-ext _ (asking_of a) (λ c. asking_awaited c.phase (c.client.0 == a)) b.connections
+    let t : Mark = λ n x v ph. (x == a) && is_asking ph in
+    let one : (o : Option ℕ) (x y : Bool) → bit (x && y) ≤ bit (option_map_or (λ n. x && y) o false) + bit (is_none o && x) =
+    elim [ Some n ↦ λ x y. omega arith | None ↦ elim [ true ↦ λ y. bit-le y | false ↦ λ y. omega arith ] ] in
+    omega (
+      arith,
+      count-sum (λ m. (m.client.0 == a) && is_asking (phase_for m.kind)) (message_marked t) (called_by a) (λ m. one m.connection (m.client.0 == a) (is_asking (phase_for m.kind))) b.messages,
+      h.paired t,
+      count-ext (connection_marked t) (asking_of a) (λ c. asking_awaited c.phase (c.client.0 == a)) b.connections,
+    )
 
 asking-few : (p : ActorPhase) (n k : ℕ) (j : ℕ → ℕ) → PhaseFits p n k j → k ≤ n → k ≤ 1
 asking-few Blocked n k j h le = omega (arith, h)
@@ -173,15 +248,12 @@ asking-few (Ready o) n k j h le = omega (arith, h)
 asking-few (Connected c) n k j h le = omega (arith, h.0)
 asking-few Ended n k j h le = omega (arith, h)
 
-asking-awaited : (s : System) (b : SpmState) (a : ℕ) → ObjectsFit s b → count_by (asking_of a) b.connections ≤ count_by (awaited_of a) b.connections
-asking-awaited s b a h = count-le (asking_of a) (awaited_of a) (asking_le a) b.connections
-
 asked : (s : System) (b : SpmState) → ObjectsFit s b → (i : ℕ) (d : PendingMessage) → i < length b.messages → is_disconnection (get_or b.messages i d) ≡ false → phase_of b (get_or b.messages i d).client.0 ≡ Blocked
 asked s b h i d lt e =
     let m : PendingMessage = get_or b.messages i d in
     let a : ℕ = m.client.0 in
     let asks_here : ((a == a) && is_asking (phase_for m.kind)) ≡ true = and_on _ _ (is_itself a) (asking_kind m.kind (no-dead s b h i d lt) e) in
-    asking-blocked (phase_of b a) (count_by (awaited_of a) b.connections) (count_by (asking_of a) b.connections) (λ n. count_by (accepted_as a n) b.connections) (h.phases a)
+    asking-blocked (phase_of b a) (awaited_by b.connections b.messages a) (asked_by b.connections b.messages a) (λ n. count_by (accepted_as a n) b.connections) (h.phases a)
     (omega (arith, member-counts (λ x. (x.client.0 == a) && is_asking (phase_for x.kind)) b.messages i d lt, ap bit asks_here, asks-count s b a h)) (asking-awaited s b a h)
 
 asks_or_not : (kind : ℤ) → bit (not (int_eq kind PSA_IPC_DISCONNECT)) ≤ bit (is_asking (phase_for kind)) + bit (is_dead (phase_for kind))
@@ -190,28 +262,23 @@ asks_or_not (negsuc zero) = omega arith
 asks_or_not (negsuc (suc zero)) = omega arith
 asks_or_not (negsuc (suc (suc n))) = bit-le (not (int_eq (negsuc (suc (suc n))) PSA_IPC_DISCONNECT))
 
-pub count-sum : {X : Type 0} (p q r : X → Bool) → ((x : X) → bit (p x) ≤ bit (q x) + bit (r x)) → (xs : List X) → count_by p xs ≤ count_by q xs + count_by r xs
-count-sum p q r le [] = omega arith
-count-sum p q r le (x ∷ xs) = omega (arith, count-cons p x xs, count-cons q x xs, count-cons r x xs, le x, count-sum p q r le xs)
-
 alone : (s : System) (b : SpmState) (a : ℕ) → ObjectsFit s b → count_by (λ m. (m.client.0 == a) && not (is_disconnection m)) b.messages ≤ 1
 alone s b a h =
-    let t : Mark = λ n x v ph. is_dead ph in
     let one : (x : Bool) (kind : ℤ) → bit (x && not (int_eq kind PSA_IPC_DISCONNECT)) ≤ bit (x && is_asking (phase_for kind)) + bit (is_dead (phase_for kind)) =
     elim [ true ↦ λ kind. asks_or_not kind | false ↦ λ kind. omega arith ] in
     omega (
       arith,
-      count-sum (λ m. (m.client.0 == a) && not (is_disconnection m)) (λ m. (m.client.0 == a) && is_asking (phase_for m.kind)) (message_marked t) (λ m. one (m.client.0 == a) m.kind) b.messages,
-      h.paired t,
-      none-counts (connection_marked t) (λ c. dead_unawaited c.phase) b.connections,
+      count-sum (λ m. (m.client.0 == a) && not (is_disconnection m)) (λ m. (m.client.0 == a) && is_asking (phase_for m.kind)) (λ m. is_dead (phase_for m.kind)) (λ m. one (m.client.0 == a) m.kind) b.messages,
+      none-dead s b h,
       asks-count s b a h,
-      asking-few (phase_of b a) (count_by (awaited_of a) b.connections) (count_by (asking_of a) b.connections) (λ n. count_by (accepted_as a n) b.connections) (h.phases a) (asking-awaited s b a h),
+      asking-few (phase_of b a) (awaited_by b.connections b.messages a) (asked_by b.connections b.messages a) (λ n. count_by (accepted_as a n) b.connections) (h.phases a) (asking-awaited s b a h),
     )
 
 -- in a state whose objects fit, messages and connections pair off
-pub fitting-pairs : (s : System) (b : SpmState) → ObjectsFit s b → MessagesPair b
+pub fitting-pairs : (s : System) (b : SpmState) → ObjectsFit s b → MessagesPair s b
 fitting-pairs s b h = record {
   belongs = belongs s b h;
+  called = called s b h;
   carries = carries s b h;
   waits = waits s b h;
   blocked = λ a e. blocked-one (phase_of b a) _ _ (λ n. count_by (accepted_as a n) b.connections) e (h.phases a);

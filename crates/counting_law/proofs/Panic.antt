@@ -1,6 +1,9 @@
 -- A panic keeps the balance.
 use Rattle.std.proofs.Common.{ℕ, zero, suc, ◌≡◌, ◌<◌, ◌≤◌, ◌+◌, ◌==◌, Bool, true, false, cond, not, ◌&&◌, ◌||◌, List, [], ◌∷◌, ◌++◌, length, get_or, arith, ◌∙◌, ap, sym, refl, subst}
-use Rattle.std.specs.Prelude.{count_by, filter, slice_set, is_none, negsuc, if◌then◌else◌}
+use Rattle.std.specs.Prelude.{count_by, filter, slice_set, is_none, negsuc, Option, Some, None, if◌then◌else◌}
+use Rattle.std.specs.Option.{option_map_or}
+use Rattle.ffm_model.specs.declared.constants.TheConstants.{PSA_ERROR_COMMUNICATION_FAILURE}
+use Rattle.ffm_model.specs.declared.objects.PendingMessage.{PendingMessage}
 use Rattle.std.proofs.lemmas.List.Sums.{sum_by-append}
 use Rattle.ffm_model.specs.declared.system.System.{System}
 use Rattle.ffm_model.specs.declared.machine.Handle.{Handle}
@@ -16,10 +19,10 @@ use Rattle.ffm_model.specs.Signals.{is_blocked}
 use Rattle.counting_law.specs.Objects.{same}
 use Rattle.ffm_model.specs.State.{SpmState, phase_of, has_handle}
 use Rattle.counting_law.proofs.Balance.{Balanced}
-use Rattle.counting_law.specs.Objects.{PhaseFits, PhaseFitsAt, RisesTo, Mark, is_joining, is_opening, is_awaited, is_asking, is_accepted, awaited_of, asking_of, accepted_as, wrongly_shown, message_marked, connection_marked}
-use Rattle.ffm_model.specs.Panic.{is_dead, client_answered, clients_answered, panic_effect}
+use Rattle.counting_law.specs.Objects.{PhaseFits, PhaseFitsAt, RisesTo, Mark, phase_for, awaited_by, asked_by, called_by, wrongly_called, is_joining, is_opening, is_awaited, is_asking, is_accepted, awaited_of, asking_of, accepted_as, wrongly_shown, message_marked, connection_marked}
+use Rattle.ffm_model.specs.Panic.{is_dead, is_lost_request, callers_answered, client_answered, clients_answered, panic_effect}
 use Rattle.counting_law.proofs.Losses.{survives, left_as, all_left, disconnect_message, disconnect_as, disconnect_messages, after_panic, after_panic-is}
-use Rattle.counting_law.proofs.Counts.{bit, count-cons, count-ext, count-le}
+use Rattle.counting_law.proofs.Counts.{bit, count-cons, count-ext, count-filter-le, count-le}
 use Rattle.counting_law.proofs.Parts.{is_plain, same_or_not, is_there, phase_same, phase_other, off_left, off_right, on_left, flipped, rising-from, unique, off_from, equal_from, both-le-left, both-le-right}
 use Rattle.counting_law.proofs.Updates.{in_phase}
 use Rattle.counting_law.proofs.Reply.{awaited_client, blocked-one, panicked-none, asking_le}
@@ -58,6 +61,11 @@ rising-left s p lo hi (c ∷ cs) h =
 -- messages and awaited connections
 abbrev kept_mark : System → ℕ → Mark → Mark
 kept_mark s p t n a v ph = not (is_service_of s p v) && t n a v ph
+
+mark-kept : (o : Bool) (f : ℕ → Bool) (k : Option ℕ) → (not o && option_map_or f k false) ≡ option_map_or (λ n. not o && f n) k false
+mark-kept o f (Some n) = refl
+mark-kept true f None = refl
+mark-kept false f None = refl
 
 mark-step : (t : Mark) (c : OpenConnection) (o k : Bool) (ph : ConnPhase) → (k && is_awaited ph) ≡ false
     → count_by (connection_marked t) (left_as o k ph c) ≡ bit (is_awaited ph && (not o && t c.serial c.client.0 c.service ph)) + count_by (message_marked t) (disconnect_as o k ph c)
@@ -111,23 +119,107 @@ count-filter {X = X} q r (x ∷ xs) =
     elim [ true ↦ omega (arith, count-cons q x rest, count-filter q r xs) | false ↦ omega (arith, count-filter q r xs) ] in
     omega (arith, count-cons (λ y. r y && q y) x xs, go (r x))
 
-no-disconnect-handle : (s : System) (p : ℕ) (h : Handle) (cs : List OpenConnection) → count_by (λ m. has_handle m.handle h) (disconnect_messages s p cs) ≡ 0
-no-disconnect-handle s p h [] = refl
-no-disconnect-handle s p h (c ∷ cs) =
-    let here : (o k : Bool) (ph : ConnPhase) → count_by (λ m. has_handle m.handle h) (disconnect_as o k ph c) ≡ 0 =
-    λ o k ph. elim o as (λ (o : Bool). count_by (λ m. has_handle m.handle h) (disconnect_as o k ph c) ≡ 0) [
+-- a test that no disconnection passes
+no-disconnects : (s : System) (p : ℕ) (q : PendingMessage → Bool) → ((c : OpenConnection) → q (disconnect_message c) ≡ false) → (cs : List OpenConnection) → count_by q (disconnect_messages s p cs) ≡ 0
+no-disconnects s p q off [] = refl
+no-disconnects s p q off (c ∷ cs) =
+    let here : (o k : Bool) (ph : ConnPhase) → count_by q (disconnect_as o k ph c) ≡ 0 =
+    λ o k ph. elim o as (λ (o : Bool). count_by q (disconnect_as o k ph c) ≡ 0) [
       | true ↦ refl
-      | false ↦ elim k as (λ (k : Bool). count_by (λ m. has_handle m.handle h) (disconnect_as false k ph c) ≡ 0) [
-        | true ↦ elim (is_dead ph) as (λ (d : Bool). count_by (λ m. has_handle m.handle h) (if d then [] else disconnect_message c ∷ []) ≡ 0) [ true ↦ refl | false ↦ refl ]
+      | false ↦ elim k as (λ (k : Bool). count_by q (disconnect_as false k ph c) ≡ 0) [
+        | true ↦ elim (is_dead ph) as (λ (d : Bool). count_by q (if d then [] else disconnect_message c ∷ []) ≡ 0) [ true ↦ refl | false ↦ omega (arith, count-cons q (disconnect_message c) [], ap bit (off c)) ]
         | false ↦ refl
       ]
     ] in
     omega (
       arith,
       here (is_service_of s p c.service) (c.client.0 == p) c.phase,
-      no-disconnect-handle s p h cs,
-      count-append (λ m. has_handle m.handle h) (disconnect_as (is_service_of s p c.service) (c.client.0 == p) c.phase c) (disconnect_messages s p cs),
+      no-disconnects s p q off cs,
+      count-append q (disconnect_as (is_service_of s p c.service) (c.client.0 == p) c.phase c) (disconnect_messages s p cs),
     )
+
+-- ---- requests by stateless handles
+
+-- the actor's requests that are lost
+abbrev pub lost_call : System → ℕ → ℕ → PendingMessage → Bool
+lost_call s p a m = is_lost_request s p m && (m.client.0 == a)
+
+lost_called : (s : System) (p a : ℕ) (m : PendingMessage) → bit (lost_call s p a m) ≤ bit (called_by a m)
+lost_called s p a m =
+    let go : (x o i : Bool) → bit ((x && o) && i) ≤ bit (x && i) = elim [ true ↦ elim [ true ↦ λ i. omega arith | false ↦ λ i. omega arith ] | false ↦ λ o i. omega arith ] in
+    go (is_none m.connection) (is_service_of s p m.service) (m.client.0 == a)
+
+-- the others stay
+calls-left : (s : System) (p a : ℕ) (ms : List PendingMessage) → count_by (called_by a) (filter (λ m. not (is_service_of s p m.service)) ms) + count_by (lost_call s p a) ms ≡ count_by (called_by a) ms
+calls-left s p a [] = refl
+calls-left s p a (m ∷ ms) =
+    let rest : List PendingMessage = filter (λ n. not (is_service_of s p n.service)) ms in
+    let step : (x o i : Bool) → (if not o then bit (x && i) else 0) + bit ((x && o) && i) ≡ bit (x && i) =
+    elim [ true ↦ elim [ true ↦ λ i. omega arith | false ↦ λ i. omega arith ] | false ↦ elim [ true ↦ λ i. refl | false ↦ λ i. refl ] ] in
+    let go : (o : Bool) → count_by (called_by a) (cond (not o) (m ∷ rest) rest) ≡ (if not o then bit (called_by a m) else 0) + count_by (called_by a) rest =
+    elim [ true ↦ omega arith | false ↦ count-cons (called_by a) m rest ] in
+    omega (
+      arith,
+      go (is_service_of s p m.service),
+      step (is_none m.connection) (is_service_of s p m.service) (m.client.0 == a),
+      calls-left s p a ms,
+      count-cons (called_by a) m ms,
+      count-cons (lost_call s p a) m ms,
+    )
+
+calls-after : (s : System) (p a : ℕ) (ms : List PendingMessage) (cs : List OpenConnection)
+    → count_by (called_by a) (filter (λ m. not (is_service_of s p m.service)) ms ++ disconnect_messages s p cs) + count_by (lost_call s p a) ms ≡ count_by (called_by a) ms
+calls-after s p a ms cs =
+    omega (
+      arith,
+      count-append (called_by a) (filter (λ m. not (is_service_of s p m.service)) ms) (disconnect_messages s p cs),
+      no-disconnects s p (called_by a) (λ c. refl) cs,
+      calls-left s p a ms,
+    )
+
+abbrev lost_answer : ActorPhase
+lost_answer = Ready (Value PSA_ERROR_COMMUNICATION_FAILURE)
+
+caller-step : (o i : Bool) (ps : List ActorPhase) (x a : ℕ) → (x == a) ≡ i → bit (o && i) ≡ 0 → get_or (if o then slice_set ps x lost_answer else ps) a Ended ≡ get_or ps a Ended
+caller-step false i ps x a e z = refl
+caller-step true false ps x a e z = phase_other ps x a lost_answer (flipped x a e)
+caller-step true true ps x a e z = absurd (omega (arith, z))
+
+callers-same : (s : System) (p a : ℕ) (ms : List PendingMessage) (ps : List ActorPhase) → count_by (lost_call s p a) ms ≡ 0 → get_or (callers_answered s p ms ps) a Ended ≡ get_or ps a Ended
+callers-same s p a [] ps h = refl
+callers-same s p a (m ∷ ms) ps h =
+    callers-same s p a ms _ (omega (arith, h, count-cons (lost_call s p a) m ms))
+    ∙ caller-step (is_lost_request s p m) (m.client.0 == a) ps m.client.0 a refl (omega (arith, h, count-cons (lost_call s p a) m ms))
+
+-- one that was told stays so
+callers-stay : (s : System) (p a : ℕ) (ms : List PendingMessage) (ps : List ActorPhase) → get_or ps a Ended ≡ lost_answer → get_or (callers_answered s p ms ps) a Ended ≡ lost_answer
+callers-stay s p a [] ps h = h
+callers-stay s p a (m ∷ ms) ps h =
+    let go : (o i : Bool) → (m.client.0 == a) ≡ i → get_or (if o then slice_set ps m.client.0 lost_answer else ps) a Ended ≡ lost_answer =
+    elim [
+      | true ↦ elim [
+        | true ↦ λ e. let mine : m.client.0 ≡ a = equal_from m.client.0 a e in ap (λ n. get_or (slice_set ps n lost_answer) a Ended) mine ∙ phase_same ps a lost_answer (is_there ps a (λ z. cc))
+        | false ↦ λ e. phase_other ps m.client.0 a lost_answer (flipped m.client.0 a e) ∙ h
+      ]
+      | false ↦ λ i e. h
+    ] in
+    callers-stay s p a ms _ (go (is_lost_request s p m) (m.client.0 == a) refl)
+
+-- a Blocked caller is told at once
+callers-told : (s : System) (p a : ℕ) (ms : List PendingMessage) (ps : List ActorPhase) → get_or ps a Ended ≡ Blocked → 1 ≤ count_by (lost_call s p a) ms → get_or (callers_answered s p ms ps) a Ended ≡ lost_answer
+callers-told s p a [] ps b h = absurd (omega (arith, h))
+callers-told s p a (m ∷ ms) ps b h =
+    let go : (o i : Bool) → (m.client.0 == a) ≡ i → 1 ≤ bit (o && i) + count_by (lost_call s p a) ms → get_or (callers_answered s p ms (if o then slice_set ps m.client.0 lost_answer else ps)) a Ended ≡ lost_answer =
+    elim [
+      | true ↦ elim [
+        | true ↦ λ e n.
+            let mine : m.client.0 ≡ a = equal_from m.client.0 a e in
+            callers-stay s p a ms _ (ap (λ k. get_or (slice_set ps k lost_answer) a Ended) mine ∙ phase_same ps a lost_answer (is_there ps a (λ z. cc)))
+        | false ↦ λ e n. callers-told s p a ms _ (phase_other ps m.client.0 a lost_answer (flipped m.client.0 a e) ∙ b) (omega (arith, n))
+      ]
+      | false ↦ λ i e n. callers-told s p a ms ps b (omega (arith, n))
+    ] in
+    go (is_lost_request s p m) (m.client.0 == a) refl (omega (arith, h, count-cons (lost_call s p a) m ms))
 
 -- the same, naming the phase that is left
 left_cases3 : (c : OpenConnection) (P : List OpenConnection → Type 0) (o k : Bool) (ph : ConnPhase) → P [] → P (in_phase c Dead ∷ []) → P (in_phase c Closing ∷ []) → P (in_phase c ph ∷ []) → P (left_as o k ph c)
@@ -304,29 +396,62 @@ told-panicked s p a (c ∷ cs) ps h z =
     told-panicked s p a cs _ (told-panicked-step (is_service_of s p c.service) (c.client.0 == a) c.phase ps c.client.0 a refl (omega (arith, count-cons (lost_asking s p a) c cs)) h)
     (omega (arith, count-cons (lost_asking s p a) c cs))
 
+-- the phases behind the panic of an actor, and how many answers another one loses by it
+abbrev pub phases_told : System → SpmState → ℕ → List ActorPhase
+phases_told s b p = callers_answered s p b.messages (clients_answered s p b.connections (slice_set b.phases p Panicked))
+
+abbrev pub lost_by : System → SpmState → ℕ → ℕ → ℕ
+lost_by s b p a = count_by (lost_of s p a) b.connections + count_by (lost_call s p a) b.messages
+
+lost-few : (s : System) (b : SpmState) (p a : ℕ) → lost_by s b p a ≤ awaited_by b.connections b.messages a
+lost-few s b p a =
+    omega (
+      arith,
+      count-le (lost_of s p a) (awaited_of a) (λ c. both-le-right (is_service_of s p c.service) (awaited_of a c)) b.connections,
+      count-le (lost_call s p a) (called_by a) (lost_called s p a) b.messages,
+    )
+
+told-none : (s : System) (b : SpmState) (p a : ℕ) → lost_by s b p a ≡ 0 → get_or (phases_told s b p) a Ended ≡ get_or (slice_set b.phases p Panicked) a Ended
+told-none s b p a none =
+    let ps : List ActorPhase = slice_set b.phases p Panicked in
+    callers-same s p a b.messages (clients_answered s p b.connections ps) (omega (arith, none)) ∙ told-same s p a b.connections ps (omega (arith, none))
+
+-- its own, where it awaits nothing
+pub told-self : (s : System) (b : SpmState) (p : ℕ) → p < length b.phases → awaited_by b.connections b.messages p ≡ 0 → get_or (phases_told s b p) p Ended ≡ Panicked
+told-self s b p inside quiet = told-none s b p p (omega (arith, quiet, lost-few s b p p)) ∙ phase_same b.phases p Panicked inside
+
 -- an actor's phase before and after the panic of another
 pub phase_after : (s : System) (limit : Handle → ℕ) (b : SpmState) (p a : ℕ) (P : Type 0) → Balanced s limit b → (a == p) ≡ false
-    → (count_by (lost_of s p a) b.connections ≡ 0 → get_or (clients_answered s p b.connections (slice_set b.phases p Panicked)) a Ended ≡ phase_of b a → P)
-    → ((o : Outcome) → phase_of b a ≡ Blocked → count_by (lost_of s p a) b.connections ≡ 1 → get_or (clients_answered s p b.connections (slice_set b.phases p Panicked)) a Ended ≡ Ready o → is_plain o ≡ true → P)
-    → (phase_of b a ≡ Panicked → get_or (clients_answered s p b.connections (slice_set b.phases p Panicked)) a Ended ≡ Panicked → P) → P
+    → (lost_by s b p a ≡ 0 → get_or (phases_told s b p) a Ended ≡ phase_of b a → P)
+    → ((o : Outcome) → phase_of b a ≡ Blocked → lost_by s b p a ≡ 1 → get_or (phases_told s b p) a Ended ≡ Ready o → is_plain o ≡ true → P)
+    → (phase_of b a ≡ Panicked → get_or (phases_told s b p) a Ended ≡ Panicked → P) → P
 phase_after s limit b p a P h e same ready panicked =
     let ps : List ActorPhase = slice_set b.phases p Panicked in
     let before : get_or ps a Ended ≡ phase_of b a = phase_other b.phases p a Panicked e in
-    let few : count_by (lost_of s p a) b.connections ≤ count_by (awaited_of a) b.connections = count-le (lost_of s p a) (awaited_of a) (λ c. both-le-right (is_service_of s p c.service) (awaited_of a c)) b.connections in
-    let go : (n : ℕ) → count_by (lost_of s p a) b.connections ≡ n → P =
+    let few : lost_by s b p a ≤ awaited_by b.connections b.messages a = lost-few s b p a in
+    let calls : ℕ = count_by (lost_call s p a) b.messages in
+    let answered : (k : ℕ) → count_by (lost_of s p a) b.connections ≡ k → phase_of b a ≡ Blocked → lost_by s b p a ≡ 1 → P =
     elim [
-      | zero ↦ λ z. same z (told-same s p a b.connections ps z ∙ before)
+      | zero ↦ λ k blocked exactly.
+          ready (Value PSA_ERROR_COMMUNICATION_FAILURE) blocked exactly
+          (callers-told s p a b.messages (clients_answered s p b.connections ps) (told-same s p a b.connections ps k ∙ before ∙ blocked) (omega (arith, k, exactly))) refl
+      | suc n ↦ λ k blocked exactly.
+          let now = told-ready s p a b.connections ps (before ∙ blocked) (omega (arith, k, exactly)) in
+          ready now.0 blocked exactly (callers-same s p a b.messages (clients_answered s p b.connections ps) (omega (arith, k, exactly)) ∙ now.1) now.2
+    ] in
+    let go : (n : ℕ) → lost_by s b p a ≡ n → P =
+    elim [
+      | zero ↦ λ z. same z (told-none s b p a z ∙ before)
       | suc n ↦ λ z.
-          awaited_client (phase_of b a) _ _ (λ m. count_by (accepted_as a m) b.connections) P (h.fitting a) (omega arith)
+          awaited_client (phase_of b a) (awaited_by b.connections b.messages a) (asked_by b.connections b.messages a) (λ m. count_by (accepted_as a m) b.connections) P (h.fitting a) (omega (arith, few, z))
           (λ blocked.
-          let one : count_by (awaited_of a) b.connections ≡ 1 = blocked-one (phase_of b a) _ _ (λ m. count_by (accepted_as a m) b.connections) blocked (h.fitting a) in
-          let exactly : count_by (lost_of s p a) b.connections ≡ 1 = omega arith in
-          let now = told-ready s p a b.connections ps (before ∙ blocked) exactly in
-          ready now.0 blocked exactly now.1 now.2)
+          let one : awaited_by b.connections b.messages a ≡ 1 = blocked-one (phase_of b a) _ _ (λ m. count_by (accepted_as a m) b.connections) blocked (h.fitting a) in
+          answered _ refl blocked (omega (arith, few, z, one)))
           (λ gone.
-          let none : count_by (asking_of a) b.connections ≡ 0 = panicked-none (phase_of b a) _ _ (λ m. count_by (accepted_as a m) b.connections) gone (h.fitting a) in
-          panicked gone (told-panicked s p a b.connections ps (before ∙ gone)
-          (omega (arith, count-le (lost_asking s p a) (asking_of a) (λ c. both-le-right (is_service_of s p c.service) (asking_of a c)) b.connections))))
+          let none : asked_by b.connections b.messages a ≡ 0 = panicked-none (phase_of b a) _ _ (λ m. count_by (accepted_as a m) b.connections) gone (h.fitting a) in
+          panicked gone (callers-same s p a b.messages (clients_answered s p b.connections ps) (omega (arith, none, count-le (lost_call s p a) (called_by a) (lost_called s p a) b.messages))
+          ∙ told-panicked s p a b.connections ps (before ∙ gone)
+          (omega (arith, none, count-le (lost_asking s p a) (asking_of a) (λ c. both-le-right (is_service_of s p c.service) (asking_of a c)) b.connections))))
     ] in
     go _ refl
 
@@ -383,25 +508,26 @@ shown-left s p phases (c ∷ cs) h =
       count-cons (wrongly_shown phases) c cs,
     )
 
-joining-after : (s : System) (limit : Handle → ℕ) (b : SpmState) (p a n : ℕ) → Balanced s limit b → p < length b.phases → count_by (awaited_of p) b.connections ≡ 0 → ((k : ℕ) → is_joining (phase_of b p) k ≡ false)
-    → is_joining (get_or (clients_answered s p b.connections (slice_set b.phases p Panicked)) a Ended) n ≡ is_joining (phase_of b a) n
+joining-after : (s : System) (limit : Handle → ℕ) (b : SpmState) (p a n : ℕ) → Balanced s limit b → p < length b.phases → awaited_by b.connections b.messages p ≡ 0 → ((k : ℕ) → is_joining (phase_of b p) k ≡ false)
+    → is_joining (get_or (phases_told s b p) a Ended) n ≡ is_joining (phase_of b a) n
 joining-after s limit b p a n h inside quiet free =
-    let told : List ActorPhase = clients_answered s p b.connections (slice_set b.phases p Panicked) in
+    let told : List ActorPhase = phases_told s b p in
     same_or_not a p (is_joining (get_or told a Ended) n ≡ is_joining (phase_of b a) n)
     (λ e.
-    let none : count_by (lost_of s p p) b.connections ≡ 0 = omega (arith, count-le (lost_of s p p) (awaited_of p) (λ c. both-le-right (is_service_of s p c.service) (awaited_of p c)) b.connections) in
-    let now : get_or told p Ended ≡ Panicked = told-same s p p b.connections (slice_set b.phases p Panicked) none ∙ phase_same b.phases p Panicked inside in
+    let now : get_or told p Ended ≡ Panicked = told-self s b p inside quiet in
     subst (λ (x : ℕ). is_joining (get_or told x Ended) n ≡ is_joining (phase_of b x) n) (sym e) (ap (λ (q : ActorPhase). is_joining q n) now ∙ sym (free n)))
     (λ e. phase_after s limit b p a (is_joining (get_or told a Ended) n ≡ is_joining (phase_of b a) n) h e
     (λ z now. ap (λ (q : ActorPhase). is_joining q n) now)
     (λ o blocked one now plain. ap (λ (q : ActorPhase). is_joining q n) now ∙ sym (ap (λ (q : ActorPhase). is_joining q n) blocked))
     (λ gone now. ap (λ (q : ActorPhase). is_joining q n) now ∙ sym (ap (λ (q : ActorPhase). is_joining q n) gone)))
 
-after_panic-keeps : (s : System) (limit : Handle → ℕ) (b : SpmState) (p : ℕ) → Balanced s limit b → p < length b.phases → count_by (awaited_of p) b.connections ≡ 0 → ((k : ℕ) → is_joining (phase_of b p) k ≡ false)
+after_panic-keeps : (s : System) (limit : Handle → ℕ) (b : SpmState) (p : ℕ) → Balanced s limit b → p < length b.phases → awaited_by b.connections b.messages p ≡ 0 → ((k : ℕ) → is_joining (phase_of b p) k ≡ false)
     → Balanced s limit (after_panic s b p)
 after_panic-keeps s limit b p h inside quiet free =
     let left : List OpenConnection = all_left s p b.connections in
-    let told : List ActorPhase = clients_answered s p b.connections (slice_set b.phases p Panicked) in
+    let told : List ActorPhase = phases_told s b p in
+    let sent : List PendingMessage = filter (λ m. not (is_service_of s p m.service)) b.messages ++ disconnect_messages s p b.connections in
+    let alone : count_by (awaited_of p) b.connections ≡ 0 = omega (arith, quiet) in
     let rises : RisesTo 0 left b.connections_made = rising-left s p 0 b.connections_made b.connections h.rising in
     record {
       within = λ x w. omega (arith, h.within x w, left-le s p (λ c. (c.client.0 == x) && (c.service == w)) (λ c ph. refl) b.connections);
@@ -409,35 +535,43 @@ after_panic-keeps s limit b p h inside quiet free =
         arith,
         count-append (message_marked t) (filter (λ m. not (is_service_of s p m.service)) b.messages) (disconnect_messages s p b.connections),
         count-filter (message_marked t) (λ m. not (is_service_of s p m.service)) b.messages,
+        count-ext (λ m. not (is_service_of s p m.service) && message_marked t m) (message_marked (kept_mark s p t))
+            (λ m. mark-kept (is_service_of s p m.service) (λ n. t n m.client.0 m.service (phase_for m.kind)) m.connection) b.messages,
         h.paired (kept_mark s p t),
-        marks-left s p t b.connections quiet,
+        marks-left s p t b.connections alone,
+      );
+      called = omega (
+        arith,
+        count-append (wrongly_called s) (filter (λ m. not (is_service_of s p m.service)) b.messages) (disconnect_messages s p b.connections),
+        no-disconnects s p (wrongly_called s) (λ c. refl) b.connections,
+        count-filter-le (wrongly_called s) (λ m. not (is_service_of s p m.service)) b.messages,
+        h.called,
       );
       rising = rises;
-      fitting = λ a. same_or_not a p (PhaseFitsAt told left a)
+      fitting = λ a. same_or_not a p (PhaseFitsAt told left sent a)
           (λ e.
-          let none : count_by (lost_of s p p) b.connections ≡ 0 = omega (arith, count-le (lost_of s p p) (awaited_of p) (λ c. both-le-right (is_service_of s p c.service) (awaited_of p c)) b.connections) in
-          let now : get_or told p Ended ≡ Panicked = told-same s p p b.connections (slice_set b.phases p Panicked) none ∙ phase_same b.phases p Panicked inside in
-          subst (λ (x : ℕ). PhaseFitsAt told left x) (sym e)
-          (subst (λ (q : ActorPhase). PhaseFits q (count_by (awaited_of p) left) (count_by (asking_of p) left) (λ n. count_by (accepted_as p n) left)) (sym now)
-          (omega (arith, asking-left s p p b.connections, count-le (asking_of p) (awaited_of p) (asking_le p) b.connections))))
-          (λ e. phase_after s limit b p a (PhaseFitsAt told left a) h e
-          (λ z now. subst (λ (q : ActorPhase). PhaseFits q (count_by (awaited_of a) left) (count_by (asking_of a) left) (λ n. count_by (accepted_as a n) left)) (sym now)
-          (fits-kept (phase_of b a) _ _ _ _ _ (λ n. count_by (accepted_as a n) left) (omega (arith, awaited-left s p a b.connections e)) (asking-left s p a b.connections)
+          let now : get_or told p Ended ≡ Panicked = told-self s b p inside quiet in
+          subst (λ (x : ℕ). PhaseFitsAt told left sent x) (sym e)
+          (subst (λ (q : ActorPhase). PhaseFits q (awaited_by left sent p) (asked_by left sent p) (λ n. count_by (accepted_as p n) left)) (sym now)
+          (omega (arith, quiet, calls-after s p p b.messages b.connections, asking-left s p p b.connections, count-le (asking_of p) (awaited_of p) (asking_le p) b.connections))))
+          (λ e. phase_after s limit b p a (PhaseFitsAt told left sent a) h e
+          (λ z now. subst (λ (q : ActorPhase). PhaseFits q (awaited_by left sent a) (asked_by left sent a) (λ n. count_by (accepted_as a n) left)) (sym now)
+          (fits-kept (phase_of b a) _ _ _ _ _ (λ n. count_by (accepted_as a n) left) (omega (arith, z, calls-after s p a b.messages b.connections, awaited-left s p a b.connections e)) (omega (arith, z, calls-after s p a b.messages b.connections, asking-left s p a b.connections))
           (λ m. accepted-left s p a m b.connections e)
           (λ m. omega (arith, unique 0 b.connections_made m left rises, count-le (accepted_as a m) (λ d. d.serial == m) (λ d. both-le-left (d.serial == m) ((d.client.0 == a) && is_accepted d.phase)) left))
           (h.fitting a)))
           (λ o blocked one now plain.
-          let all : count_by (awaited_of a) b.connections ≡ 1 = blocked-one (phase_of b a) _ _ (λ m. count_by (accepted_as a m) b.connections) blocked (h.fitting a) in
-          subst (λ (q : ActorPhase). PhaseFits q (count_by (awaited_of a) left) (count_by (asking_of a) left) (λ n. count_by (accepted_as a n) left)) (sym now)
-          (omega (arith, awaited-left s p a b.connections e)))
+          let all : awaited_by b.connections b.messages a ≡ 1 = blocked-one (phase_of b a) _ _ (λ m. count_by (accepted_as a m) b.connections) blocked (h.fitting a) in
+          subst (λ (q : ActorPhase). PhaseFits q (awaited_by left sent a) (asked_by left sent a) (λ n. count_by (accepted_as a n) left)) (sym now)
+          (omega (arith, one, all, calls-after s p a b.messages b.connections, awaited-left s p a b.connections e)))
           (λ gone now.
-          let none : count_by (asking_of a) b.connections ≡ 0 = panicked-none (phase_of b a) _ _ (λ m. count_by (accepted_as a m) b.connections) gone (h.fitting a) in
-          subst (λ (q : ActorPhase). PhaseFits q (count_by (awaited_of a) left) (count_by (asking_of a) left) (λ n. count_by (accepted_as a n) left)) (sym now)
-          (omega (arith, asking-left s p a b.connections))));
+          let none : asked_by b.connections b.messages a ≡ 0 = panicked-none (phase_of b a) _ _ (λ m. count_by (accepted_as a m) b.connections) gone (h.fitting a) in
+          subst (λ (q : ActorPhase). PhaseFits q (awaited_by left sent a) (asked_by left sent a) (λ n. count_by (accepted_as a n) left)) (sym now)
+          (omega (arith, none, calls-after s p a b.messages b.connections, asking-left s p a b.connections))));
       shown = omega (
         arith,
         h.shown,
-        shown-left s p b.phases b.connections quiet,
+        shown-left s p b.phases b.connections alone,
         count-ext (wrongly_shown told) (wrongly_shown b.phases)
             (λ d. ap (λ k. not (same (is_none d.handle) (is_opening d.phase || k))) (joining-after s limit b p d.client.0 d.serial h inside quiet free)) left,
       );
@@ -446,13 +580,13 @@ after_panic-keeps s limit b p h inside quiet free =
         h.handles k,
         left-le s p (λ c. has_handle c.handle k) (λ c ph. refl) b.connections,
         count-append (λ m. has_handle m.handle k) (filter (λ m. not (is_service_of s p m.service)) b.messages) (disconnect_messages s p b.connections),
-        no-disconnect-handle s p k b.connections,
+        no-disconnects s p (λ m. has_handle m.handle k) (λ c. refl) b.connections,
         count-filter (λ m. has_handle m.handle k) (λ m. not (is_service_of s p m.service)) b.messages,
         count-le (λ m. not (is_service_of s p m.service) && has_handle m.handle k) (λ m. has_handle m.handle k) (λ m. both-le-right (not (is_service_of s p m.service)) (has_handle m.handle k)) b.messages,
       );
       single = h.single;
     }
 
-pub panic-keeps : (s : System) (limit : Handle → ℕ) (b : SpmState) (p : ℕ) → Balanced s limit b → p < length b.phases → count_by (awaited_of p) b.connections ≡ 0 → ((k : ℕ) → is_joining (phase_of b p) k ≡ false)
+pub panic-keeps : (s : System) (limit : Handle → ℕ) (b : SpmState) (p : ℕ) → Balanced s limit b → p < length b.phases → awaited_by b.connections b.messages p ≡ 0 → ((k : ℕ) → is_joining (phase_of b p) k ≡ false)
     → Balanced s limit (panic_effect s b p)
 panic-keeps s limit b p h inside quiet free = subst (λ (x : SpmState). Balanced s limit x) (sym (after_panic-is s b p)) (after_panic-keeps s limit b p h inside quiet free)

@@ -16,9 +16,9 @@ use Rattle.ffm_model.specs.declared.objects.ActorPhase.TheVariants.{Running, Con
 use Rattle.counting_law.specs.Objects.{same}
 use Rattle.ffm_model.specs.State.{SpmState, State, phase_of, has_handle, handle_eq, handle_put, with_connection_handle, with_phase, fresh, is_undelivered, delivered, vectors_put}
 use Rattle.counting_law.proofs.Balance.{Balanced}
-use Rattle.counting_law.specs.Objects.{PhaseFits, is_joining, is_opening, is_accepted, awaited_of, asking_of, accepted_as, wrongly_shown, message_marked, connection_marked}
+use Rattle.counting_law.specs.Objects.{PhaseFits, PhaseFitsAt, awaited_by, asked_by, called_by, wrongly_called, is_joining, is_opening, is_accepted, awaited_of, asking_of, accepted_as, wrongly_shown, message_marked, connection_marked}
 use Rattle.counting_law.proofs.Counts.{bit, count-cons, count-push, count-put, find-passes, some-found, none-count, count-map-same}
-use Rattle.counting_law.proofs.Parts.{is_there, fitting-set, joining-set, phase_same, found-serial, flipped, left_true, right_true, equal_from, rising-map, unique}
+use Rattle.counting_law.proofs.Parts.{fits_same, is_there, fitting-set, joining-set, phase_same, found-serial, flipped, left_true, right_true, equal_from, rising-map, unique}
 
 pub int_flip : (x y : ℤ) → int_eq x y ≡ int_eq y x
 int_flip x y = grind (arith, Decides-int_eq)
@@ -71,7 +71,7 @@ pub named-keeps : (s : System) (given : List Handle) (b : SpmState) (a n : ℕ) 
     → Balanced s (times (given ++ h ∷ [])) (with_phase (with_connection_handle b n h) a Running)
 named-keeps s given b a n h balanced joined new =
     let inside : a < length b.phases = is_there b.phases a (λ ended. cc) in
-    let own : (count_by (awaited_of a) b.connections ≡ 0) × (count_by (accepted_as a n) b.connections ≡ 1) =
+    let own : (awaited_by b.connections b.messages a ≡ 0) × (count_by (accepted_as a n) b.connections ≡ 1) =
     connected-fits (phase_of b a) _ _ n (λ m. count_by (accepted_as a m) b.connections) joined (balanced.fitting a) in
     let it = some-found (accepted_as a n) b.connections (omega (arith, own.1)) in
     let c : OpenConnection = it.0 in
@@ -90,10 +90,11 @@ named-keeps s given b a n h balanced joined new =
     record {
       within = λ x w. omega (arith, change (λ d. (d.client.0 == x) && (d.service == w)), balanced.within x w);
       paired = λ t. omega (arith, change (connection_marked t), balanced.paired t);
+      called = balanced.called;
       rising = rising-map 0 b.connections_made (handle_put n h) (serial-handle_put n h) b.connections balanced.rising;
       fitting = fitting-set b.phases a Running
-          (λ x. count_by (awaited_of x) b.connections) (λ x. count_by (awaited_of x) after)
-          (λ x. count_by (asking_of x) b.connections) (λ x. count_by (asking_of x) after)
+          (awaited_by b.connections b.messages) (awaited_by after b.messages)
+          (asked_by b.connections b.messages) (asked_by after b.messages)
           (λ x m. count_by (accepted_as x m) b.connections) (λ x m. count_by (accepted_as x m) after)
           inside (omega (arith, change (awaited_of a), own.0))
           (λ x e. omega (arith, change (awaited_of x))) (λ x e. omega (arith, change (asking_of x))) (λ x m e. omega (arith, change (accepted_as x m)))
@@ -130,13 +131,19 @@ delivered-le q v n h le (m ∷ ms) =
     elim [ true ↦ omega (arith, count-cons q given_to ms, le m) | false ↦ omega (arith, count-cons q m (delivered v h ms), delivered-le q v n h le ms) ] in
     omega (arith, count-cons q m ms, go (is_undelivered v m))
 
+-- as many requests of an actor fit as before
+same-fits : (b : SpmState) (a : ℕ) (messages : List PendingMessage) → count_by (called_by a) messages ≡ count_by (called_by a) b.messages → PhaseFitsAt b.phases b.connections b.messages a → PhaseFitsAt b.phases b.connections messages a
+same-fits b a messages e h =
+    fits_same (phase_of b a) _ _ _ _ _ (λ n. count_by (accepted_as a n) b.connections) (ap (λ n. count_by (awaited_of a) b.connections + n) e) (ap (λ n. count_by (asking_of a) b.connections + n) e) (λ n. refl) h
+
 pub delivered-keeps : (s : System) (given : List Handle) (b : SpmState) (v : ℕ) (h : Handle) → Balanced s (times given) b → list_any (handle_eq h) given ≡ false
     → Balanced s (times (given ++ h ∷ [])) (record b { messages = delivered v h b.messages })
 delivered-keeps s given b v h balanced new = record {
   within = balanced.within;
   paired = λ t. delivered-same (message_marked t) v h (λ m. refl) b.messages ∙ balanced.paired t;
+  called = delivered-same (wrongly_called s) v h (λ m. refl) b.messages ∙ balanced.called;
   rising = balanced.rising;
-  fitting = balanced.fitting;
+  fitting = λ a. same-fits b a (delivered v h b.messages) (delivered-same (called_by a) v h (λ m. refl) b.messages) (balanced.fitting a);
   shown = balanced.shown;
   handles = λ k. omega (arith, delivered-le (λ m. has_handle m.handle k) v (bit (handle_eq h k)) h (λ m. omega arith) b.messages, balanced.handles k, count-push (handle_eq k) given h, ap bit (int_flip h.0 k.0));
   single = λ k. omega (arith, count-push (handle_eq k) given h, times-push given h k new (balanced.single k));
@@ -152,8 +159,10 @@ pub vectors-keep : (s : System) (limit : Handle → ℕ) (b : SpmState) (h : Han
 vectors-keep s limit b h v balanced = record {
   within = balanced.within;
   paired = λ t. count-map-same (message_marked t) (vectors_put h v) (put-same (λ m. has_handle m.handle h) (message_marked t) (λ m. record m { vectors = v }) (λ m. refl)) b.messages ∙ balanced.paired t;
+  called = count-map-same (wrongly_called s) (vectors_put h v) (put-same (λ m. has_handle m.handle h) (wrongly_called s) (λ m. record m { vectors = v }) (λ m. refl)) b.messages ∙ balanced.called;
   rising = balanced.rising;
-  fitting = balanced.fitting;
+  fitting = λ a. same-fits b a (map (vectors_put h v) b.messages)
+      (count-map-same (called_by a) (vectors_put h v) (put-same (λ m. has_handle m.handle h) (called_by a) (λ m. record m { vectors = v }) (λ m. refl)) b.messages) (balanced.fitting a);
   shown = balanced.shown;
   handles = λ k. omega (arith, balanced.handles k, count-map-same (λ m. has_handle m.handle k) (vectors_put h v) (put-same (λ m. has_handle m.handle h) (λ m. has_handle m.handle k) (λ m. record m { vectors = v }) (λ m. refl)) b.messages);
   single = balanced.single;

@@ -10,24 +10,23 @@ use Rattle.ffm_model.specs.declared.objects.OpenConnection.{OpenConnection}
 use Rattle.ffm_model.specs.declared.objects.PendingMessage.{PendingMessage}
 use Rattle.ffm_model.specs.declared.objects.ConnPhase.TheVariants.{Busy}
 use Rattle.ffm_model.specs.declared.objects.ActorPhase.TheVariants.{Running, Blocked}
+use Rattle.ffm_model.specs.Actors.{is_stateless, permits}
 use Rattle.ffm_model.specs.Memory.{no_vectors}
 use Rattle.ffm_model.specs.State.{SpmState, phase_of, in_use, connection_held, message_held, phase_put}
 use Rattle.ffm_model.specs.Panic.{is_dead, panic_effect}
-use Rattle.ffm_model.specs.ClientCalls.{Move, move, connect_issued, new_connection, call_on, close_on}
+use Rattle.ffm_model.specs.ClientCalls.{Move, move, connect_issued, new_connection, call_on, call_to, close_on}
 use Rattle.ffm_model.specs.ServiceCalls.{replied, owes_panic}
-use Rattle.ffm_model.specs.Names.{capacity}
+use Rattle.ffm_model.specs.Names.{capacity, message_capacity}
 use Rattle.counting_law.specs.Objects.{ObjectsFit, allowed}
 use Rattle.counting_law.specs.Rooms.{RoomFor}
 use Rattle.counting_law.proofs.Balance.{one, fit-balanced, balanced-fit}
-use Rattle.counting_law.proofs.Bounds.{few-connections, few-messages}
+use Rattle.counting_law.proofs.Bounds.{few-connections}
+use Rattle.counting_law.proofs.Callers.{few-messages-of}
 use Rattle.counting_law.proofs.Reply.{settled, settled-keeps}
 use Rattle.counting_law.proofs.Owed.{replied-settled, owed-settled, owed-request}
-use Rattle.counting_law.proofs.Keeps.{owed-keeps, panics-keep, invoke-keeps, less}
+use Rattle.counting_law.proofs.Keeps.{owed-keeps, panics-keep, invoke-keeps, asked-keeps, issued-keeps, less}
 use Rattle.counting_law.proofs.Connect.{connected-keeps}
 use Rattle.counting_law.proofs.Close.{close-keeps}
-
-pub few-messages-of : (s : System) (b : SpmState) → ObjectsFit s b → length b.messages ≤ capacity s
-few-messages-of s b h = omega (arith, few-messages s b h, few-connections s b h)
 
 pub connect-fits : (s : System) (b : SpmState) (a v : ℕ) → ObjectsFit s b → phase_of b a ≡ Running → (in_use b a v == allowed s a v) ≡ false → ObjectsFit s (connect_issued b a v)
 connect-fits s b a v h running free =
@@ -35,11 +34,11 @@ connect-fits s b a v h running free =
 
 -- psa_connect below the budget
 pub connect-room : (s : System) (b : SpmState) (a v : ℕ) → ObjectsFit s b → phase_of b a ≡ Running → (in_use b a v == allowed s a v) ≡ false
-    → (length b.connections + 1 ≤ capacity s) × (length b.messages + 1 ≤ capacity s)
+    → (length b.connections + 1 ≤ capacity s) × (length b.messages + 1 ≤ message_capacity s)
 connect-room s b a v h running free =
     let new : ObjectsFit s (connect_issued b a v) = connect-fits s b a v h running free in
     let c : OpenConnection = new_connection b a v in
-    let m : PendingMessage = record { service = v; client = record { 0 = a }; connection = b.connections_made; kind = PSA_IPC_CONNECT; vectors = no_vectors; handle = None } in (
+    let m : PendingMessage = record { service = v; client = record { 0 = a }; connection = Some b.connections_made; kind = PSA_IPC_CONNECT; vectors = no_vectors; handle = None } in (
       omega (arith, few-connections s (connect_issued b a v) new, length-append b.connections (c ∷ [])),
       omega (arith, few-messages-of s (connect_issued b a v) new, length-append b.messages (m ∷ [])),
     )
@@ -50,9 +49,9 @@ call-fits s b a h c n v fit running held = balanced-fit s one _ (invoke-keeps s 
 
 -- psa_call and psa_close on a connection that isn't dead
 pub request-room : (s : System) (b : SpmState) (a : ℕ) (h : Handle) (c : OpenConnection) → ObjectsFit s b → phase_of b a ≡ Running → connection_held b a h ≡ Some c → is_dead c.phase ≡ false
-    → length b.messages + 1 ≤ capacity s
+    → length b.messages + 1 ≤ message_capacity s
 request-room s b a h c fit running held alive =
-    let m : PendingMessage = record { service = c.service; client = c.client; connection = c.serial; kind = pos 0; vectors = no_vectors; handle = None } in
+    let m : PendingMessage = record { service = c.service; client = c.client; connection = Some c.serial; kind = pos 0; vectors = no_vectors; handle = None } in
     let new : SpmState = record b { connections = map (phase_put c.serial Busy) b.connections; messages = b.messages ++ m ∷ []; phases = slice_set b.phases a Blocked } in
     let kept : ObjectsFit s new =
     subst (λ (d : Bool). ObjectsFit s (cond {A = Move} d (move (Value PSA_ERROR_COMMUNICATION_FAILURE) b) (move Blocks new)).spm) alive (call-fits s b a h c 0 no_vectors fit running held) in
@@ -61,11 +60,21 @@ request-room s b a h c fit running held alive =
 pub close-fits : (s : System) (b : SpmState) (a : ℕ) (h : Handle) (c : OpenConnection) → ObjectsFit s b → phase_of b a ≡ Running → connection_held b a h ≡ Some c → ObjectsFit s (close_on b a c).spm
 close-fits s b a h c fit running held = balanced-fit s one _ (close-keeps s one b a h c (fit-balanced s b fit) running held)
 
+pub asked-fits : (s : System) (b : SpmState) (a v n : ℕ) (vs : Vectors) → ObjectsFit s b → phase_of b a ≡ Running → is_stateless s v ≡ true → permits s a v ≡ true → ObjectsFit s (call_to s b a v (pos n) vs).spm
+asked-fits s b a v n vs fit running stateless may = balanced-fit s one _ (asked-keeps s one b a v n vs (fit-balanced s b fit) running stateless may)
+
+-- psa_call by a stateless handle
+pub call-room : (s : System) (b : SpmState) (a v : ℕ) → ObjectsFit s b → phase_of b a ≡ Running → is_stateless s v ≡ true → permits s a v ≡ true → length b.messages + 1 ≤ message_capacity s
+call-room s b a v fit running stateless may =
+    let m : PendingMessage = record { service = v; client = record { 0 = a }; connection = None; kind = pos 0; vectors = no_vectors; handle = None } in
+    let kept : ObjectsFit s (record b { messages = b.messages ++ m ∷ []; phases = slice_set b.phases a Blocked }) = balanced-fit s one _ (issued-keeps s one b a v 0 no_vectors (fit-balanced s b fit) running stateless may) in
+    omega (arith, few-messages-of s _ kept, length-append b.messages (m ∷ []))
+
 -- the panic of a partition that runs
 pub panic-fits : (s : System) (b : SpmState) (p : ℕ) → ObjectsFit s b → phase_of b p ≡ Running → ObjectsFit s (panic_effect s b p)
 panic-fits s b p h running = balanced-fit s one (panic_effect s b p) (panics-keep s one b p (fit-balanced s b h) running)
 
-pub panic-room : (s : System) (b : SpmState) (p : ℕ) → ObjectsFit s b → phase_of b p ≡ Running → length (panic_effect s b p).messages ≤ capacity s
+pub panic-room : (s : System) (b : SpmState) (p : ℕ) → ObjectsFit s b → phase_of b p ≡ Running → length (panic_effect s b p).messages ≤ message_capacity s
 panic-room s b p h running = few-messages-of s (panic_effect s b p) (panic-fits s b p h running)
 
 -- a reply that owes no panic
@@ -82,7 +91,7 @@ owed-fits s b p h status m fit held e =
     (balanced-fit s one (panic_effect s (settled b h status m) m.client.0) (owed-keeps s one b p h status m n (fit-balanced s b fit) held kind)))
 
 pub owed-room : (s : System) (b : SpmState) (p : ℕ) (h : Handle) (status : ℤ) (m : PendingMessage) → ObjectsFit s b → message_held s b p h ≡ Some m → owes_panic s m status ≡ true
-    → length (panic_effect s (replied s b h status m) m.client.0).messages ≤ capacity s
+    → length (panic_effect s (replied s b h status m) m.client.0).messages ≤ message_capacity s
 owed-room s b p h status m fit held e = few-messages-of s _ (owed-fits s b p h status m fit held e)
 
 -- all of them
@@ -90,6 +99,7 @@ pub fitting-room : (s : System) (b : SpmState) → ObjectsFit s b → RoomFor s 
 fitting-room s b fit = record {
   connect = λ a service running free. connect-room s b a service fit running free;
   request = λ a h c running held alive. request-room s b a h c fit running held alive;
+  call = λ a service running stateless may. call-room s b a service fit running stateless may;
   panic = λ p running. panic-room s b p fit running;
   owed_panic = λ p h status m held e. owed-room s b p h status m fit held e;
 }

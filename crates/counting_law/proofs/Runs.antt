@@ -42,6 +42,7 @@ pub opening-balanced : (s : System) → Balanced s (times []) (opening_spm s)
 opening-balanced s = record {
   within = λ a v. omega arith;
   paired = λ t. refl;
+  called = refl;
   rising = omega arith;
   fitting = λ a. open-fits (actor_count s) a;
   shown = refl;

@@ -2,6 +2,7 @@
 use Rattle.std.proofs.Common.{ℕ, suc, ◌≡◌, ◌<◌, ◌≤◌, ◌+◌, ◌==◌, Bool, true, false, cond, not, ◌&&◌, ◌||◌, List, [], ◌∷◌, ◌++◌, length, get_or, ◌⊎◌, inl, inr, arith, ◌∙◌, ap, sym, refl, subst}
 use Rattle.std.specs.Prelude.{ℤ, pos, count_by, find, nat_lt, Option, Some, None, map, filter, if◌then◌else◌}
 use Rattle.std.specs.List.{list_any}
+use Rattle.std.specs.Option.{option_map_or}
 use Rattle.std.specs.Ordering.{int_eq}
 use Rattle.std.proofs.lemmas.Bool.Decides.{nat_tests}
 use Rattle.std.proofs.lemmas.List.{append-nil}
@@ -19,15 +20,16 @@ use Rattle.ffm_model.specs.declared.objects.OpenConnection.{OpenConnection}
 use Rattle.ffm_model.specs.declared.objects.PendingMessage.{PendingMessage}
 use Rattle.ffm_model.specs.declared.objects.ConnPhase.{ConnPhase}
 use Rattle.ffm_model.specs.declared.objects.ConnPhase.TheVariants.{Idle, Busy, Closing}
-use Rattle.ffm_model.specs.declared.objects.ActorPhase.TheVariants.{Connected}
+use Rattle.ffm_model.specs.declared.objects.ActorPhase.TheVariants.{Blocked, Connected}
 use Rattle.ffm_model.specs.Actors.{is_service_of}
-use Rattle.ffm_model.specs.State.{SpmState, phase_of, handle_eq, has_handle, is_undelivered, handle_put, vectors_put, delivered, message_held, without_connection}
+use Rattle.ffm_model.specs.State.{SpmState, phase_of, handle_eq, has_handle, is_undelivered, handle_put, vectors_put, delivered, message_held, with_phase, with_request, without_connection}
 use Rattle.ffm_model.specs.Panic.{is_dead, panic_effect}
-use Rattle.ffm_model.specs.ClientCalls.{Move, move, call_on, close_on, new_connection}
+use Rattle.ffm_model.specs.ClientCalls.{Move, move, call_on, close_on, is_service_panicked, new_connection}
 use Rattle.ffm_model.specs.ServiceCalls.{service_of_signal}
 use Rattle.ffm_model.specs.Step.{handle_shown}
-use Rattle.ffm_model.specs.Names.{stays}
-use Rattle.counting_law.specs.Objects.{ObjectsFit, awaited_of, accepted_as, is_awaited}
+use Rattle.ffm_model.specs.Names.{is_same_connection, stays}
+use Rattle.counting_law.specs.Objects.{ObjectsFit, awaited_by, awaited_of, accepted_as, is_awaited}
+use Rattle.counting_law.specs.Pairs.{is_numbered}
 use Rattle.counting_law.proofs.Balance.{Balanced, balanced-fit}
 use Rattle.counting_law.proofs.Counts.{bit, count-ext, count-le, count-push, count-filter-le, count-map-same}
 use Rattle.counting_law.proofs.Parts.{both-le-left, off_from, on_left, running-quiet}
@@ -55,6 +57,7 @@ pub record Ordered (b new : SpmState) : Type 0 where
   pub added : List PendingMessage
   pub messages : new.messages ≡ map f (filter q b.messages) ++ added
   pub connection : (m : PendingMessage) → (f m).connection ≡ m.connection
+  pub client : (m : PendingMessage) → (f m).client.0 ≡ m.client.0
   pub kind : (m : PendingMessage) → (f m).kind ≡ m.kind
   pub handle : (m : PendingMessage) → (f m).handle ≡ m.handle
   pub exact : count_by (stays new.messages) b.messages ≤ count_by q b.messages
@@ -117,6 +120,7 @@ still b new e = record {
   added = [];
   messages = e ∙ filter-all b.messages ∙ sym (map-same (λ m. m) (λ m. refl) (filter (λ m. true) b.messages)) ∙ sym (append-nil (map (λ m. m) (filter (λ m. true) b.messages)));
   connection = λ m. refl;
+  client = λ m. refl;
   kind = λ m. refl;
   handle = λ m. refl;
   exact = all-stay new.messages b.messages;
@@ -130,6 +134,7 @@ pushed b new x e = record {
   added = x ∷ [];
   messages = e ∙ ap (λ (ms : List PendingMessage). ms ++ x ∷ []) (filter-all b.messages ∙ sym (map-same (λ m. m) (λ m. refl) (filter (λ m. true) b.messages)));
   connection = λ m. refl;
+  client = λ m. refl;
   kind = λ m. refl;
   handle = λ m. refl;
   exact = all-stay new.messages b.messages;
@@ -143,6 +148,7 @@ fewer s b new q fit e = record {
   added = [];
   messages = e ∙ sym (map-same (λ m. m) (λ m. refl) (filter q b.messages)) ∙ sym (append-nil (map (λ m. m) (filter q b.messages)));
   connection = λ m. refl;
+  client = λ m. refl;
   kind = λ m. refl;
   handle = λ m. refl;
   exact = omega (
@@ -176,24 +182,25 @@ settled-reduces : (s : System) (limit : Handle → ℕ) (b : SpmState) (p : ℕ)
     → Reduced b (settled b h status m) (λ n. not (has_handle n.handle h))
 settled-reduces s limit b p h status m balanced found =
     settled-cases s limit b p h status m balanced found (λ new. Reduced b new (λ n. not (has_handle n.handle h)))
-    (λ ph q blocked told. record { messages = refl; connects = λ t. omega (arith, connection_blind m.connection (λ c. record c { phase = ph }) t (λ c. refl) (λ c. refl) b.connections) })
-    (λ q blocked told. record { messages = refl; connects = λ t. count-filter-le (λ c. t c.serial c.handle) (λ c. not (c.serial == m.connection)) b.connections })
-    (record { messages = refl; connects = λ t. count-filter-le (λ c. t c.serial c.handle) (λ c. not (c.serial == m.connection)) b.connections })
+    (λ n ph q blocked told. record { messages = refl; connects = λ t. omega (arith, connection_blind n (λ c. record c { phase = ph }) t (λ c. refl) (λ c. refl) b.connections) })
+    (λ n q blocked told. record { messages = refl; connects = λ t. count-filter-le (λ c. t c.serial c.handle) (λ c. not (c.serial == n)) b.connections })
+    (λ n. record { messages = refl; connects = λ t. count-filter-le (λ c. t c.serial c.handle) (λ c. not (c.serial == n)) b.connections })
+    (λ q blocked told. record { messages = refl; connects = λ t. omega arith })
 
 -- a connection that awaits no answer has no message
 quiet-messages : (s : System) (b : SpmState) (p : ℕ) → ObjectsFit s b → count_by (awaited_of p) b.connections ≡ 0 → (i : ℕ) (d : OpenConnection) → i < length b.connections → ((get_or b.connections i d).client.0 == p) ≡ true
-    → count_by (λ m. m.connection == (get_or b.connections i d).serial) b.messages ≡ 0
+    → count_by (is_numbered (get_or b.connections i d).serial) b.messages ≡ 0
 quiet-messages s b p fit quiet i d lt mine =
     let c : OpenConnection = get_or b.connections i d in
     let off : is_awaited c.phase ≡ false = off_from _ (omega (arith, member-counts (awaited_of p) b.connections i d lt, quiet, on_left (c.client.0 == p) (is_awaited c.phase) mine)) in
     carries s b fit i d lt ∙ ap (λ (x : Bool). cond x 1 0) off
 
 -- a request is no disconnection
-other-kind : (x : Bool) (k l : ℤ) (n : ℕ) → k ≡ PSA_IPC_DISCONNECT → l ≡ pos n → (x && int_eq k l) ≡ false
-other-kind x k l n e f =
+other-kind : (x y : Bool) (k l : ℤ) (n : ℕ) → k ≡ PSA_IPC_DISCONNECT → l ≡ pos n → (x && (y && int_eq k l)) ≡ false
+other-kind x y k l n e f =
     let apart : int_eq k l ≡ false = ap (λ (z : ℤ). int_eq z l) e ∙ ap (λ (z : ℤ). int_eq PSA_IPC_DISCONNECT z) f in
-    let go : (y : Bool) → (y && int_eq k l) ≡ false = elim [ true ↦ apart | false ↦ refl ] in
-    go x
+    let go : (x y : Bool) → (x && (y && int_eq k l)) ≡ false = elim [ true ↦ elim [ true ↦ apart | false ↦ refl ] | false ↦ λ y. refl ] in
+    go x y
 
 -- a disconnection that a panic sends stands for no message that was there
 sent-apart : (p : ℕ) (old : List PendingMessage) (c : OpenConnection) (o k : Bool) (ph : ConnPhase) → (k ≡ true → count_by (λ m. same_message m (disconnect_message c)) old ≡ 0) → count_by (stays (disconnect_as o k ph c)) old ≡ 0
@@ -221,10 +228,12 @@ all-sent-apart s p old (c ∷ cs) none =
       all-sent-apart s p old cs (λ i d lt e. none (suc i) d (omega (arith, lt)) e),
     )
 
-and-flipped : (n k : ℕ) (x : Bool) → bit ((k == n) && x) ≤ bit (n == k)
-and-flipped n k x = let e : (k == n) ≡ (n == k) = grind arith in omega (arith, both-le-left (k == n) x, ap bit e)
+-- the disconnection of a connection is numbered like it
+sent-numbered : (n : ℕ) (o : Option ℕ) (x : Bool) → bit (is_same_connection (Some n) o && x) ≤ bit (option_map_or (λ k. n == k) o false)
+sent-numbered n (Some k) x = both-le-left (n == k) x
+sent-numbered n None x = omega arith
 
-panic-shape : (s : System) (b mid : SpmState) (r : PendingMessage → Bool) (p : ℕ) (given : List Handle) → Reduced b mid r → ObjectsFit s b → ObjectsFit s mid → count_by (awaited_of p) mid.connections ≡ 0
+panic-shape : (s : System) (b mid : SpmState) (r : PendingMessage → Bool) (p : ℕ) (given : List Handle) → Reduced b mid r → ObjectsFit s b → ObjectsFit s mid → awaited_by mid.connections mid.messages p ≡ 0
     → ((g : PendingMessage) → g.kind ≡ PSA_IPC_DISCONNECT → count_by (λ m. same_message m g) b.messages ≤ count_by (λ m. same_message m g) mid.messages) → Quiet b (panic_effect s mid p) given given
 panic-shape s b mid r p given it fit fit_mid quiet only =
     let q : PendingMessage → Bool = λ m. not (is_service_of s p m.service) in
@@ -239,8 +248,8 @@ panic-shape s b mid r p given it fit fit_mid quiet only =
     omega (
       arith,
       only (disconnect_message c) refl,
-      count-le (λ m. same_message m (disconnect_message c)) (λ m. m.connection == c.serial) (λ m. and-flipped m.connection c.serial (int_eq PSA_IPC_DISCONNECT m.kind)) mid.messages,
-      quiet-messages s mid p fit_mid quiet i d lt e,
+      count-le (λ m. same_message m (disconnect_message c)) (is_numbered c.serial) (λ m. sent-numbered c.serial m.connection ((c.client.0 == m.client.0) && int_eq PSA_IPC_DISCONNECT m.kind)) mid.messages,
+      quiet-messages s mid p fit_mid (omega (arith, quiet)) i d lt e,
     )) in
     subst (λ (x : SpmState). Quiet b x given given) (sym (after_panic-is s mid p)) (record {
       same = refl;
@@ -251,6 +260,7 @@ panic-shape s b mid r p given it fit fit_mid quiet only =
         added = sent;
         messages = order ∙ ap (λ (ms : List PendingMessage). ms ++ sent) (sym (map-same (λ m. m) (λ m. refl) (filter both b.messages)));
         connection = λ m. refl;
+        client = λ m. refl;
         kind = λ m. refl;
         handle = λ m. refl;
         exact = omega (
@@ -307,6 +317,10 @@ kinds-shape s b given a d h =
             }
           ] in
           inl (go (is_dead c.phase));
+      asks = λ running v n vs stateless may.
+          let go : (x : Bool) → Quiet b (cond {A = Move} x (move (outcome.Value PSA_ERROR_COMMUNICATION_FAILURE) b) (move outcome.Blocked (with_phase (with_request b a v (pos n) vs) a Blocked))).spm given given =
+          elim [ true ↦ same-shape b b given refl refl | false ↦ record { same = refl; connects = λ q less. omega arith; ordered = pushed b _ _ refl } ] in
+          inl (go (is_service_panicked s b v));
       closes = λ running k c held.
           let go : (x : Bool) → Quiet b (cond {A = Move} x (move outcome.Done (without_connection b c.serial)) (close_on b a (record c { phase = Idle }))).spm given given =
           elim [
@@ -333,6 +347,7 @@ kinds-shape s b given a d h =
           added = [];
           messages = ap (λ (ms : List PendingMessage). map (vectors_put k v) ms) (filter-all b.messages) ∙ sym (append-nil (map (vectors_put k v) (filter (λ m. true) b.messages)));
           connection = vectors-field (λ m. m.connection) k (λ m. record m { vectors = v }) (λ m. refl);
+          client = vectors-field (λ m. m.client.0) k (λ m. record m { vectors = v }) (λ m. refl);
           kind = vectors-field (λ m. m.kind) k (λ m. record m { vectors = v }) (λ m. refl);
           handle = vectors-field (λ m. m.handle) k (λ m. record m { vectors = v }) (λ m. refl);
           exact = all-stay (map (vectors_put k v) b.messages) b.messages;
@@ -354,7 +369,7 @@ kinds-shape s b given a d h =
           inl (panic-shape s b told (λ x. not (has_handle x.handle k)) m.client.0 given it fit (balanced-fit s (times given) told kept)
           (ready-quiet (phase_of told m.client.0) ready.0 _ _ (λ z. count_by (accepted_as m.client.0 z) told.connections) ready.1 (kept.fitting m.client.0))
           (λ g is.
-          let other : same_message m g ≡ false = other-kind (g.connection == m.connection) g.kind m.kind n is kind in
+          let other : same_message m g ≡ false = other-kind (is_same_connection g.connection m.connection) (g.client.0 == m.client.0) g.kind m.kind n is kind in
           omega (
             arith,
             message-out s (times given) b a k m h held (λ x. same_message x g),

@@ -18,7 +18,7 @@ is_slot i g t = (t.index == i) && (t.generation == g)
 
 -- the slots of one family that were ever taken, in order
 pub record Taken (ts : List SlotName) : Type 0 where
-  pub small : count_by (λ t. not (nat_lt t.index 256)) ts ≡ 0
+  pub small : count_by (λ t. not (nat_lt t.index 512)) ts ≡ 0
   pub positive : count_by (λ t. t.generation == 0) ts ≡ 0
   pub bounded : count_by (λ t. not (nat_le t.generation (length ts))) ts ≡ 0
   pub later : (i g : ℕ) → count_by (has_index i) ts < g → count_by (is_slot i g) ts ≡ 0
@@ -30,7 +30,7 @@ none-taken = record { small = refl; positive = refl; bounded = refl; later = λ 
 less_bit : (x n : ℕ) → bit (not (nat_le x (n + 1))) ≤ bit (not (nat_le x n))
 less_bit x n = grind (arith, nat_tests)
 
-small_bit : (i : ℕ) → i < 256 → bit (not (nat_lt i 256)) ≡ 0
+small_bit : (i : ℕ) → i < 512 → bit (not (nat_lt i 512)) ≡ 0
 small_bit i h = grind (arith, nat_tests)
 
 at_most_bit : (x n : ℕ) → x ≤ n → bit (not (nat_le x n)) ≡ 0
@@ -40,7 +40,7 @@ suc_bit : (c : ℕ) → bit ((c + 1) == 0) ≡ 0
 suc_bit c = grind arith
 
 -- the next slot of an index
-pub taken-push : (ts : List SlotName) (i : ℕ) → Taken ts → i < 256 → Taken (ts ++ record { index = i; generation = count_by (has_index i) ts + 1 } ∷ [])
+pub taken-push : (ts : List SlotName) (i : ℕ) → Taken ts → i < 512 → Taken (ts ++ record { index = i; generation = count_by (has_index i) ts + 1 } ∷ [])
 taken-push ts i h below =
     let c : ℕ = count_by (has_index i) ts in
     let t : SlotName = record { index = i; generation = c + 1 } in
@@ -51,7 +51,7 @@ taken-push ts i h below =
     let bound : count_by (λ x. not (nat_le x.generation (length ts + 1))) (ts ++ t ∷ []) ≡ 0 =
     omega (arith, count-push (λ x. not (nat_le x.generation (length ts + 1))) ts t, fits, h.bounded, at_most_bit (c + 1) (length ts + 1) (omega (arith, few))) in
     record {
-      small = omega (arith, count-push (λ x. not (nat_lt x.index 256)) ts t, h.small, small_bit i below);
+      small = omega (arith, count-push (λ x. not (nat_lt x.index 512)) ts t, h.small, small_bit i below);
       positive = omega (arith, count-push (λ x. x.generation == 0) ts t, h.positive, suc_bit c);
       bounded = ap (λ n. count_by (λ x. not (nat_le x.generation n)) (ts ++ t ∷ [])) longer ∙ bound;
       later = λ j g less.
@@ -83,24 +83,24 @@ taken-push ts i h below =
 named_numbers : (base n : ℕ) (t : SlotName) → handle_eq (record { 0 = pos n }) (name_of base t) ≡ true → n ≡ t.generation * 1024 + t.index + base
 named_numbers base n t e = let same : pos n ≡ pos (t.generation * 1024 + t.index + base) = (Decides-int_eq (pos n) (pos (t.generation * 1024 + t.index + base))).0 e in cc
 
-small_from : (x : ℕ) → bit (not (nat_lt x 256)) ≤ 0 → x < 256
+small_from : (x : ℕ) → bit (not (nat_lt x 512)) ≤ 0 → x < 512
 small_from x h = grind (arith, nat_tests)
 
 -- a slot with the name, where there is one
-found-named : (base n : ℕ) (ts : List SlotName) → Taken ts → 1 ≤ count_by (λ t. handle_eq (record { 0 = pos n }) (name_of base t)) ts → (t : SlotName) × (n ≡ t.generation * 1024 + t.index + base) × (t.index < 256)
+found-named : (base n : ℕ) (ts : List SlotName) → Taken ts → 1 ≤ count_by (λ t. handle_eq (record { 0 = pos n }) (name_of base t)) ts → (t : SlotName) × (n ≡ t.generation * 1024 + t.index + base) × (t.index < 512)
 found-named base n ts h some =
     let q : SlotName → Bool = λ t. handle_eq (record { 0 = pos n }) (name_of base t) in
     let it = some-found q ts some in
-    (it.0, named_numbers base n it.0 (find-passes q ts it.0 it.1), small_from it.0.index (omega (arith, count-found q (λ t. not (nat_lt t.index 256)) ts it.0 it.1, h.small)))
+    (it.0, named_numbers base n it.0 (find-passes q ts it.0 it.1), small_from it.0.index (omega (arith, count-found q (λ t. not (nat_lt t.index 512)) ts it.0 it.1, h.small)))
 
-same_slot : (base n i g : ℕ) (t : SlotName) → n ≡ g * 1024 + i + base → i < 256 → bit (handle_eq (record { 0 = pos n }) (name_of base t)) ≤ bit (is_slot i g t) + bit (not (nat_lt t.index 256))
+same_slot : (base n i g : ℕ) (t : SlotName) → n ≡ g * 1024 + i + base → i < 512 → bit (handle_eq (record { 0 = pos n }) (name_of base t)) ≤ bit (is_slot i g t) + bit (not (nat_lt t.index 512))
 same_slot base n i g t e below =
-    let go : (x y : Bool) → handle_eq (record { 0 = pos n }) (name_of base t) ≡ x → nat_lt t.index 256 ≡ y → bit x ≤ bit (is_slot i g t) + bit (not y) =
+    let go : (x y : Bool) → handle_eq (record { 0 = pos n }) (name_of base t) ≡ x → nat_lt t.index 512 ≡ y → bit x ≤ bit (is_slot i g t) + bit (not y) =
     elim [
       | true ↦ elim [
         | true ↦ λ f k.
             let name : n ≡ t.generation * 1024 + t.index + base = named_numbers base n t f in
-            let less : t.index < 256 = grind (arith, nat_tests) in
+            let less : t.index < 512 = grind (arith, nat_tests) in
             let index : t.index ≡ i = omega (arith, name, e, less, below) in
             let generation : t.generation ≡ g = omega (arith, name, e, less, below) in
             let both : (a b : Bool) → (t.index == i) ≡ a → (t.generation == g) ≡ b → 1 ≤ bit (a && b) =
@@ -123,7 +123,7 @@ named-once base ts n h =
       | zero ↦ λ e. omega arith
       | suc c ↦ λ e.
           let it = found-named base n ts h (omega arith) in
-          omega (arith, count-sum q (is_slot it.0.index it.0.generation) (λ t. not (nat_lt t.index 256)) (λ t. same_slot base n it.0.index it.0.generation t it.1 it.2) ts, h.small, h.once it.0.index it.0.generation)
+          omega (arith, count-sum q (is_slot it.0.index it.0.generation) (λ t. not (nat_lt t.index 512)) (λ t. same_slot base n it.0.index it.0.generation t it.1 it.2) ts, h.small, h.once it.0.index it.0.generation)
     ] in
     go (count_by q ts) refl
 
@@ -159,10 +159,10 @@ range-below a (suc n) size h =
     let first : bit (not (nat_lt a size)) ≡ 0 = grind (arith, nat_tests) in
     omega (arith, count-cons (λ k. not (nat_lt k size)) a (range_with_len (a + 1) n), first, range-below (a + 1) n size (omega (arith, h)))
 
-pub next-below : (size : ℕ) (live past : List SlotName) → size ≤ 256 → (next_slot size live past).index < 256
+pub next-below : (size : ℕ) (live past : List SlotName) → size ≤ 512 → (next_slot size live past).index < 512
 next-below size live past h =
     let q : ℕ → Bool = λ k. not (list_any (has_index k) live) in
-    let go : (o : Option ℕ) → find q (range_with_len 0 size) ≡ o → unwrap_or o 0 < 256 =
+    let go : (o : Option ℕ) → find q (range_with_len 0 size) ≡ o → unwrap_or o 0 < 512 =
     elim [
       | None ↦ λ e. omega arith
       | Some i ↦ λ e.
@@ -172,5 +172,5 @@ next-below size live past h =
     ] in
     go (find q (range_with_len 0 size)) refl
 
-pub next-taken : (size : ℕ) (live past : List SlotName) → size ≤ 256 → Taken past → Taken (past ++ next_slot size live past ∷ [])
+pub next-taken : (size : ℕ) (live past : List SlotName) → size ≤ 512 → Taken past → Taken (past ++ next_slot size live past ∷ [])
 next-taken size live past h taken = taken-push past (next_slot size live past).index taken (next-below size live past h)

@@ -1,17 +1,20 @@
 -- How many slots a run takes: the walk of the names, step by step.
 use Rattle.std.proofs.Common.{ℕ, zero, suc, ◌≡◌, ◌<◌, ◌≤◌, ◌+◌, ◌-◌, ◌==◌, Bool, true, false, cond, ◌&&◌, ◌||◌, List, [], ◌∷◌, ◌++◌, length, get_or, arith, ◌∙◌, ap, sym, refl, length-append}
-use Rattle.std.specs.Prelude.{count_by, nat_lt, Option, Some, None}
+use Rattle.std.specs.Prelude.{count_by, nat_lt, is_none, Option, Some, None}
 use Rattle.std.specs.List.{list_any}
-use Rattle.std.specs.Option.{option_map}
+use Rattle.std.specs.Option.{option_map, option_map_or}
+use Rattle.std.specs.Ordering.{int_eq}
 use Rattle.std.proofs.lemmas.Bool.Decides.{Decides-int_eq, nat_tests}
 use Rattle.ffm_model.specs.declared.system.System.{System}
 use Rattle.ffm_model.specs.declared.machine.Entry.{Entry}
 use Rattle.ffm_model.specs.declared.objects.PendingMessage.{PendingMessage}
 use Rattle.ffm_model.specs.Memory.{ByteMap}
-use Rattle.ffm_model.specs.State.{SpmState, State}
+use Rattle.ffm_model.specs.declared.objects.ActorPhase.{ActorPhase}
+use Rattle.ffm_model.specs.declared.objects.ActorPhase.TheVariants.{Running, Blocked, Waiting, Ready, Connected, Ended, Panicked}
+use Rattle.ffm_model.specs.State.{SpmState, State, phase_of}
 use Rattle.ffm_model.specs.Step.{step, after}
-use Rattle.ffm_model.specs.Names.{NamesSoFar, NamedState, SlotName, capacity, live_connections, named_step, names_after, next_slot, shows_name, slots_kept, stays, with_connection, with_messages}
-use Rattle.counting_law.specs.Objects.{ObjectsFit, Mark, message_marked, connection_marked, is_awaited}
+use Rattle.ffm_model.specs.Names.{NamesSoFar, NamedState, SlotName, capacity, message_capacity, is_same_connection, live_connections, named_step, names_after, next_slot, shows_name, slots_kept, stays, with_connection, with_messages}
+use Rattle.counting_law.specs.Objects.{ObjectsFit, PhaseFits, Mark, called_by, awaited_of, asking_of, accepted_as, message_marked, connection_marked, is_awaited}
 use Rattle.counting_law.specs.Takes.{TakesFew}
 use Rattle.counting_law.proofs.Balance.{Balanced}
 use Rattle.counting_law.proofs.Counts.{bit, count-cons, count-le, none-count}
@@ -33,9 +36,13 @@ pub count-le-at : {X : Type 0} (p q : X → Bool) (xs : List X) → ((i : ℕ) (
 count-le-at p q [] h = omega arith
 count-le-at p q (x ∷ xs) h = omega (arith, count-cons p x xs, count-cons q x xs, h 0 x (omega arith), count-le-at p q xs (λ i d lt. h (suc i) d (omega arith)))
 
+connection-self : (o : Option ℕ) → is_same_connection o o ≡ true
+connection-self (Some n) = is_itself n
+connection-self None = refl
+
 pub same-self : (m : PendingMessage) → same_message m m ≡ true
 same-self m =
-    and_on _ _ (is_itself m.connection) ((Decides-int_eq m.kind m.kind).1 refl)
+    and_on _ _ (connection-self m.connection) (and_on _ _ (is_itself m.client.0) ((Decides-int_eq m.kind m.kind).1 refl))
 
 -- what a change says to stay does stay
 pub stays-at : (old new : List PendingMessage) (q : PendingMessage → Bool) → ((m : PendingMessage) → count_by (λ x. q x && same_message m x) old ≤ count_by (same_message m) new)
@@ -66,16 +73,47 @@ stays-most old (n ∷ ns) few =
 and-flip : (x n : ℕ) (c : Bool) → bit ((n == x) && c) ≤ bit (x == n)
 and-flip x n c = let e : (n == x) ≡ (x == n) = grind arith in omega (arith, both-le-left (n == x) c, ap bit e)
 
+pub calls-few : (p : ActorPhase) (n k x : ℕ) (j : ℕ → ℕ) → PhaseFits p (n + x) (k + x) j → x ≤ 1
+calls-few Running n k x j h = omega (arith, h)
+calls-few Blocked n k x j h = omega (arith, h)
+calls-few (Waiting mask) n k x j h = omega (arith, h)
+calls-few (Ready o) n k x j h = omega (arith, h)
+calls-few (Connected c) n k x j h = omega (arith, h.0)
+calls-few Ended n k x j h = omega (arith, h)
+calls-few Panicked n k x j h = omega (arith, h)
+
+-- an actor has one request by a stateless handle at most
+pub one-call : (s : System) (b : SpmState) (a : ℕ) → ObjectsFit s b → count_by (called_by a) b.messages ≤ 1
+one-call s b a h = calls-few (phase_of b a) (count_by (awaited_of a) b.connections) (count_by (asking_of a) b.connections) (count_by (called_by a) b.messages) (λ n. count_by (accepted_as a n) b.connections) (h.phases a)
+
 pub one-each : (s : System) (b : SpmState) → ObjectsFit s b → (n : PendingMessage) → count_by (λ m. same_message m n) b.messages ≤ 1
 one-each s b h n =
-    let t : Mark = λ serial a v ph. serial == n.connection in
-    omega (
-      arith,
-      count-le (λ m. same_message m n) (message_marked t) (λ m. and-flip m.connection n.connection _) b.messages,
-      h.paired t,
-      count-le (connection_marked t) (λ c. c.serial == n.connection) (λ c. both-le-right (is_awaited c.phase) (c.serial == n.connection)) b.connections,
-      unique 0 b.connections_made n.connection b.connections h.rising,
-    )
+    let t : ℕ → Mark = λ k serial a v ph. serial == k in
+    let like : (k o : Option ℕ) (x : ℕ) (y : Bool) (i : ℕ) (f : ℕ → Bool) → k ≡ Some i → ((z : ℕ) → f z ≡ (z == i)) → bit (is_same_connection k o && ((n.client.0 == x) && y)) ≤ bit (option_map_or f o false) =
+    λ k. elim [
+      | None ↦ λ x y i f e same. omega (arith, ap (λ (w : Option ℕ). bit (is_same_connection w None && ((n.client.0 == x) && y))) e)
+      | Some z ↦ λ x y i f e same.
+          omega (arith, ap (λ (w : Option ℕ). bit (is_same_connection w (Some z) && ((n.client.0 == x) && y))) e, and-flip z i ((n.client.0 == x) && y), ap bit (same z))
+    ] in
+    let call : (k o : Option ℕ) (x : ℕ) (y : Bool) → k ≡ None → bit (is_same_connection k o && ((n.client.0 == x) && y)) ≤ bit (is_none o && (x == n.client.0)) =
+    λ k. elim [
+      | None ↦ λ x y e. omega (arith, ap (λ (w : Option ℕ). bit (is_same_connection w None && ((n.client.0 == x) && y))) e, and-flip x n.client.0 y)
+      | Some z ↦ λ x y e. omega (arith, ap (λ (w : Option ℕ). bit (is_same_connection w (Some z) && ((n.client.0 == x) && y))) e)
+    ] in
+    let go : (k : Option ℕ) → n.connection ≡ k → count_by (λ m. same_message m n) b.messages ≤ 1 =
+    elim [
+      | None ↦ λ e.
+          omega (arith, count-le (λ m. same_message m n) (called_by n.client.0) (λ m. call n.connection m.connection m.client.0 (int_eq n.kind m.kind) e) b.messages, one-call s b n.client.0 h)
+      | Some i ↦ λ e.
+          omega (
+            arith,
+            count-le (λ m. same_message m n) (message_marked (t i)) (λ m. like n.connection m.connection m.client.0 (int_eq n.kind m.kind) i (λ z. z == i) e (λ z. refl)) b.messages,
+            h.paired (t i),
+            count-le (connection_marked (t i)) (λ c. c.serial == i) (λ c. both-le-right (is_awaited c.phase) (c.serial == i)) b.connections,
+            unique 0 b.connections_made i b.connections h.rising,
+          )
+    ] in
+    go n.connection refl
 
 -- ---- lengths in the walk
 
@@ -135,7 +173,7 @@ names-lengths s es e w new fit few sp =
     let most : count_by (stays new.spm.messages) old.messages ≤ length new.spm.messages = stays-most old.messages new.spm.messages (one-each s old fit) in
     let least : count_by sp.q old.messages ≤ count_by (stays new.spm.messages) old.messages = stays-least old new.spm sp in
     let grown : Grown k k' (new.spm.connections_made - old.connections_made) = with_connection-lengths (capacity s) old new.spm k sp.grows sp.made in
-    let lengths : Lengths k' (with_messages (capacity s) n k') n = with_messages-lengths (capacity s) n k' in
+    let lengths : Lengths k' (with_messages (message_capacity s) n k') n = with_messages-lengths (message_capacity s) n k' in
     let longer : length (es ++ e ∷ []) ≡ length es + 1 = length-append es (e ∷ []) in
     let grown_messages : length k'.messages ≡ length kept = ap (λ (ts : List SlotName). length ts) grown.messages in
     let grown_past : length k'.past_messages ≡ length w.names.past_messages = ap (λ (ts : List SlotName). length ts) grown.past in

@@ -1,7 +1,6 @@
 -- How many connections and messages each kind of change makes.
 use Rattle.std.proofs.Common.{ℕ, ◌≡◌, ◌<◌, ◌≤◌, ◌+◌, ◌==◌, Bool, true, false, cond, not, ◌&&◌, List, [], ◌∷◌, ◌++◌, length, get_or, inl, inr, arith, ◌∙◌, ap, sym, refl, subst, length-append}
 use Rattle.std.specs.Prelude.{ℤ, pos, count_by, Some, map, filter, slice_set, if◌then◌else◌}
-use Rattle.std.specs.Ordering.{int_eq}
 use Rattle.ffm_model.specs.declared.constants.TheConstants.{PSA_ERROR_COMMUNICATION_FAILURE}
 use Rattle.ffm_model.specs.declared.system.System.{System}
 use Rattle.ffm_model.specs.declared.machine.Handle.{Handle}
@@ -14,11 +13,12 @@ use Rattle.ffm_model.specs.declared.objects.ConnPhase.TheVariants.{Idle, Busy, C
 use Rattle.ffm_model.specs.declared.objects.ActorPhase.{ActorPhase}
 use Rattle.ffm_model.specs.declared.objects.ActorPhase.TheVariants.{Running, Blocked, Waiting, Ready, Ended, Panicked}
 use Rattle.ffm_model.specs.Actors.{is_service_of}
-use Rattle.ffm_model.specs.State.{SpmState, phase_of, has_handle, phase_put, handle_put, rhandle_put, vectors_put, delivered, message_held, without_connection}
+use Rattle.ffm_model.specs.State.{SpmState, phase_of, has_handle, phase_put, handle_put, rhandle_put, vectors_put, delivered, message_held, with_phase, with_request, without_connection}
+use Rattle.ffm_model.specs.Names.{is_same_message}
 use Rattle.ffm_model.specs.Signals.{is_panicked}
 use Rattle.ffm_model.specs.Panic.{is_dead, panic_effect}
-use Rattle.ffm_model.specs.ClientCalls.{Move, move, call_on, close_on, new_connection}
-use Rattle.counting_law.specs.Objects.{awaited_of, accepted_as}
+use Rattle.ffm_model.specs.ClientCalls.{Move, move, call_on, close_on, is_service_panicked, new_connection}
+use Rattle.counting_law.specs.Objects.{awaited_by, accepted_as}
 use Rattle.counting_law.specs.Takes.{is_owned, owned}
 use Rattle.counting_law.proofs.Balance.{Balanced}
 use Rattle.counting_law.proofs.Counts.{bit, bit-le, count-cons, count-push, count-ext, count-le, count-filter-le, count-map-same}
@@ -34,7 +34,7 @@ use Rattle.counting_law.proofs.Events.{EachKind}
 
 -- a message that stands for another, as far as slots go
 abbrev pub same_message : PendingMessage → PendingMessage → Bool
-same_message m n = (n.connection == m.connection) && int_eq n.kind m.kind
+same_message m n = is_same_message m n
 
 -- the messages that pass q stay, so many are added, and so many connections lose their owner
 pub record Spends (b new : SpmState) : Type 0 where
@@ -117,25 +117,26 @@ settled-answers : (s : System) (limit : Handle → ℕ) (b : SpmState) (p : ℕ)
     → Answers b (settled b h status m) (λ n. not (has_handle n.handle h))
 settled-answers s limit b p h status m balanced found =
     settled-cases s limit b p h status m balanced found (λ new. Answers b new (λ n. not (has_handle n.handle h)))
-    (λ ph q blocked told. record {
+    (λ n ph q blocked told. record {
       messages = refl;
       made = refl;
       owners = omega (
         arith,
         owned-set b m.client.0 q b.connections (ap is_panicked blocked),
-        count-map-same (λ c. not (is_panicked (get_or (slice_set b.phases m.client.0 q) c.client.0 Ended))) (phase_put m.connection ph) (λ c. client_blind m.connection ph (λ x. not (is_panicked (get_or (slice_set b.phases m.client.0 q) x Ended))) c) b.connections,
+        count-map-same (λ c. not (is_panicked (get_or (slice_set b.phases m.client.0 q) c.client.0 Ended))) (phase_put n ph) (λ c. client_blind n ph (λ x. not (is_panicked (get_or (slice_set b.phases m.client.0 q) x Ended))) c) b.connections,
       );
     })
-    (λ q blocked told. record {
+    (λ n q blocked told. record {
       messages = refl;
       made = refl;
       owners = omega (
         arith,
         owned-set b m.client.0 q b.connections (ap is_panicked blocked),
-        count-filter-le (λ c. not (is_panicked (get_or (slice_set b.phases m.client.0 q) c.client.0 Ended))) (λ c. not (c.serial == m.connection)) b.connections,
+        count-filter-le (λ c. not (is_panicked (get_or (slice_set b.phases m.client.0 q) c.client.0 Ended))) (λ c. not (c.serial == n)) b.connections,
       );
     })
-    (record { messages = refl; made = refl; owners = count-filter-le (is_owned b) (λ c. not (c.serial == m.connection)) b.connections })
+    (λ n. record { messages = refl; made = refl; owners = count-filter-le (is_owned b) (λ c. not (c.serial == n)) b.connections })
+    (λ q blocked told. record { messages = refl; made = refl; owners = owned-set b m.client.0 q b.connections (ap is_panicked blocked) })
 
 -- ---- a panic
 
@@ -182,7 +183,7 @@ and_assoc true y z = refl
 and_assoc false y z = refl
 
 -- a panic behind a reply, or behind nothing
-panic-spends : (s : System) (limit : Handle → ℕ) (b mid : SpmState) (q : PendingMessage → Bool) (p : ℕ) → Answers b mid q → Balanced s limit mid → p < length mid.phases → is_panicked (phase_of mid p) ≡ false → count_by (awaited_of p) mid.connections ≡ 0
+panic-spends : (s : System) (limit : Handle → ℕ) (b mid : SpmState) (q : PendingMessage → Bool) (p : ℕ) → Answers b mid q → Balanced s limit mid → p < length mid.phases → is_panicked (phase_of mid p) ≡ false → awaited_by mid.connections mid.messages p ≡ 0
     → Spends b (panic_effect s mid p)
 panic-spends s limit b mid q p it balanced inside alive quiet =
     let r : PendingMessage → Bool = λ m. not (is_service_of s p m.service) in
@@ -275,6 +276,13 @@ kinds-spend s b given a d h =
                 ))
           ] in
           go (is_dead c.phase);
+      asks = λ running v n vs stateless may.
+          let go : (d : Bool) → Spends b (cond {A = Move} d (move (outcome.Value PSA_ERROR_COMMUNICATION_FAILURE) b) (move outcome.Blocked (with_phase (with_request b a v (pos n) vs) a Blocked))).spm =
+          elim [
+            | true ↦ kept-spends b b refl refl (λ m. refl) (omega arith)
+            | false ↦ pushed-spends b _ _ (omega arith) (omega arith) refl (omega (arith, owned-set b a Blocked b.connections (ap is_panicked running)))
+          ] in
+          go (is_service_panicked s b v);
       closes = λ running k c held.
           let go : (d : Bool) → Spends b (cond {A = Move} d (move outcome.Done (without_connection b c.serial)) (close_on b a (record c { phase = Idle }))).spm =
           elim [

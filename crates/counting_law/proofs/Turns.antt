@@ -1,6 +1,7 @@
 -- How the phases of the actors change in an event: the actor's own as its outcome says, and another's only where it is told an answer or panics for a reply.
-use Rattle.std.proofs.Common.{ℕ, zero, suc, ◌≡◌, ◌<◌, ◌==◌, Bool, true, false, cond, not, ◌&&◌, ◌||◌, List, length, get_or, ◌⊎◌, inl, inr, arith, ◌∙◌, ap, sym, refl, subst}
-use Rattle.std.specs.Prelude.{ℤ, pos, negsuc, int_lt, count_by, Some, slice_set}
+use Rattle.std.proofs.Common.{ℕ, zero, suc, ◌≡◌, ◌<◌, ◌==◌, Bool, true, false, cond, not, ◌&&◌, ◌||◌, List, length, get_or, ◌⊎◌, inl, inr, ◌∙◌, ap, sym, refl, subst}
+use Rattle.std.specs.Prelude.{ℤ, pos, negsuc, int_lt, count_by, Option, Some, None, slice_set}
+use Rattle.std.specs.Option.{option_map_or}
 use Rattle.std.specs.Ordering.{int_eq}
 use Rattle.ffm_model.specs.declared.constants.TheConstants.{PSA_IPC_CALL, PSA_IPC_CONNECT, PSA_SUCCESS, PSA_ERROR_PROGRAMMER_ERROR, PSA_ERROR_COMMUNICATION_FAILURE}
 use Rattle.ffm_model.specs.declared.system.System.{System}
@@ -13,20 +14,19 @@ use Rattle.ffm_model.specs.declared.objects.ConnPhase.{ConnPhase}
 use Rattle.ffm_model.specs.declared.objects.ConnPhase.TheVariants.{Idle, Error}
 use Rattle.ffm_model.specs.declared.objects.ActorPhase.{ActorPhase}
 use Rattle.ffm_model.specs.declared.objects.ActorPhase.TheVariants.{Running, Blocked, Waiting, Ready, Connected, Ended, Panicked}
-use Rattle.ffm_model.specs.State.{SpmState, phase_of, with_phase, message_held, with_connection_phase, without_connection, without_message}
+use Rattle.ffm_model.specs.State.{SpmState, phase_of, with_phase, with_request, message_held, with_connection_phase, without_connection, without_message}
 use Rattle.ffm_model.specs.Signals.{is_blocked, is_panicked}
 use Rattle.ffm_model.specs.Panic.{is_dead, panic_effect}
-use Rattle.ffm_model.specs.ClientCalls.{Move, move, call_on, close_on, is_busy}
-use Rattle.ffm_model.specs.ServiceCalls.{connect_answered, close_answered}
+use Rattle.ffm_model.specs.ClientCalls.{Move, move, call_on, close_on, is_service_panicked}
+use Rattle.ffm_model.specs.ServiceCalls.{connect_answered, close_answered, with_request_phase}
 use Rattle.ffm_model.specs.Records.{is_blocked_outcome}
-use Rattle.counting_law.specs.Objects.{phase_for, is_opening, is_asking, awaited_of, accepted_as}
+use Rattle.counting_law.specs.Objects.{phase_for, is_opening, is_asking, awaited_by, accepted_as}
 use Rattle.counting_law.specs.Pending.{is_pending, is_panicked_outcome}
 use Rattle.counting_law.proofs.Balance.{Balanced}
-use Rattle.counting_law.proofs.Counts.{count-le}
-use Rattle.counting_law.proofs.Parts.{is_plain, is_there, same_or_not, phase_same, phase_other, running-quiet, both-le-right}
-use Rattle.counting_law.proofs.Reply.{settled, request_settled, settled-keeps, partner, client-blocked, busy_is, not_negative, no-other, opening_is}
+use Rattle.counting_law.proofs.Parts.{is_plain, is_there, same_or_not, phase_same, phase_other, running-quiet}
+use Rattle.counting_law.proofs.Reply.{settled, request_settled, settled-keeps, partner, client-blocked, request-blocked, connected, not_negative, no-kind, opening_is}
 use Rattle.counting_law.proofs.Resume.{times}
-use Rattle.counting_law.proofs.Panic.{phase_after, told-same, lost_of}
+use Rattle.counting_law.proofs.Panic.{phase_after, told-self}
 use Rattle.counting_law.proofs.Keeps.{request-ready, ready-quiet}
 use Rattle.counting_law.proofs.Events.{EachKind}
 
@@ -94,51 +94,60 @@ set-turns b new a o p there own sound e =
       others = λ x k. stays_as _ _ (sym (at x ∙ phase_other b.phases a x p k));
     }
 
--- what a reply makes of a state: the connection gets a phase or goes, and the client, where it waits, is told
+-- what a reply makes of a state: the connection, where there is one, gets a phase or goes, and the client, where it waits, is told
 pub settled-cases : (s : System) (limit : Handle → ℕ) (b : SpmState) (p : ℕ) (h : Handle) (status : ℤ) (m : PendingMessage) → Balanced s limit b → message_held s b p h ≡ Some m → (P : SpmState → Type 0)
-    → ((ph : ConnPhase) (q : ActorPhase) → phase_of b m.client.0 ≡ Blocked → is_told q ≡ true → P (with_phase (with_connection_phase (without_message b h) m.connection ph) m.client.0 q))
-    → ((q : ActorPhase) → phase_of b m.client.0 ≡ Blocked → is_told q ≡ true → P (with_phase (without_connection (without_message b h) m.connection) m.client.0 q))
-    → P (without_connection (without_message b h) m.connection)
+    → ((n : ℕ) (ph : ConnPhase) (q : ActorPhase) → phase_of b m.client.0 ≡ Blocked → is_told q ≡ true → P (with_phase (with_connection_phase (without_message b h) n ph) m.client.0 q))
+    → ((n : ℕ) (q : ActorPhase) → phase_of b m.client.0 ≡ Blocked → is_told q ≡ true → P (with_phase (without_connection (without_message b h) n) m.client.0 q))
+    → ((n : ℕ) → P (without_connection (without_message b h) n))
+    → ((q : ActorPhase) → phase_of b m.client.0 ≡ Blocked → is_told q ≡ true → P (with_phase (without_message b h) m.client.0 q))
     → P (settled b h status m)
-settled-cases s limit b p h status m balanced found P kept gone silent =
+settled-cases s limit b p h status m balanced found P kept gone silent called =
     let rest : SpmState = without_message b h in
-    let asked : (u : ConnPhase → Bool) → u (phase_for m.kind) ≡ true → ((ph : ConnPhase) → u ph ≡ true → is_asking ph ≡ true) → phase_of b m.client.0 ≡ Blocked =
-    λ u e asks.
-    let it = partner s limit b _ m u balanced found e in
-    subst (λ (x : ℕ). phase_of b x ≡ Blocked) it.1.client (client-blocked s limit b it.0 balanced it.1.here (asks it.0.phase it.1.passes)) in
-    let connect : m.kind ≡ negsuc 0 → P (connect_answered rest m status) =
-    λ e.
-    let blocked : phase_of b m.client.0 ≡ Blocked = asked is_opening (ap (λ k. is_opening (phase_for k)) e) (λ ph o. ap is_asking (opening_is ph o)) in
-    let go : (d : Bool) → P (cond {A = SpmState} d (with_phase (with_connection_phase rest m.connection Idle) m.client.0 (Connected m.connection)) (with_phase (without_connection rest m.connection) m.client.0 (Ready (outcome.Value status)))) =
-    elim [ true ↦ kept Idle (Connected m.connection) blocked refl | false ↦ gone (Ready (outcome.Value status)) blocked refl ] in
+    let connect : (n : ℕ) → m.connection ≡ Some n → m.kind ≡ negsuc 0 → P (connect_answered rest n m status) =
+    λ n conn e.
+    let it = partner s limit b _ n m is_opening balanced found conn (ap (λ k. is_opening (phase_for k)) e) in
+    let blocked : phase_of b m.client.0 ≡ Blocked = subst (λ (x : ℕ). phase_of b x ≡ Blocked) it.1.client (client-blocked s limit b it.0 balanced it.1.here (ap is_asking (opening_is it.0.phase it.1.passes))) in
+    let go : (d : Bool) → P (cond {A = SpmState} d (with_phase (with_connection_phase rest n Idle) m.client.0 (Connected n)) (with_phase (without_connection rest n) m.client.0 (Ready (outcome.Value status)))) =
+    elim [ true ↦ kept n Idle (Connected n) blocked refl | false ↦ gone n (Ready (outcome.Value status)) blocked refl ] in
     go (int_eq status PSA_SUCCESS) in
     let request : (n : ℕ) → m.kind ≡ pos n → P (request_settled rest m status) =
     λ n e.
-    let blocked : phase_of b m.client.0 ≡ Blocked = asked is_busy (ap (λ k. is_busy (phase_for k)) e) (λ ph o. ap is_asking (busy_is ph o)) in
-    let go : (d : Bool) → P (cond {A = SpmState} d (with_phase (with_connection_phase rest m.connection Error) m.client.0 (Ready (outcome.Value PSA_ERROR_PROGRAMMER_ERROR))) (with_phase (with_connection_phase rest m.connection Idle) m.client.0 (Ready (outcome.Value status)))) =
-    elim [ true ↦ kept Error (Ready (outcome.Value PSA_ERROR_PROGRAMMER_ERROR)) blocked refl | false ↦ kept Idle (Ready (outcome.Value status)) blocked refl ] in
+    let blocked : phase_of b m.client.0 ≡ Blocked = request-blocked s limit b _ m n balanced found e in
+    let either : (ph : ConnPhase) (q : ActorPhase) → is_told q ≡ true → P (with_phase (with_request_phase rest m ph) m.client.0 q) =
+    λ ph q told.
+    let on : (o : Option ℕ) → P (with_phase (option_map_or (λ k. with_connection_phase rest k ph) o rest) m.client.0 q) = elim [ None ↦ called q blocked told | Some k ↦ kept k ph q blocked told ] in
+    on m.connection in
+    let go : (d : Bool) → P (cond {A = SpmState} d (with_phase (with_request_phase rest m Error) m.client.0 (Ready (outcome.Value PSA_ERROR_PROGRAMMER_ERROR))) (with_phase (with_request_phase rest m Idle) m.client.0 (Ready (outcome.Value status)))) =
+    elim [ true ↦ either Error (Ready (outcome.Value PSA_ERROR_PROGRAMMER_ERROR)) refl | false ↦ either Idle (Ready (outcome.Value status)) refl ] in
     go (int_eq status PSA_ERROR_PROGRAMMER_ERROR) in
-    let close : P (close_answered rest m) =
-    let go : (q : ActorPhase) → phase_of b m.client.0 ≡ q → P (cond {A = SpmState} (is_blocked q) (with_phase (without_connection rest m.connection) m.client.0 (Ready outcome.Done)) (without_connection rest m.connection)) =
+    let close : (n : ℕ) → P (close_answered rest n m) =
+    λ n.
+    let go : (q : ActorPhase) → phase_of b m.client.0 ≡ q → P (cond {A = SpmState} (is_blocked q) (with_phase (without_connection rest n) m.client.0 (Ready outcome.Done)) (without_connection rest n)) =
     elim [
-      | Blocked ↦ λ e. gone (Ready outcome.Done) e refl
-      | Running ↦ λ e. silent
-      | Waiting mask ↦ λ e. silent
-      | Ready o ↦ λ e. silent
-      | Connected c ↦ λ e. silent
-      | Ended ↦ λ e. silent
-      | Panicked ↦ λ e. silent
+      | Blocked ↦ λ e. gone n (Ready outcome.Done) e refl
+      | Running ↦ λ e. silent n
+      | Waiting mask ↦ λ e. silent n
+      | Ready o ↦ λ e. silent n
+      | Connected c ↦ λ e. silent n
+      | Ended ↦ λ e. silent n
+      | Panicked ↦ λ e. silent n
     ] in
     go (phase_of b m.client.0) refl in
+    let on : (f : ℕ → SpmState) (k : ℕ) → m.kind ≡ negsuc k → ((n : ℕ) → m.connection ≡ Some n → P (f n)) → P (option_map_or f m.connection rest) =
+    λ f k e keeps.
+    let go : (o : Option ℕ) → m.connection ≡ o → P (option_map_or f o rest) = elim [ None ↦ λ none. absurd (connected s limit b _ m k balanced found e none) | Some n ↦ λ conn. keeps n conn ] in
+    go m.connection refl in
     let second : (x : Bool) (y z : SpmState) → x ≡ false → P z → P (cond {A = SpmState} x y z) = elim [ true ↦ λ y z e q. cc | false ↦ λ y z e q. q ] in
-    let whole : (k : ℤ) → m.kind ≡ k → P (cond {A = SpmState} (int_eq k PSA_IPC_CONNECT) (connect_answered rest m status) (cond {A = SpmState} (int_lt k PSA_IPC_CALL) (close_answered rest m) (request_settled rest m status))) =
+    let A : SpmState = option_map_or (λ n. connect_answered rest n m status) m.connection rest in
+    let C : SpmState = option_map_or (λ n. close_answered rest n m) m.connection rest in
+    let whole : (k : ℤ) → m.kind ≡ k → P (cond {A = SpmState} (int_eq k PSA_IPC_CONNECT) A (cond {A = SpmState} (int_lt k PSA_IPC_CALL) C (request_settled rest m status))) =
     elim [
       | pos n ↦ λ e. second (int_lt (pos n) PSA_IPC_CALL) _ _ (not_negative n) (request n e)
-      | negsuc n ↦ elim n as (λ (n : ℕ). m.kind ≡ negsuc n → P (cond {A = SpmState} (int_eq (negsuc n) PSA_IPC_CONNECT) (connect_answered rest m status) (cond {A = SpmState} (int_lt (negsuc n) PSA_IPC_CALL) (close_answered rest m) (request_settled rest m status)))) [
-        | zero ↦ λ e. connect e
-        | suc k ↦ elim k as (λ (k : ℕ). m.kind ≡ negsuc (suc k) → P (cond {A = SpmState} (int_eq (negsuc (suc k)) PSA_IPC_CONNECT) (connect_answered rest m status) (cond {A = SpmState} (int_lt (negsuc (suc k)) PSA_IPC_CALL) (close_answered rest m) (request_settled rest m status)))) [
-          | zero ↦ λ e. close
-          | suc j ↦ λ e. absurd (no-other s limit b p j h m balanced found e)
+      | negsuc n ↦ elim n as (λ (n : ℕ). m.kind ≡ negsuc n → P (cond {A = SpmState} (int_eq (negsuc n) PSA_IPC_CONNECT) A (cond {A = SpmState} (int_lt (negsuc n) PSA_IPC_CALL) C (request_settled rest m status)))) [
+        | zero ↦ λ e. on (λ n. connect_answered rest n m status) 0 e (λ n conn. connect n conn e)
+        | suc k ↦ elim k as (λ (k : ℕ). m.kind ≡ negsuc (suc k) → P (cond {A = SpmState} (int_eq (negsuc (suc k)) PSA_IPC_CONNECT) A (cond {A = SpmState} (int_lt (negsuc (suc k)) PSA_IPC_CALL) C (request_settled rest m status)))) [
+          | zero ↦ λ e. on (λ n. close_answered rest n m) 1 e (λ n conn. close n)
+          | suc j ↦ λ e. absurd (no-kind s limit b p j h m balanced found e)
         ]
       ]
     ] in
@@ -158,11 +167,9 @@ told-turns b new a x q running blocked told e =
           (λ z. stays_as _ _ (sym (at y ∙ phase_other b.phases x y q z)));
     }
 
--- the panic of an actor that no connection awaits an answer for
-pub panicked-self : (s : System) (limit : Handle → ℕ) (b : SpmState) (p : ℕ) → Balanced s limit b → p < length b.phases → count_by (awaited_of p) b.connections ≡ 0 → phase_of (panic_effect s b p) p ≡ Panicked
-panicked-self s limit b p h inside quiet =
-    let none : count_by (lost_of s p p) b.connections ≡ 0 = omega (arith, count-le (lost_of s p p) (awaited_of p) (λ c. both-le-right _ (awaited_of p c)) b.connections) in
-    told-same s p p b.connections (slice_set b.phases p Panicked) none ∙ phase_same b.phases p Panicked inside
+-- the panic of an actor that awaits no answer
+pub panicked-self : (s : System) (limit : Handle → ℕ) (b : SpmState) (p : ℕ) → Balanced s limit b → p < length b.phases → awaited_by b.connections b.messages p ≡ 0 → phase_of (panic_effect s b p) p ≡ Panicked
+panicked-self s limit b p h inside quiet = told-self s b p inside quiet
 
 pub panicked-other : (s : System) (limit : Handle → ℕ) (b : SpmState) (p x : ℕ) → Balanced s limit b → (x == p) ≡ false → Turned (phase_of b x) (phase_of (panic_effect s b p) x)
 panicked-other s limit b p x h e =
@@ -181,7 +188,7 @@ panicked-running s limit b p x h e running =
 
 panic-turns : (s : System) (limit : Handle → ℕ) (b : SpmState) (a : ℕ) → Balanced s limit b → phase_of b a ≡ Running → Turns a b (panic_effect s b a) outcome.Panicked
 panic-turns s limit b a h running =
-    let quiet : count_by (awaited_of a) b.connections ≡ 0 = running-quiet (phase_of b a) _ _ (λ n. count_by (accepted_as a n) b.connections) running (h.fitting a) in
+    let quiet : awaited_by b.connections b.messages a ≡ 0 = running-quiet (phase_of b a) _ _ (λ n. count_by (accepted_as a n) b.connections) running (h.fitting a) in
     let here : phase_of (panic_effect s b a) a ≡ Panicked = panicked-self s limit b a h (is_there b.phases a (λ x. cc)) quiet in
     record {
       own = sym (ap (goes_with outcome.Panicked) here);
@@ -194,7 +201,7 @@ settled-elsewhere : (s : System) (limit : Handle → ℕ) (b : SpmState) (p : �
     → phase_of (settled b h status m) x ≡ phase_of b x
 settled-elsewhere s limit b p h status m balanced found x e =
     settled-cases s limit b p h status m balanced found (λ new. phase_of new x ≡ phase_of b x)
-    (λ ph q blocked told. phase_other b.phases m.client.0 x q e) (λ q blocked told. phase_other b.phases m.client.0 x q e) refl
+    (λ n ph q blocked told. phase_other b.phases m.client.0 x q e) (λ n q blocked told. phase_other b.phases m.client.0 x q e) (λ n. refl) (λ q blocked told. phase_other b.phases m.client.0 x q e)
 
 owed-turns : (s : System) (limit : Handle → ℕ) (b : SpmState) (a : ℕ) (h : Handle) (status : ℤ) (m : PendingMessage) (n : ℕ) → Balanced s limit b → phase_of b a ≡ Running → message_held s b a h ≡ Some m → m.kind ≡ pos n
     → Turns a b (panic_effect s (settled b h status m) m.client.0) outcome.Done
@@ -203,8 +210,7 @@ owed-turns s limit b a h status m n balanced running found kind =
     let told : SpmState = settled b h status m in
     let kept : Balanced s limit told = settled-keeps s limit b a h status m balanced found in
     let ready = request-ready s limit b a h status m n balanced found kind in
-    let it = partner s limit b _ m is_busy balanced found (ap (λ k. is_busy (phase_for k)) kind) in
-    let blocked : phase_of b x ≡ Blocked = subst (λ (y : ℕ). phase_of b y ≡ Blocked) it.1.client (client-blocked s limit b it.0 balanced it.1.here (ap is_asking (busy_is it.0.phase it.1.passes))) in
+    let blocked : phase_of b x ≡ Blocked = request-blocked s limit b _ m n balanced found kind in
     let apart : (a == x) ≡ false = same_or_not a x ((a == x) ≡ false) (λ k. absurd (let same : phase_of b x ≡ Running = ap (phase_of b) (sym k) ∙ running in cc)) (λ k. k) in
     let before : (y : ℕ) → (y == x) ≡ false → phase_of told y ≡ phase_of b y = settled-elsewhere s limit b a h status m balanced found in
     let here : phase_of (panic_effect s told x) a ≡ Running = panicked-running s limit told x a kept apart (before a apart ∙ running) in
@@ -235,6 +241,10 @@ kinds-turn s b given a d h sound =
           let go : (d : Bool) → (let m : Move = cond {A = Move} d (move (outcome.Value PSA_ERROR_COMMUNICATION_FAILURE) b) (call_on b a (record c { phase = Idle }) (pos n) v) in Turns a b m.spm m.outcome) =
           elim [ true ↦ same-turns b b a (outcome.Value PSA_ERROR_COMMUNICATION_FAILURE) running refl refl | false ↦ set-turns b _ a outcome.Blocked Blocked (runs running) refl refl refl ] in
           go (is_dead c.phase);
+      asks = λ running v n vs stateless may.
+          let go : (d : Bool) → (let m : Move = cond {A = Move} d (move (outcome.Value PSA_ERROR_COMMUNICATION_FAILURE) b) (move outcome.Blocked (with_phase (with_request b a v (pos n) vs) a Blocked)) in Turns a b m.spm m.outcome) =
+          elim [ true ↦ same-turns b b a (outcome.Value PSA_ERROR_COMMUNICATION_FAILURE) running refl refl | false ↦ set-turns b _ a outcome.Blocked Blocked (runs running) refl refl refl ] in
+          go (is_service_panicked s b v);
       closes = λ running k c held.
           let go : (d : Bool) → (let m : Move = cond {A = Move} d (move outcome.Done (without_connection b c.serial)) (close_on b a (record c { phase = Idle })) in Turns a b m.spm m.outcome) =
           elim [ true ↦ same-turns b (without_connection b c.serial) a outcome.Done running refl refl | false ↦ set-turns b _ a outcome.Blocked Blocked (runs running) refl refl refl ] in
@@ -244,8 +254,8 @@ kinds-turn s b given a d h sound =
       marks = λ running n r. same-turns b _ a outcome.Done running refl refl;
       replies = λ running k status m held.
           settled-cases s (times given) b a k status m h held (λ new. Turns a b new outcome.Done)
-          (λ ph q blocked told. told-turns b _ a m.client.0 q running blocked told refl) (λ q blocked told. told-turns b _ a m.client.0 q running blocked told refl)
-          (same-turns b _ a outcome.Done running refl refl);
+          (λ n ph q blocked told. told-turns b _ a m.client.0 q running blocked told refl) (λ n q blocked told. told-turns b _ a m.client.0 q running blocked told refl)
+          (λ n. same-turns b _ a outcome.Done running refl refl) (λ q blocked told. told-turns b _ a m.client.0 q running blocked told refl);
       owes = λ running k status m n held kind. owed-turns s (times given) b a k status m n h running held kind;
       panics = λ running. panic-turns s (times given) b a h running;
     }

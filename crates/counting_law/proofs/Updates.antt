@@ -11,7 +11,7 @@ use Rattle.ffm_model.specs.declared.objects.ActorPhase.TheVariants.{Ended}
 use Rattle.counting_law.specs.Objects.{same}
 use Rattle.ffm_model.specs.State.{SpmState, phase_of, has_handle, phase_put}
 use Rattle.counting_law.proofs.Balance.{Balanced}
-use Rattle.counting_law.specs.Objects.{PhaseFits, RisesTo, Mark, is_joining, is_opening, is_awaited, is_asking, is_accepted, awaited_of, asking_of, accepted_as, wrongly_shown, message_marked, connection_marked}
+use Rattle.counting_law.specs.Objects.{PhaseFits, RisesTo, Mark, awaited_by, asked_by, called_by, wrongly_called, is_joining, is_opening, is_awaited, is_asking, is_accepted, awaited_of, asking_of, accepted_as, wrongly_shown, message_marked, connection_marked}
 use Rattle.counting_law.proofs.Counts.{bit, count-ext, count-put, count-out}
 use Rattle.counting_law.proofs.Parts.{phase_same, fitting-set, joining-set, rising-map, rising-filter, unique, off_left, off_right, and_off, flipped}
 
@@ -36,6 +36,8 @@ pub record Moves (s : System) (limit : Handle → ℕ) (b : SpmState) (c : OpenC
   pub joined : (k : ℕ) → is_joining (phase_of b c.client.0) k ≡ false
   pub joins : (k : ℕ) → (k == c.serial) ≡ false → is_joining p k ≡ false
   pub handles : (k : Handle) → count_by (λ m. has_handle m.handle k) messages ≤ count_by (λ m. has_handle m.handle k) b.messages
+  pub calls : (x : ℕ) → count_by (called_by x) messages ≡ count_by (called_by x) b.messages
+  pub called : count_by (wrongly_called s) messages ≡ 0
 
 -- a count over the connections, where c gets the phase
 pub put : (b : SpmState) (c : OpenConnection) (ph : ConnPhase) → RisesTo 0 b.connections b.connections_made → find (λ d. d.serial == c.serial) b.connections ≡ Some c
@@ -50,7 +52,7 @@ out b c rising here q = count-out (λ d. d.serial == c.serial) q q (λ y e. refl
 
 pub moved-keeps : (s : System) (limit : Handle → ℕ) (b : SpmState) (c : OpenConnection) (ph : ConnPhase) (p : ActorPhase) (messages : List PendingMessage) → Moves s limit b c p messages
     → ((t : Mark) → count_by (message_marked t) messages + bit (connection_marked t c) ≡ count_by (message_marked t) b.messages + bit (connection_marked t (in_phase c ph)))
-    → PhaseFits p (count_by (awaited_of c.client.0) (map (phase_put c.serial ph) b.connections)) (count_by (asking_of c.client.0) (map (phase_put c.serial ph) b.connections)) (λ n. count_by (accepted_as c.client.0 n) (map (phase_put c.serial ph) b.connections))
+    → PhaseFits p (awaited_by (map (phase_put c.serial ph) b.connections) messages c.client.0) (asked_by (map (phase_put c.serial ph) b.connections) messages c.client.0) (λ n. count_by (accepted_as c.client.0 n) (map (phase_put c.serial ph) b.connections))
     → same (is_none c.handle) (is_opening ph || is_joining p c.serial) ≡ true
     → Balanced s limit (record b { connections = map (phase_put c.serial ph) b.connections; messages = messages; phases = slice_set b.phases c.client.0 p })
 moved-keeps s limit b c ph p messages h paired fits shown =
@@ -62,14 +64,15 @@ moved-keeps s limit b c ph p messages h paired fits shown =
     record {
       within = λ x w. omega (arith, change (λ d. (d.client.0 == x) && (d.service == w)), h.balanced.within x w);
       paired = λ t. omega (arith, change (connection_marked t), paired t, h.balanced.paired t);
+      called = h.called;
       rising = rising-map 0 b.connections_made (phase_put c.serial ph) (serial-phase_put c.serial ph) b.connections h.balanced.rising;
       fitting = fitting-set b.phases a p
-          (λ x. count_by (awaited_of x) b.connections) (λ x. count_by (awaited_of x) (map (phase_put c.serial ph) b.connections))
-          (λ x. count_by (asking_of x) b.connections) (λ x. count_by (asking_of x) (map (phase_put c.serial ph) b.connections))
+          (awaited_by b.connections b.messages) (awaited_by (map (phase_put c.serial ph) b.connections) messages)
+          (asked_by b.connections b.messages) (asked_by (map (phase_put c.serial ph) b.connections) messages)
           (λ x n. count_by (accepted_as x n) b.connections) (λ x n. count_by (accepted_as x n) (map (phase_put c.serial ph) b.connections))
           h.client fits
-          (λ x e. omega (arith, change (awaited_of x), off_left (a == x) (is_awaited c.phase) (flipped x a e), off_left (a == x) (is_awaited ph) (flipped x a e)))
-          (λ x e. omega (arith, change (asking_of x), off_left (a == x) (is_asking c.phase) (flipped x a e), off_left (a == x) (is_asking ph) (flipped x a e)))
+          (λ x e. omega (arith, h.calls x, change (awaited_of x), off_left (a == x) (is_awaited c.phase) (flipped x a e), off_left (a == x) (is_awaited ph) (flipped x a e)))
+          (λ x e. omega (arith, h.calls x, change (asking_of x), off_left (a == x) (is_asking c.phase) (flipped x a e), off_left (a == x) (is_asking ph) (flipped x a e)))
           (λ x n e. omega (
             arith,
             change (accepted_as x n),
@@ -92,7 +95,7 @@ moved-keeps s limit b c ph p messages h paired fits shown =
 
 pub removed-keeps : (s : System) (limit : Handle → ℕ) (b : SpmState) (c : OpenConnection) (p : ActorPhase) (messages : List PendingMessage) → Moves s limit b c p messages
     → ((t : Mark) → count_by (message_marked t) messages + bit (connection_marked t c) ≡ count_by (message_marked t) b.messages)
-    → PhaseFits p (count_by (awaited_of c.client.0) (filter (λ d. not (d.serial == c.serial)) b.connections)) (count_by (asking_of c.client.0) (filter (λ d. not (d.serial == c.serial)) b.connections)) (λ n. count_by (accepted_as c.client.0 n) (filter (λ d. not (d.serial == c.serial)) b.connections))
+    → PhaseFits p (awaited_by (filter (λ d. not (d.serial == c.serial)) b.connections) messages c.client.0) (asked_by (filter (λ d. not (d.serial == c.serial)) b.connections) messages c.client.0) (λ n. count_by (accepted_as c.client.0 n) (filter (λ d. not (d.serial == c.serial)) b.connections))
     → Balanced s limit (record b { connections = filter (λ d. not (d.serial == c.serial)) b.connections; messages = messages; phases = slice_set b.phases c.client.0 p })
 removed-keeps s limit b c p messages h paired fits =
     let change : (q : OpenConnection → Bool) → count_by q (filter (λ d. not (d.serial == c.serial)) b.connections) + bit (q c) ≡ count_by q b.connections =
@@ -102,14 +105,15 @@ removed-keeps s limit b c p messages h paired fits =
     record {
       within = λ x w. omega (arith, change (λ d. (d.client.0 == x) && (d.service == w)), h.balanced.within x w);
       paired = λ t. omega (arith, change (connection_marked t), paired t, h.balanced.paired t);
+      called = h.called;
       rising = rising-filter 0 b.connections_made (λ d. not (d.serial == c.serial)) b.connections h.balanced.rising;
       fitting = fitting-set b.phases a p
-          (λ x. count_by (awaited_of x) b.connections) (λ x. count_by (awaited_of x) left)
-          (λ x. count_by (asking_of x) b.connections) (λ x. count_by (asking_of x) left)
+          (awaited_by b.connections b.messages) (awaited_by left messages)
+          (asked_by b.connections b.messages) (asked_by left messages)
           (λ x n. count_by (accepted_as x n) b.connections) (λ x n. count_by (accepted_as x n) left)
           h.client fits
-          (λ x e. omega (arith, change (awaited_of x), off_left (a == x) (is_awaited c.phase) (flipped x a e)))
-          (λ x e. omega (arith, change (asking_of x), off_left (a == x) (is_asking c.phase) (flipped x a e)))
+          (λ x e. omega (arith, h.calls x, change (awaited_of x), off_left (a == x) (is_awaited c.phase) (flipped x a e)))
+          (λ x e. omega (arith, h.calls x, change (asking_of x), off_left (a == x) (is_asking c.phase) (flipped x a e)))
           (λ x n e. omega (arith, change (accepted_as x n), off_right (c.serial == n) ((a == x) && is_accepted c.phase) (and_off (a == x) (is_accepted c.phase) (flipped x a e))))
           h.balanced.fitting;
       shown = omega (
@@ -124,23 +128,43 @@ removed-keeps s limit b c p messages h paired fits =
       single = h.balanced.single;
     }
 
+-- an actor's phase changes, and messages without a connection come or go with it
+pub record Sends (s : System) (limit : Handle → ℕ) (b : SpmState) (a : ℕ) (p : ActorPhase) (messages : List PendingMessage) : Type 0 where
+  pub balanced : Balanced s limit b
+  pub client : a < length b.phases
+  pub joined : (k : ℕ) → is_joining (phase_of b a) k ≡ false
+  pub joins : (k : ℕ) → is_joining p k ≡ false
+  pub handles : (k : Handle) → count_by (λ m. has_handle m.handle k) messages ≤ count_by (λ m. has_handle m.handle k) b.messages
+  pub paired : (t : Mark) → count_by (message_marked t) messages ≡ count_by (message_marked t) b.messages
+  pub others : (x : ℕ) → (x == a) ≡ false → count_by (called_by x) messages ≡ count_by (called_by x) b.messages
+  pub called : count_by (wrongly_called s) messages ≡ 0
+
+pub sent-keeps : (s : System) (limit : Handle → ℕ) (b : SpmState) (a : ℕ) (p : ActorPhase) (messages : List PendingMessage) → Sends s limit b a p messages
+    → PhaseFits p (awaited_by b.connections messages a) (asked_by b.connections messages a) (λ n. count_by (accepted_as a n) b.connections)
+    → Balanced s limit (record b { messages = messages; phases = slice_set b.phases a p })
+sent-keeps s limit b a p messages h fits = record {
+  within = h.balanced.within;
+  paired = λ t. h.paired t ∙ h.balanced.paired t;
+  called = h.called;
+  rising = h.balanced.rising;
+  fitting = fitting-set b.phases a p
+      (awaited_by b.connections b.messages) (awaited_by b.connections messages)
+      (asked_by b.connections b.messages) (asked_by b.connections messages)
+      (λ x n. count_by (accepted_as x n) b.connections) (λ x n. count_by (accepted_as x n) b.connections)
+      h.client fits (λ x e. omega (arith, h.others x e)) (λ x e. omega (arith, h.others x e)) (λ x n e. refl) h.balanced.fitting;
+  shown = count-ext (wrongly_shown (slice_set b.phases a p)) (wrongly_shown b.phases)
+      (λ d. ap (λ k. not (same (is_none d.handle) (is_opening d.phase || k))) (joining-set b.phases a d.serial d.client.0 p h.client (h.joined d.serial) (h.joins d.serial))) b.connections
+      ∙ h.balanced.shown;
+  handles = λ k. omega (arith, h.handles k, h.balanced.handles k);
+  single = h.balanced.single;
+}
+
 -- an actor's phase changes alone
 pub phased-keeps : (s : System) (limit : Handle → ℕ) (b : SpmState) (a : ℕ) (p : ActorPhase) → Balanced s limit b → a < length b.phases
     → ((k : ℕ) → is_joining (phase_of b a) k ≡ false) → ((k : ℕ) → is_joining p k ≡ false)
-    → PhaseFits p (count_by (awaited_of a) b.connections) (count_by (asking_of a) b.connections) (λ n. count_by (accepted_as a n) b.connections)
+    → PhaseFits p (awaited_by b.connections b.messages a) (asked_by b.connections b.messages a) (λ n. count_by (accepted_as a n) b.connections)
     → Balanced s limit (record b { phases = slice_set b.phases a p })
-phased-keeps s limit b a p h inside old new fits = record {
-  within = h.within;
-  paired = h.paired;
-  rising = h.rising;
-  fitting = fitting-set b.phases a p
-      (λ x. count_by (awaited_of x) b.connections) (λ x. count_by (awaited_of x) b.connections)
-      (λ x. count_by (asking_of x) b.connections) (λ x. count_by (asking_of x) b.connections)
-      (λ x n. count_by (accepted_as x n) b.connections) (λ x n. count_by (accepted_as x n) b.connections)
-      inside fits (λ x e. refl) (λ x e. refl) (λ x n e. refl) h.fitting;
-  shown = count-ext (wrongly_shown (slice_set b.phases a p)) (wrongly_shown b.phases)
-      (λ d. ap (λ k. not (same (is_none d.handle) (is_opening d.phase || k))) (joining-set b.phases a d.serial d.client.0 p inside (old d.serial) (new d.serial))) b.connections
-      ∙ h.shown;
-  handles = h.handles;
-  single = h.single;
-}
+phased-keeps s limit b a p h inside old new fits =
+    sent-keeps s limit b a p b.messages
+    (record { balanced = h; client = inside; joined = old; joins = new; handles = λ k. omega arith; paired = λ t. refl; others = λ x e. refl; called = h.called })
+    fits

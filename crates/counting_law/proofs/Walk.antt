@@ -43,7 +43,7 @@ pub record Extends (given : List Handle) (k new : NamesSoFar) (n : ℕ) : Type 0
   pub quiet : count_by (was_shown 512 given) us ≡ 0
   pub has : (h : Handle) → times given h ≤ slots_named new h
 
-pub extend : (given : List Handle) (size n : ℕ) (k : NamesSoFar) → size ≤ 256 → Taken k.connections → Taken k.past_messages → ((h : Handle) → times given h ≤ slots_named k h) → Extends given k (with_messages size n k) n
+pub extend : (given : List Handle) (size n : ℕ) (k : NamesSoFar) → size ≤ 512 → Taken k.connections → Taken k.past_messages → ((h : Handle) → times given h ≤ slots_named k h) → Extends given k (with_messages size n k) n
 extend given size zero k small conns past has = record {
   us = [];
   messages = sym (append-nil k.messages);
@@ -82,7 +82,7 @@ pub record Joins (given : List Handle) (k new : NamesSoFar) (grows : Bool) : Typ
   pub fresh : grows ≡ true → was_shown 0 given (get_or new.connections (length k.connections) no_slot) ≡ false
   pub has : (h : Handle) → times given h ≤ slots_named new h
 
-pub join : (given : List Handle) (size : ℕ) (b new : SpmState) (k : NamesSoFar) → size ≤ 256 → Taken k.connections → Taken k.past_messages → ((h : Handle) → times given h ≤ slots_named k h)
+pub join : (given : List Handle) (size : ℕ) (b new : SpmState) (k : NamesSoFar) → size ≤ 512 → Taken k.connections → Taken k.past_messages → ((h : Handle) → times given h ≤ slots_named k h)
     → Joins given k (with_connection size b new k) (nat_lt b.connections_made new.connections_made)
 join given size b new k small conns past has =
     let t : SlotName = next_slot size (live_connections k b) k.connections in

@@ -1,8 +1,9 @@
 -- What holds of each state of a run: how connections, messages, phases, budgets and handles count against each other.
 -- Source: FF-M 1.0, the life of a connection from psa_connect to psa_close and of a message from its call to psa_reply; that the
 -- declared numbers of connections suffice is this profile's law.
-use Rattle.std.specs.Prelude.{ℕ, ℤ, zero, suc, pos, negsuc, ◌≡◌, ◌+◌, ◌≤◌, ◌==◌, Bool, true, false, not, ◌&&◌, ◌||◌, List, [], ◌∷◌, count_by, is_none, get_or}
-use Rattle.std.specs.Option.{unwrap_or}
+use Rattle.std.specs.Prelude.{ℕ, ℤ, zero, suc, pos, negsuc, ◌≡◌, ◌+◌, ◌≤◌, ◌==◌, int_le, Bool, true, false, not, ◌&&◌, ◌||◌, List, [], ◌∷◌, count_by, is_none, get_or}
+use Rattle.std.specs.Option.{option_map_or, unwrap_or}
+use Rattle.ffm_model.specs.declared.constants.TheConstants.{PSA_IPC_CALL}
 use Rattle.ffm_model.specs.declared.system.System.{System}
 use Rattle.ffm_model.specs.declared.machine.Handle.{Handle}
 use Rattle.ffm_model.specs.declared.objects.OpenConnection.{OpenConnection}
@@ -11,7 +12,7 @@ use Rattle.ffm_model.specs.declared.objects.ConnPhase.{ConnPhase}
 use Rattle.ffm_model.specs.declared.objects.ConnPhase.TheVariants.{Opening, Idle, Busy, Closing, Dead}
 use Rattle.ffm_model.specs.declared.objects.ActorPhase.{ActorPhase}
 use Rattle.ffm_model.specs.declared.objects.ActorPhase.TheVariants.{Blocked, Connected, Ended, Panicked}
-use Rattle.ffm_model.specs.Actors.{budget_of}
+use Rattle.ffm_model.specs.Actors.{budget_of, is_stateless, permits}
 use Rattle.ffm_model.specs.State.{SpmState, State, in_use, has_handle, handle_eq}
 
 -- how many connections an actor may have to a service, and 0 where it may not use it
@@ -56,11 +57,22 @@ phase_for (negsuc (suc (suc n))) = Dead
 abbrev pub Mark : Type 0
 Mark = ℕ → ℕ → ℕ → ConnPhase → Bool
 
+-- a message of a connection
 abbrev pub message_marked : Mark → PendingMessage → Bool
-message_marked t m = t m.connection m.client.0 m.service (phase_for m.kind)
+message_marked t m = option_map_or (λ n. t n m.client.0 m.service (phase_for m.kind)) m.connection false
 
 abbrev pub connection_marked : Mark → OpenConnection → Bool
 connection_marked t c = is_awaited c.phase && t c.serial c.client.0 c.service c.phase
+
+-- ---- requests by stateless handles, which have no connection
+
+-- the actor's
+abbrev pub called_by : ℕ → PendingMessage → Bool
+called_by a m = is_none m.connection && (m.client.0 == a)
+
+-- a message without a connection that is no request, or not to a stateless service that its client may use
+abbrev pub wrongly_called : System → PendingMessage → Bool
+wrongly_called s m = is_none m.connection && not (int_le PSA_IPC_CALL m.kind && (is_stateless s m.service && permits s m.client.0 m.service))
 
 -- ---- the connections of an actor, by its phase
 
@@ -73,6 +85,7 @@ asking_of a c = (c.client.0 == a) && is_asking c.phase
 abbrev pub accepted_as : ℕ → ℕ → OpenConnection → Bool
 accepted_as a n c = (c.serial == n) && ((c.client.0 == a) && is_accepted c.phase)
 
+-- awaited and asking count its requests by stateless handles too
 -- a Blocked actor awaits one answer; one that is Panicked asks nothing itself; one that is Connected owns the accepted connection of that serial number; none but a Blocked or a Panicked one awaits an answer
 abbrev pub PhaseFits : ActorPhase → ℕ → ℕ → (ℕ → ℕ) → Type 0
 PhaseFits Blocked awaited asking accepted = awaited ≡ 1
@@ -80,9 +93,16 @@ PhaseFits Panicked awaited asking accepted = asking ≡ 0
 PhaseFits (Connected serial) awaited asking accepted = (awaited ≡ 0) × (accepted serial ≡ 1)
 PhaseFits _ awaited asking accepted = awaited ≡ 0
 
--- the actor's phase fits the numbers of its connections
-abbrev pub PhaseFitsAt : List ActorPhase → List OpenConnection → ℕ → Type 0
-PhaseFitsAt phases cs a = PhaseFits (get_or phases a Ended) (count_by (awaited_of a) cs) (count_by (asking_of a) cs) (λ n. count_by (accepted_as a n) cs)
+-- how many answers an actor awaits, and how many it asks for itself
+abbrev pub awaited_by : List OpenConnection → List PendingMessage → ℕ → ℕ
+awaited_by cs ms a = count_by (awaited_of a) cs + count_by (called_by a) ms
+
+abbrev pub asked_by : List OpenConnection → List PendingMessage → ℕ → ℕ
+asked_by cs ms a = count_by (asking_of a) cs + count_by (called_by a) ms
+
+-- the actor's phase fits the numbers of its connections and requests
+abbrev pub PhaseFitsAt : List ActorPhase → List OpenConnection → List PendingMessage → ℕ → Type 0
+PhaseFitsAt phases cs ms a = PhaseFits (get_or phases a Ended) (awaited_by cs ms a) (asked_by cs ms a) (λ n. count_by (accepted_as a n) cs)
 
 -- ---- serial numbers and handles
 
@@ -115,12 +135,14 @@ objects_with b h = count_by (λ m. has_handle m.handle h) b.messages + count_by 
 pub record ObjectsFit (s : System) (b : SpmState) : Type 0 where
   -- no actor has more connections to a service than its budget, and none where it has no budget
   pub budgets : (a service : ℕ) → in_use b a service ≤ allowed s a service
-  -- messages pair off with the connections that are Opening, Busy or Closing, with the same client and service and a kind that fits the phase: as many of the one as of the other pass any test of these
+  -- messages that have a connection pair off with the connections that are Opening, Busy or Closing, with the same client and service and a kind that fits the phase: as many of the one as of the other pass any test of these
   pub paired : (t : Mark) → count_by (message_marked t) b.messages ≡ count_by (connection_marked t) b.connections
+  -- any other message is a request to a stateless service by an actor that may use it
+  pub called : count_by (wrongly_called s) b.messages ≡ 0
   -- serial numbers rise, and the next one is greater
   pub rising : RisesTo 0 b.connections b.connections_made
-  -- each actor's phase fits the numbers of its connections
-  pub phases : (a : ℕ) → PhaseFitsAt b.phases b.connections a
+  -- each actor's phase fits the numbers of its connections and requests
+  pub phases : (a : ℕ) → PhaseFitsAt b.phases b.connections b.messages a
   -- a connection has no handle exactly where it is Opening or its client is Connected to it
   pub shown : count_by (wrongly_shown b.phases) b.connections ≡ 0
   -- a handle is that of one message or one connection at most

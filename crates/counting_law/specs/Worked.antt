@@ -30,7 +30,7 @@ abbrev vault_partitions : List Partition
 vault_partitions = record { name = codes "VAULT"; rot = ApplicationRot; priority = Normal; domain = 1; ram = 0 } ∷ []
 
 abbrev vault_services : List Service
-vault_services = record { name = codes "VAULT"; sid = record { 0 = 0x40 }; owner = 0; nonsecure = true; version = 1; policy = Strict; signal = 0x10 } ∷ []
+vault_services = record { name = codes "VAULT"; sid = record { 0 = 0x40 }; owner = 0; nonsecure = true; version = 1; policy = Strict; signal = 0x10; stateless = 0 } ∷ []
 
 abbrev vault_regions : List Region
 vault_regions = record { base = 0x30000000; size = 0x400; class = Ram 1 } ∷ record { base = 0x20000000; size = 0x10000; class = NonSecure } ∷ []

@@ -11,7 +11,7 @@ ghost use Rattle.std.specs.Prelude.{◌≡◌, ◌≤◌, ◌<◌, length};
 ghost use Rattle.ffm_model.specs.declared.constants.TheConstants.{MAX_ENTRIES};
 ghost use Rattle.ffm_model.specs.declared.system.System.{System};
 ghost use Rattle.ffm_model.specs.State.{SpmState};
-ghost use Rattle.ffm_model.specs.Names.{capacity};
+ghost use Rattle.ffm_model.specs.Names.{capacity, message_capacity};
 ghost use Rattle.counting_law.specs.Runs.{InEachNamedRun, InEachRun};
 ghost use Rattle.counting_law.specs.Objects.{HandlesFit, ObjectsFit};
 ghost use Rattle.counting_law.specs.Pairs.{MessagesPair};
@@ -29,17 +29,19 @@ pub fn objects_fit()
     ensures handles { InEachRun (λ s es st. HandlesFit st) }
 {}
 
-/// In each state of a run each message belongs to one connection that is Opening, Busy or Closing, and
-/// each such connection has one message, for whose answer its client waits unless it panicked.
+/// In each state of a run each message belongs to one connection that is Opening, Busy or Closing, or it
+/// is a request by a stateless handle, whose client waits. Each such connection has one message, for
+/// whose answer its client waits unless it panicked. No actor waits for two answers.
 pub fn messages_pair_with_connections()
-    ensures { InEachRun (λ s es st. MessagesPair st.spm) }
+    ensures { InEachRun (λ s es st. MessagesPair s st.spm) }
 {}
 
-/// The connections that a system declares suffice: in each state of a run connections and messages are
-/// each at most as many, and no event that adds one lacks room for it.
+/// The connections that a system declares suffice: in each state of a run connections are at most as
+/// many, messages are at most as many and one more for each actor that may use a stateless service, and
+/// no event that adds one lacks room for it.
 pub fn declared_connections_suffice()
     ensures connections { InEachRun (λ s es st. length st.spm.connections ≤ capacity s) }
-    ensures messages { InEachRun (λ s es st. length st.spm.messages ≤ capacity s) }
+    ensures messages { InEachRun (λ s es st. length st.spm.messages ≤ message_capacity s) }
     ensures room { (s : System) → (b : SpmState) → ObjectsFit s b → RoomFor s b }
 {}
 

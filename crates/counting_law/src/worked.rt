@@ -17,7 +17,7 @@ pub fn second_connection_asked()
     ensures as_many_as_declared { behind (λ b. length b.connections) ≡ Some (capacity vault_system) }
     ensures budget_in_use { behind (λ b. in_use b client 0) ≡ Some (allowed vault_system client 0) }
     ensures numbers_rise { behind (λ b. map (λ c. c.serial) b.connections) ≡ Some (0 ∷ 1 ∷ []) }
-    ensures message_of_the_second { behind (λ b. map (λ m. m.connection) b.messages) ≡ Some (1 ∷ []) }
+    ensures message_of_the_second { behind (λ b. map (λ m. m.connection) b.messages) ≡ Some (Some 1 ∷ []) }
     ensures one_answer_awaited { behind (λ b. count_by (awaited_of client) b.connections) ≡ Some 1 }
     ensures shown_rightly { behind (λ b. count_by (wrongly_shown b.phases) b.connections) ≡ Some 0 }
     ensures handle_of_the_first { behind (λ b. objects_with b (record { 0 = pos 1024 })) ≡ Some 1 }

@@ -1,2 +1,3 @@
 mod NameLemmas
 mod SourceLemmas
+pub mod HandlingLemmas

@@ -9,4 +9,4 @@ mod doorbell;
 mod interrupt;
 
 pub use doorbell::{clear, notify};
-pub use interrupt::{eoi, raise};
+pub use interrupt::{disable, enable, eoi, fire, raise, reset};

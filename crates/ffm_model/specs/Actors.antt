@@ -1,13 +1,16 @@
 -- Who the actors of a system are, which services they may use, and which versions of a service are accepted.
 -- Source: FF-M 1.0, client IDs and RoT Service access (`psa/client.h`, `psa_connect` and `psa_version`; the manifest's `dependencies`, `non_secure_clients`, `version_policy`).
-use Rattle.std.specs.Prelude.{ℕ, ℤ, pos, negsuc, ◌+◌, ◌-◌, ◌==◌, nat_lt, nat_le, Bool, true, false, ◌&&◌, if◌then◌else◌, List, [], ◌∷◌, length, Option, position, find, is_some, slice_get}
+use Rattle.std.specs.Prelude.{ℕ, ℤ, pos, negsuc, ◌+◌, ◌-◌, ◌==◌, nat_lt, nat_le, int_lt, int_le, Bool, true, false, not, ◌&&◌, if◌then◌else◌, List, [], ◌∷◌, length, Option, Some, None, position, find, is_some, slice_get}
 use Rattle.std.specs.Option.{option_map, option_map_or}
+use Rattle.std.specs.Int.{w32, cast_unsigned}
+use Rattle.ffm_model.specs.declared.constants.TheConstants.{MAX_STATELESS, STATELESS_BASE}
 use Rattle.ffm_model.specs.declared.system.System.{System}
 use Rattle.ffm_model.specs.declared.system.Source.{Source}
 use Rattle.ffm_model.specs.declared.system.Policy.{Policy}
 use Rattle.ffm_model.specs.declared.system.Policy.TheVariants.{Strict, Relaxed}
 use Rattle.ffm_model.specs.declared.system.ActorKind.{ActorKind}
 use Rattle.ffm_model.specs.declared.system.ActorKind.TheVariants.{Partition, Client, Device}
+use Rattle.ffm_model.specs.declared.machine.Handle.{Handle}
 use Rattle.ffm_model.specs.declared.machine.Sid.{Sid}
 use Rattle.ffm_model.specs.Counts.{ActorCounts}
 
@@ -67,6 +70,18 @@ permits s a service = is_some (budget_of s a service)
 abbrev pub version_fits : Policy → ℕ → ℕ → Bool
 version_fits Strict own asked = own == asked
 version_fits Relaxed own asked = nat_le asked own
+
+-- clients call a stateless service by its handle, and don't connect to it
+abbrev pub is_stateless : System → ℕ → Bool
+is_stateless s service = option_map_or (λ v. not (v.stateless == 0)) (slice_get s.services service) false
+
+-- the place of the stateless service with an index
+abbrev pub stateless_at : System → ℕ → Option ℕ
+stateless_at s index = if index == 0 then None else position (λ v. v.stateless == index) s.services
+
+-- the index that a stateless handle shows: it is that above 0x40000000, from 1 to 32
+abbrev pub stateless_index : Handle → Option ℕ
+stateless_index h = if int_lt (pos STATELESS_BASE) h.0 && int_le h.0 (pos (STATELESS_BASE + MAX_STATELESS)) then Some (cast_unsigned w32 h.0 - STATELESS_BASE) else None
 
 -- the partition that a service belongs to
 abbrev pub owner_of : System → ℕ → Option ℕ

@@ -16,8 +16,8 @@ use Rattle.ffm_model.specs.Actors.{kind_of}
 use Rattle.ffm_model.specs.State.{State, phase_of, with_phase}
 use Rattle.ffm_model.specs.Panic.{panic_effect}
 use Rattle.ffm_model.specs.ClientCalls.{Effect, effect, in_state, version_number, psa_connect, psa_call, psa_close, returned}
-use Rattle.ffm_model.specs.ServiceCalls.{psa_wait, psa_get, psa_set_rhandle, psa_read, psa_skip, psa_write, psa_reply, psa_notify, psa_clear, psa_eoi}
-use Rattle.ffm_model.specs.Accesses.{load, store, raise}
+use Rattle.ffm_model.specs.ServiceCalls.{psa_wait, psa_get, psa_set_rhandle, psa_read, psa_skip, psa_write, psa_reply, psa_notify, psa_clear, psa_eoi, psa_irq_enable, psa_irq_disable, psa_reset_signal}
+use Rattle.ffm_model.specs.Accesses.{load, store, raise, fire}
 
 abbrev pub client_has : Call → Bool
 client_has call.FrameworkVersion = true
@@ -33,12 +33,14 @@ client_has _ = false
 
 abbrev pub device_has : Call → Bool
 device_has (call.Raise source) = true
+device_has (call.Fire source result) = true
 device_has (call.Stop spent) = true
 device_has call.Resume = true
 device_has _ = false
 
 abbrev pub partition_has : Call → Bool
 partition_has (call.Raise source) = false
+partition_has (call.Fire source result) = false
 partition_has _ = true
 
 abbrev pub has_call : ActorKind → Call → Bool
@@ -63,10 +65,14 @@ call_case s st a (call.Reply m status) h = psa_reply s st a m status.0
 call_case s st a (call.Notify partition) h = option_map (in_state st) (psa_notify s st.spm partition)
 call_case s st a call.Clear h = option_map (in_state st) (psa_clear st.spm a)
 call_case s st a (call.Eoi signal) h = option_map (in_state st) (psa_eoi s st.spm a signal)
+call_case s st a (call.IrqEnable signal) h = option_map (in_state st) (psa_irq_enable s st.spm a signal)
+call_case s st a (call.IrqDisable signal) h = option_map (in_state st) (psa_irq_disable s st.spm a signal)
+call_case s st a (call.ResetSignal signal) h = option_map (in_state st) (psa_reset_signal s st.spm a signal)
 call_case s st a call.Panic h = None
 call_case s st a (call.Load address size) h = load s st a address size
 call_case s st a (call.Store address size value) h = store s st a address size value
 call_case s st a (call.Raise source) h = option_map (in_state st) (raise s st.spm source)
+call_case s st a (call.Fire source result) h = option_map (in_state st) (fire s st.spm source result)
 call_case s st a (call.Stop spent) h = Some (effect Done (record st { spm = with_phase st.spm a phase.Ended }))
 call_case s st a call.Resume h = Some (returned s st a (phase_of st.spm a) h)
 

@@ -1,5 +1,5 @@
 -- The calls of `psa/client.h`: what each answers and leaves, or nothing where the call is a PROGRAMMER ERROR.
-use Rattle.std.specs.Prelude.{ℕ, ℤ, pos, ◌+◌, ◌==◌, int_lt, Bool, true, false, ◌&&◌, ◌||◌, if◌then◌else◌, [], ◌∷◌, ◌++◌, Some, None, Option, option_and_then, slice_get, bit_and}
+use Rattle.std.specs.Prelude.{ℕ, ℤ, pos, ◌+◌, ◌==◌, int_lt, Bool, true, false, not, ◌&&◌, ◌||◌, if◌then◌else◌, [], ◌∷◌, ◌++◌, Some, None, Option, option_and_then, slice_get, bit_and}
 use Rattle.std.specs.Option.{option_map_or, unwrap_or}
 use Rattle.std.specs.Ordering.{int_eq}
 use Rattle.ffm_model.specs.declared.constants.TheConstants.{PSA_IPC_CONNECT, PSA_IPC_DISCONNECT, PSA_NULL_HANDLE, PSA_VERSION_NONE, PSA_ERROR_CONNECTION_REFUSED, PSA_ERROR_CONNECTION_BUSY, PSA_ERROR_COMMUNICATION_FAILURE}
@@ -14,9 +14,9 @@ use Rattle.ffm_model.specs.declared.objects.ConnPhase.TheVariants.{Opening, Busy
 use Rattle.ffm_model.specs.declared.objects.ActorPhase.{ActorPhase}
 use Rattle.ffm_model.specs.declared.objects.ActorPhase.TheVariants as phase
 use Rattle.ffm_model.specs.declared.objects.OpenConnection.{OpenConnection}
-use Rattle.ffm_model.specs.Actors.{service_at, budget_of, permits, version_fits, owner_of}
+use Rattle.ffm_model.specs.Actors.{service_at, budget_of, permits, version_fits, owner_of, is_stateless, stateless_at, stateless_index}
 use Rattle.ffm_model.specs.Memory.{vectors_of, no_vectors}
-use Rattle.ffm_model.specs.State.{SpmState, State, phase_of, with_phase, connection_held, in_use, with_connection_phase, with_connection_handle, without_connection, with_message}
+use Rattle.ffm_model.specs.State.{SpmState, State, phase_of, with_phase, connection_held, in_use, with_connection_phase, with_connection_handle, without_connection, with_message, with_request}
 use Rattle.ffm_model.specs.Signals.{signals_of, is_panicked}
 use Rattle.ffm_model.specs.Panic.{is_dead}
 
@@ -71,9 +71,9 @@ connect_to s b a service =
     then move (Value PSA_ERROR_CONNECTION_BUSY) b
     else move Blocked (connect_issued b a service))
 
--- a PROGRAMMER ERROR where no service has the SID, the caller may not use it, or the version doesn't fit
+-- a PROGRAMMER ERROR where no service has the SID, it is stateless, the caller may not use it, or the version doesn't fit
 abbrev pub psa_connect : System → SpmState → ℕ → Sid → ℕ → Option Move
-psa_connect s b a sid asked = option_and_then (λ i. if permits s a i && takes_version s i asked then Some (connect_to s b a i) else None) (service_at s sid)
+psa_connect s b a sid asked = option_and_then (λ i. if permits s a i && (not (is_stateless s i) && takes_version s i asked) then Some (connect_to s b a i) else None) (service_at s sid)
 
 -- ---- psa_call()
 
@@ -90,10 +90,27 @@ call_on b a c kind v =
     else move Blocked (with_phase (with_message (with_connection_phase b c.serial Busy) c kind v) a phase.Blocked)
 
 -- a PROGRAMMER ERROR where the handle isn't the caller's, the connection can't take a request, the kind is negative or the vectors are wrong
-abbrev pub psa_call : System → State → ℕ → Handle → ℤ → ℕ → ℕ → ℕ → ℕ → Option Move
-psa_call s st a h kind in_vec in_len out_vec out_len =
+abbrev pub connection_called : System → State → ℕ → Handle → ℤ → ℕ → ℕ → ℕ → ℕ → Option Move
+connection_called s st a h kind in_vec in_len out_vec out_len =
     option_and_then (λ c. option_and_then (λ v. if refuses_requests c.phase || int_lt kind (pos 0) then None else Some (call_on st.spm a c kind v))
     (vectors_of s st.memory a in_vec in_len out_vec out_len)) (connection_held st.spm a h)
+
+abbrev pub call_to : System → SpmState → ℕ → ℕ → ℤ → Vectors → Move
+call_to s b a service kind v =
+    if is_service_panicked s b service
+    then move (Value PSA_ERROR_COMMUNICATION_FAILURE) b
+    else move Blocked (with_phase (with_request b a service kind v) a phase.Blocked)
+
+-- a PROGRAMMER ERROR where no stateless service has the index, the caller may not use it, the kind is negative or the vectors are wrong
+abbrev pub service_called : System → State → ℕ → ℕ → ℤ → ℕ → ℕ → ℕ → ℕ → Option Move
+service_called s st a index kind in_vec in_len out_vec out_len =
+    option_and_then (λ i. option_and_then (λ v. if permits s a i && not (int_lt kind (pos 0)) then Some (call_to s st.spm a i kind v) else None)
+    (vectors_of s st.memory a in_vec in_len out_vec out_len)) (stateless_at s index)
+
+-- by a stateless handle, or on a connection
+abbrev pub psa_call : System → State → ℕ → Handle → ℤ → ℕ → ℕ → ℕ → ℕ → Option Move
+psa_call s st a h kind in_vec in_len out_vec out_len =
+    option_map_or (λ index. service_called s st a index kind in_vec in_len out_vec out_len) (stateless_index h) (connection_called s st a h kind in_vec in_len out_vec out_len)
 
 -- ---- psa_close()
 

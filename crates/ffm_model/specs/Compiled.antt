@@ -1,6 +1,6 @@
 -- The system that a system file with its manifests stands for, where no rule is broken.
 -- Source: FF-M 1.0, manifests; `psa/service.h`, signals of services and interrupts.
-use Rattle.std.specs.Prelude.{ℕ, ◌+◌, ◌^◌, List, [], ◌∷◌, length, Option, Some, None, map, Result, Ok, Err}
+use Rattle.std.specs.Prelude.{ℕ, ◌+◌, ◌^◌, List, [], ◌∷◌, length, Option, Some, None, map, Result, Ok, Err, true, false}
 use Rattle.std.specs.List.{flat_map, enumerate_from}
 use Rattle.ffm_model.specs.declared.place.Refusal.{Refusal}
 use Rattle.ffm_model.specs.declared.system.System.{System}
@@ -37,6 +37,7 @@ service_of owner e = record {
   version = e.1.version;
   policy = e.1.policy;
   signal = signal_at e.0;
+  stateless = 0;
 }
 
 -- the services of a partition have its first signals, in order
@@ -49,7 +50,7 @@ services_of p = flat_map services_of_manifest (enumerate_from 0 p.manifests)
 
 -- the interrupt source that has a place among its partition's signals
 abbrev pub source_of : ℕ → ℕ × IrqRecord → Source
-source_of owner e = record { name = e.1.source; signal_name = e.1.signal; owner = owner; signal = signal_at e.0 }
+source_of owner e = record { name = e.1.source; signal_name = e.1.signal; owner = owner; signal = signal_at e.0; flih = false; enabled = true }
 
 -- its interrupts have the signals behind those
 abbrev pub sources_of_manifest : ℕ × ManifestRecord → List Source

@@ -4,6 +4,7 @@ pub mod Keys
 pub mod Counts
 pub mod TraceText
 pub mod Scripts
+pub mod Plans
 pub mod ScriptRuns
 pub mod WellFormed
 pub mod Parts

@@ -1,7 +1,7 @@
 -- The numbers that handles show: the slot of a connection or message, and how often that slot was used.
 -- Source: this profile's choice of handles; the standard leaves psa_handle_t open.
 -- A slot's index is the least one that is free; its generation is one more than the number of earlier uses.
-use Rattle.std.specs.Prelude.{ℕ, pos, zero, suc, ◌+◌, ◌-◌, ◌*◌, ◌==◌, nat_lt, Bool, true, not, ◌&&◌, ◌||◌, if◌then◌else◌, List, [], ◌∷◌, ◌++◌, length, Some, None, Option, map, find, position, get_or, count_by, sum_by, option_and_then, fold, is_some}
+use Rattle.std.specs.Prelude.{ℕ, pos, zero, suc, ◌+◌, ◌-◌, ◌*◌, ◌==◌, nat_lt, Bool, true, false, not, ◌&&◌, ◌||◌, if◌then◌else◌, List, [], ◌∷◌, ◌++◌, length, Some, None, Option, map, find, position, get_or, count_by, sum_by, option_and_then, fold, is_some}
 use Rattle.std.specs.List.{list_any, range_with_len}
 use Rattle.std.specs.Option.{option_map, option_map_or, unwrap_or}
 use Rattle.std.specs.Ordering.{int_eq}
@@ -13,6 +13,7 @@ use Rattle.ffm_model.specs.declared.machine.Call.TheVariants as call
 use Rattle.ffm_model.specs.declared.objects.ActorPhase.{ActorPhase}
 use Rattle.ffm_model.specs.declared.objects.ActorPhase.TheVariants as phase
 use Rattle.ffm_model.specs.declared.objects.PendingMessage.{PendingMessage}
+use Rattle.ffm_model.specs.Actors.{is_stateless}
 use Rattle.ffm_model.specs.Memory.{ByteMap}
 use Rattle.ffm_model.specs.State.{SpmState, State, opening, phase_of, handle_eq, is_undelivered}
 use Rattle.ffm_model.specs.ServiceCalls.{service_of_signal}
@@ -51,13 +52,31 @@ next_slot size live past =
     let i = unwrap_or (find (λ k. not (list_any (has_index k) live)) (range_with_len 0 size)) 0 in
     record { index = i; generation = count_by (has_index i) past + 1 }
 
--- how many connections a system declares, and so how many slots of each family there are
+-- how many connections a system declares, and so how many slots of connections there are
 abbrev pub capacity : System → ℕ
 capacity s = sum_by (λ b. b.count) s.budgets
 
--- whether the message is still there; a connection has at most one message at a time
+-- the actor may use a stateless service
+abbrev pub calls_stateless : System → ℕ → Bool
+calls_stateless s a = list_any (λ b. (b.client.0 == a) && is_stateless s b.service) s.budgets
+
+-- each connection has a message at most, and so has each partition and each client that may use a stateless service, so there are so many slots of messages
+abbrev pub message_capacity : System → ℕ
+message_capacity s = capacity s + count_by (calls_stateless s) (range_with_len 0 (length s.partitions + length s.clients))
+
+-- both of one connection, or neither of any
+abbrev pub is_same_connection : Option ℕ → Option ℕ → Bool
+is_same_connection (Some n) (Some k) = n == k
+is_same_connection None None = true
+is_same_connection _ _ = false
+
+-- the same connection, the same client and the same kind
+abbrev pub is_same_message : PendingMessage → PendingMessage → Bool
+is_same_message m n = is_same_connection n.connection m.connection && ((n.client.0 == m.client.0) && int_eq n.kind m.kind)
+
+-- whether the message is still there; a connection has at most one message at a time, and so has an actor without one
 abbrev pub stays : List PendingMessage → PendingMessage → Bool
-stays ms m = list_any (λ n. (n.connection == m.connection) && int_eq n.kind m.kind) ms
+stays ms m = list_any (is_same_message m) ms
 
 -- the slots of the messages that pass the test
 abbrev pub slots_kept : (PendingMessage → Bool) → List PendingMessage → List SlotName → List SlotName
@@ -82,7 +101,7 @@ with_connection size old new k = if nat_lt old.connections_made new.connections_
 abbrev pub names_after : System → SpmState → SpmState → NamesSoFar → NamesSoFar
 names_after s old new k =
     let kept = slots_kept (stays new.messages) old.messages k.messages in
-    with_messages (capacity s) (length new.messages - length kept)
+    with_messages (message_capacity s) (length new.messages - length kept)
     (with_connection (capacity s) old new (record k { messages = kept }))
 
 -- the handle that the event has to show: the connection's at the return of psa_connect, the message's at psa_get

@@ -1,6 +1,6 @@
 -- What the panic of a partition does to everyone else.
 -- Source: FF-M 1.0, PROGRAMMER ERROR of a partition; `psa/service.h`, psa_panic. What becomes of its clients is this profile's choice.
-use Rattle.std.specs.Prelude.{ℕ, ◌==◌, Bool, true, false, not, ◌&&◌, if◌then◌else◌, List, filter, fold, Option, Some, None, option_and_then, slice_set, get_or, ◌++◌}
+use Rattle.std.specs.Prelude.{ℕ, ◌==◌, Bool, true, false, not, ◌&&◌, if◌then◌else◌, List, filter, fold, Option, Some, None, option_and_then, slice_set, get_or, is_none, ◌++◌}
 use Rattle.std.specs.List.{filter_map}
 use Rattle.std.specs.Option.{option_map}
 use Rattle.ffm_model.specs.declared.constants.TheConstants.{PSA_IPC_DISCONNECT, PSA_ERROR_CONNECTION_REFUSED, PSA_ERROR_COMMUNICATION_FAILURE}
@@ -31,6 +31,14 @@ client_answered _ phases client = phases
 abbrev pub clients_answered : System → ℕ → List OpenConnection → List ActorPhase → List ActorPhase
 clients_answered s p cs phases = fold (λ ps c. if is_service_of s p c.service then client_answered c.phase ps c.client.0 else ps) phases cs
 
+-- a request by a stateless handle to a service of the partition
+abbrev pub is_lost_request : System → ℕ → PendingMessage → Bool
+is_lost_request s p m = is_none m.connection && is_service_of s p m.service
+
+-- the clients of such requests are answered
+abbrev pub callers_answered : System → ℕ → List PendingMessage → List ActorPhase → List ActorPhase
+callers_answered s p ms phases = fold (λ ps m. if is_lost_request s p m then slice_set ps m.client.0 (Ready (Value PSA_ERROR_COMMUNICATION_FAILURE)) else ps) phases ms
+
 -- a lost connection that was opening or closing is freed, and any other is dead
 abbrev pub lost : ConnPhase → Option ConnPhase
 lost Opening = None
@@ -48,13 +56,13 @@ without_client p c = if c.client.0 == p then (if is_dead c.phase then None else 
 abbrev pub disconnection : ℕ → OpenConnection → Option PendingMessage
 disconnection p c =
     if (c.client.0 == p) && not (is_dead c.phase)
-    then Some (record { service = c.service; client = c.client; connection = c.serial; kind = PSA_IPC_DISCONNECT; vectors = no_vectors; handle = None })
+    then Some (record { service = c.service; client = c.client; connection = Some c.serial; kind = PSA_IPC_DISCONNECT; vectors = no_vectors; handle = None })
     else None
 
 -- the partition is panicked and the clients of its services are answered; its services are gone, and then it is gone as a client
 abbrev pub panic_effect : System → SpmState → ℕ → SpmState
 panic_effect s b p = record b {
-  phases = clients_answered s p b.connections (slice_set b.phases p Panicked);
+  phases = callers_answered s p b.messages (clients_answered s p b.connections (slice_set b.phases p Panicked));
   connections = filter_map (λ c. option_and_then (without_client p) (without_service s p c)) b.connections;
   messages = filter (λ m. not (is_service_of s p m.service)) b.messages ++ filter_map (λ c. option_and_then (disconnection p) (without_service s p c)) b.connections;
 }

@@ -1,6 +1,6 @@
--- What a script calls next, after the outcomes so far, and when an actor's entries are a run of its script.
+-- What a script calls next, after the outcomes so far, and so what each actor of a system calls next.
 -- Source: this simulator's script language.
-use Rattle.std.specs.Prelude.{ℕ, zero, suc, ◌+◌, ◌-◌, ◌%◌, ◌^◌, ◌≡◌, List, [], ◌∷◌, ◌++◌, length, Bool, not, ◌==◌, true, false, nat_lt, Option, Some, None, option_and_then, if◌then◌else◌, replicate, get_or, slice_get, slice_set, bit_and, bit_or, bit_xor}
+use Rattle.std.specs.Prelude.{ℕ, zero, suc, ◌+◌, ◌-◌, ◌%◌, ◌^◌, List, [], ◌∷◌, length, Bool, not, ◌==◌, true, false, nat_lt, Option, Some, None, option_and_then, if◌then◌else◌, replicate, get_or, slice_get, slice_set, bit_and, bit_or, bit_xor}
 use Rattle.std.specs.Option.{option_map_or}
 use Rattle.std.specs.Int.{w32, cast_unsigned, cast_signed}
 use Rattle.ffm_model.specs.declared.machine.Entry.{Entry}
@@ -20,7 +20,11 @@ use Rattle.ffm_model.specs.declared.script.CallName.{CallName}
 use Rattle.ffm_model.specs.declared.script.CallName.TheVariants as name
 use Rattle.ffm_model.specs.declared.script.Instruction.{Instruction}
 use Rattle.ffm_model.specs.declared.script.Instruction.TheVariants.{Change, Jump, JumpIf, Make}
-use Rattle.ffm_model.specs.Records.{is_blocked_outcome, ends_blocked}
+use Rattle.ffm_model.specs.declared.system.ActorKind.{ActorKind}
+use Rattle.ffm_model.specs.declared.system.ActorKind.TheVariants.{Partition, Client, Device}
+use Rattle.ffm_model.specs.declared.system.System.{System}
+use Rattle.ffm_model.specs.Actors.{kind_of}
+use Rattle.ffm_model.specs.Plans.{Plan, PlanRun, Engine, plan_of, engine_after}
 
 -- ---- points
 
@@ -104,10 +108,14 @@ call_of name.Reply v = call.Reply (handle_of (v 0)) (record { 0 = cast_signed w3
 call_of name.Notify v = call.Notify (cast_signed w32 (v 0))
 call_of name.Clear v = call.Clear
 call_of name.Eoi v = call.Eoi (v 0)
+call_of name.IrqEnable v = call.IrqEnable (v 0)
+call_of name.IrqDisable v = call.IrqDisable (v 0)
+call_of name.ResetSignal v = call.ResetSignal (v 0)
 call_of name.Panic v = call.Panic
 call_of name.Load v = call.Load (v 0) (v 1)
 call_of name.Store v = call.Store (v 0) (v 1) (v 2)
 call_of name.Raise v = call.Raise (v 0)
+call_of name.Fire v = call.Fire (v 0) (v 1)
 call_of name.Stop v = call.Stop false
 
 -- the call of a line; a local line that may not run any more ends the script
@@ -150,35 +158,35 @@ place_behind script place = if nat_lt place (length script) then place + 1 else 
 abbrev pub behind : List Instruction → Outcome → Point → Point
 behind script o p = point (noted o p.registers) (place_behind script p.place)
 
--- a blocked call stays open: the outcome of its return counts as the call's
-abbrev pub answered : List Instruction → Outcome → Point → Point
-answered script o p = if is_blocked_outcome o then p else behind script o (arrived script p)
+-- a script as an engine: it stands at a point, and goes on to its next call from there
+abbrev pub script_engine : List Instruction → Engine Point
+script_engine script = record { call = λ p. call_at script (arrived script p); behind = λ o p. behind script o (arrived script p) }
 
--- where a script goes on after the outcomes
-unfoldable pub point_after : List Instruction → Point → List Outcome → Point
-point_after script p [] = p
-point_after script p (o ∷ os) = point_after script (answered script o p) os
+-- the plan of a script, from its first line on
+abbrev pub script_plan : List Instruction → Plan
+script_plan script = plan_of (script_engine script) start
 
--- the call that the script makes after the outcomes: where the last one is Blocked, its return
-unfoldable pub next_call : List Instruction → List Outcome → Call
-next_call script os = if ends_blocked os then call.Resume else call_at script (arrived script (point_after script start os))
-
--- ---- runs
-
--- each call is the one that the script makes after the outcomes before it
-abbrev pub RunFrom : List Instruction → List Outcome → List Entry → Type 0
-RunFrom script os [] = Unit {0}
-RunFrom script os (e ∷ es) = (e.call ≡ next_call script os) × RunFrom script (os ++ e.outcome ∷ []) es
+-- where the script goes on after the outcomes
+abbrev pub point_after : List Instruction → List Outcome → Point
+point_after script os = engine_after (script_engine script) start os
 
 -- an actor's entries are a run of its script
 abbrev pub ScriptRun : List Instruction → List Entry → Type 0
-ScriptRun script es = RunFrom script [] es
+ScriptRun script es = PlanRun (script_plan script) es
+
+-- ---- actors
 
 -- the instructions of a script of one part
 abbrev pub only_part : List (List Instruction) → List Instruction
 only_part [] = []
 only_part (p ∷ ps) = p
 
--- the instructions of an actor's script
-abbrev pub script_at : List (List (List Instruction)) → ℕ → List Instruction
-script_at scripts a = only_part (get_or scripts a [])
+-- what an actor of a kind calls next, where its scripts are these: each kind of actor runs one script
+abbrev pub kind_plan : ActorKind → List (List Instruction) → Plan
+kind_plan Partition parts = script_plan (only_part parts)
+kind_plan Client parts = script_plan (only_part parts)
+kind_plan Device parts = script_plan (only_part parts)
+
+-- what an actor of a system calls next
+abbrev pub plan_at : System → List (List (List Instruction)) → ℕ → Plan
+plan_at s scripts a = kind_plan (kind_of s a) (get_or scripts a [])

@@ -1,5 +1,5 @@
 -- The calls of `psa/service.h`: what each answers and leaves, or nothing where the call is a PROGRAMMER ERROR.
-use Rattle.std.specs.Prelude.{ℕ, ℤ, pos, negsuc, ◌+◌, ◌-◌, ◌==◌, nat_lt, nat_le, min, int_lt, int_le, Bool, true, false, not, ◌&&◌, ◌||◌, if◌then◌else◌, List, [], take, option_and_then, ◌∷◌, ◌++◌, length, Some, None, Option, map, position, get_or, slice_set, bit_and, find}
+use Rattle.std.specs.Prelude.{ℕ, ℤ, pos, negsuc, ◌+◌, ◌-◌, ◌==◌, nat_lt, nat_le, min, int_lt, int_le, Bool, true, false, not, ◌&&◌, ◌||◌, if◌then◌else◌, List, [], take, option_and_then, ◌∷◌, ◌++◌, length, Some, None, Option, map, position, get_or, slice_get, slice_set, bit_and, find}
 use Rattle.std.specs.Option.{option_map_or, option_map}
 use Rattle.std.specs.Ordering.{int_eq}
 use Rattle.std.specs.Int.{w32, cast_unsigned}
@@ -10,6 +10,7 @@ use Rattle.ffm_model.specs.declared.machine.Message.{Message}
 use Rattle.ffm_model.specs.declared.machine.Outcome.TheVariants.{Value, Number, Signals, Got, Blocked, Done}
 use Rattle.ffm_model.specs.declared.objects.Span.{Span}
 use Rattle.ffm_model.specs.declared.objects.Vectors.{Vectors}
+use Rattle.ffm_model.specs.declared.objects.ConnPhase.{ConnPhase}
 use Rattle.ffm_model.specs.declared.objects.ConnPhase.TheVariants.{Idle, Error}
 use Rattle.ffm_model.specs.declared.objects.ActorPhase.TheVariants as phase
 use Rattle.ffm_model.specs.declared.objects.PendingMessage.{PendingMessage}
@@ -39,13 +40,13 @@ service_of_signal s a signal = position (λ v. (v.owner == a) && (v.signal == si
 abbrev pub sizes_of : List Span → List ℕ
 sizes_of vs = map (λ (v : Span). v.len) vs
 
--- psa_msg_t: a connection's message carries no rhandle, and only a request has sizes
+-- psa_msg_t: the message that makes a connection carries no rhandle, nor does one without a connection, and only a request has sizes
 abbrev pub shown_message : System → SpmState → PendingMessage → Handle → Message
 shown_message s b m h = record {
   kind = m.kind;
   handle = h;
   client_id = client_id_of s m.client.0;
-  rhandle = (if int_eq m.kind PSA_IPC_CONNECT then 0 else option_map_or (λ c. c.rhandle) (connection_by_serial b m.connection) 0);
+  rhandle = (if int_eq m.kind PSA_IPC_CONNECT then 0 else option_map_or (λ c. c.rhandle) (option_and_then (connection_by_serial b) m.connection) 0);
   in_size = sizes_of m.vectors.input;
   out_size = sizes_of m.vectors.output;
 }
@@ -73,10 +74,10 @@ abbrev pub psa_get : System → State → ℕ → ℕ → ℕ → Handle → Opt
 psa_get s st a signal msg h =
     option_and_then (λ i. option_and_then (λ m. if valid_buffer s a msg message_size then Some (get_of s st i msg h m) else None) (find (is_undelivered i) st.spm.messages)) (service_of_signal s a signal)
 
--- ---- psa_set_rhandle(): it belongs to the connection, not to one message
+-- ---- psa_set_rhandle(): it belongs to the connection, not to one message; a PROGRAMMER ERROR where the message has none
 
 abbrev pub psa_set_rhandle : System → SpmState → ℕ → Handle → ℕ → Option Move
-psa_set_rhandle s b a h rhandle = option_map (λ m. move Done (with_rhandle b m.connection rhandle)) (message_held s b a h)
+psa_set_rhandle s b a h rhandle = option_map (λ n. move Done (with_rhandle b n rhandle)) (option_and_then (λ m. m.connection) (message_held s b a h))
 
 -- ---- psa_read(), psa_skip() and psa_write()
 
@@ -138,35 +139,41 @@ psa_write s st a h index buffer len =
 abbrev pub is_connect_status : ℤ → Bool
 is_connect_status z = int_eq z PSA_SUCCESS || (int_eq z PSA_ERROR_CONNECTION_REFUSED || int_eq z PSA_ERROR_CONNECTION_BUSY)
 
-abbrev pub connect_answered : SpmState → PendingMessage → ℤ → SpmState
-connect_answered b m status =
+-- n is the serial number of the message's connection
+abbrev pub connect_answered : SpmState → ℕ → PendingMessage → ℤ → SpmState
+connect_answered b n m status =
     if int_eq status PSA_SUCCESS
-    then with_phase (with_connection_phase b m.connection Idle) m.client.0 (phase.Connected m.connection)
-    else with_phase (without_connection b m.connection) m.client.0 (phase.Ready (Value status))
+    then with_phase (with_connection_phase b n Idle) m.client.0 (phase.Connected n)
+    else with_phase (without_connection b n) m.client.0 (phase.Ready (Value status))
 
 -- the status is ignored, and nobody waits where the client panicked
-abbrev pub close_answered : SpmState → PendingMessage → SpmState
-close_answered b m =
-    let freed = without_connection b m.connection in
+abbrev pub close_answered : SpmState → ℕ → PendingMessage → SpmState
+close_answered b n m =
+    let freed = without_connection b n in
     if is_blocked (phase_of b m.client.0) then with_phase freed m.client.0 (phase.Ready Done) else freed
+
+-- the connection of a request, where it has one
+abbrev pub with_request_phase : SpmState → PendingMessage → ConnPhase → SpmState
+with_request_phase b m ph = option_map_or (λ n. with_connection_phase b n ph) m.connection b
 
 -- with PROGRAMMER ERROR the connection takes no further request; a non-secure client is told, and a partition stays Blocked and owes its panic
 abbrev pub request_failed : System → SpmState → PendingMessage → SpmState
 request_failed s b m =
-    let failed = with_connection_phase b m.connection Error in
+    let failed = with_request_phase b m Error in
     if is_partition (kind_of s m.client.0) then failed else with_phase failed m.client.0 (phase.Ready (Value PSA_ERROR_PROGRAMMER_ERROR))
 
 abbrev pub request_answered : System → SpmState → PendingMessage → ℤ → SpmState
 request_answered s b m status =
     if int_eq status PSA_ERROR_PROGRAMMER_ERROR
     then request_failed s b m
-    else with_phase (with_connection_phase b m.connection Idle) m.client.0 (phase.Ready (Value status))
+    else with_phase (with_request_phase b m Idle) m.client.0 (phase.Ready (Value status))
 
+-- a message that is no request has a connection
 abbrev pub answered : System → SpmState → PendingMessage → ℤ → SpmState
 answered s b m status =
     if int_eq m.kind PSA_IPC_CONNECT
-    then connect_answered b m status
-    else (if int_lt m.kind PSA_IPC_CALL then close_answered b m else request_answered s b m status)
+    then option_map_or (λ n. connect_answered b n m status) m.connection b
+    else (if int_lt m.kind PSA_IPC_CALL then option_map_or (λ n. close_answered b n m) m.connection b else request_answered s b m status)
 
 -- the message is gone, and its client is answered
 abbrev pub replied : System → SpmState → Handle → ℤ → PendingMessage → SpmState
@@ -228,14 +235,39 @@ psa_clear b a = if get_or b.doorbells a false then Some (move Done (with_doorbel
 abbrev pub source_of_signal : System → ℕ → ℕ → Option ℕ
 source_of_signal s a signal = position (λ v. (v.owner == a) && (v.signal == signal)) s.sources
 
--- an enabled source that is pending asserts its signal as soon as that is clear
-abbrev pub forwarded : SourceFlags → SourceFlags
-forwarded f = if f.enabled && (f.pending && not f.asserted) then record f { pending = false; asserted = true } else f
+-- its handling: a first-level handler (FLIH) takes each interrupt at once, a second-level one (SLIH) one after the other
+abbrev pub has_flih : System → ℕ → Bool
+has_flih s i = option_map_or (λ x. x.flih) (slice_get s.sources i) false
+
+-- an enabled source that is pending asserts its signal: with SLIH as soon as that is clear, with FLIH in any case
+abbrev pub forwarded : Bool → SourceFlags → SourceFlags
+forwarded flih f = if f.enabled && (f.pending && (flih || not f.asserted)) then record f { pending = false; asserted = true } else f
 
 abbrev pub with_flags : SpmState → ℕ → SourceFlags → SpmState
 with_flags b i f = record b { sources = slice_set b.sources i f }
 
--- a PROGRAMMER ERROR where it isn't the asserted signal of one of the partition's sources
+-- the flags of a source are set, and then its interrupts forwarded
+abbrev pub with_forwarded : System → SpmState → ℕ → SourceFlags → SpmState
+with_forwarded s b i f = with_flags b i (forwarded (has_flih s i) f)
+
+-- a PROGRAMMER ERROR where it isn't the asserted signal of one of the partition's sources with SLIH
 abbrev pub psa_eoi : System → SpmState → ℕ → ℕ → Option Move
 psa_eoi s b a signal =
-    option_and_then (λ i. if (flags_at b i).asserted then Some (move Done (with_flags b i (forwarded (record (flags_at b i) { asserted = false })))) else None) (source_of_signal s a signal)
+    option_and_then (λ i. if (flags_at b i).asserted && not (has_flih s i) then Some (move Done (with_forwarded s b i (record (flags_at b i) { asserted = false }))) else None) (source_of_signal s a signal)
+
+-- ---- psa_reset_signal(), for a source with FLIH
+
+abbrev pub psa_reset_signal : System → SpmState → ℕ → ℕ → Option Move
+psa_reset_signal s b a signal =
+    option_and_then (λ i. if (flags_at b i).asserted && has_flih s i then Some (move Done (with_flags b i (record (flags_at b i) { asserted = false }))) else None) (source_of_signal s a signal)
+
+-- ---- psa_irq_enable() and psa_irq_disable()
+
+-- what came while it was disabled is forwarded
+abbrev pub psa_irq_enable : System → SpmState → ℕ → ℕ → Option Move
+psa_irq_enable s b a signal = option_map (λ i. move Done (with_forwarded s b i (record (flags_at b i) { enabled = true }))) (source_of_signal s a signal)
+
+-- an asserted signal stays; it answers whether the source was enabled
+abbrev pub psa_irq_disable : System → SpmState → ℕ → ℕ → Option Move
+psa_irq_disable s b a signal =
+    option_map (λ i. move (Number (if (flags_at b i).enabled then 1 else 0)) (with_flags b i (record (flags_at b i) { enabled = false }))) (source_of_signal s a signal)

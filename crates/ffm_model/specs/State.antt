@@ -1,7 +1,7 @@
 -- The state of the machine: connections, messages, what each actor does, doorbells, interrupts, memory.
 -- Source: FF-M 1.0, IPC model: a connection from psa_connect to psa_close, a message from its making to psa_reply.
 -- There is no slot, queue or stored signal here; those belong to a manager, not to the machine.
-use Rattle.std.specs.Prelude.{ℕ, ℤ, pos, ◌==◌, int_le, Bool, true, false, not, ◌&&◌, if◌then◌else◌, List, [], ◌∷◌, ◌++◌, length, Some, None, Option, map, replicate, filter, find, count_by, slice_set, is_none, get_or}
+use Rattle.std.specs.Prelude.{ℕ, ℤ, pos, ◌==◌, int_le, Bool, false, not, ◌&&◌, if◌then◌else◌, List, [], ◌∷◌, ◌++◌, length, Some, None, Option, map, replicate, filter, find, count_by, slice_set, is_none, get_or}
 use Rattle.std.specs.List.{list_any}
 use Rattle.std.specs.Option.{option_map_or}
 use Rattle.std.specs.Ordering.{int_eq}
@@ -34,7 +34,7 @@ pub record State : Type 0 where
   pub handles_given : List Handle
   pub memory : ByteMap
 
--- nothing is connected or sent, every actor runs, doorbells are clear, sources are enabled
+-- nothing is connected or sent, every actor runs, doorbells are clear, and sources are enabled where the system says so
 abbrev pub opening_spm : System → SpmState
 opening_spm s = record {
   connections = [];
@@ -42,7 +42,7 @@ opening_spm s = record {
   messages = [];
   phases = replicate (actor_count s) Running;
   doorbells = replicate (length s.partitions) false;
-  sources = replicate (length s.sources) (record { enabled = true; pending = false; asserted = false });
+  sources = map (λ x. record { enabled = x.enabled; pending = false; asserted = false }) s.sources;
 }
 
 abbrev pub opening : System → ByteMap → State
@@ -127,7 +127,11 @@ delivered service h (m ∷ ms) = if is_undelivered service m then record m { han
 
 -- a message of a connection goes last
 abbrev pub with_message : SpmState → OpenConnection → ℤ → Vectors → SpmState
-with_message b c kind v = record b { messages = b.messages ++ record { service = c.service; client = c.client; connection = c.serial; kind = kind; vectors = v; handle = None } ∷ [] }
+with_message b c kind v = record b { messages = b.messages ++ record { service = c.service; client = c.client; connection = Some c.serial; kind = kind; vectors = v; handle = None } ∷ [] }
+
+-- a request by a stateless handle goes last; it has no connection
+abbrev pub with_request : SpmState → ℕ → ℕ → ℤ → Vectors → SpmState
+with_request b a service kind v = record b { messages = b.messages ++ record { service = service; client = record { 0 = a }; connection = None; kind = kind; vectors = v; handle = None } ∷ [] }
 
 -- ---- interrupt sources
 

@@ -3,6 +3,7 @@
 use Rattle.std.specs.Prelude.{ℕ, ◌+◌, ◌^◌, ◌==◌, nat_lt, nat_le, Bool, true, false, not, ◌&&◌, ◌||◌, List, [], ◌∷◌, length, count_by, sum_by, slice_get}
 use Rattle.std.specs.List.{list_any, list_all, enumerate_from, range_with_len}
 use Rattle.std.specs.Option.{option_map_or}
+use Rattle.ffm_model.specs.declared.constants.TheConstants.{MAX_STATELESS}
 use Rattle.ffm_model.specs.declared.system.Region.{Region}
 use Rattle.ffm_model.specs.declared.system.Class.{Class}
 use Rattle.ffm_model.specs.declared.system.Class.TheVariants.{Ram, NonSecure, Mmio}
@@ -83,10 +84,22 @@ budgets_fit actors services budgets =
     && each_pair budget_before budgets
     && nat_le (sum_by (λ b. b.count) budgets) 256
 
+-- a pair of a stateless service has no connection
+abbrev pub budget_is_fitting : List Service → Budget → Bool
+budget_is_fitting services b = option_map_or (λ v. (v.stateless == 0) || (b.count == 0)) (slice_get services b.service) true
+
+-- an index is at most 32, no two services have one, and no connection is declared to a service that has one
+abbrev pub stateless_fit : List Service → List Budget → Bool
+stateless_fit services budgets =
+    list_all (λ v. nat_le v.stateless MAX_STATELESS) services
+    && each_pair (λ v w. (v.stateless == 0) || not (v.stateless == w.stateless)) services
+    && list_all (budget_is_fitting services) budgets
+
 -- the level is 1 to 3, there are at most 32 partitions and 16 clients, and all parts fit each other
 unfoldable pub is_well_formed : ℕ → List Partition → List Service → List Source → List Region → List (List ℕ) → List Budget → Bool
 is_well_formed level partitions services sources regions clients budgets =
     (nat_le 1 level && nat_le level 3 && nat_le (length partitions) 32 && nat_le (length clients) 16)
+    && stateless_fit services budgets
     && partitions_fit partitions regions
     && regions_fit (length partitions) regions
     && signals_fit (length partitions) services sources

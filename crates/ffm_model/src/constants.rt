@@ -54,6 +54,12 @@ pub const MAX_SIGNALS: u32 = 28;
 /// The most connections that a system may declare.
 pub const MAX_CONNECTIONS: u32 = 256;
 
+/// What a stateless handle has above its index.
+pub const STATELESS_BASE: u32 = 0x4000_0000;
+
+/// The most stateless services of a system, and so the greatest index of one.
+pub const MAX_STATELESS: u32 = 32;
+
 /// Where the RAM of partitions begins.
 pub const RAM_BASE: u32 = 0x3000_0000;
 

@@ -97,6 +97,15 @@ pub enum Call {
     Eoi {
         signal: u32,
     },
+    IrqEnable {
+        signal: u32,
+    },
+    IrqDisable {
+        signal: u32,
+    },
+    ResetSignal {
+        signal: u32,
+    },
     Panic,
     Load {
         address: u32,
@@ -109,6 +118,10 @@ pub enum Call {
     },
     Raise {
         source: u32,
+    },
+    Fire {
+        source: u32,
+        result: u32,
     },
     Stop {
         spent: bool,

@@ -55,8 +55,8 @@ pub struct OpenConnection {
 pub struct PendingMessage {
     pub service: u32,
     pub client: ActorId,
-    /// The serial number of its connection.
-    pub connection: u32,
+    /// The serial number of its connection. None where it was sent by a stateless handle.
+    pub connection: Option<u32>,
     pub kind: i32,
     pub vectors: Vectors,
     /// None until it was delivered.

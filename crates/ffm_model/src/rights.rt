@@ -6,15 +6,18 @@ use crate::constants::{PSA_ERROR_CONNECTION_REFUSED, PSA_ERROR_PROGRAMMER_ERROR}
 use crate::machine::{Call, Outcome};
 use crate::system::ActorKind;
 
-/// Whether actors of that kind have the call: partitions have all but `raise`, clients the calls of `psa/client.h`, loads, stores
-/// and `stop`, the device `raise` and `stop`.
+/// Whether actors of that kind have the call: partitions have all but `raise` and `fire`, clients the calls of
+/// `psa/client.h`, loads, stores and `stop`, the device `raise`, `fire` and `stop`.
 pub fn has_call(kind: ActorKind, call: Call) -> bool
     ensures { result ≡ has_call kind call }
 {
     match kind {
-        ActorKind::Partition => !matches!(call, Call::Raise { .. }),
+        ActorKind::Partition => !matches!(call, Call::Raise { .. } | Call::Fire { .. }),
         ActorKind::Client => is_for_clients(call),
-        ActorKind::Device => matches!(call, Call::Raise { .. } | Call::Stop { .. } | Call::Resume),
+        ActorKind::Device => matches!(
+            call,
+            Call::Raise { .. } | Call::Fire { .. } | Call::Stop { .. } | Call::Resume
+        ),
     }
 }
 

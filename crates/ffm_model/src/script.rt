@@ -49,10 +49,14 @@ pub enum CallName {
     Notify,
     Clear,
     Eoi,
+    IrqEnable,
+    IrqDisable,
+    ResetSignal,
     Panic,
     Load,
     Store,
     Raise,
+    Fire,
     Stop,
 }
 

@@ -75,6 +75,8 @@ pub struct Service {
     pub version: u32,
     pub policy: Policy,
     pub signal: u32,
+    /// The index of its stateless handle, 1 to 32, or 0 for a service that clients connect to.
+    pub stateless: u32,
 }
 
 /// An interrupt source. `owner` is its partition's place, and `signal` its bit in that partition's
@@ -85,6 +87,10 @@ pub struct Source {
     pub signal_name: Name,
     pub owner: u32,
     pub signal: u32,
+    /// Whether it has a first-level handler, whose answer the device gives with each interrupt.
+    pub flih: bool,
+    /// Whether it is enabled when the system starts.
+    pub enabled: bool,
 }
 
 /// How many connections a client may have to a service. `service` is the service's place.
@@ -119,11 +125,18 @@ fn place_of(services: &[Service], sid: Sid) -> Option<usize>
     services.iter().position(|v| v.sid.0 == sid.0)
 }
 
+// The place of the first service with the index.
+fn place_of_index(services: &[Service], index: u32) -> Option<usize>
+    ensures { result ≡ position (λ v. v.stateless == index) services.now }
+{
+    services.iter().position(|v| v.stateless == index)
+}
+
 impl System {
     ghost use Rattle.std.specs.Prelude.{◌≡◌, ◌<◌, ◌^◌, length, is_some, IfSome};
     ghost use Rattle.ffm_model.specs.WellFormed.{is_well_formed};
     ghost use Rattle.ffm_model.specs.Parts.{SystemParts, system_from, parts_of_system};
-    ghost use Rattle.ffm_model.specs.Actors.{actor_count, counts_of, kind_of, client_id_of, service_at, budget_of};
+    ghost use Rattle.ffm_model.specs.Actors.{actor_count, counts_of, kind_of, client_id_of, service_at, stateless_at, budget_of};
 
     /// The system of these parts. None exactly where they don't fit each other. The services, the
     /// regions and the budgets are each fewer than 2^31.
@@ -228,6 +241,19 @@ impl System {
         ensures { result ≡ service_at self.now sid }
     {
         match place_of(self.services.as_slice(), sid) {
+            Some(i) => Some(i as u32),
+            None => None,
+        }
+    }
+
+    /// The place of the stateless service with an index. None exactly where no service has it.
+    pub fn stateless_at(&self, index: u32) -> Option<u32>
+        ensures { result ≡ stateless_at self.now index }
+    {
+        if index == 0 {
+            return None;
+        }
+        match place_of_index(self.services.as_slice(), index) {
             Some(i) => Some(i as u32),
             None => None,
         }

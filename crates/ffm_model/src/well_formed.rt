@@ -2,8 +2,10 @@
 ghost use Rattle.std.specs.Prelude.{◌≡◌, ℕ, ◌+◌, ◌<◌, ◌≤◌, ◌==◌, ◌^◌, ◌&&◌, ◌||◌, not, true, false, length, slice_get, sum_by, count_by, nat_lt, nat_le};
 ghost use Rattle.std.specs.List.{list_all, list_any, enumerate_from};
 ghost use Rattle.std.specs.Option.{option_map_or};
-ghost use Rattle.ffm_model.specs.WellFormed.{each_pair, apart, is_ram_in, is_ram, is_nonsecure, owner_below, regions_fit, is_signal_bit, signal_fits, signals_fit, is_well_formed, partitions_fit, budgets_fit, budget_before};
+ghost use Rattle.ffm_model.specs.WellFormed.{each_pair, apart, is_ram_in, is_ram, is_nonsecure, owner_below, regions_fit, is_signal_bit, signal_fits, signals_fit, is_well_formed, partitions_fit, budgets_fit, budget_before, budget_is_fitting, stateless_fit};
+ghost use Rattle.ffm_model.specs.declared.constants.TheConstants.{MAX_STATELESS};
 
+use crate::constants::MAX_STATELESS;
 use crate::name::Name;
 use crate::system::{Budget, Class, Partition, Region, Service, Source};
 
@@ -127,6 +129,49 @@ pub(crate) fn do_budgets_fit(actors: usize, services: &[Service], budgets: &[Bud
     ensures { result ≡ budgets_fit actors services.now budgets.now }
 {
     are_right(budgets, actors, services) && are_in_order(budgets) && total_count(budgets) <= 256
+}
+
+fn are_low(services: &[Service]) -> bool
+    ensures { result ≡ list_all (λ v. nat_le v.stateless MAX_STATELESS) services.now }
+{
+    services.iter().all(|v| v.stateless <= MAX_STATELESS)
+}
+
+fn has_own_index(service: &Service, rest: &[Service]) -> bool
+    ensures { result ≡ list_all (λ w. (service.now.stateless == 0) || not (service.now.stateless == w.stateless)) rest.now }
+{
+    rest.iter().all(|w| service.stateless == 0 || service.stateless != w.stateless)
+}
+
+fn have_own_indices(services: &[Service]) -> bool
+    ensures { result ≡ each_pair (λ v w. (v.stateless == 0) || not (v.stateless == w.stateless)) services.now }
+{
+    match services {
+        [] => true,
+        [first, rest @ ..] => has_own_index(first, rest) && have_own_indices(rest),
+    }
+}
+
+fn is_budget_fitting(budget: &Budget, services: &[Service]) -> bool
+    ensures { result ≡ budget_is_fitting services.now budget.now }
+{
+    match services.get(budget.service as usize) {
+        Some(service) => service.stateless == 0 || budget.count == 0,
+        None => true,
+    }
+}
+
+fn are_fitting(budgets: &[Budget], services: &[Service]) -> bool
+    ensures { result ≡ list_all (budget_is_fitting services.now) budgets.now }
+{
+    budgets.iter().all(|b| is_budget_fitting(b, services))
+}
+
+/// Whether stateless services have indices of their own, and no declared connections.
+pub(crate) fn do_stateless_fit(services: &[Service], budgets: &[Budget]) -> bool
+    ensures { result ≡ stateless_fit services.now budgets.now }
+{
+    are_low(services) && have_own_indices(services) && are_fitting(budgets, services)
 }
 
 fn has_its_ram(partition: &Partition, regions: &[Region]) -> bool
@@ -317,6 +362,7 @@ pub(crate) fn do_parts_fit(
         && level <= 3
         && partitions.len() <= 32
         && clients.len() <= 16
+        && do_stateless_fit(services, budgets)
         && do_partitions_fit(partitions, regions)
         && do_regions_fit(partitions.len(), regions)
         && do_signals_fit(partitions.len(), services, sources)

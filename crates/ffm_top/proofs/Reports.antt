@@ -9,6 +9,7 @@ use Rattle.ffm_model.specs.declared.system.System.{System}
 use Rattle.ffm_model.specs.Actors.{counts_of}
 use Rattle.ffm_model.specs.Counts.{ActorCounts}
 use Rattle.ffm_model.specs.Listing.{listing}
+use Rattle.ffm_model.specs.Memory.{opening_memory}
 use Rattle.ffm_model.specs.TraceText.{entry_text, line, trace_text, verdict_text}
 use Rattle.ffm_top.specs.declared.report.Report.TheVariants as report
 use Rattle.ffm_top.specs.declared.run.Ran.{Ran}
@@ -17,7 +18,7 @@ use Rattle.ffm_top.specs.Lines.{refusal_line, usage_line}
 use Rattle.ffm_top.specs.Report.{text_of}
 use Rattle.ffm_top.specs.Work.{Parts}
 
-pub run_due : (s : System) (c : Scenario) (scripts : List Parts) (ran : Ran) → ran.spm.opening.system ≡ s → RanBy s c scripts ran.spm.history ran.verdict
+pub run_due : (s : System) (c : Scenario) (scripts : List Parts) (ran : Ran) → ran.spm.opening.system ≡ s → RanBy s (opening_memory c.memory) c scripts ran.spm.history ran.verdict
     → RunDue s c scripts (text_of (report.Ran ran)) (verdict_status ran.verdict)
 unfolding text_of
 run_due s c scripts ran system_is by = record {

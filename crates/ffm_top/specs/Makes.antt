@@ -10,6 +10,7 @@ use Rattle.ffm_model.specs.declared.machine.Outcome.TheVariants.{Number, Done}
 use Rattle.ffm_model.specs.declared.machine.Verdict.{Verdict}
 use Rattle.ffm_model.specs.declared.scenario.Scenario.{Scenario}
 use Rattle.ffm_model.specs.declared.system.System.{System}
+use Rattle.ffm_model.specs.Memory.{opening_memory}
 use Rattle.ffm_model.specs.Reading.{Contents}
 use Rattle.ffm_model.specs.Scenarios.{scenario_in}
 use Rattle.ffm_model.specs.Systems.{stopped}
@@ -46,7 +47,7 @@ pub record IsMade (rounds : ℕ) (es : List Entry) (v : Verdict) : Type 0 where
   pub scenario : Scenario
   pub scripts : List Parts
   pub generated : IsGenerated rounds system scenario scripts
-  pub ran : RanBy system scenario scripts es v
+  pub ran : RanBy system (opening_memory scenario.memory) scenario scripts es v
 
 -- the text sums up such a run
 pub record MadeDue (rounds : ℕ) (text : List ℕ) (status : ℕ) : Type 0 where

@@ -16,7 +16,7 @@ use ffm_model::Verdict;
 use machine_check::Checked;
 use outside_io::{Failed, Sink, put_all};
 use spm_core::Spm;
-use trace_print::{print, print_verdict};
+use trace_print::{Line, print_into, print_verdict};
 
 /// What is to be written.
 #[derive(Drop)]
@@ -33,8 +33,8 @@ pub enum Report {
     Judged { checked: Checked, line: Vec<u8> },
 }
 
-// Puts the line of the entry at a place, counted from 0.
-fn put_entry<S: Sink>(out: &mut S, spm: &Spm, place: u32) -> Result<(), Failed>
+// Puts the line of the entry at a place, counted from 0. The line's own room holds it.
+fn put_entry<S: Sink>(out: &mut S, room: &mut Line, spm: &Spm, place: u32) -> Result<(), Failed>
     requires { place < length spm.now.history }
     ensures puts { IfSome (slice_get spm.now.history place) (λ e.
         Puts (S.taken out.old) (S.taken out.new) result (line (entry_text (counts_of spm.now.opening.system) e))) }
@@ -44,8 +44,8 @@ fn put_entry<S: Sink>(out: &mut S, spm: &Spm, place: u32) -> Result<(), Failed>
     let _length = spm.length();
     let counts = spm.system().counts();
     let entry = spm.entry(place + 1);
-    let text = print(counts, &entry);
-    put_all(out, text.as_slice())
+    print_into(room, counts, &entry);
+    put_all(out, room.as_slice())
 }
 
 // Puts the last line of a run's trace.
@@ -65,8 +65,9 @@ fn put_trace<S: Sink>(out: &mut S, spm: &Spm, verdict: Verdict) -> Result<(), Fa
     ensures failed { OnErr result (Rose (S.faults out.old) (S.faults out.new)) }
 {
     let length = spm.length();
+    let mut room = Line::new();
     for place in 0..length {
-        put_entry(out, spm, place)?;
+        put_entry(out, &mut room, spm, place)?;
     }
     put_verdict(out, verdict, length)
 }

@@ -48,7 +48,7 @@ pub fn run(
     requires scenario { IsScenarioOf system scenario.now }
     requires scripts { length scripts.now ≡ actor_count system }
     ensures system { IfOk result (λ ran. ran.spm.opening.system ≡ system) }
-    ensures ran { IfOk result (λ ran. RanBy system scenario.now scripts.now ran.spm.history ran.verdict) }
+    ensures ran { IfOk result (λ ran. RanBy system (opening_memory scenario.now.memory) scenario.now scripts.now ran.spm.history ran.verdict) }
 {
     let image = opening_image(alloc, &system, scenario)?;
     let mut spm = Spm::new(alloc, system, image, scenario.limit)?;

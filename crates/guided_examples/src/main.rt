@@ -8,7 +8,7 @@ use outside_io::{HostFiles, StdoutSink};
 use std::alloc::{AllocError, Global};
 use std::io;
 
-const EXAMPLES: [&str; 17] = [
+const EXAMPLES: [&str; 18] = [
     "two_requests",
     "rhandle",
     "version_policies",
@@ -16,6 +16,7 @@ const EXAMPLES: [&str; 17] = [
     "panic_and_its_clients",
     "doorbell",
     "interrupt_driver",
+    "interrupt_control",
     "isolation_level_1",
     "isolation_level_2",
     "isolation_level_3",

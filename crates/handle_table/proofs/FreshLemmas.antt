@@ -14,7 +14,7 @@ use Rattle.object_pools.specs.Pool.{Places, IsKept, IsNamed, has_slot, item_at, 
 use Rattle.object_pools.proofs.Pigeons.{index-below}
 use Rattle.handle_table.specs.declared.handles.Family.{Family}
 use Rattle.handle_table.specs.declared.handles.Family.TheVariants.{Connection, Message}
-use Rattle.handle_table.specs.Handles.{base_of, handle_at, handle_number, is_given, IsNameable, GivesFresh, StaysFresh}
+use Rattle.handle_table.specs.Handles.{base_of, indices_of, handle_at, handle_number, is_given, IsNameable, GivesFresh, StaysFresh}
 use Rattle.handle_table.proofs.NameLemmas.{free-parts}
 use Rattle.handle_table.proofs.SlotLemmas.{held-of, slot-is, named-at, nameable-at}
 
@@ -30,14 +30,14 @@ any-push q (y ∷ ys) x e f =
 
 -- ---- two slots with one handle are one
 
-same_number : (f g : Family) (a b : Slot) → a.index < 256 → b.index < 256 → a.generation * 1024 + a.index + base_of f ≡ b.generation * 1024 + b.index + base_of g
+same_number : (f g : Family) (a b : Slot) → a.index < indices_of f → b.index < indices_of g → a.generation * 1024 + a.index + base_of f ≡ b.generation * 1024 + b.index + base_of g
     → (base_of f ≡ base_of g) × (a.index ≡ b.index) × (a.generation ≡ b.generation)
 same_number Connection Connection a b small below e = (refl, omega arith, omega arith)
 same_number Connection Message a b small below e = absurd (omega arith)
 same_number Message Connection a b small below e = absurd (omega arith)
 same_number Message Message a b small below e = (refl, omega arith, omega arith)
 
-pub apart : (f g : Family) (a b : Slot) → a.index < 256 → b.index < 256 → ((base_of f ≡ base_of g) × (a.index ≡ b.index) × (a.generation ≡ b.generation) → ⊥)
+pub apart : (f g : Family) (a b : Slot) → a.index < indices_of f → b.index < indices_of g → ((base_of f ≡ base_of g) × (a.index ≡ b.index) × (a.generation ≡ b.generation) → ⊥)
     → handle_eq (handle_at f a) (handle_at g b) ≡ false
 apart f g a b small below differ =
     let go : (x : Bool) → int_eq (handle_at f a).0 (handle_at g b).0 ≡ x → x ≡ false =
@@ -50,13 +50,17 @@ apart f g a b small below differ =
     ] in
     go _ refl
 
-pub one-slot-one-handle : (f : Family) (a b : Slot) → IsNameable a → IsNameable b → handle_at f a ≡ handle_at f b → a ≡ b
+pub one-slot-one-handle : (f : Family) (a b : Slot) → IsNameable f a → IsNameable f b → handle_at f a ≡ handle_at f b → a ≡ b
 one-slot-one-handle f a b m n e =
     let number : a.generation * 1024 + a.index + base_of f ≡ b.generation * 1024 + b.index + base_of f = same (ap (λ (h : Handle). h.0) e) in
     let parts = same_number f f a b m.index n.index number in
     λ j. record { index = parts.1 j; generation = parts.2 j } where
       same : {x y : ℕ} → pos x ≡ pos y → x ≡ y
       same e = cc
+
+-- a pool of no more items than a family has indices
+pub kept-in : {T : Type 0} (f : Family) (capacity : ℕ) (p : Places T) → capacity ≤ indices_of f → IsKept capacity p → IsKept (indices_of f) p
+kept-in f capacity p few k = record { size = omega (arith, few, k.size); live = k.live; named = k.named; once = k.once; given = k.given; takes_left = k.takes_left }
 
 other_index : (generations : List ℕ) (i g x : ℕ) → x ≢ i → get_or (slice_set generations i g) x 0 ≡ get_or generations x 0
 other_index generations i g x n = grind (arith, common_steps)
@@ -71,7 +75,7 @@ module _ {T : Type 0} (f : Family) (told : T → Bool) where
   pub GivesFresh-new : (size : ℕ) → GivesFresh f told (empty size) []
   GivesFresh-new size = record { future = λ s below later. refl; untold = All-nil (IsUntold []) }
 
-  pub GivesFresh-take : (p : Places T) (given : List Handle) (s : Slot) (x : T) → IsKept 256 p → GivesFresh f told p given → free_slot p ≡ Some s → GivesFresh f told (taken p s x) given
+  pub GivesFresh-take : (p : Places T) (given : List Handle) (s : Slot) (x : T) → IsKept (indices_of f) p → GivesFresh f told p given → free_slot p ≡ Some s → GivesFresh f told (taken p s x) given
   GivesFresh-take p given s x k v free =
       let parts = free-parts p s free in
       let inside : s.index < length p.generations = index-below (λ i. not (list_any (is_at i) p.held)) (length p.generations) s.index parts.0 in
@@ -123,7 +127,7 @@ module _ {T : Type 0} (f : Family) (told : T → Bool) where
       (untold-more given h xs (All-tail (λ y. told y.item ≡ false → handle_eq (handle_at f y.slot) h ≡ false) x xs others) (All-tail (IsUntold given) x xs a))
 
   -- a handle of the other family is shown
-  pub GivesFresh-other : (p : Places T) (given : List Handle) (g : Family) (s : Slot) → (base_of f ≡ base_of g → ⊥) → s.index < 256 → IsKept 256 p → GivesFresh f told p given
+  pub GivesFresh-other : (p : Places T) (given : List Handle) (g : Family) (s : Slot) → (base_of f ≡ base_of g → ⊥) → s.index < indices_of g → IsKept (indices_of f) p → GivesFresh f told p given
       → GivesFresh f told p (given ++ handle_at g s ∷ [])
   GivesFresh-other p given g s differ small k v = record {
     future = λ a below later. any-push (handle_eq (handle_at f a)) given (handle_at g s) (v.future a below later) (apart f g a s below small (λ e. differ e.0));
@@ -136,7 +140,7 @@ module _ {T : Type 0} (f : Family) (told : T → Bool) where
   not_same : (s : Slot) (h : Held T) → has_slot s h ≡ false → (h.slot.index ≡ s.index) × (h.slot.generation ≡ s.generation) → ⊥
   not_same s h e k = grind (arith, k.0, k.1)
 
-  told-put : (given : List Handle) (s : Slot) (y : T) (generations : List ℕ) → told y ≡ true → s.index < 256 → length generations ≤ 256 → (held : List (Held T))
+  told-put : (given : List Handle) (s : Slot) (y : T) (generations : List ℕ) → told y ≡ true → s.index < indices_of f → length generations ≤ indices_of f → (held : List (Held T))
       → All (λ h. IsNamed generations h.slot) held → All (IsUntold given) held → All (IsUntold (given ++ handle_at f s ∷ [])) (map (item_put s y) held)
   told-put given s y generations now small size [] named a = All-nil (IsUntold (given ++ handle_at f s ∷ []))
   told-put given s y generations now small size (h ∷ hs) named a =
@@ -157,11 +161,11 @@ module _ {T : Type 0} (f : Family) (told : T → Bool) where
       omega (arith, k.1, e)
 
   -- the handle of a live slot is shown
-  pub GivesFresh-tell : (p : Places T) (given : List Handle) (s : Slot) (x y : T) → IsKept 256 p → GivesFresh f told p given → item_at p s ≡ Some x → told y ≡ true
+  pub GivesFresh-tell : (p : Places T) (given : List Handle) (s : Slot) (x y : T) → IsKept (indices_of f) p → GivesFresh f told p given → item_at p s ≡ Some x → told y ≡ true
       → GivesFresh f told (with_item p s y) (given ++ handle_at f s ∷ [])
   GivesFresh-tell p given s x y k v live now =
-      let name : IsNamed p.generations s = named-at p s x 256 k live in
-      let small : s.index < 256 = omega (arith, name.below, k.size) in
+      let name : IsNamed p.generations s = named-at p s x (indices_of f) k live in
+      let small : s.index < indices_of f = omega (arith, name.below, k.size) in
       record {
         future = λ a below later.
             any-push (handle_eq (handle_at f a)) given (handle_at f s) (v.future a below later)
@@ -173,19 +177,24 @@ module _ {T : Type 0} (f : Family) (told : T → Bool) where
   number_fits n low high = grind arith
 
   -- the handle of a live slot that wasn't told is fresh in a state with these handles of the past
-  pub fresh-at : (p : Places T) (st : State) (s : Slot) (x : T) → IsKept 256 p → GivesFresh f told p st.handles_given → item_at p s ≡ Some x → told x ≡ false → fresh st (handle_at f s) ≡ true
+  pub fresh-at : (p : Places T) (st : State) (s : Slot) (x : T) → IsKept (indices_of f) p → GivesFresh f told p st.handles_given → item_at p s ≡ Some x → told x ≡ false → fresh st (handle_at f s) ≡ true
   fresh-at p st s x k v live e =
-      let n : IsNameable s = nameable-at p s x k live in
+      let n : IsNameable f s = nameable-at f p s x k live in
       let new : is_given st.handles_given (handle_at f s) ≡ false = untold-at p st.handles_given s x v live e in
       let bound : base_of f ≤ 512 = base_le f in
+      let few : indices_of f ≤ 304 = indices_le f in
       let range : (int_le (pos 1) (pos (handle_number f s)) && int_le (pos (handle_number f s)) (pos 0x3fffffff)) ≡ true =
-      number_fits (handle_number f s) (omega (arith, n.first)) (omega (arith, n.last, n.index)) in
+      number_fits (handle_number f s) (omega (arith, n.first)) (omega (arith, n.last, n.index, few)) in
       ap (λ b. b && not (is_given st.handles_given (handle_at f s))) range ∙ ap not new where
         base_le : (g : Family) → base_of g ≤ 512
         base_le Connection = omega arith
         base_le Message = omega arith
 
-  pub stays-fresh : (p : Places T) (given : List Handle) → IsKept 256 p → GivesFresh f told p given → StaysFresh f told p given
+        indices_le : (g : Family) → indices_of g ≤ 304
+        indices_le Connection = omega arith
+        indices_le Message = omega arith
+
+  pub stays-fresh : (p : Places T) (given : List Handle) → IsKept (indices_of f) p → GivesFresh f told p given → StaysFresh f told p given
   stays-fresh p given k v = record {
     new = λ st s x same live e. fresh-at p st s x k (subst (λ (hs : List Handle). GivesFresh f told p hs) (sym same) v) live e;
     after_take = λ s x free. GivesFresh-take p given s x k v free;

@@ -7,7 +7,8 @@ use Rattle.object_pools.specs.declared.slot.Slot.{Slot}
 use Rattle.object_pools.specs.declared.slot.Held.{Held}
 use Rattle.object_pools.specs.Pool.{Places, IsKept, IsNamed, has_slot, is_at, item_at}
 use Rattle.object_pools.proofs.Counts.{bit, bit-le, count-cons}
-use Rattle.handle_table.specs.Handles.{IsNameable}
+use Rattle.handle_table.specs.declared.handles.Family.{Family}
+use Rattle.handle_table.specs.Handles.{IsNameable, indices_of}
 use Rattle.handle_table.proofs.Twins.{find-passes, count-le}
 
 and_le : (b c : Bool) → bit (b && c) ≤ bit b
@@ -64,26 +65,26 @@ module _ {T : Type 0} where
       ap (option_map (λ (x : Held T). x.item)) (find-nth (has_slot h.slot) p.held n h e (has_own h.slot) (one_slot capacity p h.slot k))
 
   -- each live slot can be named by a handle
-  pub nameable : (p : Places T) → IsKept 256 p → All (λ h. IsNameable h.slot) p.held
-  nameable p k =
-      All-weaker (λ h. IsNamed p.generations h.slot) (λ h. IsNameable h.slot)
+  pub nameable : (f : Family) (p : Places T) → IsKept (indices_of f) p → All (λ h. IsNameable f h.slot) p.held
+  nameable f p k =
+      All-weaker (λ h. IsNamed p.generations h.slot) (λ h. IsNameable f h.slot)
       (λ h n. record { index = omega (arith, n.below, k.size); first = n.used; last = omega (arith, n.latest, k.given h.slot.index, k.takes_left) }) p.held k.named
 
-  named-found : (s : Slot) (h : Held T) (held : List (Held T)) → All (λ x. IsNameable x.slot) held → find (has_slot s) held ≡ Some h → IsNameable h.slot
-  named-found s h [] a f = cc
-  named-found s h (x ∷ xs) a f =
-      let go : (b : Bool) → cond b (Some x) (find (has_slot s) xs) ≡ Some h → IsNameable h.slot =
+  named-found : (f : Family) (s : Slot) (h : Held T) (held : List (Held T)) → All (λ x. IsNameable f x.slot) held → find (has_slot s) held ≡ Some h → IsNameable f h.slot
+  named-found f s h [] a e = cc
+  named-found f s h (x ∷ xs) a e =
+      let go : (b : Bool) → cond b (Some x) (find (has_slot s) xs) ≡ Some h → IsNameable f h.slot =
       elim [
-        | true ↦ λ g. let it : x ≡ h = cc in subst (λ (y : Held T). IsNameable y.slot) it (All-head (λ (y : Held T). IsNameable y.slot) x xs a)
-        | false ↦ λ g. named-found s h xs (All-tail (λ (y : Held T). IsNameable y.slot) x xs a) g
+        | true ↦ λ g. let it : x ≡ h = cc in subst (λ (y : Held T). IsNameable f y.slot) it (All-head (λ (y : Held T). IsNameable f y.slot) x xs a)
+        | false ↦ λ g. named-found f s h xs (All-tail (λ (y : Held T). IsNameable f y.slot) x xs a) g
       ] in
-      go (has_slot s x) f
+      go (has_slot s x) e
 
   -- a live slot can be named by a handle
-  pub nameable-at : (p : Places T) (s : Slot) (c : T) → IsKept 256 p → item_at p s ≡ Some c → IsNameable s
-  nameable-at p s c k live =
+  pub nameable-at : (f : Family) (p : Places T) (s : Slot) (c : T) → IsKept (indices_of f) p → item_at p s ≡ Some c → IsNameable f s
+  nameable-at f p s c k live =
       let it = held-of p s c live in
-      subst IsNameable it.3 (named-found s it.0 p.held (nameable p k) it.1)
+      subst (IsNameable f) it.3 (named-found f s it.0 p.held (nameable f p k) it.1)
 
   -- a live slot has the last generation of its index
   named-among : (generations : List ℕ) (s : Slot) (h : Held T) (held : List (Held T)) → All (λ x. IsNamed generations x.slot) held → find (has_slot s) held ≡ Some h → IsNamed generations h.slot

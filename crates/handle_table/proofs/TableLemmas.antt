@@ -201,23 +201,23 @@ shows-slot h owner k told e =
     let shown : h.item.handle ≡ Some k = handle-is h.item.handle k (both (h.item.client.0 == owner) (has_handle h.item.handle k) e).1 in
     sym (subst (λ (o : Option Handle). IfSome o (λ j. j ≡ handle_at Connection h.slot)) shown told)
 
-all-with : (Q : Held OpenConnection → Type 0) (held : List (Held OpenConnection)) → ((h : Held OpenConnection) → IsTold h → IsNameable h.slot → Q h) → All IsTold held → All (λ h. IsNameable h.slot) held → All Q held
+all-with : (Q : Held OpenConnection → Type 0) (held : List (Held OpenConnection)) → ((h : Held OpenConnection) → IsTold h → IsNameable Connection h.slot → Q h) → All IsTold held → All (λ h. IsNameable Connection h.slot) held → All Q held
 all-with Q [] each told named = All-nil Q
 all-with Q (h ∷ hs) each told named =
-    All-cons Q h hs (each h (All-head IsTold h hs told) (All-head (λ x. IsNameable x.slot) h hs named))
-    (all-with Q hs each (All-tail IsTold h hs told) (All-tail (λ x. IsNameable x.slot) h hs named))
+    All-cons Q h hs (each h (All-head IsTold h hs told) (All-head (λ x. IsNameable Connection x.slot) h hs named))
+    (all-with Q hs each (All-tail IsTold h hs told) (All-tail (λ x. IsNameable Connection x.slot) h hs named))
 
 abbrev pub is_shown : ℕ → Handle → OpenConnection → Bool
 is_shown owner k c = (c.client.0 == owner) && has_handle c.handle k
 
 -- a handle names one slot
 abbrev pub Names : Option Slot → Handle → Type 0
-Names o k = (s : Slot) → IsNameable s → handle_at Connection s ≡ k → o ≡ Some s
+Names o k = (s : Slot) → IsNameable Connection s → handle_at Connection s ≡ k → o ≡ Some s
 
 pub found-none : (p : Places OpenConnection) (owner : ℕ) (k : Handle) → IsKept 256 p → IsTable p → Names None k → find (is_shown owner k) (connections p) ≡ None
 found-none p owner k kept t names =
     find-all_fail (is_shown owner k) (connections p) (All-seen p.held (all-with (λ h. is_shown owner k h.item ≡ true → ⊥) p.held
-    (λ h told n e. no_slot h.slot (names h.slot n (shows-slot h owner k told e))) t.told (nameable p kept))) where
+    (λ h told n e. no_slot h.slot (names h.slot n (shows-slot h owner k told e))) t.told (nameable Connection p kept))) where
       no_slot : (s : Slot) → None ≡ Some s → ⊥
       no_slot s e = cc
 
@@ -228,7 +228,7 @@ pub found-at : (p : Places OpenConnection) (owner : ℕ) (k : Handle) (s : Slot)
     → find (is_shown owner k) (connections p) ≡ option_and_then (λ c. cond (is_shown owner k c) (Some c) None) (item_at p s)
 found-at p owner k s kept t names =
     twin-find (λ (h : Held OpenConnection). h.item) (has_slot s) (is_shown owner k) p.held
-    (all-with (λ h. is_shown owner k h.item ≡ true → has_slot s h ≡ true) p.held (λ h told n e. own h (names h.slot n (shows-slot h owner k told e))) t.told (nameable p kept))
+    (all-with (λ h. is_shown owner k h.item ≡ true → has_slot s h ≡ true) p.held (λ h told n e. own h (names h.slot n (shows-slot h owner k told e))) t.told (nameable Connection p kept))
     (one_slot 256 p s kept)
     ∙ seen (find (has_slot s) p.held) where
       own : (h : Held OpenConnection) → Some s ≡ Some h.slot → has_slot s h ≡ true

@@ -15,6 +15,11 @@ abbrev pub base_of : Family → ℕ
 base_of Connection = 0
 base_of Message = 512
 
+-- how many indices a family's slots have: connections are at most 256, and 48 clients and partitions can each have one message more
+abbrev pub indices_of : Family → ℕ
+indices_of Connection = 256
+indices_of Message = 304
+
 -- the number of a slot's handle
 abbrev pub handle_number : Family → Slot → ℕ
 handle_number f s = s.generation * 1024 + s.index + base_of f
@@ -27,9 +32,9 @@ slot_name s = record { index = s.index; generation = s.generation }
 abbrev pub handle_at : Family → Slot → Handle
 handle_at f s = name_of (base_of f) (slot_name s)
 
--- a slot that a handle can name
-pub record IsNameable (s : Slot) : Type 0 where
-  pub index : s.index < 256
+-- a slot of a family that a handle can name
+pub record IsNameable (f : Family) (s : Slot) : Type 0 where
+  pub index : s.index < indices_of f
   pub first : 1 ≤ s.generation
   pub last : s.generation < 2 ^ 20
 
@@ -53,7 +58,7 @@ module _ {T : Type 0} where
 
   -- the handles of a family that events have shown: none of a generation still to come, and none of a live slot that wasn't told
   pub record GivesFresh (f : Family) (told : T → Bool) (p : Places T) (given : List Handle) : Type 0 where
-    pub future : (s : Slot) → s.index < 256 → get_or p.generations s.index 0 < s.generation → is_given given (handle_at f s) ≡ false
+    pub future : (s : Slot) → s.index < indices_of f → get_or p.generations s.index 0 < s.generation → is_given given (handle_at f s) ≡ false
     pub untold : All (λ h. told h.item ≡ false → is_given given (handle_at f h.slot) ≡ false) p.held
 
   -- what a pool keeps of this, call by call
@@ -65,4 +70,4 @@ module _ {T : Type 0} where
     pub after_telling : (s : Slot) (x y : T) → item_at p s ≡ Some x → told y ≡ true → GivesFresh f told (with_item p s y) (given ++ handle_at f s ∷ [])
     pub after_change : (s : Slot) (x y : T) → item_at p s ≡ Some x → (told y ≡ false → told x ≡ false) → GivesFresh f told (with_item p s y) given
     -- a handle of the other family is shown
-    pub after_other : (g : Family) (s : Slot) → base_of g ≢ base_of f → s.index < 256 → GivesFresh f told p (given ++ handle_at g s ∷ [])
+    pub after_other : (g : Family) (s : Slot) → base_of g ≢ base_of f → s.index < indices_of g → GivesFresh f told p (given ++ handle_at g s ∷ [])

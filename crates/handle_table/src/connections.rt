@@ -30,7 +30,8 @@ pub struct Connection {
     pub serial: u32,
 }
 
-/// The connections of a manager, at most 256 at once, each under a slot from its start until it is freed.
+/// The connections of a manager, at most 256 at once, each under a slot from its start until it is freed. The slot that a call is
+/// given has a connection, but for `is_live`, which tells so.
 ///
 /// Contracts see them as a pool of the machine's connections, in the order of their starts.
 #[derive(Drop)]
@@ -80,7 +81,7 @@ fn is_owned(connection: &OpenConnection, owner: ActorId, from: u32) -> bool
 
 // The slot that a handle names, where it is that of a connection.
 fn connection_slot(handle: Handle) -> Option<Slot>
-    ensures { (slot : TheSlot) → IsNameable slot → handle_at family.Connection slot ≡ handle → result ≡ Some slot }
+    ensures { (slot : TheSlot) → IsNameable family.Connection slot → handle_at family.Connection slot ≡ handle → result ≡ Some slot }
 {
     match slot_of(handle) {
         Some((Family::Connection, slot)) => Some(slot),
@@ -89,7 +90,7 @@ fn connection_slot(handle: Handle) -> Option<Slot>
 }
 
 impl Connections {
-    /// No connection yet, and room for `size`.
+    /// No connection yet, and room for `size`, at most 256.
     pub fn new(size: u32) -> Connections
         requires { size ≤ 256 }
         ensures { result ≡ empty size }
@@ -135,7 +136,7 @@ impl Connections {
         self.pool.get(slot).is_some()
     }
 
-    /// The connection at a place in the order of the starts, counted from 0, with its slot, in constant time.
+    /// The connection at a place in the order of the starts, counted from 0 and below `live`, with its slot, in constant time.
     pub fn nth(&self, place: u32) -> Held<OpenConnection>
         requires { place < length self.now.held }
         ensures { slice_get self.now.held place ≡ Some result }
@@ -143,7 +144,8 @@ impl Connections {
         self.pool.nth(place)
     }
 
-    /// An Opening connection with rhandle 0, no handle told, and the next serial number, in the slot that is free.
+    /// An Opening connection with rhandle 0, no handle told, and the next serial number, in the slot that is free. There is room for
+    /// one more, and fewer than 1,048,575 were started.
     pub fn start(&mut self, owner: ActorId, service: u32) -> Slot
         requires room { length self.old.held < length self.old.generations }
         requires few { self.old.takes < 1048575 }

@@ -6,5 +6,5 @@ mod handles;
 mod names;
 
 pub use connections::{Connection, Connections};
-pub use handles::{Family, handle_of, slot_of};
+pub use handles::{Family, handle_of, slot_of, stateless_handle, stateless_index};
 pub use names::{fresh_law, name_law};

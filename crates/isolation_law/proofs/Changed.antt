@@ -21,8 +21,8 @@ use Rattle.ffm_model.specs.declared.objects.Span.{Span}
 use Rattle.ffm_model.specs.Memory.{ByteMap, valid_buffer, may_write, store_number, lengths_written}
 use Rattle.ffm_model.specs.State.{State, SpmState, phase_of, message_held, is_undelivered}
 use Rattle.ffm_model.specs.ClientCalls.{Move, Effect, effect, in_state, psa_connect, psa_call, psa_close, returned}
-use Rattle.ffm_model.specs.ServiceCalls.{psa_wait, psa_get, psa_set_rhandle, psa_skip, psa_read, psa_write, psa_reply, psa_notify, psa_clear, psa_eoi, request_held, service_of_signal, message_size, message_words, shown_message, sizes_of, get_of, read_of, write_of, reply_of, rest_of, input_at, output_at, outputs_given, is_connect_status}
-use Rattle.ffm_model.specs.Accesses.{raise, store, is_access_size}
+use Rattle.ffm_model.specs.ServiceCalls.{psa_wait, psa_get, psa_set_rhandle, psa_skip, psa_read, psa_write, psa_reply, psa_notify, psa_clear, psa_eoi, psa_irq_enable, psa_irq_disable, psa_reset_signal, request_held, service_of_signal, message_size, message_words, shown_message, sizes_of, get_of, read_of, write_of, reply_of, rest_of, input_at, output_at, outputs_given, is_connect_status}
+use Rattle.ffm_model.specs.Accesses.{raise, fire, store, is_access_size}
 use Rattle.ffm_model.specs.Calls.{call_case, error_effect, effect_of}
 use Rattle.ffm_model.specs.Step.{step}
 use Rattle.ffm_model.specs.Reach.{length_word_has, write_reach}
@@ -165,10 +165,14 @@ call-outside s st a (call.Reply m status) h x four out = replies s st a x m stat
 call-outside s st a (call.Notify id) h x four out = moves st x (psa_notify s st.spm id)
 call-outside s st a call.Clear h x four out = moves st x (psa_clear st.spm a)
 call-outside s st a (call.Eoi signal) h x four out = moves st x (psa_eoi s st.spm a signal)
+call-outside s st a (call.IrqEnable signal) h x four out = moves st x (psa_irq_enable s st.spm a signal)
+call-outside s st a (call.IrqDisable signal) h x four out = moves st x (psa_irq_disable s st.spm a signal)
+call-outside s st a (call.ResetSignal signal) h x four out = moves st x (psa_reset_signal s st.spm a signal)
 call-outside s st a call.Panic h x four out = tt
 call-outside s st a (call.Load at size) h x four out = if_passes (Stays st x) _ _ (λ may. refl)
 call-outside s st a (call.Store at size value) h x four out = stores s st a at size value x out
 call-outside s st a (call.Raise source) h x four out = moves st x (raise s st.spm source)
+call-outside s st a (call.Fire source result) h x four out = moves st x (fire s st.spm source result)
 call-outside s st a (call.Stop spent) h x four out = refl
 call-outside s st a call.Resume h x four out = returns s st a x (phase_of st.spm a) h
 

@@ -1,7 +1,7 @@
 -- An actor's event tells nothing of bytes outside of its reach.
 use Rattle.std.proofs.Common.{ℕ, ◌≡◌, ◌+◌, Bool, true, false, cond, ◌&&◌, ◌||◌, not, List, [], ◌∷◌, arith, ◌∙◌, ap, refl, subst, inr}
 use Rattle.std.specs.Prelude.{ℤ, pos, int_lt, nat_le, min, find, is_none, Option, Some, None, option_and_then, if◌then◌else◌}
-use Rattle.std.specs.Option.{option_map}
+use Rattle.std.specs.Option.{option_map, option_map_or}
 use Rattle.std.specs.Ordering.{int_eq}
 use Rattle.std.proofs.lemmas.Bool.{and_parts}
 use Rattle.ffm_model.specs.declared.constants.TheConstants.{PSA_IPC_CALL, PSA_IPC_CONNECT}
@@ -18,12 +18,12 @@ use Rattle.ffm_model.specs.declared.objects.ActorPhase.TheVariants.{Ready, Conne
 use Rattle.ffm_model.specs.declared.objects.OpenConnection.{OpenConnection}
 use Rattle.ffm_model.specs.declared.objects.PendingMessage.{PendingMessage}
 use Rattle.ffm_model.specs.declared.objects.Vectors.{Vectors}
-use Rattle.ffm_model.specs.Actors.{kind_of}
+use Rattle.ffm_model.specs.Actors.{kind_of, permits, stateless_at, stateless_index}
 use Rattle.ffm_model.specs.Memory.{ByteMap, valid_buffer, may_read, may_write, low_bytes, load_number, store_number, words_stored, lengths_written, vectors_of}
 use Rattle.ffm_model.specs.State.{State, SpmState, phase_of, connection_held, message_held, is_undelivered, fresh}
-use Rattle.ffm_model.specs.ClientCalls.{Move, Effect, effect, in_state, psa_connect, psa_call, psa_close, call_on, refuses_requests, returned}
-use Rattle.ffm_model.specs.ServiceCalls.{psa_wait, psa_get, psa_set_rhandle, psa_skip, psa_read, psa_write, psa_reply, psa_notify, psa_clear, psa_eoi, request_held, service_of_signal, message_size, message_words, shown_message, get_of, read_of, write_of, reply_of, rest_of, input_at, output_at, outputs_given, is_connect_status}
-use Rattle.ffm_model.specs.Accesses.{raise, load, store, is_access_size}
+use Rattle.ffm_model.specs.ClientCalls.{Move, Effect, effect, in_state, psa_connect, psa_call, psa_close, connection_called, service_called, call_to, call_on, refuses_requests, returned}
+use Rattle.ffm_model.specs.ServiceCalls.{psa_wait, psa_get, psa_set_rhandle, psa_skip, psa_read, psa_write, psa_reply, psa_notify, psa_clear, psa_eoi, psa_irq_enable, psa_irq_disable, psa_reset_signal, request_held, service_of_signal, message_size, message_words, shown_message, get_of, read_of, write_of, reply_of, rest_of, input_at, output_at, outputs_given, is_connect_status}
+use Rattle.ffm_model.specs.Accesses.{raise, fire, load, store, is_access_size}
 use Rattle.ffm_model.specs.Calls.{has_call, call_case, case_of, error_effect, effect_or_error, effect_of}
 use Rattle.ffm_model.specs.Step.{step, may_call, gives_handle, handle_allowed, handle_shown, outcome_eq}
 use Rattle.ffm_model.specs.Reach.{read_reach, AgreeWithin, TellsNothing, StepsAlike}
@@ -62,15 +62,35 @@ moves b given one other None = tt
 moves b given one other (Some m) = record { outcome = refl; spm = refl; handles = refl; bytes = λ x. inr (refl, refl) }
 
 -- psa_call reads descriptors
-calls : (s : System) (b : SpmState) (given : List Handle) (a : ℕ) (h : Handle) (kind : ℤ) (in_vec in_len out_vec out_len : ℕ) (one other : ByteMap) → AgreeIn s b a one other
-    → MadeAlike one other (option_map (in_state (with_memory b given one)) (psa_call s (with_memory b given one) a h kind in_vec in_len out_vec out_len))
-    (option_map (in_state (with_memory b given other)) (psa_call s (with_memory b given other) a h kind in_vec in_len out_vec out_len))
-calls s b given a h kind in_vec in_len out_vec out_len one other agree =
+on_connection : (s : System) (b : SpmState) (given : List Handle) (a : ℕ) (h : Handle) (kind : ℤ) (in_vec in_len out_vec out_len : ℕ) (one other : ByteMap) → AgreeIn s b a one other
+    → MadeAlike one other (option_map (in_state (with_memory b given one)) (connection_called s (with_memory b given one) a h kind in_vec in_len out_vec out_len))
+    (option_map (in_state (with_memory b given other)) (connection_called s (with_memory b given other) a h kind in_vec in_len out_vec out_len))
+on_connection s b given a h kind in_vec in_len out_vec out_len one other agree =
     let of : Option Vectors → Option Move = λ vs. option_and_then (λ (c : OpenConnection). option_and_then (λ v. if refuses_requests c.phase || int_lt kind (pos 0) then None else Some (call_on b a c kind v)) vs) (connection_held b a h) in
     let vectors : vectors_of s one a in_vec in_len out_vec out_len ≡ vectors_of s other a in_vec in_len out_vec out_len =
     vectors_of-same s one other a in_vec in_len out_vec out_len (λ x in_ram. agree x (ram-read s b a x in_ram)) in
     subst (λ (vs : Option Vectors). MadeAlike one other (option_map (in_state (with_memory b given one)) (of (vectors_of s one a in_vec in_len out_vec out_len))) (option_map (in_state (with_memory b given other)) (of vs)))
     vectors (moves b given one other (of (vectors_of s one a in_vec in_len out_vec out_len)))
+
+by_index : (s : System) (b : SpmState) (given : List Handle) (a index : ℕ) (kind : ℤ) (in_vec in_len out_vec out_len : ℕ) (one other : ByteMap) → AgreeIn s b a one other
+    → MadeAlike one other (option_map (in_state (with_memory b given one)) (service_called s (with_memory b given one) a index kind in_vec in_len out_vec out_len))
+    (option_map (in_state (with_memory b given other)) (service_called s (with_memory b given other) a index kind in_vec in_len out_vec out_len))
+by_index s b given a index kind in_vec in_len out_vec out_len one other agree =
+    let of : Option Vectors → Option Move = λ vs. option_and_then (λ (i : ℕ). option_and_then (λ v. if permits s a i && not (int_lt kind (pos 0)) then Some (call_to s b a i kind v) else None) vs) (stateless_at s index) in
+    let vectors : vectors_of s one a in_vec in_len out_vec out_len ≡ vectors_of s other a in_vec in_len out_vec out_len =
+    vectors_of-same s one other a in_vec in_len out_vec out_len (λ x in_ram. agree x (ram-read s b a x in_ram)) in
+    subst (λ (vs : Option Vectors). MadeAlike one other (option_map (in_state (with_memory b given one)) (of (vectors_of s one a in_vec in_len out_vec out_len))) (option_map (in_state (with_memory b given other)) (of vs)))
+    vectors (moves b given one other (of (vectors_of s one a in_vec in_len out_vec out_len)))
+
+calls : (s : System) (b : SpmState) (given : List Handle) (a : ℕ) (h : Handle) (kind : ℤ) (in_vec in_len out_vec out_len : ℕ) (one other : ByteMap) → AgreeIn s b a one other
+    → MadeAlike one other (option_map (in_state (with_memory b given one)) (psa_call s (with_memory b given one) a h kind in_vec in_len out_vec out_len))
+    (option_map (in_state (with_memory b given other)) (psa_call s (with_memory b given other) a h kind in_vec in_len out_vec out_len))
+calls s b given a h kind in_vec in_len out_vec out_len one other agree =
+    let at : ByteMap → Option ℕ → Option Move = λ m o. option_map_or (λ index. service_called s (with_memory b given m) a index kind in_vec in_len out_vec out_len) o (connection_called s (with_memory b given m) a h kind in_vec in_len out_vec out_len) in
+    elim (stateless_index h) as (λ (o : Option ℕ). MadeAlike one other (option_map (in_state (with_memory b given one)) (at one o)) (option_map (in_state (with_memory b given other)) (at other o))) [
+      | None ↦ on_connection s b given a h kind in_vec in_len out_vec out_len one other agree
+      | Some index ↦ by_index s b given a index kind in_vec in_len out_vec out_len one other agree
+    ]
 
 -- psa_get reads nothing
 words_stored-tells : (one other : ByteMap) (at x : ℕ) (ws : List ℕ) → TellsNothingAt x one other (words_stored one at ws) (words_stored other at ws)
@@ -193,10 +213,14 @@ call-alike s b given a (call.Reply m status) h one other agree = replies s b giv
 call-alike s b given a (call.Notify id) h one other agree = moves b given one other (psa_notify s b id)
 call-alike s b given a call.Clear h one other agree = moves b given one other (psa_clear b a)
 call-alike s b given a (call.Eoi signal) h one other agree = moves b given one other (psa_eoi s b a signal)
+call-alike s b given a (call.IrqEnable signal) h one other agree = moves b given one other (psa_irq_enable s b a signal)
+call-alike s b given a (call.IrqDisable signal) h one other agree = moves b given one other (psa_irq_disable s b a signal)
+call-alike s b given a (call.ResetSignal signal) h one other agree = moves b given one other (psa_reset_signal s b a signal)
 call-alike s b given a call.Panic h one other agree = tt
 call-alike s b given a (call.Load at size) h one other agree = loads s b given a at size one other agree
 call-alike s b given a (call.Store at size value) h one other agree = stores s b given a at size value one other
 call-alike s b given a (call.Raise source) h one other agree = moves b given one other (raise s b source)
+call-alike s b given a (call.Fire source result) h one other agree = moves b given one other (fire s b source result)
 call-alike s b given a (call.Stop spent) h one other agree = record { outcome = refl; spm = refl; handles = refl; bytes = λ x. inr (refl, refl) }
 call-alike s b given a call.Resume h one other agree = returns s b given a (phase_of b a) h one other
 

@@ -2,7 +2,7 @@
 use Rattle.std.proofs.Common.{ℕ, ◌≡◌, ◌≤◌, ◌+◌, ◌*◌, Bool, true, false, cond, ◌&&◌, ◌||◌, not, List, [], ◌∷◌, ◌++◌, length, arith, ◌∙◌, sym, refl, subst, inl, inr}
 use Rattle.std.specs.Prelude.{ℤ, pos, int_lt, nat_lt, nat_le, min, find, replicate, bit_and, All, Option, Some, None, IfSome, option_and_then, if◌then◌else◌, ◌==◌}
 use Rattle.std.specs.List.{filter_map, cons_option, list_all}
-use Rattle.std.specs.Option.{option_map, unwrap_or}
+use Rattle.std.specs.Option.{option_map, option_map_or, unwrap_or}
 use Rattle.std.specs.Ordering.{int_eq}
 use Rattle.std.proofs.lemmas.List.{length-append, length-set, length-take, set_past}
 use Rattle.std.proofs.lemmas.List.Elements.{All-nil, All-cons, All-head, All-tail, All-replicate, All-append, All-push, All-weaker, All-map, All-filter}
@@ -16,22 +16,26 @@ use Rattle.ffm_model.specs.declared.machine.Call.{Call}
 use Rattle.ffm_model.specs.declared.machine.Call.TheVariants as call
 use Rattle.ffm_model.specs.declared.machine.Entry.{Entry}
 use Rattle.ffm_model.specs.declared.machine.Handle.{Handle}
+use Rattle.ffm_model.specs.declared.machine.Outcome.{Outcome}
 use Rattle.ffm_model.specs.declared.machine.Outcome.TheVariants as outcome
 use Rattle.ffm_model.specs.declared.machine.Sid.{Sid}
 use Rattle.ffm_model.specs.declared.objects.ActorPhase.{ActorPhase}
 use Rattle.ffm_model.specs.declared.objects.ActorPhase.TheVariants.{Blocked, Ready, Connected, Waiting}
-use Rattle.ffm_model.specs.declared.objects.ConnPhase.TheVariants.{Busy, Closing}
+use Rattle.ffm_model.specs.declared.objects.ConnPhase.{ConnPhase}
+use Rattle.ffm_model.specs.declared.objects.ConnPhase.TheVariants.{Idle, Busy, Error, Closing}
+use Rattle.ffm_model.specs.declared.objects.SourceFlags.{SourceFlags}
 use Rattle.ffm_model.specs.declared.objects.OpenConnection.{OpenConnection}
 use Rattle.ffm_model.specs.declared.objects.PendingMessage.{PendingMessage}
 use Rattle.ffm_model.specs.declared.objects.Span.{Span}
 use Rattle.ffm_model.specs.declared.objects.Vectors.{Vectors}
-use Rattle.ffm_model.specs.Actors.{permits, service_at, budget_of, is_service_of, kind_of, is_partition}
+use Rattle.ffm_model.specs.Accesses.{interrupted}
+use Rattle.ffm_model.specs.Actors.{is_stateless, permits, service_at, stateless_at, stateless_index, budget_of, is_service_of, kind_of, is_partition}
 use Rattle.ffm_model.specs.Memory.{ByteMap, valid_buffer, no_span, spans_at, vectors_read, vectors_of, no_vectors}
-use Rattle.ffm_model.specs.State.{State, SpmState, phase_of, has_handle, flags_at, with_rhandle, in_use, connection_held, message_held, is_undelivered, delivered, vectors_put, with_vectors, with_message, with_phase, with_connection_phase, without_connection, without_message}
+use Rattle.ffm_model.specs.State.{State, SpmState, phase_of, has_handle, with_rhandle, in_use, connection_held, message_held, is_undelivered, delivered, vectors_put, with_vectors, with_message, with_request, with_phase, with_connection_phase, without_connection, without_message}
 use Rattle.ffm_model.specs.Signals.{is_blocked, signals_of, assigned_to, has_signal_of}
 use Rattle.ffm_model.specs.Panic.{is_dead, without_service, disconnection, panic_effect}
-use Rattle.ffm_model.specs.ClientCalls.{Move, Effect, move, in_state, psa_connect, psa_call, psa_close, connect_to, connect_issued, call_on, close_on, is_service_panicked, refuses_requests, is_busy, takes_version, returned}
-use Rattle.ffm_model.specs.ServiceCalls.{psa_wait, psa_get, psa_set_rhandle, psa_skip, psa_read, psa_write, psa_reply, psa_eoi, request_held, service_of_signal, source_of_signal, message_size, get_of, skip_of, read_of, write_of, reply_of, rest_of, input_at, output_at, input_moved, connect_answered, close_answered, request_failed, request_answered, answered, replied, owes_panic, reply_to, forwarded, with_flags}
+use Rattle.ffm_model.specs.ClientCalls.{Move, Effect, move, in_state, psa_connect, psa_call, psa_close, connection_called, service_called, call_to, connect_to, connect_issued, call_on, close_on, is_service_panicked, refuses_requests, is_busy, takes_version, returned}
+use Rattle.ffm_model.specs.ServiceCalls.{psa_wait, psa_get, psa_set_rhandle, psa_skip, psa_read, psa_write, psa_reply, request_held, service_of_signal, source_of_signal, message_size, get_of, skip_of, read_of, write_of, reply_of, rest_of, input_at, output_at, input_moved, connect_answered, close_answered, request_failed, request_answered, answered, with_request_phase, replied, owes_panic, reply_to}
 use Rattle.ffm_model.specs.Calls.{call_case, error_effect, effect_of}
 use Rattle.ffm_model.specs.Step.{step, after}
 use Rattle.memory_image.specs.Pieces.{is_inside, ranges_of}
@@ -100,9 +104,9 @@ connect_to-meets W s b a service none all =
 
 connects : (W : Vectors → Type 0) (s : System) (b : SpmState) (a : ℕ) (sid : Sid) (version : ℕ) → W no_vectors → AllMeet W b → MovedMeets W (psa_connect s b a sid version)
 connects W s b a sid version none all =
-    elim (service_at s sid) as (λ (o : Option ℕ). MovedMeets W (option_and_then (λ i. if permits s a i && takes_version s i version then Some (connect_to s b a i) else None) o)) [
+    elim (service_at s sid) as (λ (o : Option ℕ). MovedMeets W (option_and_then (λ i. if permits s a i && (not (is_stateless s i) && takes_version s i version) then Some (connect_to s b a i) else None) o)) [
       | None ↦ tt
-      | Some i ↦ if_passes (λ (m : Move). AllMeet W m.spm) (permits s a i && takes_version s i version) (connect_to s b a i) (λ may. connect_to-meets W s b a i none all)
+      | Some i ↦ if_passes (λ (m : Move). AllMeet W m.spm) (permits s a i && (not (is_stateless s i) && takes_version s i version)) (connect_to s b a i) (λ may. connect_to-meets W s b a i none all)
     ]
 
 call_on-meets : (W : Vectors → Type 0) (b : SpmState) (a : ℕ) (c : OpenConnection) (kind : ℤ) (v : Vectors) → W v → AllMeet W b → AllMeet W (call_on b a c kind v).spm
@@ -112,9 +116,9 @@ call_on-meets W b a c kind v own all =
       | false ↦ pushed W (with_connection_phase b c.serial Busy) c kind v own all
     ]
 
-calls : (W : Vectors → Type 0) (s : System) (st : State) (a : ℕ) (h : Handle) (kind : ℤ) (in_vec in_len out_vec out_len : ℕ)
-    → ((v : Vectors) → vectors_of s st.memory a in_vec in_len out_vec out_len ≡ Some v → W v) → AllMeet W st.spm → MovedMeets W (psa_call s st a h kind in_vec in_len out_vec out_len)
-calls W s st a h kind in_vec in_len out_vec out_len own all =
+on_connection : (W : Vectors → Type 0) (s : System) (st : State) (a : ℕ) (h : Handle) (kind : ℤ) (in_vec in_len out_vec out_len : ℕ)
+    → ((v : Vectors) → vectors_of s st.memory a in_vec in_len out_vec out_len ≡ Some v → W v) → AllMeet W st.spm → MovedMeets W (connection_called s st a h kind in_vec in_len out_vec out_len)
+on_connection W s st a h kind in_vec in_len out_vec out_len own all =
     let on : (c : OpenConnection) (vs : Option Vectors) → vectors_of s st.memory a in_vec in_len out_vec out_len ≡ vs
     → MovedMeets W (option_and_then (λ v. if refuses_requests c.phase || int_lt kind (pos 0) then None else Some (call_on st.spm a c kind v)) vs) =
     λ c. elim [
@@ -128,6 +132,36 @@ calls W s st a h kind in_vec in_len out_vec out_len own all =
     MovedMeets W (option_and_then (λ c. option_and_then (λ v. if refuses_requests c.phase || int_lt kind (pos 0) then None else Some (call_on st.spm a c kind v)) (vectors_of s st.memory a in_vec in_len out_vec out_len)) o)) [
       | None ↦ tt
       | Some c ↦ on c (vectors_of s st.memory a in_vec in_len out_vec out_len) refl
+    ]
+
+call_to-meets : (W : Vectors → Type 0) (s : System) (b : SpmState) (a service : ℕ) (kind : ℤ) (v : Vectors) → W v → AllMeet W b → AllMeet W (call_to s b a service kind v).spm
+call_to-meets W s b a service kind v own all =
+    elim (is_service_panicked s b service) as (λ (x : Bool). AllMeet W (cond {A = Move} x (move (outcome.Value PSA_ERROR_COMMUNICATION_FAILURE) b) (move outcome.Blocked (with_phase (with_request b a service kind v) a Blocked))).spm) [
+      | true ↦ all
+      | false ↦ All-push (λ (m : PendingMessage). W m.vectors) b.messages _ all own
+    ]
+
+by_index : (W : Vectors → Type 0) (s : System) (st : State) (a index : ℕ) (kind : ℤ) (in_vec in_len out_vec out_len : ℕ)
+    → ((v : Vectors) → vectors_of s st.memory a in_vec in_len out_vec out_len ≡ Some v → W v) → AllMeet W st.spm → MovedMeets W (service_called s st a index kind in_vec in_len out_vec out_len)
+by_index W s st a index kind in_vec in_len out_vec out_len own all =
+    let on : (i : ℕ) (vs : Option Vectors) → vectors_of s st.memory a in_vec in_len out_vec out_len ≡ vs
+    → MovedMeets W (option_and_then (λ v. if permits s a i && not (int_lt kind (pos 0)) then Some (call_to s st.spm a i kind v) else None) vs) =
+    λ i. elim [
+      | None ↦ λ e. tt
+      | Some v ↦ λ e. if_passes (λ (m : Move). AllMeet W m.spm) (permits s a i && not (int_lt kind (pos 0))) (call_to s st.spm a i kind v) (λ may. call_to-meets W s st.spm a i kind v (own v e) all)
+    ] in
+    elim (stateless_at s index) as (λ (o : Option ℕ).
+    MovedMeets W (option_and_then (λ i. option_and_then (λ v. if permits s a i && not (int_lt kind (pos 0)) then Some (call_to s st.spm a i kind v) else None) (vectors_of s st.memory a in_vec in_len out_vec out_len)) o)) [
+      | None ↦ tt
+      | Some i ↦ on i (vectors_of s st.memory a in_vec in_len out_vec out_len) refl
+    ]
+
+calls : (W : Vectors → Type 0) (s : System) (st : State) (a : ℕ) (h : Handle) (kind : ℤ) (in_vec in_len out_vec out_len : ℕ)
+    → ((v : Vectors) → vectors_of s st.memory a in_vec in_len out_vec out_len ≡ Some v → W v) → AllMeet W st.spm → MovedMeets W (psa_call s st a h kind in_vec in_len out_vec out_len)
+calls W s st a h kind in_vec in_len out_vec out_len own all =
+    elim (stateless_index h) as (λ (o : Option ℕ). MovedMeets W (option_map_or (λ index. service_called s st a index kind in_vec in_len out_vec out_len) o (connection_called s st a h kind in_vec in_len out_vec out_len))) [
+      | None ↦ on_connection W s st a h kind in_vec in_len out_vec out_len own all
+      | Some index ↦ by_index W s st a index kind in_vec in_len out_vec out_len own all
     ]
 
 close_on-meets : (W : Vectors → Type 0) (b : SpmState) (a : ℕ) (c : OpenConnection) → W no_vectors → AllMeet W b → AllMeet W (close_on b a c).spm
@@ -176,7 +210,7 @@ gets W s st a signal msg h all =
     ]
 
 marks : (W : Vectors → Type 0) (s : System) (b : SpmState) (a : ℕ) (h : Handle) (rhandle : ℕ) → AllMeet W b → MovedMeets W (psa_set_rhandle s b a h rhandle)
-marks W s b a h rhandle all = elim (message_held s b a h) as (λ (o : Option PendingMessage). MovedMeets W (option_map (λ m. move outcome.Done (with_rhandle b m.connection rhandle)) o)) [ None ↦ tt | Some m ↦ all ]
+marks W s b a h rhandle all = elim (option_and_then (λ m. m.connection) (message_held s b a h)) as (λ (o : Option ℕ). MovedMeets W (option_map (λ n. move outcome.Done (with_rhandle b n rhandle)) o)) [ None ↦ tt | Some n ↦ all ]
 
 -- the vectors of a request that is held
 held-meets : (W : Vectors → Type 0) (s : System) (b : SpmState) (a : ℕ) (h : Handle) (index : ℕ) (m : PendingMessage) → request_held s b a h index ≡ Some m → AllMeet W b → W m.vectors
@@ -241,11 +275,18 @@ either : (W : Vectors → Type 0) (x : Bool) (b c : SpmState) → AllMeet W b �
 either W true b c first second = first
 either W false b c first second = second
 
+on_number : (W : Vectors → Type 0) (b : SpmState) (f : ℕ → SpmState) (o : Option ℕ) → ((n : ℕ) → AllMeet W (f n)) → AllMeet W b → AllMeet W (option_map_or f o b)
+on_number W b f None on none = none
+on_number W b f (Some n) on none = on n
+
 answered-meet : (W : Vectors → Type 0) (s : System) (b : SpmState) (m : PendingMessage) (status : ℤ) → AllMeet W b → AllMeet W (answered s b m status)
 answered-meet W s b m status all =
-    either W (int_eq m.kind PSA_IPC_CONNECT) (connect_answered b m status) _ (either W (int_eq status PSA_SUCCESS) _ _ all all)
-    (either W (int_lt m.kind PSA_IPC_CALL) (close_answered b m) (request_answered s b m status) (either W (is_blocked (phase_of (without_connection b m.connection) m.client.0)) _ _ all all)
-    (either W (int_eq status PSA_ERROR_PROGRAMMER_ERROR) (request_failed s b m) _ (either W (is_partition (kind_of s m.client.0)) _ _ all all) all))
+    let put : (ph : ConnPhase) → AllMeet W (with_request_phase b m ph) = λ ph. on_number W b (λ n. with_connection_phase b n ph) m.connection (λ n. all) all in
+    either W (int_eq m.kind PSA_IPC_CONNECT) (option_map_or (λ n. connect_answered b n m status) m.connection b) _
+    (on_number W b (λ n. connect_answered b n m status) m.connection (λ n. either W (int_eq status PSA_SUCCESS) _ _ all all) all)
+    (either W (int_lt m.kind PSA_IPC_CALL) (option_map_or (λ n. close_answered b n m) m.connection b) (request_answered s b m status)
+    (on_number W b (λ n. close_answered b n m) m.connection (λ n. either W (is_blocked (phase_of (without_connection b n) m.client.0)) _ _ all all) all)
+    (either W (int_eq status PSA_ERROR_PROGRAMMER_ERROR) (request_failed s b m) _ (either W (is_partition (kind_of s m.client.0)) _ _ (put Error) (put Error)) (put Idle)))
 
 replied-meets : (W : Vectors → Type 0) (s : System) (b : SpmState) (h : Handle) (status : ℤ) (m : PendingMessage) → AllMeet W b → AllMeet W (replied s b h status m)
 replied-meets W s b h status m all = answered-meet W s (without_message b h) m status (All-filter (λ (p : PendingMessage). not (has_handle p.handle h)) (λ p. W p.vectors) b.messages all)
@@ -262,12 +303,15 @@ replies W s st a h status none all =
 
 -- ---- each event
 
-eois : (W : Vectors → Type 0) (s : System) (b : SpmState) (a signal : ℕ) → AllMeet W b → MovedMeets W (psa_eoi s b a signal)
-eois W s b a signal all =
-    elim (source_of_signal s a signal) as (λ (o : Option ℕ). MovedMeets W (option_and_then (λ i. if (flags_at b i).asserted then Some (move outcome.Done (with_flags b i (forwarded (record (flags_at b i) { asserted = false })))) else None) o)) [
-      | None ↦ tt
-      | Some i ↦ if_passes (λ (m : Move). AllMeet W m.spm) (flags_at b i).asserted _ (λ on. all)
-    ]
+-- whatever becomes of the flags of a source
+flagged : (W : Vectors → Type 0) (b : SpmState) (test : ℕ → Bool) (says : ℕ → Outcome) (flags : ℕ → List SourceFlags) (o : Option ℕ) → AllMeet W b
+    → MovedMeets W (option_and_then (λ i. if test i then Some (move (says i) (record b { sources = flags i })) else None) o)
+flagged W b test says flags None all = tt
+flagged W b test says flags (Some i) all = if_passes (λ (m : Move). AllMeet W m.spm) (test i) _ (λ on. all)
+
+flags_put : (W : Vectors → Type 0) (b : SpmState) (says : ℕ → Outcome) (flags : ℕ → List SourceFlags) (o : Option ℕ) → AllMeet W b → MovedMeets W (option_map (λ i. move (says i) (record b { sources = flags i })) o)
+flags_put W b says flags None all = tt
+flags_put W b says flags (Some i) all = all
 
 call-meets : (W : Vectors → Type 0) (s : System) (st : State) (a : ℕ) (c : Call) (h : Handle) → IsKept s W → AllMeet W st.spm → EffectMeets W (call_case s st a c h)
 call-meets W s st a call.FrameworkVersion h kept all = all
@@ -284,11 +328,16 @@ call-meets W s st a (call.Write m index buffer len) h kept all = writes W s st a
 call-meets W s st a (call.Reply m status) h kept all = replies W s st a m status.0 kept.none all
 call-meets W s st a (call.Notify id) h kept all = moves W st _ (if_passes (λ (m : Move). AllMeet W m.spm) _ _ (λ there. all))
 call-meets W s st a call.Clear h kept all = moves W st _ (if_passes (λ (m : Move). AllMeet W m.spm) _ _ (λ there. all))
-call-meets W s st a (call.Eoi signal) h kept all = moves W st _ (eois W s st.spm a signal all)
+call-meets W s st a (call.Eoi signal) h kept all = moves W st _ (flagged W st.spm _ (λ i. outcome.Done) _ (source_of_signal s a signal) all)
+call-meets W s st a (call.IrqEnable signal) h kept all = moves W st _ (flags_put W st.spm (λ i. outcome.Done) _ (source_of_signal s a signal) all)
+call-meets W s st a (call.IrqDisable signal) h kept all = moves W st _ (flags_put W st.spm _ _ (source_of_signal s a signal) all)
+call-meets W s st a (call.ResetSignal signal) h kept all = moves W st _ (flagged W st.spm _ (λ i. outcome.Done) _ (source_of_signal s a signal) all)
 call-meets W s st a call.Panic h kept all = tt
 call-meets W s st a (call.Load at size) h kept all = if_passes (λ (e : Effect). AllMeet W e.state.spm) _ _ (λ may. all)
 call-meets W s st a (call.Store at size value) h kept all = if_passes (λ (e : Effect). AllMeet W e.state.spm) _ _ (λ may. all)
 call-meets W s st a (call.Raise source) h kept all = moves W st _ (if_passes (λ (m : Move). AllMeet W m.spm) _ _ (λ there. all))
+call-meets W s st a (call.Fire source result) h kept all =
+    moves W st _ (if_passes (λ (m : Move). AllMeet W m.spm) _ _ (λ there. either W (result == 1) (interrupted s st.spm source) st.spm all all))
 call-meets W s st a (call.Stop spent) h kept all = all
 call-meets W s st a call.Resume h kept all = returned-meets W s st a (phase_of st.spm a) h all
 

@@ -3,19 +3,19 @@ ghost use Rattle.std.specs.Prelude.{◌≡◌, ◌+◌, ◌<◌, ◌≤◌, ◌^
 ghost use Rattle.std.specs.Prelude as prelude;
 ghost use Rattle.std.specs.Option.{option_map};
 ghost use Rattle.ffm_model.specs.declared.objects.ActorPhase.TheVariants as phase;
-ghost use Rattle.ffm_model.specs.Actors.{budget_of};
+ghost use Rattle.ffm_model.specs.Actors.{budget_of, is_stateless, stateless_index};
 ghost use Rattle.ffm_model.specs.State.{with_message, with_phase};
-ghost use Rattle.ffm_model.specs.ClientCalls.{in_state, move, psa_call, psa_close, psa_connect, version_number, takes_version, is_service_panicked, connect_issued, connect_to, refuses_requests, call_on, close_on, is_busy};
+ghost use Rattle.ffm_model.specs.ClientCalls.{in_state, call_to, connection_called, move, psa_call, psa_close, service_called, psa_connect, version_number, takes_version, is_service_panicked, connect_issued, connect_to, refuses_requests, call_on, close_on, is_busy};
 ghost use Rattle.ffm_model.specs.Panic.{is_dead};
 ghost use Rattle.machine_calls.specs.Machine.{spm_of, state_of, Moves, Does, VectorsFit, MessagesFit, IsMachineOf};
 
 use crate::machine::{Machine, Objects};
 use crate::snapshot::{NO_VECTORS, vectors_of};
 use ffm_model::{
-    ActorId, ActorPhase, ConnPhase, Handle, Memory, OpenConnection, Outcome,
+    ActorId, ActorPhase, ConnPhase, Handle, MAX_STATELESS, Memory, OpenConnection, Outcome,
     PSA_ERROR_COMMUNICATION_FAILURE, PSA_ERROR_CONNECTION_BUSY, PSA_ERROR_CONNECTION_REFUSED,
-    PSA_IPC_CONNECT, PSA_IPC_DISCONNECT, PSA_NULL_HANDLE, PSA_VERSION_NONE, Policy, Sid, System,
-    Vectors,
+    PSA_IPC_CONNECT, PSA_IPC_DISCONNECT, PSA_NULL_HANDLE, PSA_VERSION_NONE, Policy, STATELESS_BASE,
+    Sid, System, Vectors,
 };
 
 /// `psa_version`: a service that the actor may not use answers as one that isn't there.
@@ -43,6 +43,27 @@ fn takes_version(system: &System, service: u32, asked: u32) -> bool
             Policy::Relaxed => asked <= found.version,
         },
         None => false,
+    }
+}
+
+// Whether clients call a service by its handle.
+fn is_stateless(system: &System, service: u32) -> bool
+    ensures { result ≡ is_stateless system.now service }
+{
+    match system.services.as_slice().get(service as usize) {
+        Some(found) => found.stateless != 0,
+        None => false,
+    }
+}
+
+// The index that a stateless handle shows.
+fn stateless_index(handle: Handle) -> Option<u32>
+    ensures { result ≡ stateless_index handle }
+{
+    if handle.0 > STATELESS_BASE as i32 && handle.0 <= (STATELESS_BASE + MAX_STATELESS) as i32 {
+        Some(handle.0 as u32 - STATELESS_BASE)
+    } else {
+        None
     }
 }
 
@@ -153,7 +174,7 @@ impl Objects {
         let Some(budget) = system.budget(actor, service) else {
             return Ok(None);
         };
-        if !takes_version(system, service, version) {
+        if is_stateless(system, service) || !takes_version(system, service, version) {
             return Ok(None);
         }
         let outcome = self.connect_to(system, actor, service, budget)?;
@@ -176,6 +197,27 @@ impl Objects {
         }
         self.set_connection_phase(connection.serial, ConnPhase::Busy);
         self.send(actor, connection, kind, vectors)?;
+        Ok(Outcome::Blocked)
+    }
+
+    // Sends a request by a stateless handle; the client waits.
+    fn call_to(
+        &mut self,
+        system: &System,
+        actor: ActorId,
+        service: u32,
+        kind: i32,
+        vectors: Vectors,
+    ) -> Result<Outcome, Memory>
+        ensures moves { IfOk result (λ o. call_to system.now (spm_of self.old) actor.0 service kind vectors ≡ move o (spm_of self.new)) }
+        ensures made { self.new.connections_made ≡ self.old.connections_made }
+        ensures fits { (regions : prelude.List (ℕ × ℕ)) → VectorsFit regions vectors → MessagesFit regions self.old → MessagesFit regions self.new }
+    {
+        if self.is_service_panicked(system, service) {
+            return Ok(Outcome::Value(PSA_ERROR_COMMUNICATION_FAILURE));
+        }
+        self.add_request(actor, service, kind, vectors)?;
+        self.set_phase(actor.0, ActorPhase::Blocked);
         Ok(Outcome::Blocked)
     }
 
@@ -214,8 +256,8 @@ impl Objects {
 }
 
 impl Machine {
-    /// `psa_call`: None for a PROGRAMMER ERROR. The descriptors of the vectors are read here and never again.
-    pub fn invoke(
+    // A call on a connection: None for a PROGRAMMER ERROR.
+    fn call_connection(
         &mut self,
         system: &System,
         actor: ActorId,
@@ -227,7 +269,7 @@ impl Machine {
         out_len: u32,
     ) -> Result<Option<Outcome>, Memory>
         requires { IsMachineOf system.now self.old }
-        ensures does { Does (λ given. option_map (in_state (state_of self.old given)) (psa_call system.now (state_of self.old given) actor.0 handle kind in_vec in_len out_vec out_len)) self.old result self.new }
+        ensures does { Does (λ given. option_map (in_state (state_of self.old given)) (connection_called system.now (state_of self.old given) actor.0 handle kind in_vec in_len out_vec out_len)) self.old result self.new }
         ensures made { self.new.objects.connections_made ≡ self.old.objects.connections_made }
         ensures kept { IfOk result (λ o. IsMachineOf system.now self.new) }
     {
@@ -244,5 +286,67 @@ impl Machine {
         }
         let outcome = self.objects.call_on(actor, connection, kind, vectors)?;
         Ok(Some(outcome))
+    }
+
+    // A call by a stateless handle that shows this index: None for a PROGRAMMER ERROR.
+    fn call_service(
+        &mut self,
+        system: &System,
+        actor: ActorId,
+        index: u32,
+        kind: i32,
+        in_vec: u32,
+        in_len: u32,
+        out_vec: u32,
+        out_len: u32,
+    ) -> Result<Option<Outcome>, Memory>
+        requires { IsMachineOf system.now self.old }
+        ensures does { Does (λ given. option_map (in_state (state_of self.old given)) (service_called system.now (state_of self.old given) actor.0 index kind in_vec in_len out_vec out_len)) self.old result self.new }
+        ensures made { self.new.objects.connections_made ≡ self.old.objects.connections_made }
+        ensures kept { IfOk result (λ o. IsMachineOf system.now self.new) }
+    {
+        let Some(service) = system.stateless_at(index) else {
+            return Ok(None);
+        };
+        let memory = &self.memory;
+        let Some(vectors) = vectors_of(system, memory, actor, in_vec, in_len, out_vec, out_len)
+        else {
+            return Ok(None);
+        };
+        if system.budget(actor, service).is_none() || kind < 0 {
+            return Ok(None);
+        }
+        let outcome = self.objects.call_to(system, actor, service, kind, vectors)?;
+        Ok(Some(outcome))
+    }
+
+    /// `psa_call`, on a connection or by a stateless handle: None for a PROGRAMMER ERROR. The descriptors of the vectors are
+    /// read here and never again.
+    pub fn invoke(
+        &mut self,
+        system: &System,
+        actor: ActorId,
+        handle: Handle,
+        kind: i32,
+        in_vec: u32,
+        in_len: u32,
+        out_vec: u32,
+        out_len: u32,
+    ) -> Result<Option<Outcome>, Memory>
+        requires { IsMachineOf system.now self.old }
+        ensures does { Does (λ given. option_map (in_state (state_of self.old given)) (psa_call system.now (state_of self.old given) actor.0 handle kind in_vec in_len out_vec out_len)) self.old result self.new }
+        ensures made { self.new.objects.connections_made ≡ self.old.objects.connections_made }
+        ensures kept { IfOk result (λ o. IsMachineOf system.now self.new) }
+    {
+        match stateless_index(handle) {
+            Some(index) => {
+                self.call_service(system, actor, index, kind, in_vec, in_len, out_vec, out_len)
+            }
+            None => {
+                self.call_connection(
+                    system, actor, handle, kind, in_vec, in_len, out_vec, out_len,
+                )
+            }
+        }
     }
 }

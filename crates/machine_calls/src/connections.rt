@@ -1,11 +1,11 @@
 //! Connections, found by handle or by serial number.
 ghost use Rattle.std.specs.Prelude.{◌≡◌, ◌==◌, ◌&&◌, ◌++◌, ◌∷◌, [], not, ℕ, IfOk, find, filter, map, count_by};
 ghost use Rattle.std.specs.Prelude as prelude;
-ghost use Rattle.ffm_model.specs.State.{has_handle, connection_held, connection_by_serial, in_use, phase_put, rhandle_put, handle_put, with_connection_handle, with_connection_phase, with_message, with_rhandle, without_connection};
+ghost use Rattle.ffm_model.specs.State.{has_handle, connection_held, connection_by_serial, in_use, phase_put, rhandle_put, handle_put, with_connection_handle, with_connection_phase, with_message, with_request, with_rhandle, without_connection};
 ghost use Rattle.machine_calls.specs.Machine.{spm_of, VectorsFit, MessagesFit};
 
 use crate::machine::Objects;
-use ffm_model::{ConnPhase, Handle, Memory, OpenConnection, PendingMessage, Vectors};
+use ffm_model::{ActorId, ConnPhase, Handle, Memory, OpenConnection, PendingMessage, Vectors};
 
 fn has_handle(connection: &OpenConnection, handle: Handle) -> bool
     ensures { result ≡ has_handle connection.now.handle handle }
@@ -156,7 +156,30 @@ impl Objects {
         self.messages.push(PendingMessage {
             service: connection.service,
             client: connection.client,
-            connection: connection.serial,
+            connection: Some(connection.serial),
+            kind,
+            vectors,
+            handle: None,
+        })?;
+        Ok(())
+    }
+
+    /// Adds a request by a stateless handle; it goes last, and has no connection. It fits the regions where its vectors do.
+    pub fn add_request(
+        &mut self,
+        client: ActorId,
+        service: u32,
+        kind: i32,
+        vectors: Vectors,
+    ) -> Result<(), Memory>
+        ensures state { IfOk result (λ u. spm_of self.new ≡ with_request (spm_of self.old) client.0 service kind vectors) }
+        ensures made { self.new.connections_made ≡ self.old.connections_made }
+        ensures fits { (regions : prelude.List (ℕ × ℕ)) → VectorsFit regions vectors → MessagesFit regions self.old → MessagesFit regions self.new }
+    {
+        self.messages.push(PendingMessage {
+            service,
+            client,
+            connection: None,
             kind,
             vectors,
             handle: None,

@@ -1,7 +1,7 @@
 //! Doorbells and interrupts.
 ghost use Rattle.std.specs.Prelude.{◌≡◌, Ok, false, get_or, slice_set};
-ghost use Rattle.ffm_model.specs.Accesses.{raise};
-ghost use Rattle.ffm_model.specs.ServiceCalls.{forwarded, psa_notify, psa_clear, psa_eoi, source_of_signal, with_doorbell, with_flags};
+ghost use Rattle.ffm_model.specs.Accesses.{fire, raise};
+ghost use Rattle.ffm_model.specs.ServiceCalls.{forwarded, has_flih, psa_notify, psa_clear, psa_eoi, psa_irq_enable, psa_irq_disable, psa_reset_signal, source_of_signal, with_doorbell, with_flags};
 ghost use Rattle.ffm_model.specs.State.{flags_at};
 ghost use Rattle.machine_calls.specs.Machine.{spm_of, Moves};
 
@@ -24,11 +24,11 @@ fn put_flags(sources: &mut [SourceFlags], source: usize, flags: SourceFlags)
     }
 }
 
-// An enabled source that is pending asserts its signal as soon as that is clear.
-fn forwarded(flags: SourceFlags) -> SourceFlags
-    ensures { result ≡ forwarded flags }
+// An enabled source that is pending asserts its signal: with SLIH as soon as that is clear, with FLIH in any case.
+fn forwarded(flih: bool, flags: SourceFlags) -> SourceFlags
+    ensures { result ≡ forwarded flih flags }
 {
-    if flags.enabled && flags.pending && !flags.asserted {
+    if flags.enabled && flags.pending && (flih || !flags.asserted) {
         SourceFlags {
             pending: false,
             asserted: true,
@@ -45,6 +45,15 @@ fn source_of_signal(system: &System, actor: ActorId, signal: u32) -> Option<usiz
 {
     let mut sources = system.sources.as_slice().iter();
     sources.position(|source| source.owner == actor.0 && source.signal == signal)
+}
+
+fn has_flih(system: &System, source: usize) -> bool
+    ensures { result ≡ has_flih system.now source }
+{
+    match system.sources.as_slice().get(source) {
+        Some(source) => source.flih,
+        None => false,
+    }
 }
 
 impl Objects {
@@ -121,14 +130,14 @@ impl Objects {
     {
         let source = source_of_signal(system, actor, signal)?;
         let flags = self.flags(source);
-        if !flags.asserted {
+        if !flags.asserted || has_flih(system, source) {
             return None;
         }
         let ended = SourceFlags {
             asserted: false,
             ..flags
         };
-        self.set_flags(source, forwarded(ended));
+        self.set_flags(source, forwarded(has_flih(system, source), ended));
         Some(Outcome::Done)
     }
 
@@ -139,14 +148,84 @@ impl Objects {
         ensures made { self.new.connections_made ≡ self.old.connections_made }
     {
         let source = source as usize;
-        if source >= system.sources.len() {
+        if source >= system.sources.len() || has_flih(system, source) {
             return None;
         }
         let raised = SourceFlags {
             pending: true,
             ..self.flags(source)
         };
-        self.set_flags(source, forwarded(raised));
+        self.set_flags(source, forwarded(has_flih(system, source), raised));
+        Some(Outcome::Done)
+    }
+
+    /// `psa_irq_enable` (`psa/service.h`). None where it isn't the signal of an interrupt source of the actor.
+    pub fn irq_enable(&mut self, system: &System, actor: ActorId, signal: u32) -> Option<Outcome>
+        ensures moves { Moves (psa_irq_enable system.now (spm_of self.old) actor.0 signal) self.old (Ok result) self.new }
+        ensures messages { self.new.messages ≡ self.old.messages }
+        ensures made { self.new.connections_made ≡ self.old.connections_made }
+    {
+        let source = source_of_signal(system, actor, signal)?;
+        let enabled = SourceFlags {
+            enabled: true,
+            ..self.flags(source)
+        };
+        self.set_flags(source, forwarded(has_flih(system, source), enabled));
+        Some(Outcome::Done)
+    }
+
+    /// `psa_irq_disable` (`psa/service.h`). None where it isn't the signal of an interrupt source of the actor.
+    pub fn irq_disable(&mut self, system: &System, actor: ActorId, signal: u32) -> Option<Outcome>
+        ensures moves { Moves (psa_irq_disable system.now (spm_of self.old) actor.0 signal) self.old (Ok result) self.new }
+        ensures messages { self.new.messages ≡ self.old.messages }
+        ensures made { self.new.connections_made ≡ self.old.connections_made }
+    {
+        let source = source_of_signal(system, actor, signal)?;
+        let flags = self.flags(source);
+        let disabled = SourceFlags {
+            enabled: false,
+            ..flags
+        };
+        self.set_flags(source, disabled);
+        Some(Outcome::Number(if flags.enabled { 1 } else { 0 }))
+    }
+
+    /// `psa_reset_signal` (`psa/service.h`). None where it isn't the asserted signal of an interrupt source of the actor with FLIH.
+    pub fn reset_signal(&mut self, system: &System, actor: ActorId, signal: u32) -> Option<Outcome>
+        ensures moves { Moves (psa_reset_signal system.now (spm_of self.old) actor.0 signal) self.old (Ok result) self.new }
+        ensures messages { self.new.messages ≡ self.old.messages }
+        ensures made { self.new.connections_made ≡ self.old.connections_made }
+    {
+        let source = source_of_signal(system, actor, signal)?;
+        let flags = self.flags(source);
+        if !flags.asserted || !has_flih(system, source) {
+            return None;
+        }
+        let reset = SourceFlags {
+            asserted: false,
+            ..flags
+        };
+        self.set_flags(source, reset);
+        Some(Outcome::Done)
+    }
+
+    /// An interrupt of the device with its handler's answer. None where no source with FLIH has the number, or the answer is above 1.
+    pub fn fire(&mut self, system: &System, source: u32, answer: u32) -> Option<Outcome>
+        ensures moves { Moves (fire system.now (spm_of self.old) source answer) self.old (Ok result) self.new }
+        ensures messages { self.new.messages ≡ self.old.messages }
+        ensures made { self.new.connections_made ≡ self.old.connections_made }
+    {
+        let source = source as usize;
+        if source >= system.sources.len() || !has_flih(system, source) || answer > 1 {
+            return None;
+        }
+        if answer == 1 {
+            let fired = SourceFlags {
+                pending: true,
+                ..self.flags(source)
+            };
+            self.set_flags(source, forwarded(true, fired));
+        }
         Some(Outcome::Done)
     }
 }

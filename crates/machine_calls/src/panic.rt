@@ -1,10 +1,13 @@
 //! The panic of a partition.
-ghost use Rattle.std.specs.Prelude.{◌≡◌, ◌++◌, [], ℕ, IfOk, IfSome, All, filter, not};
+ghost use Rattle.std.specs.Prelude.{◌≡◌, ◌++◌, [], ℕ, IfOk, IfSome, All, filter, not, slice_set};
+ghost use Rattle.ffm_model.specs.declared.constants.TheConstants.{PSA_ERROR_COMMUNICATION_FAILURE};
+ghost use Rattle.ffm_model.specs.declared.machine.Outcome.TheVariants as outcome;
+ghost use Rattle.ffm_model.specs.declared.objects.ActorPhase.TheVariants as phase;
 ghost use Rattle.std.specs.Prelude as prelude;
 ghost use Rattle.std.specs.List.{cons_option, filter_map};
 ghost use Rattle.ffm_model.specs.Actors.{is_service_of};
 ghost use Rattle.ffm_model.specs.Memory.{no_vectors};
-ghost use Rattle.ffm_model.specs.Panic.{client_answered, clients_answered, without_service, without_client, disconnection, panic_effect};
+ghost use Rattle.ffm_model.specs.Panic.{callers_answered, client_answered, clients_answered, without_service, without_client, disconnection, panic_effect};
 ghost use Rattle.machine_calls.specs.Leaving.{left_of, disconnection_left, Leaves};
 ghost use Rattle.machine_calls.specs.Machine.{spm_of, VectorsFit, MessagesFit};
 
@@ -57,6 +60,32 @@ fn answer_clients(
     }
 }
 
+// Answers the clients of requests by stateless handles to the partition's services.
+fn answer_callers(
+    system: &System,
+    partition: u32,
+    messages: &[PendingMessage],
+    phases: &mut [ActorPhase],
+)
+    ensures { phases.new ≡ callers_answered system.now partition messages.now phases.old }
+{
+    for message in messages {
+        if message.connection.is_none() && is_service_of(system, partition, message.service) {
+            put_answer(phases, message.client.0);
+        }
+    }
+}
+
+// The client of a lost request is told.
+fn put_answer(phases: &mut [ActorPhase], client: u32)
+    ensures { phases.new ≡ slice_set phases.old client (phase.Ready (outcome.Value PSA_ERROR_COMMUNICATION_FAILURE)) }
+{
+    let at = client as usize;
+    if at < phases.len() {
+        phases[at] = ActorPhase::Ready(Outcome::Value(PSA_ERROR_COMMUNICATION_FAILURE));
+    }
+}
+
 fn without_service(
     system: &System,
     partition: u32,
@@ -103,7 +132,7 @@ fn disconnection(partition: u32, connection: OpenConnection) -> Option<PendingMe
     Some(PendingMessage {
         service: connection.service,
         client: connection.client,
-        connection: connection.serial,
+        connection: Some(connection.serial),
         kind: PSA_IPC_DISCONNECT,
         vectors: NO_VECTORS,
         handle: None,
@@ -202,6 +231,12 @@ impl Objects {
         self.set_phase(at, ActorPhase::Panicked);
         let connections = self.connections.as_slice();
         answer_clients(system, at, connections, self.phases.as_mut_slice());
+        answer_callers(
+            system,
+            at,
+            self.messages.as_slice(),
+            self.phases.as_mut_slice(),
+        );
         drop_messages(system, at, &mut self.messages);
         send_disconnections(system, at, connections, &mut self.messages)?;
         lose_connections(system, at, &mut self.connections);

@@ -2,7 +2,7 @@
 ghost use Rattle.std.specs.Prelude.{◌≡◌, ℕ, IfOk, if◌then◌else◌};
 ghost use Rattle.std.specs.Prelude as prelude;
 ghost use Rattle.ffm_model.specs.Actors.{is_partition, kind_of};
-ghost use Rattle.ffm_model.specs.ServiceCalls.{answered, close_answered, connect_answered, is_connect_status, owes_panic, psa_reply, replied, reply_to, request_answered, request_failed};
+ghost use Rattle.ffm_model.specs.ServiceCalls.{answered, close_answered, connect_answered, is_connect_status, owes_panic, psa_reply, replied, reply_to, request_answered, request_failed, with_request_phase};
 ghost use Rattle.ffm_model.specs.Panic.{panic_effect};
 ghost use Rattle.machine_calls.specs.Machine.{spm_of, state_of, Does, IsMachineOf, MessagesFit};
 
@@ -39,29 +39,40 @@ fn owes_panic(system: &System, message: PendingMessage, status: i32) -> bool
 }
 
 impl Objects {
-    fn answer_connect(&mut self, message: PendingMessage, status: i32)
-        ensures state { spm_of self.new ≡ connect_answered (spm_of self.old) message status }
+    fn answer_connect(&mut self, serial: u32, message: PendingMessage, status: i32)
+        ensures state { spm_of self.new ≡ connect_answered (spm_of self.old) serial message status }
         ensures messages { self.new.messages ≡ self.old.messages }
         ensures made { self.new.connections_made ≡ self.old.connections_made }
     {
         if status == PSA_SUCCESS {
-            self.set_connection_phase(message.connection, ConnPhase::Idle);
-            self.set_phase(message.client.0, ActorPhase::Connected(message.connection));
+            self.set_connection_phase(serial, ConnPhase::Idle);
+            self.set_phase(message.client.0, ActorPhase::Connected(serial));
         } else {
-            self.remove_connection(message.connection);
+            self.remove_connection(serial);
             self.set_phase(message.client.0, ActorPhase::Ready(Outcome::Value(status)));
         }
     }
 
     // Nobody waits where the client panicked.
-    fn answer_close(&mut self, message: PendingMessage)
-        ensures state { spm_of self.new ≡ close_answered (spm_of self.old) message }
+    fn answer_close(&mut self, serial: u32, message: PendingMessage)
+        ensures state { spm_of self.new ≡ close_answered (spm_of self.old) serial message }
         ensures messages { self.new.messages ≡ self.old.messages }
         ensures made { self.new.connections_made ≡ self.old.connections_made }
     {
-        self.remove_connection(message.connection);
+        self.remove_connection(serial);
         if matches!(self.phase(message.client.0), ActorPhase::Blocked) {
             self.set_phase(message.client.0, ActorPhase::Ready(Outcome::Done));
+        }
+    }
+
+    // The connection of a request, where it has one.
+    fn set_request_phase(&mut self, message: PendingMessage, phase: ConnPhase)
+        ensures state { spm_of self.new ≡ with_request_phase (spm_of self.old) message phase }
+        ensures messages { self.new.messages ≡ self.old.messages }
+        ensures made { self.new.connections_made ≡ self.old.connections_made }
+    {
+        if let Some(serial) = message.connection {
+            self.set_connection_phase(serial, phase);
         }
     }
 
@@ -71,7 +82,7 @@ impl Objects {
         ensures messages { self.new.messages ≡ self.old.messages }
         ensures made { self.new.connections_made ≡ self.old.connections_made }
     {
-        self.set_connection_phase(message.connection, ConnPhase::Error);
+        self.set_request_phase(message, ConnPhase::Error);
         if !is_partition(system, message.client.0) {
             let told = Outcome::Value(PSA_ERROR_PROGRAMMER_ERROR);
             self.set_phase(message.client.0, ActorPhase::Ready(told));
@@ -86,7 +97,7 @@ impl Objects {
         if status == PSA_ERROR_PROGRAMMER_ERROR {
             self.fail_request(system, message);
         } else {
-            self.set_connection_phase(message.connection, ConnPhase::Idle);
+            self.set_request_phase(message, ConnPhase::Idle);
             self.set_phase(message.client.0, ActorPhase::Ready(Outcome::Value(status)));
         }
     }
@@ -97,9 +108,13 @@ impl Objects {
         ensures made { self.new.connections_made ≡ self.old.connections_made }
     {
         if message.kind == PSA_IPC_CONNECT {
-            self.answer_connect(message, status);
+            if let Some(serial) = message.connection {
+                self.answer_connect(serial, message, status);
+            }
         } else if message.kind < PSA_IPC_CALL {
-            self.answer_close(message);
+            if let Some(serial) = message.connection {
+                self.answer_close(serial, message);
+            }
         } else {
             self.answer_request(system, message, status);
         }

@@ -1,5 +1,5 @@
 //! The calls of `psa/service.h` that wait for messages, take them and move their bytes.
-ghost use Rattle.std.specs.Prelude.{◌≡◌, ◌++◌, ◌==◌, ◌&&◌, Ok, length, position, if◌then◌else◌};
+ghost use Rattle.std.specs.Prelude.{◌≡◌, ◌++◌, ◌==◌, ◌&&◌, Ok, length, option_and_then, position, if◌then◌else◌};
 ghost use Rattle.std.specs.Option.{option_map, option_map_or};
 ghost use Rattle.ffm_model.specs.ClientCalls.{in_state};
 ghost use Rattle.std.specs.Ordering.{int_eq};
@@ -89,13 +89,16 @@ fn words_of(message: Message) -> [u32; 12]
 impl Objects {
     // The rhandle that a message carries: 0 for that of a `psa_connect`, else its connection's.
     fn rhandle_of(&self, message: PendingMessage) -> u32
-        ensures { result ≡ (if int_eq message.kind PSA_IPC_CONNECT then 0 else option_map_or (λ c. c.rhandle) (connection_by_serial (spm_of self.now) message.connection) 0) }
+        ensures { result ≡ (if int_eq message.kind PSA_IPC_CONNECT then 0 else option_map_or (λ c. c.rhandle) (option_and_then (connection_by_serial (spm_of self.now)) message.connection) 0) }
     {
         if message.kind == PSA_IPC_CONNECT {
             return 0;
         }
-        match self.connection_by_serial(message.connection) {
-            Some(connection) => connection.rhandle,
+        match message.connection {
+            Some(serial) => match self.connection_by_serial(serial) {
+                Some(connection) => connection.rhandle,
+                None => 0,
+            },
             None => 0,
         }
     }
@@ -136,7 +139,7 @@ impl Objects {
         Some(Outcome::Blocked)
     }
 
-    /// `psa_set_rhandle` (`psa/service.h`). None where the handle isn't that of a message of the partition.
+    /// `psa_set_rhandle` (`psa/service.h`). None where the handle isn't that of a message of the partition with a connection.
     pub fn set_rhandle_of(
         &mut self,
         system: &System,
@@ -149,7 +152,8 @@ impl Objects {
         ensures made { self.new.connections_made ≡ self.old.connections_made }
     {
         let message = self.message_held(system, actor.0, handle)?;
-        self.set_rhandle(message.connection, rhandle);
+        let serial = message.connection?;
+        self.set_rhandle(serial, rhandle);
         Some(Outcome::Done)
     }
 }

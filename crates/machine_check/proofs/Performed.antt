@@ -50,10 +50,14 @@ error_gave k s st new a (call.Reply m z) h o p none e = refl
 error_gave k s st new a (call.Notify q) h o p none e = refl
 error_gave k s st new a call.Clear h o p none e = refl
 error_gave k s st new a (call.Eoi w) h o p none e = refl
+error_gave k s st new a (call.IrqEnable w) h o p none e = refl
+error_gave k s st new a (call.IrqDisable w) h o p none e = refl
+error_gave k s st new a (call.ResetSignal w) h o p none e = refl
 error_gave k s st new a call.Panic h o p none e = refl
 error_gave k s st new a (call.Load x n) h o p none e = refl
 error_gave k s st new a (call.Store x n v) h o p none e = refl
 error_gave k s st new a (call.Raise n) h o p none e = refl
+error_gave k s st new a (call.Fire n r) h o p none e = refl
 error_gave k s st new a (call.Stop b) h o p none e = refl
 
 -- what a PROGRAMMER ERROR does is what is due, where the call's case says nothing

@@ -34,7 +34,14 @@ pub fn group_of(call: Call) -> Group
             Group::Service
         }
         Call::Read { .. } | Call::Skip { .. } | Call::Write { .. } => Group::Transfer,
-        Call::Notify { .. } | Call::Clear | Call::Eoi { .. } | Call::Raise { .. } => Group::Signal,
+        Call::Notify { .. }
+        | Call::Clear
+        | Call::Eoi { .. }
+        | Call::IrqEnable { .. }
+        | Call::IrqDisable { .. }
+        | Call::ResetSignal { .. }
+        | Call::Raise { .. }
+        | Call::Fire { .. } => Group::Signal,
         Call::Load { .. } | Call::Store { .. } => Group::Memory,
         Call::Panic | Call::Stop { .. } | Call::Resume => Group::Actor,
     }

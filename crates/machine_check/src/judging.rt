@@ -1,5 +1,5 @@
 //! Whole traces.
-ghost use Rattle.std.specs.Prelude.{◌≡◌, ◌<◌, ◌≤◌, ◌+◌, ◌^◌, ◌∷◌, [], ℕ, IfOk, length, replicate};
+ghost use Rattle.std.specs.Prelude.{◌≡◌, ◌<◌, ◌≤◌, ◌+◌, ◌^◌, ◌∷◌, [], ℕ, IfOk, length, map, replicate, false};
 ghost use Rattle.std.specs.Prelude as prelude;
 ghost use Rattle.ffm_model.specs.declared.machine.Entry.{Entry as EntrySeen};
 ghost use Rattle.ffm_model.specs.declared.machine.Verdict.{Verdict as VerdictSeen};
@@ -11,7 +11,7 @@ ghost use Rattle.machine_check.specs.Checking.{Accepts, ChecksTo};
 ghost use Rattle.machine_calls.specs.Machine.{spm_of, IsMachineOf};
 
 use crate::step::step;
-use ffm_model::{ActorPhase, Entry, Memory, SourceFlags, System, Trace, Verdict};
+use ffm_model::{ActorPhase, Entry, Memory, Source, SourceFlags, System, Trace, Verdict};
 use machine_calls::{Machine, Objects};
 use memory_image::Image;
 use std::alloc::Global;
@@ -36,15 +36,25 @@ fn filled<T: Copy>(alloc: Global, value: T, count: usize) -> Result<Vec<T>, Memo
     Ok(items)
 }
 
+// The flags of the sources at the start.
+fn opening_flags(alloc: Global, sources: &[Source]) -> Result<Vec<SourceFlags>, Memory>
+    ensures { IfOk result (λ v. v.items ≡ map (λ x. record { enabled = x.enabled; pending = false; asserted = false }) sources.now) }
+{
+    let mut flags = Vec::new(alloc);
+    for source in sources {
+        flags.push(SourceFlags {
+            enabled: source.enabled,
+            pending: false,
+            asserted: false,
+        })?;
+    }
+    Ok(flags)
+}
+
 // The state that a run begins with.
 fn opening(alloc: Global, system: &System) -> Result<Objects, Memory>
     ensures { IfOk result (λ o. spm_of o ≡ opening_spm system.now) }
 {
-    let flags = SourceFlags {
-        enabled: true,
-        pending: false,
-        asserted: false,
-    };
     let actors = system.actor_count() as usize;
     Ok(Objects {
         connections: Vec::new(alloc),
@@ -52,7 +62,7 @@ fn opening(alloc: Global, system: &System) -> Result<Objects, Memory>
         messages: Vec::new(alloc),
         phases: filled(alloc, ActorPhase::Running, actors)?,
         doorbells: filled(alloc, false, system.partitions.len())?,
-        sources: filled(alloc, flags, system.sources.len())?,
+        sources: opening_flags(alloc, system.sources.as_slice())?,
     })
 }
 

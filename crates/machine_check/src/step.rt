@@ -144,7 +144,11 @@ fn signal_call(
         Call::Notify { partition } => machine.objects.notify(system, partition),
         Call::Clear => machine.objects.clear(actor),
         Call::Eoi { signal } => machine.objects.eoi(system, actor, signal),
+        Call::IrqEnable { signal } => machine.objects.irq_enable(system, actor, signal),
+        Call::IrqDisable { signal } => machine.objects.irq_disable(system, actor, signal),
+        Call::ResetSignal { signal } => machine.objects.reset_signal(system, actor, signal),
         Call::Raise { source } => machine.objects.raise(system, source),
+        Call::Fire { source, result } => machine.objects.fire(system, source, result),
         _ => unreachable!(),
     }
 }

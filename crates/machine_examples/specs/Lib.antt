@@ -5,3 +5,5 @@ pub mod Connections
 pub mod Panics
 pub mod Asserted
 pub mod Isolation
+pub mod Handling
+pub mod Stateless

@@ -20,7 +20,7 @@ partition name rot domain ram = record { name = name; rot = rot; priority = Norm
 
 -- a service of the first partition for non-secure clients
 abbrev service : List ℕ → ℕ → ℕ → Policy → ℕ → Service
-service name sid version policy signal = record { name = name; sid = record { 0 = sid }; owner = 0; nonsecure = true; version = version; policy = policy; signal = signal }
+service name sid version policy signal = record { name = name; sid = record { 0 = sid }; owner = 0; nonsecure = true; version = version; policy = policy; signal = signal; stateless = 0 }
 
 abbrev ram : ℕ → ℕ → ℕ → Region
 ram base size domain = record { base = base; size = size; class = Ram domain }
@@ -172,7 +172,7 @@ abbrev ticker_partitions : List Partition
 ticker_partitions = partition (codes "TICK") ApplicationRot 1 0 ∷ []
 
 abbrev ticker_sources : List Source
-ticker_sources = record { name = codes "17"; signal_name = codes "TICK_SIGNAL"; owner = 0; signal = 0x10 } ∷ []
+ticker_sources = record { name = codes "17"; signal_name = codes "TICK_SIGNAL"; owner = 0; signal = 0x10; flih = false; enabled = true } ∷ []
 
 pub ticker_fits : is_well_formed 3 ticker_partitions [] ticker_sources vault_regions [] [] ≡ true
 unfolding is_well_formed
@@ -190,6 +190,49 @@ ticker_system = record {
   services_counted = refl;
   well_formed = ticker_fits;
 }
+
+-- its source has a first-level handler, and starts disabled
+abbrev timer_sources : List Source
+timer_sources = record { name = codes "5"; signal_name = codes "TIMER_SIGNAL"; owner = 0; signal = 0x10; flih = true; enabled = false } ∷ []
+
+pub timer_fits : is_well_formed 3 ticker_partitions [] timer_sources vault_regions [] [] ≡ true
+unfolding is_well_formed
+timer_fits = refl
+
+abbrev pub timer_system : System
+timer_system = record ticker_system { sources = timer_sources; well_formed = timer_fits }
+
+-- ---- a partition with a stateless service, and a client that may use it
+
+abbrev clock_partitions : List Partition
+clock_partitions = partition (codes "CLOCK") PsaRot 1 0 ∷ []
+
+abbrev clock_services : List Service
+clock_services = record (service (codes "CLOCK") 0x50 1 Strict 0x10) { stateless = 1 } ∷ []
+
+pub clock_fits : is_well_formed 3 clock_partitions clock_services [] vault_regions (codes "NS" ∷ []) (connections 1 0 0 ∷ []) ≡ true
+unfolding is_well_formed
+clock_fits = refl
+
+-- a budget for a stateless service isn't well formed
+pub clock_budget_misfits : is_well_formed 3 clock_partitions clock_services [] vault_regions (codes "NS" ∷ []) (connections 1 0 1 ∷ []) ≡ false
+unfolding is_well_formed
+clock_budget_misfits = refl
+
+abbrev pub clock_system : System
+clock_system = record vault_system { partitions = clock_partitions; services = clock_services; budgets = connections 1 0 0 ∷ []; services_counted = refl; well_formed = clock_fits }
+
+-- ---- two partitions, of which the second may use the first one's stateless service
+
+abbrev called_services : List Service
+called_services = record (service (codes "S") 0x40 1 Strict 0x10) { stateless = 32 } ∷ []
+
+pub called_fits : is_well_formed 3 dependent_partitions called_services [] dependent_regions [] (connections 1 0 0 ∷ []) ≡ true
+unfolding is_well_formed
+called_fits = refl
+
+abbrev pub called_system : System
+called_system = record dependent_system { services = called_services; budgets = connections 1 0 0 ∷ []; services_counted = refl; well_formed = called_fits }
 
 -- ---- a second partition beside the first one, of a type and in a domain, and a client
 

@@ -5,17 +5,20 @@
 
 mod connections;
 mod constants;
+mod handling;
 mod isolation;
 mod judgements;
 mod panics;
 mod requests;
 mod signals;
+mod stateless;
 
 pub use connections::{
     budget_of_two_connections, closed_handle_of_a_partition, closed_handle_used_again,
     handle_of_another_client, turned_away_by_the_service, version_policies, versions_of_services,
 };
 pub use constants::values_of_the_headers;
+pub use handling::{handled_at_first_level, interrupt_while_disabled};
 pub use isolation::isolation_levels;
 pub use judgements::{first_wrong_entry, runs_without_end};
 pub use panics::{
@@ -28,3 +31,4 @@ pub use requests::{
     vectors_of_a_request, written_past_the_end,
 };
 pub use signals::{doorbell_rung_twice, interrupt_raised_while_asserted, two_messages_one_signal};
+pub use stateless::{called_without_connection, caller_panics, panicked_without_connection};

@@ -120,7 +120,7 @@ fn message_call(name: &str, words: &mut Words<'_>) -> Result<Call, Fail> {
     }
 }
 
-// The call of a partition about its signals, and the device's.
+// The call of a partition about its signals.
 fn signal_call(name: &str, words: &mut Words<'_>) -> Result<Call, Fail> {
     match name {
         "wait" => Ok(Call::Wait {
@@ -138,8 +138,28 @@ fn signal_call(name: &str, words: &mut Words<'_>) -> Result<Call, Fail> {
         "eoi" => Ok(Call::Eoi {
             signal: words.unsigned()?,
         }),
+        _ => interrupt_call(name, words),
+    }
+}
+
+// The call of a partition about its interrupt sources, and the device's.
+fn interrupt_call(name: &str, words: &mut Words<'_>) -> Result<Call, Fail> {
+    match name {
+        "irq_enable" => Ok(Call::IrqEnable {
+            signal: words.unsigned()?,
+        }),
+        "irq_disable" => Ok(Call::IrqDisable {
+            signal: words.unsigned()?,
+        }),
+        "reset_signal" => Ok(Call::ResetSignal {
+            signal: words.unsigned()?,
+        }),
         "raise" => Ok(Call::Raise {
             source: words.unsigned()?,
+        }),
+        "fire" => Ok(Call::Fire {
+            source: words.unsigned()?,
+            result: words.unsigned()?,
         }),
         _ => other_call(name, words),
     }

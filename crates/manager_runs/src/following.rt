@@ -1,9 +1,10 @@
 //! Makes the events of a trace again, and compares what comes of each.
-ghost use Rattle.std.specs.Prelude.{◌≡◌, ◌+◌, if◌then◌else◌};
+ghost use Rattle.std.specs.Prelude.{◌≡◌, ◌+◌, ◌<◌, ◌^◌, length, IfOk, if◌then◌else◌};
 ghost use Rattle.spm_core.specs.Manager.{is_resume};
 
 use crate::call_lines::{Words, actor_of, call_of};
-use ffm_model::{ActorId, Answer, Call, Counts, System};
+use ffm_model::{ActorId, Answer, Call, Counts, List, System, Trace, Verdict};
+use machine_check::{Checked, check};
 use memory_image::{Image, open_within};
 use sample_systems::system_of;
 use spm_core::Spm;
@@ -15,9 +16,13 @@ use system_json::read_scenario;
 use trace_print::{print, print_verdict};
 
 /// A manager of the system of a system file, with the memory and the limit of a scenario file.
-#[tactic(auto, using(memory_image::proofs::Systems::system_fits))]
 pub(crate) fn manager(alloc: Global, system: &str, scenario: &str) -> Result<Spm, Fail> {
-    let system = system_of(alloc, system)?;
+    manager_of(alloc, system_of(alloc, system)?, scenario)
+}
+
+/// A manager of a system, with the memory and the limit of a scenario file.
+#[tactic(auto, using(memory_image::proofs::Systems::system_fits))]
+pub(crate) fn manager_of(alloc: Global, system: System, scenario: &str) -> Result<Spm, Fail> {
     let scenario = read_scenario(alloc, scenario.as_bytes(), &system)?;
     if system.regions.len() > 0x7fff_ffff {
         return Err(Fail::from("too many regions"));
@@ -88,5 +93,44 @@ pub(crate) fn follow(rt: &impl Abort, spm: &mut Spm, lines: &str) -> Result<(), 
             end(rt, spm, line)?;
         }
     }
+    Ok(())
+}
+
+// All events so far, as a trace with the verdict.
+fn trace_of(alloc: Global, spm: &Spm, verdict: Verdict) -> Result<Trace, Fail>
+    ensures few { IfOk result (λ t. length t.entries < 2 ^ 31) }
+{
+    let mut entries = Vec::new(alloc);
+    for place in 1..=spm.length() {
+        entries.push(spm.entry(place))?;
+    }
+    if entries.len() > 0x7fff_ffff {
+        return Err(Fail::from("too many entries"));
+    }
+    Ok(Trace {
+        entries: List::of(entries),
+        verdict,
+    })
+}
+
+/// Follows the lines, which are a whole run from a memory of zeros, and asserts that the judge takes them for one.
+#[tactic(auto, using(memory_image::proofs::Systems::system_fits))]
+pub(crate) fn follow_whole(
+    rt: &impl Abort,
+    alloc: Global,
+    system: System,
+    lines: &str,
+) -> Result<(), Fail> {
+    let mut spm = manager_of(alloc, system, "{}")?;
+    follow(rt, &mut spm, lines)?;
+    let verdict = spm.verdict().ok_or("the run goes on")?;
+    let trace = trace_of(alloc, &spm, verdict)?;
+    let system = spm.system();
+    if system.regions.len() > 0x7fff_ffff {
+        return Err(Fail::from("too many regions"));
+    }
+    let zeros = Image::new(alloc, &system.regions, &List::of(Vec::new(alloc)))?;
+    let checked = check(alloc, system, &zeros, spm.length(), &trace)?;
+    assert_eq!(rt; checked, Checked::Legal);
     Ok(())
 }

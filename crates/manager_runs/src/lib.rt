@@ -14,6 +14,8 @@ mod connections;
 #[cfg(test)]
 mod following;
 #[cfg(test)]
+mod handling;
+#[cfg(test)]
 mod hostile;
 #[cfg(test)]
 mod isolation;
@@ -21,5 +23,7 @@ mod isolation;
 mod requests;
 #[cfg(test)]
 mod signals;
+#[cfg(test)]
+mod stateless;
 #[cfg(test)]
 mod systems;

@@ -1,7 +1,7 @@
 //! Runs of doorbells, messages that share a signal, and interrupts.
 
 use crate::following::{follow, manager};
-use crate::systems::{VAULT, ZEROS};
+use crate::systems::{TIMER, VAULT, ZEROS};
 use std::test::Fail;
 
 #[test]
@@ -45,12 +45,6 @@ stalled 6
 ",
     )
 }
-
-// A partition that handles an interrupt.
-const TIMER: &str =
-    r#"{"isolation_level":1,"manifests":[{"psa_framework_version":1.0,"name":"TIMER",
-"type":"PSA-ROT","priority":"NORMAL","entry_point":"timer_main","stack_size":"0x400",
-"irqs":[{"source":17,"signal":"TICK_SIGNAL"}]}]}"#;
 
 #[test]
 fn interrupts(rt: HostRuntime) -> Result<(), Fail> {

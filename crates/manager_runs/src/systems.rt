@@ -16,6 +16,12 @@ pub(crate) const SERVER: &str =
 "entry_point":"cli_main","stack_size":"0x400","dependencies":["S"]}],"clients":["NS"],
 "connections":[{"client":"CLI","service":"S","count":3}]}"#;
 
+/// A partition that handles an interrupt.
+pub(crate) const TIMER: &str =
+    r#"{"isolation_level":1,"manifests":[{"psa_framework_version":1.0,"name":"TIMER",
+"type":"PSA-ROT","priority":"NORMAL","entry_point":"timer_main","stack_size":"0x400",
+"irqs":[{"source":17,"signal":"TICK_SIGNAL"}]}]}"#;
+
 /// A memory of zeros.
 pub(crate) const ZEROS: &str = "{}";
 

@@ -86,6 +86,7 @@ fn service_of(
         version: item.version,
         policy: item.policy,
         signal: signal_of(signals, place),
+        stateless: 0,
     })
 }
 
@@ -133,6 +134,8 @@ fn source_of(
         signal_name,
         owner,
         signal: signal_of(signals, place),
+        flih: false,
+        enabled: true,
     })
 }
 

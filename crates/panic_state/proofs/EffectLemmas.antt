@@ -1,7 +1,7 @@
 -- What a panic leaves of the tables is the effect that the machine has.
 use Rattle.std.proofs.Common.{ℕ, ◌≡◌, ◌<◌, ◌≤◌, ◌+◌, Bool, true, false, cond, not, List, [], ◌∷◌, ◌++◌, length, length-append, map, filter, get_or, arith, ◌∙◌, ap, sym, refl, subst}
 use Rattle.std.specs.Prelude.{Option, Some, None, slice_set, All, if◌then◌else◌, option_and_then}
-use Rattle.std.specs.List.{filter_map}
+use Rattle.std.specs.List.{cons_option, filter_map}
 use Rattle.std.specs.Option.{option_map}
 use Rattle.std.proofs.Math.ListN.{length-set}
 use Rattle.std.proofs.lemmas.List.{length-map, get_or-map}
@@ -17,13 +17,14 @@ use Rattle.ffm_model.specs.declared.constants.TheConstants.{PSA_ERROR_CONNECTION
 use Rattle.ffm_model.specs.Signals.{is_blocked}
 use Rattle.ffm_model.specs.Actors.{is_service_of}
 use Rattle.ffm_model.specs.State.{with_phase, phase_of}
-use Rattle.ffm_model.specs.Names.{SlotName, capacity}
-use Rattle.ffm_model.specs.Panic.{panic_effect, client_answered, clients_answered, without_service, without_client, disconnection, lost}
+use Rattle.ffm_model.specs.Names.{SlotName, message_capacity}
+use Rattle.ffm_model.specs.Panic.{panic_effect, callers_answered, client_answered, clients_answered, is_lost_request, without_service, without_client, disconnection, lost}
 use Rattle.object_pools.specs.declared.slot.Held.{Held}
 use Rattle.object_pools.specs.Pool.{Places}
 use Rattle.handle_table.specs.Table.{connections}
 use Rattle.counting_law.specs.Objects.{ObjectsFit}
 use Rattle.counting_law.proofs.Parts.{phase_same}
+use Rattle.counting_law.proofs.Bounds.{few-connections}
 use Rattle.counting_law.proofs.Rooms.{panic-room}
 use Rattle.spm_tables.specs.TablesView.{TablesView, Shape, MadeFor, spm_of, shape_of, held_message, service_signal}
 use Rattle.spm_tables.proofs.SystemLemmas.{few_connections}
@@ -31,6 +32,7 @@ use Rattle.slot_names.specs.Named.{KeepsNames}
 use Rattle.slot_names.specs.Changes.{PairsOff, KeepsConnectionNames, TakesOn, names_of}
 use Rattle.slot_names.proofs.Moves.{relinks-some}
 use Rattle.slot_names.proofs.Panics.{names-panicked, takes-first}
+use Rattle.slot_names.proofs.Removals.{fitting-pairs-off}
 use Rattle.panic_state.specs.Losses.{left_by, in_slot, held_without_service, held_without_client, as_client, disconnect_messages}
 use Rattle.panic_state.proofs.Lists.{map-left, left-twice, map-kept, All-left}
 use Rattle.panic_state.proofs.ServiceLemmas.{services-known}
@@ -72,9 +74,9 @@ effect-is s p d mid new before linked messages rest =
 
 -- ---- the room
 
--- the messages that stay and those that come are no more than the connections that are declared
+-- the messages that stay and those that come are no more than there can be at once
 pub room-of : (s : System) (p : ℕ) (d : TablesView) → MadeFor d s → p < length s.partitions → ObjectsFit s (with_phase (spm_of d) p Running)
-    → length (as_client s p d).waiting.held + length (disconnect_messages p (as_client s p d).linked) ≤ capacity s
+    → length (as_client s p d).waiting.held + length (disconnect_messages p (as_client s p d).linked) ≤ message_capacity s
 room-of s p d made inside fits =
     let there : p < length d.phases = omega (arith, ap (λ (x : Shape). x.actors) made) in
     let running : phase_of (with_phase (spm_of d) p Running) p ≡ Running = phase_same d.phases p Running there in
@@ -127,31 +129,55 @@ clients-length s p (c ∷ cs) phases =
     let go : (b : Bool) → length (cond b told phases) ≡ length phases = elim [ true ↦ answered-length c.phase phases c.client.0 | false ↦ refl ] in
     clients-length s p cs (cond (is_service_of s p c.service) told phases) ∙ go (is_service_of s p c.service)
 
+callers-length : (s : System) (p : ℕ) (ms : List PendingMessage) (phases : List ActorPhase) → length (callers_answered s p ms phases) ≡ length phases
+callers-length s p [] phases = refl
+callers-length s p (m ∷ ms) phases =
+    let told : List ActorPhase = slice_set phases m.client.0 (Ready (Value PSA_ERROR_COMMUNICATION_FAILURE)) in
+    let go : (b : Bool) → length (cond b told phases) ≡ length phases = elim [ true ↦ length-set phases m.client.0 (Ready (Value PSA_ERROR_COMMUNICATION_FAILURE)) | false ↦ refl ] in
+    callers-length s p ms (cond (is_lost_request s p m) told phases) ∙ go (is_lost_request s p m)
+
 pub shape-is : (s : System) (p : ℕ) (d mid new : TablesView) → mid ≡ as_client s p d → new.linked ≡ left_by (held_without_client p) mid.linked
     → length new.waiting.generations ≡ length mid.waiting.generations → new ≡ record mid { linked = new.linked; waiting = new.waiting } → shape_of new ≡ shape_of d
 shape-is s p d mid new before linked size rest =
     let is : new ≡ record (as_client s p d) { linked = new.linked; waiting = new.waiting } = rest ∙ ap (λ (x : TablesView). record x { linked = new.linked; waiting = new.waiting }) before in
     let made = ap (λ (x : Places OpenConnection). length x.generations) (linked ∙ ap (λ (x : TablesView). left_by (held_without_client p) x.linked) before) in
     let room = size ∙ ap (λ (x : TablesView). length x.waiting.generations) before in
-    let phases = clients-length s p (connections d.linked) (slice_set d.phases p Panicked) ∙ length-set d.phases p Panicked in
+    let phases =
+    callers-length s p (map held_message d.waiting.held) (clients_answered s p (connections d.linked) (slice_set d.phases p Panicked))
+    ∙ clients-length s p (connections d.linked) (slice_set d.phases p Panicked) ∙ length-set d.phases p Panicked in
     ap shape_of is ∙ (λ j. record (shape_of d) { actors = phases j; connections = made j; messages = room j })
 
-pub few-disconnects : (s : System) (p : ℕ) (d : TablesView) → MadeFor d s → p < length s.partitions → ObjectsFit s (with_phase (spm_of d) p Running) → length (disconnect_messages p (as_client s p d).linked) ≤ 256
-few-disconnects s p d made inside fit = omega (arith, room-of s p d made inside fit, few_connections s)
+length-some : {X Y : Type 0} (f : X → Option Y) (xs : List X) → length (filter_map f xs) ≤ length xs
+length-some f [] = omega arith
+length-some {Y = Y} f (x ∷ xs) =
+    let go : (o : Option Y) → length (cons_option o (filter_map f xs)) ≤ length xs + 1 = elim [ None ↦ omega (arith, length-some f xs) | Some y ↦ omega (arith, length-some f xs) ] in
+    omega (arith, go (f x))
+
+-- a connection has one disconnection at most
+pub few-disconnects : (s : System) (p : ℕ) (d : TablesView) → ObjectsFit s (with_phase (spm_of d) p Running) → length (disconnect_messages p (as_client s p d).linked) ≤ 256
+few-disconnects s p d fit =
+    omega (
+      arith,
+      ap (λ (ms : List PendingMessage). length ms) (disconnects-are s p d),
+      length-some (λ c. option_and_then (disconnection p) (without_service s p c)) (connections d.linked),
+      few-connections s (with_phase (spm_of d) p Running) fit,
+      few_connections s,
+    )
 
 -- ---- the names
 
 pub names-are : (s : System) (p : ℕ) (d mid new : TablesView) → MadeFor d s → ObjectsFit s (with_phase (spm_of d) p Running) → mid ≡ as_client s p d → spm_of new ≡ panic_effect s (spm_of d) p
     → ((first : TablesView) (kept : List SlotName) → TakesOn (length mid.waiting.generations) first kept 0 mid → TakesOn (length mid.waiting.generations) first kept (length (disconnect_messages p mid.linked)) new) → KeepsNames s d new
 names-are s p d mid new made fit before effect more =
-    let pairs : PairsOff (spm_of d) = record { paired = fit.paired; rising = fit.rising } in
+    let off : PairsOff (with_phase (spm_of d) p Running) = fitting-pairs-off s (with_phase (spm_of d) p Running) fit in
+    let pairs : PairsOff (spm_of d) = record { paired = off.paired; calls = off.calls; rising = off.rising } in
     let kept : List SlotName = names_of (λ h. not (is_service_of s p h.item.service)) d.waiting in
-    let size : length mid.waiting.generations ≡ capacity s = ap (λ (x : TablesView). length x.waiting.generations) before ∙ ap (λ (x : Shape). x.messages) made in
+    let size : length mid.waiting.generations ≡ message_capacity s = ap (λ (x : TablesView). length x.waiting.generations) before ∙ ap (λ (x : Shape). x.messages) made in
     let linked : KeepsConnectionNames d.linked (as_client s p d).linked =
     relinks-some d.linked (held_without_service s p) (λ h g e. (same_slot h g (is_service_of s p h.item.service) (lost h.item.phase) e, same_serial h g (is_service_of s p h.item.service) (lost h.item.phase) e)) in
-    let gone : TakesOn (capacity s) d kept 0 (as_client s p d) = takes-first (capacity s) d (as_client s p d) (λ h. not (is_service_of s p h.item.service)) linked refl in
-    let there : TakesOn (length mid.waiting.generations) d kept 0 mid = subst (λ (n : ℕ). TakesOn n d kept 0 mid) (sym size) (subst (λ (x : TablesView). TakesOn (capacity s) d kept 0 x) (sym before) gone) in
-    let all : TakesOn (capacity s) d kept (length (disconnect_messages p mid.linked)) new = subst (λ (n : ℕ). TakesOn n d kept (length (disconnect_messages p mid.linked)) new) size (more d kept there) in
+    let gone : TakesOn (message_capacity s) d kept 0 (as_client s p d) = takes-first (message_capacity s) d (as_client s p d) (λ h. not (is_service_of s p h.item.service)) linked refl in
+    let there : TakesOn (length mid.waiting.generations) d kept 0 mid = subst (λ (n : ℕ). TakesOn n d kept 0 mid) (sym size) (subst (λ (x : TablesView). TakesOn (message_capacity s) d kept 0 x) (sym before) gone) in
+    let all : TakesOn (message_capacity s) d kept (length (disconnect_messages p mid.linked)) new = subst (λ (n : ℕ). TakesOn n d kept (length (disconnect_messages p mid.linked)) new) size (more d kept there) in
     names-panicked s d new p kept (length (disconnect_messages p mid.linked)) pairs effect refl all where
       same_slot : (x y : Held OpenConnection) (b : Bool) (l : Option ConnPhase) → in_slot x (if b then option_map (λ f. record x.item { phase = f }) l else Some x.item) ≡ Some y → y.slot ≡ x.slot
       same_slot x y true None f = cc

@@ -115,7 +115,7 @@ leaves-dead p n old d new h l k here own dead after =
     ∙ ap (λ (b : Bool). in_slot h (if b then None else Some (record h.item { phase = Closing }))) dead in
     let none : disconnection p h.item ≡ None = ap (λ (b : Bool). if b && not (is_dead h.item.phase) then Some (disconnect_message h.item) else None) own ∙ ap (λ (b : Bool). if not b then Some (disconnect_message h.item) else None) dead in
     let same : disconnect_messages_from p n d ≡ disconnect_messages_from p (n + 1) d = disconnects-next p n d h here ∙ ap (λ (o : Option PendingMessage). cons_option o (disconnect_messages_from p (n + 1) d)) none in
-    let out = without-at d.linked n h k here in
+    let out = without-at 256 d.linked n h k here in
     let tail : drop n (without d.linked h.slot).held ≡ drop (n + 1) d.linked.held = ap (drop n) out ∙ drop-out d.linked.held n in
     let byes : filter_map (disconnection p) (items (drop n (without d.linked h.slot).held)) ≡ disconnect_messages_from p n d = ap (λ (hs : List (Held OpenConnection)). filter_map (disconnection p) (items hs)) tail ∙ sym same in
     let held = ap (left_from (held_without_client p) n) out ∙ left_from-out (held_without_client p) d.linked.held n h here gone in
@@ -134,7 +134,7 @@ leaves-dead p n old d new h l k here own dead after =
 
 pub dead-shorter : (n : ℕ) (d new : TablesView) (h : Held OpenConnection) → IsKept 256 d.linked → slice_get d.linked.held n ≡ Some h → new ≡ record d { linked = without d.linked h.slot } → length new.linked.held + 1 ≡ length d.linked.held
 dead-shorter n d new h k here after =
-    ap (λ (x : TablesView). length x.linked.held + 1) after ∙ ap (λ (hs : List (Held OpenConnection)). length hs + 1) (without-at d.linked n h k here) ∙ length-out d.linked.held n h here
+    ap (λ (x : TablesView). length x.linked.held + 1) after ∙ ap (λ (hs : List (Held OpenConnection)). length hs + 1) (without-at 256 d.linked n h k here) ∙ length-out d.linked.held n h here
 
 -- one of its own that is not dead has a disconnection to come
 own-disconnect : (p n : ℕ) (d : TablesView) (h : Held OpenConnection) → slice_get d.linked.held n ≡ Some h → (h.item.client.0 == p) ≡ true → is_dead h.item.phase ≡ false → disconnect_messages_from p n d ≡ disconnect_message h.item ∷ disconnect_messages_from p (n + 1) d
@@ -183,7 +183,7 @@ leaves-closing p n old d new h place m l k here live free own alive sent after =
     let left : held_without_client p h ≡ Some closed =
     ap (λ (b : Bool). in_slot h (if b then (if is_dead h.item.phase then None else Some (record h.item { phase = Closing })) else Some h.item)) own
     ∙ ap (λ (b : Bool). in_slot h (if b then None else Some (record h.item { phase = Closing }))) alive in
-    let put = with_item-at d.linked n h (record h.item { phase = Closing }) k here in
+    let put = with_item-at 256 d.linked n h (record h.item { phase = Closing }) k here in
     let tail : drop (n + 1) (with_item d.linked h.slot (record h.item { phase = Closing })).held ≡ drop (n + 1) d.linked.held = ap (drop (n + 1)) put ∙ drop-set d.linked.held n closed in
     let later : List PendingMessage = filter_map (disconnection p) (items (drop (n + 1) (with_item d.linked h.slot (record h.item { phase = Closing })).held)) in
     let byes : later ≡ disconnect_messages_from p (n + 1) d = ap (λ (hs : List (Held OpenConnection)). filter_map (disconnection p) (items hs)) tail in

@@ -1,19 +1,23 @@
 -- The tables while a panic walks through the connections or messages: those before a place are done.
-use Rattle.std.proofs.Common.{ℕ, ◌≡◌, ◌≤◌, ◌+◌, Bool, true, false, not, List, [], ◌∷◌, length, map, filter, drop, cond, ◌∙◌, ap, sym, refl}
-use Rattle.std.specs.Prelude.{Option, Some, None, is_some, if◌then◌else◌, slice_get}
+use Rattle.std.proofs.Common.{ℕ, ◌≡◌, ◌≤◌, ◌+◌, Bool, true, false, not, ◌&&◌, List, [], ◌∷◌, length, map, filter, drop, cond, ◌∙◌, ap, sym, refl}
+use Rattle.std.specs.Prelude.{Option, Some, None, is_none, is_some, if◌then◌else◌, slice_get, slice_set}
 use Rattle.std.specs.List.{filter_map, cons_option}
 use Rattle.std.specs.Option.{option_map}
 use Rattle.ffm_model.specs.declared.system.System.{System}
 use Rattle.ffm_model.specs.declared.objects.OpenConnection.{OpenConnection}
+use Rattle.ffm_model.specs.declared.objects.PendingMessage.{PendingMessage}
 use Rattle.ffm_model.specs.declared.objects.ConnPhase.{ConnPhase}
 use Rattle.ffm_model.specs.declared.objects.ActorPhase.{ActorPhase}
+use Rattle.ffm_model.specs.declared.objects.ActorPhase.TheVariants.{Ready}
+use Rattle.ffm_model.specs.declared.machine.Outcome.TheVariants.{Value}
+use Rattle.ffm_model.specs.declared.constants.TheConstants.{PSA_ERROR_COMMUNICATION_FAILURE}
 use Rattle.ffm_model.specs.Actors.{is_service_of}
-use Rattle.ffm_model.specs.Panic.{lost, client_answered, clients_answered}
+use Rattle.ffm_model.specs.Panic.{lost, callers_answered, client_answered, clients_answered}
 use Rattle.object_pools.specs.declared.slot.Held.{Held}
 use Rattle.object_pools.specs.Pool.{IsKept, with_item, without}
 use Rattle.spm_tables.specs.declared.item.QueuedMessage.{QueuedMessage}
-use Rattle.spm_tables.specs.TablesView.{TablesView}
-use Rattle.panic_state.specs.Losses.{with_left, in_slot, in_phase, held_without_service, with_lost, without_messages}
+use Rattle.spm_tables.specs.TablesView.{TablesView, held_message}
+use Rattle.panic_state.specs.Losses.{caller_answered, with_dropped, with_left, in_slot, in_phase, held_without_service, with_lost, without_messages}
 use Rattle.panic_state.proofs.Lists.{left_from, left_from-same, left_from-set, left_from-out, left_from-all, length-out, drop-nth, drop-set, drop-out, drop-all}
 use Rattle.panic_state.proofs.PlaceLemmas.{with_item-at, without-at}
 
@@ -65,13 +69,13 @@ services_from-lost s p n d new h kept k here own after stays =
     → services_from s p (if is_some o then n + 1 else n) (record d { linked = with_left d.linked h.slot (in_phase h.item o); phases = told }) ≡ services_from s p n d =
     elim [
       | None ↦ λ e.
-          let out = without-at d.linked n h k here in
+          let out = without-at 256 d.linked n h k here in
           let held = ap (left_from (held_without_service s p) n) out ∙ left_from-out (held_without_service s p) d.linked.held n h here (left None e) in
           let tail = phases (drop n (without d.linked h.slot).held) (ap (drop n) out ∙ drop-out d.linked.held n) in
           λ j. record d { linked = record d.linked { held = held j }; phases = tail j }
       | Some f ↦ λ e.
           let changed : Held OpenConnection = record h { item = record h.item { phase = f } } in
-          let put = with_item-at d.linked n h (record h.item { phase = f }) k here in
+          let put = with_item-at 256 d.linked n h (record h.item { phase = f }) k here in
           let held = ap (left_from (held_without_service s p) (n + 1)) put ∙ left_from-set (held_without_service s p) d.linked.held n h changed here (left (Some f) e) in
           let tail = phases (drop (n + 1) (with_item d.linked h.slot (record h.item { phase = f })).held) (ap (drop (n + 1)) put ∙ drop-set d.linked.held n changed) in
           λ j. record d { linked = record d.linked { held = held j }; phases = tail j }
@@ -84,7 +88,7 @@ pub lost-shorter : (p : ℕ) (d new : TablesView) (h : Held OpenConnection) (kep
 lost-shorter n d new h kept k here after stays gone =
     let go : (o : Option ConnPhase) → lost h.item.phase ≡ o → is_some o ≡ false → length (with_left d.linked h.slot (in_phase h.item o)).held + 1 ≡ length d.linked.held =
     elim [
-      | None ↦ λ e f. ap (λ (hs : List (Held OpenConnection)). length hs + 1) (without-at d.linked n h k here) ∙ length-out d.linked.held n h here
+      | None ↦ λ e f. ap (λ (hs : List (Held OpenConnection)). length hs + 1) (without-at 256 d.linked n h k here) ∙ length-out d.linked.held n h here
       | Some f ↦ λ e g. cc
     ] in
     ap (λ (x : TablesView). length x.linked.held + 1) after ∙ go (lost h.item.phase) refl (sym stays ∙ gone)
@@ -93,27 +97,60 @@ lost-shorter n d new h kept k here after stays gone =
 abbrev pub is_kept : System → ℕ → Held QueuedMessage → Option (Held QueuedMessage)
 is_kept s p h = if is_service_of s p h.item.service then None else Some h
 
+abbrev pub seen_messages : List (Held QueuedMessage) → List PendingMessage
+seen_messages hs = map held_message hs
+
 abbrev pub messages_from : System → ℕ → ℕ → TablesView → TablesView
-messages_from s p n d = record d { waiting = record d.waiting { held = left_from (is_kept s p) n d.waiting.held } }
+messages_from s p n d = record d {
+  waiting = record d.waiting { held = left_from (is_kept s p) n d.waiting.held };
+  phases = callers_answered s p (seen_messages (drop n d.waiting.held)) d.phases;
+}
 
 pub messages_from-all : (s : System) (p n : ℕ) (d : TablesView) → length d.waiting.held ≤ n → messages_from s p n d ≡ d
-messages_from-all s p n d past = λ j. record d { waiting = record d.waiting { held = left_from-all (is_kept s p) d.waiting.held n past j } }
+messages_from-all s p n d past = λ j. record d {
+  waiting = record d.waiting { held = left_from-all (is_kept s p) d.waiting.held n past j };
+  phases = callers_answered s p (seen_messages (drop-all d.waiting.held n past j)) d.phases;
+}
+
+-- the phases after one message
+abbrev told_by : System → ℕ → List ActorPhase → QueuedMessage → List ActorPhase
+told_by s p phases m = if is_none m.serial && is_service_of s p m.service then slice_set phases m.client.0 (Ready (Value PSA_ERROR_COMMUNICATION_FAILURE)) else phases
+
+told-other : (s : System) (p : ℕ) (phases : List ActorPhase) (m : QueuedMessage) → is_service_of s p m.service ≡ false → told_by s p phases m ≡ phases
+told-other s p phases m other =
+    let told : List ActorPhase = slice_set phases m.client.0 (Ready (Value PSA_ERROR_COMMUNICATION_FAILURE)) in
+    let go : (x : Bool) → cond (x && false) told phases ≡ phases = elim [ true ↦ refl | false ↦ refl ] in
+    ap (λ (b : Bool). cond (is_none m.serial && b) told phases) other ∙ go (is_none m.serial)
+
+told-own : (s : System) (p : ℕ) (phases : List ActorPhase) (m : QueuedMessage) → is_service_of s p m.service ≡ true → told_by s p phases m ≡ caller_answered m phases
+told-own s p phases m own =
+    let told : List ActorPhase = slice_set phases m.client.0 (Ready (Value PSA_ERROR_COMMUNICATION_FAILURE)) in
+    let go : (x : Bool) → cond (x && true) told phases ≡ cond x told phases = elim [ true ↦ refl | false ↦ refl ] in
+    ap (λ (b : Bool). cond (is_none m.serial && b) told phases) own ∙ go (is_none m.serial)
 
 pub messages_from-other : (s : System) (p n : ℕ) (d : TablesView) (h : Held QueuedMessage) → slice_get d.waiting.held n ≡ Some h → is_service_of s p h.item.service ≡ false → messages_from s p (n + 1) d ≡ messages_from s p n d
 messages_from-other s p n d h here other =
     let held = left_from-same (is_kept s p) d.waiting.held n h here (ap (λ (b : Bool). if b then None else Some h) other) in
-    λ j. record d { waiting = record d.waiting { held = held j } }
+    let phases : callers_answered s p (seen_messages (drop (n + 1) d.waiting.held)) d.phases ≡ callers_answered s p (seen_messages (drop n d.waiting.held)) d.phases =
+    ap (callers_answered s p (seen_messages (drop (n + 1) d.waiting.held))) (sym (told-other s p d.phases h.item other))
+    ∙ ap (λ (hs : List (Held QueuedMessage)). callers_answered s p (seen_messages hs) d.phases) (sym (drop-nth d.waiting.held n h here)) in
+    λ j. record d { waiting = record d.waiting { held = held j }; phases = phases j }
 
-pub messages_from-gone : (s : System) (p n : ℕ) (d new : TablesView) (h : Held QueuedMessage) → IsKept 256 d.waiting → slice_get d.waiting.held n ≡ Some h → is_service_of s p h.item.service ≡ true
-    → new ≡ record d { waiting = without d.waiting h.slot } → messages_from s p n new ≡ messages_from s p n d
+pub messages_from-gone : (s : System) (p n : ℕ) (d new : TablesView) (h : Held QueuedMessage) → IsKept 304 d.waiting → slice_get d.waiting.held n ≡ Some h → is_service_of s p h.item.service ≡ true
+    → new ≡ with_dropped d h → messages_from s p n new ≡ messages_from s p n d
 messages_from-gone s p n d new h k here own after =
-    let held = ap (left_from (is_kept s p) n) (without-at d.waiting n h k here) ∙ left_from-out (is_kept s p) d.waiting.held n h here (ap (λ (b : Bool). if b then None else Some h) own) in
-    let step : messages_from s p n (record d { waiting = without d.waiting h.slot }) ≡ messages_from s p n d = λ j. record d { waiting = record d.waiting { held = held j } } in
+    let out = without-at 304 d.waiting n h k here in
+    let held = ap (left_from (is_kept s p) n) out ∙ left_from-out (is_kept s p) d.waiting.held n h here (ap (λ (b : Bool). if b then None else Some h) own) in
+    let phases : callers_answered s p (seen_messages (drop n (without d.waiting h.slot).held)) (caller_answered h.item d.phases) ≡ callers_answered s p (seen_messages (drop n d.waiting.held)) d.phases =
+    ap (λ (hs : List (Held QueuedMessage)). callers_answered s p (seen_messages hs) (caller_answered h.item d.phases)) (ap (drop n) out ∙ drop-out d.waiting.held n)
+    ∙ ap (callers_answered s p (seen_messages (drop (n + 1) d.waiting.held))) (sym (told-own s p d.phases h.item own))
+    ∙ ap (λ (hs : List (Held QueuedMessage)). callers_answered s p (seen_messages hs) d.phases) (sym (drop-nth d.waiting.held n h here)) in
+    let step : messages_from s p n (with_dropped d h) ≡ messages_from s p n d = λ j. record d { waiting = record d.waiting { held = held j }; phases = phases j } in
     ap (messages_from s p n) after ∙ step
 
-pub gone-shorter : (n : ℕ) (d new : TablesView) (h : Held QueuedMessage) → IsKept 256 d.waiting → slice_get d.waiting.held n ≡ Some h → new ≡ record d { waiting = without d.waiting h.slot } → length new.waiting.held + 1 ≡ length d.waiting.held
+pub gone-shorter : (n : ℕ) (d new : TablesView) (h : Held QueuedMessage) → IsKept 304 d.waiting → slice_get d.waiting.held n ≡ Some h → new ≡ with_dropped d h → length new.waiting.held + 1 ≡ length d.waiting.held
 gone-shorter n d new h k here after =
-    ap (λ (x : TablesView). length x.waiting.held + 1) after ∙ ap (λ (hs : List (Held QueuedMessage)). length hs + 1) (without-at d.waiting n h k here) ∙ length-out d.waiting.held n h here
+    ap (λ (x : TablesView). length x.waiting.held + 1) after ∙ ap (λ (hs : List (Held QueuedMessage)). length hs + 1) (without-at 304 d.waiting n h k here) ∙ length-out d.waiting.held n h here
 
 -- a filter, as what is left
 kept-filter : (s : System) (p : ℕ) (hs : List (Held QueuedMessage)) → filter_map (is_kept s p) hs ≡ filter (λ h. not (is_service_of s p h.item.service)) hs
@@ -125,4 +162,4 @@ kept-filter s p (h ∷ hs) =
     go (is_service_of s p h.item.service)
 
 pub messages_from-none : (s : System) (p : ℕ) (d : TablesView) → messages_from s p 0 d ≡ without_messages s p d
-messages_from-none s p d = λ j. record d { waiting = record d.waiting { held = kept-filter s p d.waiting.held j } }
+messages_from-none s p d = λ j. record (without_messages s p d) { waiting = record d.waiting { held = kept-filter s p d.waiting.held j } }

@@ -1,22 +1,25 @@
 -- What the panic of a partition leaves of the connections and messages under their slots.
 -- Source: FF-M 1.0, PROGRAMMER ERROR of a partition; what becomes of its clients is this profile's choice, and the slots are this manager's.
-use Rattle.std.specs.Prelude.{ℕ, not, List, Option, Some, None, filter, slice_set}
+use Rattle.std.specs.Prelude.{ℕ, not, List, Option, Some, None, filter, is_none, map, slice_set, if◌then◌else◌}
 use Rattle.std.specs.List.{filter_map}
 use Rattle.std.specs.Option.{option_map}
-use Rattle.ffm_model.specs.declared.constants.TheConstants.{PSA_IPC_DISCONNECT}
+use Rattle.ffm_model.specs.declared.constants.TheConstants.{PSA_IPC_DISCONNECT, PSA_ERROR_COMMUNICATION_FAILURE}
 use Rattle.ffm_model.specs.declared.system.System.{System}
 use Rattle.ffm_model.specs.declared.objects.OpenConnection.{OpenConnection}
-use Rattle.ffm_model.specs.declared.objects.ActorPhase.TheVariants.{Panicked}
+use Rattle.ffm_model.specs.declared.objects.ActorPhase.{ActorPhase}
+use Rattle.ffm_model.specs.declared.objects.ActorPhase.TheVariants.{Panicked, Ready}
+use Rattle.ffm_model.specs.declared.machine.Outcome.TheVariants.{Value}
 use Rattle.ffm_model.specs.declared.objects.ConnPhase.{ConnPhase}
 use Rattle.ffm_model.specs.declared.objects.PendingMessage.{PendingMessage}
 use Rattle.ffm_model.specs.Memory.{no_vectors}
 use Rattle.ffm_model.specs.Actors.{is_service_of}
-use Rattle.ffm_model.specs.Panic.{lost, client_answered, clients_answered, without_service, without_client, disconnection}
+use Rattle.ffm_model.specs.Panic.{lost, client_answered, clients_answered, callers_answered, without_service, without_client, disconnection}
 use Rattle.object_pools.specs.declared.slot.Slot.{Slot}
 use Rattle.object_pools.specs.declared.slot.Held.{Held}
 use Rattle.object_pools.specs.Pool.{Places, with_item, without}
 use Rattle.handle_table.specs.Table.{connections}
-use Rattle.spm_tables.specs.TablesView.{TablesView}
+use Rattle.spm_tables.specs.declared.item.QueuedMessage.{QueuedMessage}
+use Rattle.spm_tables.specs.TablesView.{TablesView, held_message}
 
 module _ {T : Type 0} where
   -- the item of a slot is this one, or it is gone
@@ -49,9 +52,20 @@ with_lost d h = record d { linked = with_left d.linked h.slot (in_phase h.item (
 abbrev pub without_services : System → ℕ → TablesView → TablesView
 without_services s p d = record d { linked = left_by (held_without_service s p) d.linked; phases = clients_answered s p (connections d.linked) d.phases }
 
--- the messages to the partition's services are gone
+-- the client of a lost message is answered where that is of no connection
+abbrev pub caller_answered : QueuedMessage → List ActorPhase → List ActorPhase
+caller_answered m phases = if is_none m.serial then slice_set phases m.client.0 (Ready (Value PSA_ERROR_COMMUNICATION_FAILURE)) else phases
+
+-- one message is lost
+abbrev pub with_dropped : TablesView → Held QueuedMessage → TablesView
+with_dropped d h = record d { waiting = without d.waiting h.slot; phases = caller_answered h.item d.phases }
+
+-- the messages to the partition's services are gone, and the clients of those that are of no connection are answered
 abbrev pub without_messages : System → ℕ → TablesView → TablesView
-without_messages s p d = record d { waiting = record d.waiting { held = filter (λ h. not (is_service_of s p h.item.service)) d.waiting.held } }
+without_messages s p d = record d {
+  waiting = record d.waiting { held = filter (λ h. not (is_service_of s p h.item.service)) d.waiting.held };
+  phases = callers_answered s p (map held_message d.waiting.held) d.phases;
+}
 
 -- the partition is Panicked and its services are gone; it is still there as a client
 abbrev pub as_client : System → ℕ → TablesView → TablesView
@@ -59,7 +73,7 @@ as_client s p d = without_messages s p (without_services s p (record d { phases 
 
 -- the message that closes a connection, for which nobody waits
 abbrev pub disconnect_message : OpenConnection → PendingMessage
-disconnect_message c = record { service = c.service; client = c.client; connection = c.serial; kind = PSA_IPC_DISCONNECT; vectors = no_vectors; handle = None }
+disconnect_message c = record { service = c.service; client = c.client; connection = Some c.serial; kind = PSA_IPC_DISCONNECT; vectors = no_vectors; handle = None }
 
 -- those of the partition's own connections that aren't dead
 abbrev pub disconnect_messages : ℕ → Places OpenConnection → List PendingMessage

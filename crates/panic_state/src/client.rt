@@ -14,7 +14,7 @@ use spm_tables::{MessageItem, Tables};
 
 // The message that closes a connection, for which nobody waits.
 fn disconnection(held: Held<OpenConnection>) -> MessageItem
-    ensures message { fresh_message (queued_as held.item.serial result) ≡ disconnect_message held.item }
+    ensures message { fresh_message (queued_as (Some held.item.serial) result) ≡ disconnect_message held.item }
     ensures connection { result.connection ≡ Some held.slot }
     ensures undelivered { result.delivered ≡ false }
 {

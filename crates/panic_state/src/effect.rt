@@ -26,8 +26,9 @@ fn end_services(system: &System, tables: &mut Tables, partition: ActorId)
 /// A partition panics, and stays so.
 ///
 /// Of the connections to its services, those that are Opening or Closing are freed and all others are Dead, and
-/// their clients are answered where they wait. All messages to its services are gone. Then each connection of its own,
-/// in the order of their making, is freed where it is Dead, and else is Closing, with a disconnection for which nobody waits.
+/// their clients are answered where they wait. All messages to its services are gone, and the clients of those that are of no
+/// connection are answered. Then each connection of its own, in the order of their making, is freed where it is Dead, and else is
+/// Closing, with a disconnection for which nobody waits.
 ///
 /// The partition awaits no answer itself: its connections have to fit it as one that runs. The disconnections take at most
 /// 256 messages in.

@@ -25,8 +25,8 @@ pub(crate) fn connection_at(tables: &Tables, place: u32) -> Held<OpenConnection>
 pub(crate) fn message_at(tables: &Tables, place: u32) -> Held<QueuedMessage>
     requires { place < length tables.now.waiting.held }
     ensures at { slice_get tables.now.waiting.held place ≡ Some result }
-    ensures live { IsSome (item_at tables.now.waiting result.slot) }
-    ensures kept { IsKept 256 tables.now.waiting }
+    ensures item { item_at tables.now.waiting result.slot ≡ Some result.item }
+    ensures kept { IsKept 304 tables.now.waiting }
 {
     tables.law();
     tables.messages().nth(place)

@@ -4,7 +4,7 @@ ghost use Rattle.std.specs.Prelude.{◌≡◌, is_some, Some};
 ghost use Rattle.ffm_model.specs.Actors.{is_service_of};
 ghost use Rattle.ffm_model.specs.Panic.{client_answered, lost};
 ghost use Rattle.object_pools.specs.Pool.{item_at};
-ghost use Rattle.panic_state.specs.Losses.{with_lost, without_services, without_messages};
+ghost use Rattle.panic_state.specs.Losses.{caller_answered, with_dropped, with_lost, without_services, without_messages};
 
 use crate::places::{connection_at, message_at};
 use ffm_model::{
@@ -12,7 +12,7 @@ use ffm_model::{
     PSA_ERROR_CONNECTION_REFUSED, System,
 };
 use object_pools::Held;
-use spm_tables::Tables;
+use spm_tables::{QueuedMessage, Tables};
 
 fn is_service_of(system: &System, partition: ActorId, service: u32) -> bool
     ensures { result ≡ is_service_of system.now partition.0 service }
@@ -79,7 +79,26 @@ pub(crate) fn lose_services(system: &System, tables: &mut Tables, partition: Act
     }
 }
 
-// The messages to the partition's services are gone.
+// Answers the client of a lost message that is of no connection; that of any other is answered as its connection is lost.
+fn answer_caller(tables: &mut Tables, message: &QueuedMessage)
+    ensures { tables.new ≡ record tables.old { phases = caller_answered message.now tables.old.phases } }
+{
+    if message.serial.is_none() {
+        let failed = Outcome::Value(PSA_ERROR_COMMUNICATION_FAILURE);
+        tables.set_phase(message.client, ActorPhase::Ready(failed));
+    }
+}
+
+// The service of a message is gone, and so is the message.
+fn drop_message(tables: &mut Tables, held: Held<QueuedMessage>)
+    requires { item_at tables.old.waiting held.slot ≡ Some held.item }
+    ensures { tables.new ≡ with_dropped tables.old held }
+{
+    answer_caller(tables, &held.item);
+    tables.drop_message(held.slot);
+}
+
+// The messages to the partition's services are gone, and the clients of those that are of no connection are answered, in the order of their making.
 pub(crate) fn drop_messages(system: &System, tables: &mut Tables, partition: ActorId)
     ensures { tables.new ≡ without_messages system.now partition.0 tables.old }
 {
@@ -87,7 +106,7 @@ pub(crate) fn drop_messages(system: &System, tables: &mut Tables, partition: Act
     while place < tables.messages().live() {
         let held = message_at(tables, place);
         if is_service_of(system, partition, held.item.service) {
-            tables.drop_message(held.slot);
+            drop_message(tables, held);
         } else {
             place += 1;
         }

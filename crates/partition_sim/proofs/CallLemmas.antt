@@ -1,16 +1,13 @@
 -- The calls of scripts, and what the manager answers to them.
-use Rattle.std.proofs.Common.{ℕ, ◌≡◌, Bool, true, false, List, refl}
-use Rattle.std.specs.Prelude.{Option, Some, None, if◌then◌else◌, slice_get}
+use Rattle.std.proofs.Common.{ℕ, ◌≡◌, false, List, refl}
+use Rattle.std.specs.Prelude.{Option, Some, None, slice_get}
 use Rattle.std.specs.Option.{option_map_or}
-use Rattle.ffm_model.specs.declared.machine.Call.{Call}
 use Rattle.ffm_model.specs.declared.machine.Call.TheVariants as call
-use Rattle.ffm_model.specs.declared.machine.Outcome.{Outcome}
 use Rattle.ffm_model.specs.declared.script.CallName.{CallName}
 use Rattle.ffm_model.specs.declared.script.CallName.TheVariants as name
 use Rattle.ffm_model.specs.declared.script.Instruction.{Instruction}
 use Rattle.ffm_model.specs.declared.script.Instruction.TheVariants as line
-use Rattle.ffm_model.specs.Records.{ends_blocked}
-use Rattle.ffm_model.specs.ScriptRuns.{Point, start, arrived, point_after, call_of, line_call, call_at, next_call}
+use Rattle.ffm_model.specs.ScriptRuns.{Point, call_of, line_call, call_at}
 use Rattle.spm_core.specs.Manager.{is_resume}
 
 -- ---- a script never resumes by itself
@@ -31,10 +28,14 @@ call_of-resume name.Reply v = refl
 call_of-resume name.Notify v = refl
 call_of-resume name.Clear v = refl
 call_of-resume name.Eoi v = refl
+call_of-resume name.IrqEnable v = refl
+call_of-resume name.IrqDisable v = refl
+call_of-resume name.ResetSignal v = refl
 call_of-resume name.Panic v = refl
 call_of-resume name.Load v = refl
 call_of-resume name.Store v = refl
 call_of-resume name.Raise v = refl
+call_of-resume name.Fire v = refl
 call_of-resume name.Stop v = refl
 
 line_call-resume : (rs : List ℕ) (i : Instruction) → is_resume (line_call rs i) ≡ false
@@ -47,15 +48,7 @@ some-call-resume : (rs : List ℕ) (o : Option Instruction) → is_resume (optio
 some-call-resume rs None = refl
 some-call-resume rs (Some i) = line_call-resume rs i
 
-call_at-resume : (script : List Instruction) (p : Point) → is_resume (call_at script p) ≡ false
+-- nor does the call at a point
+pub call_at-resume : (script : List Instruction) (p : Point) → is_resume (call_at script p) ≡ false
 unfolding call_at
 call_at-resume script p = some-call-resume p.registers (slice_get script p.place)
-
-resume-if : (b : Bool) (c : Call) → is_resume c ≡ false → is_resume (if b then call.Resume else c) ≡ b
-resume-if true c h = refl
-resume-if false c h = h
-
--- the next call is Resume exactly behind Blocked
-pub next_call-resume : (script : List Instruction) (os : List Outcome) → is_resume (next_call script os) ≡ ends_blocked os
-unfolding next_call
-next_call-resume script os = resume-if (ends_blocked os) _ (call_at-resume script (arrived script (point_after script start os)))

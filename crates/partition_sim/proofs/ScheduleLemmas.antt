@@ -11,7 +11,6 @@ use Rattle.ffm_model.specs.declared.machine.ActorId.{ActorId}
 use Rattle.ffm_model.specs.declared.machine.Entry.{Entry}
 use Rattle.ffm_model.specs.declared.script.Instruction.{Instruction}
 use Rattle.ffm_model.specs.Actors.{actor_count}
-use Rattle.ffm_model.specs.ScriptRuns.{script_at}
 use Rattle.ffm_model.specs.Schedule.{turn_at, enabled_in, IsNext, Turns}
 use Rattle.ffm_model.specs.Signals.{enabled}
 use Rattle.ffm_model.specs.State.{State, opening}
@@ -20,7 +19,7 @@ use Rattle.ffm_model.specs.Verdicts.{verdict_of, verdict_at, some_enabled, some_
 use Rattle.memory_image.specs.Pieces.{byte_at}
 use Rattle.spm_core.specs.Manager.{Opening, Managed, state_after, state_of}
 use Rattle.partition_sim.specs.Standing.{Standing, Follows}
-use Rattle.partition_sim.specs.Driving.{Driving, MadeOne, PassedOne, Turned, InOrder, Underway, IsDriven, AreNew, first_standing}
+use Rattle.partition_sim.specs.Driving.{Driving, MadeOne, PassedOne, Turned, InOrder, Underway, IsDriven, AreNew, instructions_at, first_standing}
 use Rattle.partition_sim.proofs.TurnLemmas.{verdict-off}
 
 Turns-push : (s : System) (schedule : List ActorId) (st : Option State) (t : ℕ) (es : List Entry) (end u : ℕ) (e : Entry) → Turns s schedule st t es end
@@ -250,7 +249,7 @@ underway-start scripts schedule m rs long empty new = record {
   driving = record {
     scripts_long = long;
     runners_long = new.long;
-    follows = λ a below. rw empty (new.each a below (script_at scripts a));
+    follows = λ a below. rw empty (new.each a below (instructions_at scripts a));
     runs = λ a below. rw empty tt;
   };
   in_order = in_order-start schedule m.opening m.history empty;

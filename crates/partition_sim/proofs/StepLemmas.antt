@@ -1,5 +1,5 @@
 -- Local lines, one after another.
-use Rattle.std.proofs.Common.{length, get_or, true, false, ℕ, zero, suc, ◌≡◌, ◌<◌, ◌-◌, ◌+◌, List, [], ◌∷◌, ◌++◌, refl, ap, sym, ◌∙◌, arith, subst}
+use Rattle.std.proofs.Common.{length, get_or, Bool, true, false, ℕ, zero, suc, ◌≡◌, ◌<◌, ◌-◌, ◌+◌, List, [], ◌∷◌, ◌++◌, refl, ap, ap₂, sym, ◌∙◌, arith, subst}
 use Rattle.std.specs.Prelude.{Option, Some, None, slice_get}
 use Rattle.std.specs.Prelude.{if◌then◌else◌, IfSome, IfNone}
 use Rattle.std.proofs.lemmas.Option.{slice_get-get_or}
@@ -9,9 +9,10 @@ use Rattle.ffm_model.specs.declared.machine.Call.TheVariants as call
 use Rattle.ffm_model.specs.declared.machine.Outcome.{Outcome}
 use Rattle.ffm_model.specs.declared.script.Instruction.{Instruction}
 use Rattle.ffm_model.specs.Scripts.{FitsIn, IsPart}
-use Rattle.ffm_model.specs.ScriptRuns.{Point, line_effect, local_step, local_steps, answered, arrived, most_lines, start, point, noted, behind, place_behind, call_at, next_call, point_after}
+use Rattle.ffm_model.specs.Plans.{Engine, engine_answered, engine_after, plan_of}
+use Rattle.ffm_model.specs.ScriptRuns.{Point, line_effect, local_step, local_steps, arrived, most_lines, start, point, noted, behind, place_behind, call_at, point_after, script_engine, script_plan}
 use Rattle.ffm_model.specs.Records.{is_blocked_outcome, ends_blocked}
-use Rattle.partition_sim.specs.Standing.{Standing, Follows, Asked}
+use Rattle.partition_sim.specs.Standing.{Standing, Reaches, AtCall, Follows, Asked}
 
 pub steps-one : (script : List Instruction) (n : ℕ) (p q : Point) → 0 < n → local_step script p ≡ Some q → local_steps script n p ≡ local_steps script (n - 1) q
 unfolding local_steps
@@ -56,25 +57,52 @@ fits-at script i d h inside = (length script, each-at (FitsIn (length script)) s
 pub local_step-within : (script : List Instruction) (p : Point) (d : Instruction) → p.place < length script → local_step script p ≡ line_effect p (get_or script p.place d)
 local_step-within script p d inside = local_step-at script p _ (slice_get-get_or script p.place d inside)
 
--- at the next call
-pub asked : (script : List Instruction) (os : List Outcome) (old new : Standing) → new.point ≡ local_steps script (most_lines - old.ran) old.point
-    → local_steps script (most_lines - new.ran) new.point ≡ new.point → new.waiting ≡ old.waiting → new.after ≡ place_behind script new.point.place
+-- ---- by the point
+
+-- to the next call
+pub settled : (script : List Instruction) (p : Point) (old new : Standing) → new.point ≡ local_steps script (most_lines - old.ran) old.point
+    → local_steps script (most_lines - new.ran) new.point ≡ new.point → new.after ≡ place_behind script new.point.place → Reaches script p old → AtCall script p new
+settled script p old new e s a r = record { here = e ∙ r.way; stays = s; after = a }
+
+-- a runner that stands at a call can be asked for it again
+pub still : (script : List Instruction) (p : Point) (r : Standing) → AtCall script p r → Reaches script p r
+still script p r a = record { way = a.stays ∙ a.here }
+
+pub due-at : (script : List Instruction) (p : Point) (new : Standing) (b : Bool) (r : Call) → r ≡ (if b then call.Resume else call_at script new.point) → AtCall script p new
+    → r ≡ (if b then call.Resume else call_at script (arrived script p))
+due-at script p new b r e a = e ∙ ap (λ q. if b then call.Resume else call_at script q) a.here
+
+-- after an outcome
+pub taken-blocked : (script : List Instruction) (p : Point) (o : Outcome) (old new : Standing) → is_blocked_outcome o ≡ true → new.point ≡ old.point → new.ran ≡ old.ran
+    → AtCall script p old → Reaches script (engine_answered (script_engine script) o p) new
+taken-blocked script p o old new b e n a =
+    record { way = ap₂ (λ k q. local_steps script (most_lines - k) q) n e ∙ (a.stays ∙ (a.here ∙ ap (λ x. arrived script (if x then p else behind script o (arrived script p))) (sym b))) }
+
+pub taken-answer : (script : List Instruction) (p : Point) (o : Outcome) (old new : Standing) → is_blocked_outcome o ≡ false → new.point ≡ point (noted o old.point.registers) old.after → new.ran ≡ 0
+    → AtCall script p old → Reaches script (engine_answered (script_engine script) o p) new
+unfolding arrived
+taken-answer script p o old new b e n a =
+    let here : new.point ≡ behind script o (arrived script p) = e ∙ (ap (point (noted o old.point.registers)) a.after ∙ ap (behind script o) a.here) in
+    record { way = ap₂ (λ k q. local_steps script (most_lines - k) q) n here ∙ ap (λ x. local_steps script most_lines (if x then p else behind script o (arrived script p))) (sym b) }
+
+-- ---- by the outcomes
+
+pub asked : (script : List Instruction) (os : List Outcome) (old new : Standing) → ((p : Point) → Reaches script p old → AtCall script p new) → new.waiting ≡ old.waiting
     → Follows script os old → Asked script os new
-asked script os old new p s w a f = record { waits = w ∙ f.waits; here = p ∙ f.way; stays = s; after = a }
+asked script os old new h w f = record { waits = w ∙ f.waits; at_call = h _ f.reaches }
 
--- a call that was asked for can be asked for again
 pub asked-follows : (script : List Instruction) (os : List Outcome) (r : Standing) → Asked script os r → Follows script os r
-asked-follows script os r a = record { waits = a.waits; way = a.stays ∙ a.here }
+asked-follows script os r a = record { waits = a.waits; reaches = still script _ r a.at_call }
 
-pub call-due : (script : List Instruction) (os : List Outcome) (new : Standing) (r : Call) → r ≡ (if new.waiting then call.Resume else call_at script new.point)
-    → Asked script os new → r ≡ next_call script os
-unfolding next_call
-call-due script os new r e a = e ∙ rw (a.waits, a.here) refl
+pub planned : (script : List Instruction) (os : List Outcome) (old : Standing) (r : Call) → ((p : Point) → Reaches script p old → r ≡ (if old.waiting then call.Resume else call_at script (arrived script p)))
+    → Follows script os old → r ≡ script_plan script os
+unfolding plan_of
+planned script os old r h f = h _ f.reaches ∙ ap (λ x. if x then call.Resume else call_at script (arrived script (point_after script os))) f.waits
 
-pub point_after-push : (script : List Instruction) (p : Point) (os : List Outcome) (o : Outcome) → point_after script p (os ++ o ∷ []) ≡ answered script o (point_after script p os)
-unfolding point_after
-point_after-push script p [] o = refl
-point_after-push script p (q ∷ os) o = point_after-push script (answered script q p) os o
+pub engine_after-push : {X : Type 0} (m : Engine X) (x : X) (os : List Outcome) (o : Outcome) → engine_after m x (os ++ o ∷ []) ≡ engine_answered m o (engine_after m x os)
+unfolding engine_after
+engine_after-push m x [] o = refl
+engine_after-push m x (q ∷ os) o = engine_after-push m (engine_answered m q x) os o
 
 pub ends_blocked-push : (os : List Outcome) (o : Outcome) → ends_blocked (os ++ o ∷ []) ≡ is_blocked_outcome o
 unfolding ends_blocked
@@ -82,27 +110,14 @@ ends_blocked-push [] o = refl
 ends_blocked-push (q ∷ []) o = refl
 ends_blocked-push (q ∷ r ∷ os) o = ends_blocked-push (r ∷ os) o
 
--- after the outcome
-pub follows-blocked : (script : List Instruction) (os : List Outcome) (o : Outcome) (old new : Standing) → is_blocked_outcome o ≡ true → new ≡ record old { waiting = true }
-    → Asked script os old → Follows script (os ++ o ∷ []) new
-follows-blocked script os o old new b e a =
-    let kept : point_after script start (os ++ o ∷ []) ≡ point_after script start os = point_after-push script start os o ∙ rw b refl in
-    rw e (record {
-      waits = sym (ends_blocked-push os o ∙ b);
-      way = a.stays ∙ a.here ∙ ap (arrived script) (sym kept);
-    })
-
-pub follows-answer : (script : List Instruction) (os : List Outcome) (o : Outcome) (old new : Standing) → is_blocked_outcome o ≡ false
-    → new ≡ record { point = point (noted o old.point.registers) old.after; ran = 0; waiting = false; after = old.after }
-    → Asked script os old → Follows script (os ++ o ∷ []) new
-unfolding arrived
-follows-answer script os o old new b e a =
-    let gone : point_after script start (os ++ o ∷ []) ≡ behind script o (arrived script (point_after script start os)) = point_after-push script start os o ∙ rw b refl in
-    let here : point (noted o old.point.registers) old.after ≡ behind script o old.point = ap (point (noted o old.point.registers)) a.after in
-    rw e (record {
-      waits = sym (ends_blocked-push os o ∙ b);
-      way = ap (local_steps script most_lines) (here ∙ ap (behind script o) a.here ∙ sym gone);
-    })
+pub follows : (script : List Instruction) (os : List Outcome) (o : Outcome) (old new : Standing) → ((p : Point) → AtCall script p old → Reaches script (engine_answered (script_engine script) o p) new)
+    → new.waiting ≡ is_blocked_outcome o → Asked script os old → Follows script (os ++ o ∷ []) new
+follows script os o old new h w a =
+    let P : Point → Type 0 = λ p. Reaches script p new in
+    record {
+      waits = w ∙ sym (ends_blocked-push os o);
+      reaches = subst P (sym (engine_after-push (script_engine script) start os o)) (h _ a.at_call);
+    }
 
 pub local-found : (script : List Instruction) (p : Point) (d : Instruction) (r : Option ℕ) (registers : List ℕ) → p.place < length script
     → IfSome r (λ to. line_effect p (get_or script p.place d) ≡ Some (point registers to)) → IfSome r (λ to. local_step script p ≡ Some (point registers to))

@@ -1,5 +1,5 @@
 -- One turn.
-use Rattle.std.proofs.Common.{ℕ, ◌≡◌, ◌≢◌, ◌<◌, ◌≤◌, Bool, true, false, not, List, [], ◌∷◌, ◌++◌, length, refl, ap, sym, ◌∙◌, arith, subst, get_or, get_or-set_same, get_or-set_other, length-set, append_assoc, inl, inr, eq-eqb, ne_eqb, append-nil, true≢false}
+use Rattle.std.proofs.Common.{ℕ, ◌≡◌, ◌≢◌, ◌<◌, ◌≤◌, Bool, true, false, not, List, [], ◌∷◌, ◌++◌, length, refl, ap, sym, ◌∙◌, arith, subst, get_or, get_or-set_same, get_or-set_other, length-set, inl, inr, eq-eqb, ne_eqb, append-nil, true≢false}
 use Rattle.std.specs.Prelude.{Option, Some, None, option_and_then, slice_set, nat_le, if◌then◌else◌, ◌==◌, IsSome, ◌⊎◌}
 use Rattle.std.proofs.lemmas.Bool.Decides.{eqb_tells}
 use Rattle.std.proofs.lemmas.List.Elements.{filter-append}
@@ -20,19 +20,13 @@ use Rattle.ffm_model.specs.Verdicts.{some_enabled, some_blocked, verdict_at}
 use Rattle.ffm_model.specs.Records.{entries_of, outcomes_of}
 use Rattle.ffm_model.specs.Schedule.{enabled_in}
 use Rattle.ffm_model.specs.declared.script.Instruction.{Instruction}
-use Rattle.ffm_model.specs.ScriptRuns.{next_call, only_part, script_at, RunFrom, ScriptRun}
+use Rattle.ffm_model.specs.Plans.{Plan, PlanRun}
+use Rattle.ffm_model.specs.ScriptRuns.{only_part, plan_at, script_plan}
 use Rattle.spm_core.specs.Manager.{Opening, IsMade, IsRefused, refusal_at, is_gone, is_resume, state_after, CallDue}
 use Rattle.partition_sim.specs.Standing.{Standing, Follows, Asked}
-use Rattle.partition_sim.specs.Driving.{Driving, MadeOne, PassedOne, IsOver, runner_at, outcomes_at, first_standing}
+use Rattle.partition_sim.specs.Driving.{Driving, MadeOne, PassedOne, IsOver, runner_at, instructions_at, outcomes_at, first_standing}
 use Rattle.partition_sim.proofs.StepLemmas.{asked-follows}
-use Rattle.partition_sim.proofs.CallLemmas.{next_call-resume}
-
--- one entry more
-pub RunFrom-push : (script : List Instruction) (os : List Outcome) (es : List Entry) (e : Entry) → RunFrom script os es → e.call ≡ next_call script (os ++ outcomes_of es)
-    → RunFrom script os (es ++ e ∷ [])
-RunFrom-push script os [] e h c = (c ∙ ap (next_call script) (append-nil os), tt)
-RunFrom-push script os (d ∷ es) e h c =
-    (h.0, RunFrom-push script (os ++ d.outcome ∷ []) es e h.1 (c ∙ ap (next_call script) (sym (append_assoc os (d.outcome ∷ []) (outcomes_of es)))))
+use Rattle.partition_sim.proofs.PlanLemmas.{RunFrom-push, plan_at-script, plan_at-resume}
 
 entries-own : (a : ℕ) (es : List Entry) (e : Entry) → e.actor.0 ≡ a → entries_of a (es ++ e ∷ []) ≡ entries_of a es ++ e ∷ []
 entries-own a es e h = filter-append (λ x. x.actor.0 == a) es (e ∷ []) ∙ ap (λ b. entries_of a es ++ (if b then e ∷ [] else [])) (eq-eqb _ _ h)
@@ -41,7 +35,7 @@ entries-other : (a : ℕ) (es : List Entry) (e : Entry) → e.actor.0 ≢ a → 
 entries-other a es e h =
     filter-append (λ x. x.actor.0 == a) es (e ∷ []) ∙ ap (λ b. entries_of a es ++ (if b then e ∷ [] else [])) (ne_eqb _ _ h) ∙ append-nil (entries_of a es)
 
-outcomes-push : (es : List Entry) (e : Entry) → outcomes_of (es ++ e ∷ []) ≡ outcomes_of es ++ e.outcome ∷ []
+pub outcomes-push : (es : List Entry) (e : Entry) → outcomes_of (es ++ e ∷ []) ≡ outcomes_of es ++ e.outcome ∷ []
 outcomes-push es e = map-append (λ (x : Entry). x.outcome) es (e ∷ [])
 
 same_or_not : (x y : ℕ) → (x ≡ y) ⊎ (x ≢ y)
@@ -62,9 +56,9 @@ put-at P runners a b r below here there (inr n) =
 
 -- the same runs, with another value of one runner
 driving-asked : (scripts : List (List (List Instruction))) (o : Opening) (history : List Entry) (runners : List Standing) (a : ℕ) (r : Standing) → a < actor_count o.system
-    → Driving scripts o history runners → Asked (script_at scripts a) (outcomes_at history a) r → Driving scripts o history (slice_set runners a r)
+    → Driving scripts o history runners → Asked (instructions_at scripts a) (outcomes_at history a) r → Driving scripts o history (slice_set runners a r)
 driving-asked scripts o history runners a r below d asked =
-    let P : ℕ → Standing → Type 0 = λ b x. Follows (script_at scripts b) (outcomes_at history b) x in
+    let P : ℕ → Standing → Type 0 = λ b x. Follows (instructions_at scripts b) (outcomes_at history b) x in
     let inside : a < length runners = omega (arith, d.runners_long) in
     record {
       scripts_long = d.scripts_long;
@@ -79,33 +73,33 @@ follows-made : (script : List Instruction) (es : List Entry) (e : Entry) (b : �
 follows-made script es e b x (inl h) other own = rw (entries-own b es e h, outcomes-push (entries_of b es) e) (own h)
 follows-made script es e b x (inr n) other own = rw (entries-other b es e n) (other n)
 
-runs-made : (script : List Instruction) (es : List Entry) (e : Entry) (b : ℕ) → (e.actor.0 ≡ b) ⊎ (e.actor.0 ≢ b) → ScriptRun script (entries_of b es)
-    → (e.actor.0 ≡ b → e.call ≡ next_call script (outcomes_of (entries_of b es))) → ScriptRun script (entries_of b (es ++ e ∷ []))
-runs-made script es e b (inl h) run own = rw (entries-own b es e h) (RunFrom-push script [] (entries_of b es) e run (own h))
-runs-made script es e b (inr n) run own = rw (entries-other b es e n) run
+runs-made : (plan : Plan) (es : List Entry) (e : Entry) (b : ℕ) → (e.actor.0 ≡ b) ⊎ (e.actor.0 ≢ b) → PlanRun plan (entries_of b es)
+    → (e.actor.0 ≡ b → e.call ≡ plan (outcomes_of (entries_of b es))) → PlanRun plan (entries_of b (es ++ e ∷ []))
+runs-made plan es e b (inl h) run own = rw (entries-own b es e h) (RunFrom-push plan [] (entries_of b es) e run (own h))
+runs-made plan es e b (inr n) run own = rw (entries-other b es e n) run
 
 -- an entry more
 driving-made : (scripts : List (List (List Instruction))) (o : Opening) (history : List Entry) (runners : List Standing) (a : ℕ) (r : Standing) (e : Entry) → a < actor_count o.system
-    → Driving scripts o history runners → e.actor.0 ≡ a → e.call ≡ next_call (script_at scripts a) (outcomes_at history a)
-    → Follows (script_at scripts a) (outcomes_at history a ++ e.outcome ∷ []) r
+    → Driving scripts o history runners → e.actor.0 ≡ a → e.call ≡ plan_at o.system scripts a (outcomes_at history a)
+    → Follows (instructions_at scripts a) (outcomes_at history a ++ e.outcome ∷ []) r
     → Driving scripts o (history ++ e ∷ []) (slice_set runners a r)
 driving-made scripts o history runners a r e below d actor call follows =
     let inside : a < length runners = omega (arith, d.runners_long) in
     record {
       scripts_long = d.scripts_long;
       runners_long = length-set runners a r ∙ d.runners_long;
-      follows = λ b h. follows-made (script_at scripts b) history e b (runner_at (slice_set runners a r) b) (same_or_not e.actor.0 b)
+      follows = λ b h. follows-made (instructions_at scripts b) history e b (runner_at (slice_set runners a r) b) (same_or_not e.actor.0 b)
           (λ n.
           let other : b ≢ a = λ q. n (actor ∙ sym q) in
           rw (get_or-set_other runners a b r first_standing other) (d.follows b h))
           (λ q.
           let same : a ≡ b = sym actor ∙ q in
-          let R : ℕ → Type 0 = λ n. Follows (script_at scripts n) (outcomes_at history n ++ e.outcome ∷ []) (runner_at (slice_set runners a r) n) in
+          let R : ℕ → Type 0 = λ n. Follows (instructions_at scripts n) (outcomes_at history n ++ e.outcome ∷ []) (runner_at (slice_set runners a r) n) in
           subst R same (rw (get_or-set_same runners a r first_standing inside) follows));
-      runs = λ b h. runs-made (script_at scripts b) history e b (same_or_not e.actor.0 b) (d.runs b h)
+      runs = λ b h. runs-made (plan_at o.system scripts b) history e b (same_or_not e.actor.0 b) (d.runs b h)
           (λ q.
           let same : a ≡ b = sym actor ∙ q in
-          let R : ℕ → Type 0 = λ n. e.call ≡ next_call (script_at scripts n) (outcomes_at history n) in
+          let R : ℕ → Type 0 = λ n. e.call ≡ plan_at o.system scripts n (outcomes_at history n) in
           subst R same call);
     }
 
@@ -230,35 +224,39 @@ made-one o old new a c place e m =
 
 -- ---- the call that was asked for
 
--- it is the one of the actor's script after its outcomes
-pub record IsNextOf (scripts : List (List (List Instruction))) (history : List Entry) (a : ℕ) (c : Call) (r : Standing) : Type 0 where
-  pub call : c ≡ next_call (script_at scripts a) (outcomes_at history a)
-  pub asked : Asked (script_at scripts a) (outcomes_at history a) r
+-- it is the one of the actor's plan after its outcomes
+pub record IsNextOf (s : System) (scripts : List (List (List Instruction))) (history : List Entry) (a : ℕ) (c : Call) (r : Standing) : Type 0 where
+  pub call : c ≡ plan_at s scripts a (outcomes_at history a)
+  pub asked : Asked (instructions_at scripts a) (outcomes_at history a) r
 
 pub asked-in : (scripts : List (List (List Instruction))) (o : Opening) (history : List Entry) (runners : List Standing) (a : ℕ) (parts : List (List Instruction)) (old new : Standing) (c : Call)
     → a < actor_count o.system → Driving scripts o history runners → parts ≡ get_or scripts a parts
-    → ((os : List Outcome) → Follows (only_part parts) os (get_or runners a old) → c ≡ next_call (only_part parts) os)
+    → ((os : List Outcome) → Follows (only_part parts) os (get_or runners a old) → c ≡ script_plan (only_part parts) os)
     → ((os : List Outcome) → Follows (only_part parts) os (get_or runners a old) → Asked (only_part parts) os new)
-    → IsNextOf scripts history a c new
+    → IsNextOf o.system scripts history a c new
 asked-in scripts o history runners a parts old new c below d is calls asks =
     let script : parts ≡ get_or scripts a [] = get_or_read scripts a parts (omega (arith, d.scripts_long)) is [] in
     let runner : runner_at runners a ≡ get_or runners a old = get_or_default runners a first_standing old (omega (arith, d.runners_long)) in
-    let P : List (List Instruction) → Type 0 = λ x. c ≡ next_call (only_part x) (outcomes_at history a) in
+    let P : List (List Instruction) → Type 0 = λ x. c ≡ script_plan (only_part x) (outcomes_at history a) in
     let A : List (List Instruction) → Type 0 = λ x. Asked (only_part x) (outcomes_at history a) new in
     let Q : List (List Instruction) → Type 0 = λ x. Follows (only_part x) (outcomes_at history a) (get_or runners a old) in
-    let R : Standing → Type 0 = λ x. Follows (script_at scripts a) (outcomes_at history a) x in
+    let R : Standing → Type 0 = λ x. Follows (instructions_at scripts a) (outcomes_at history a) x in
     let follows : Follows (only_part parts) (outcomes_at history a) (get_or runners a old) = subst Q (sym script) (subst R runner (d.follows a below)) in
-    record { call = subst P script (calls (outcomes_at history a) follows); asked = subst A script (asks (outcomes_at history a) follows) }
+    let planned : c ≡ script_plan (instructions_at scripts a) (outcomes_at history a) = subst P script (calls (outcomes_at history a) follows) in
+    record {
+      call = planned ∙ sym (ap (λ (f : Plan). f (outcomes_at history a)) (plan_at-script o.system scripts a));
+      asked = subst A script (asks (outcomes_at history a) follows);
+    }
 
-pub call-is-due : (scripts : List (List (List Instruction))) (o : Opening) (history : List Entry) (a : ℕ) (c : Call) (r : Standing) → IsNextOf scripts history a c r → CallDue o history a c
-call-is-due scripts o history a c r n = inl (ap is_resume n.call ∙ next_call-resume (script_at scripts a) (outcomes_at history a))
+pub call-is-due : (scripts : List (List (List Instruction))) (o : Opening) (history : List Entry) (a : ℕ) (c : Call) (r : Standing) → IsNextOf o.system scripts history a c r → CallDue o history a c
+call-is-due scripts o history a c r n = inl (ap is_resume n.call ∙ plan_at-resume o.system scripts a (outcomes_at history a))
 
 -- a turn that changes nothing
 pub driving-still : (scripts : List (List (List Instruction))) (o : Opening) (old new : List Entry) (runners : List Standing) (a : ℕ) (c : Call) (r : Standing) → a < actor_count o.system
-    → Driving scripts o old runners → IsNextOf scripts old a c r → new ≡ old → Driving scripts o new (slice_set runners a r)
+    → Driving scripts o old runners → IsNextOf o.system scripts old a c r → new ≡ old → Driving scripts o new (slice_set runners a r)
 driving-still scripts o old new runners a c r below d n e = rw e (driving-asked scripts o old runners a r below d n.asked)
 
 pub driving-step : (scripts : List (List (List Instruction))) (o : Opening) (old new : List Entry) (runners : List Standing) (a : ℕ) (c : Call) (asked r : Standing) (place : ℕ) (e : Entry)
-    → a < actor_count o.system → Driving scripts o old runners → IsNextOf scripts old a c asked → IsMade o old a c place e new
-    → Follows (script_at scripts a) (outcomes_at old a ++ e.outcome ∷ []) r → Driving scripts o new (slice_set runners a r)
+    → a < actor_count o.system → Driving scripts o old runners → IsNextOf o.system scripts old a c asked → IsMade o old a c place e new
+    → Follows (instructions_at scripts a) (outcomes_at old a ++ e.outcome ∷ []) r → Driving scripts o new (slice_set runners a r)
 driving-step scripts o old new runners a c asked r place e below d n m follows = rw m.added (driving-made scripts o old runners a r e below d m.actor (m.called ∙ n.call) follows)

@@ -8,12 +8,13 @@ use Rattle.ffm_model.specs.declared.script.Instruction.{Instruction}
 use Rattle.ffm_model.specs.Actors.{actor_count}
 use Rattle.ffm_model.specs.Records.{entries_of, outcomes_of}
 use Rattle.ffm_model.specs.Schedule.{Scheduled, Turns, enabled_in, turn_at}
-use Rattle.ffm_model.specs.ScriptRuns.{ScriptRun, script_at, start}
+use Rattle.ffm_model.specs.Plans.{PlanRun}
+use Rattle.ffm_model.specs.ScriptRuns.{only_part, plan_at, start}
 use Rattle.ffm_model.specs.State.{opening}
 use Rattle.ffm_model.specs.Verdicts.{verdict_of}
 use Rattle.memory_image.specs.Pieces.{byte_at}
 use Rattle.spm_core.specs.Manager.{Opening, Managed, state_after}
-use Rattle.partition_sim.specs.declared.drive.Over.{Over}
+use Rattle.partition_sim.specs.declared.scheduled.Over.{Over}
 use Rattle.partition_sim.specs.Standing.{Standing, Follows}
 
 abbrev pub first_standing : Standing
@@ -21,6 +22,10 @@ first_standing = record { point = start; ran = 0; waiting = false; after = 0 }
 
 abbrev pub runner_at : List Standing → ℕ → Standing
 runner_at runners a = get_or runners a first_standing
+
+-- the instructions that an actor's runner is given
+abbrev pub instructions_at : List (List (List Instruction)) → ℕ → List Instruction
+instructions_at scripts a = only_part (get_or scripts a [])
 
 -- the outcomes that an actor was answered
 abbrev pub outcomes_at : List Entry → ℕ → List Outcome
@@ -33,12 +38,12 @@ pub record AreNew (count : ℕ) (runners : List Standing) : Type 0 where
 
 -- ---- one turn
 
--- each runner has seen its actor's outcomes, and each actor's entries are a run of its script
+-- each runner has seen its actor's outcomes, and each actor's entries are a run of its plan
 pub record Driving (scripts : List (List (List Instruction))) (o : Opening) (history : List Entry) (runners : List Standing) : Type 0 where
   pub scripts_long : length scripts ≡ actor_count o.system
   pub runners_long : length runners ≡ actor_count o.system
-  pub follows : (a : ℕ) → a < actor_count o.system → Follows (script_at scripts a) (outcomes_at history a) (runner_at runners a)
-  pub runs : (a : ℕ) → a < actor_count o.system → ScriptRun (script_at scripts a) (entries_of a history)
+  pub follows : (a : ℕ) → a < actor_count o.system → Follows (instructions_at scripts a) (outcomes_at history a) (runner_at runners a)
+  pub runs : (a : ℕ) → a < actor_count o.system → PlanRun (plan_at o.system scripts a) (entries_of a history)
 
 -- an enabled actor made an entry
 pub record MadeOne (o : Opening) (old : List Entry) (a : ℕ) (new : List Entry) (e : Entry) : Type 0 where
@@ -84,5 +89,5 @@ pub record Underway (scripts : List (List (List Instruction))) (schedule : List 
 -- a whole scheduled run
 pub record IsDriven (scripts : List (List (List Instruction))) (schedule : List ActorId) (o : Opening) (history : List Entry) : Type 0 where
   pub scheduled : Scheduled o.system (byte_at o.memory) schedule history
-  pub runs : (a : ℕ) → a < actor_count o.system → ScriptRun (script_at scripts a) (entries_of a history)
+  pub runs : (a : ℕ) → a < actor_count o.system → PlanRun (plan_at o.system scripts a) (entries_of a history)
   pub ended : IsSome (verdict_of o.system (byte_at o.memory) o.limit history)

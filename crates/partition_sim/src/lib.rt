@@ -1,9 +1,12 @@
-//! Runs scripts: what each calls next, and all of them in turns over a manager.
+//! Runs scripts: what each calls next, all of them in turns over a manager, and some of them by
+//! workers over a manager that is shared.
 #![tactic(auto)]
 
 mod calls;
-mod drive;
 mod runner;
+mod scheduled;
+mod workers;
 
-pub use drive::drive_scheduled;
 pub use runner::Runner;
+pub use scheduled::drive_scheduled;
+pub use workers::{Worker, drive};

@@ -151,15 +151,19 @@ fn call_due(waiting: bool, script: &[Instruction], registers: &[u32; 16], place:
 }
 
 impl Runner {
-    ghost use Rattle.std.specs.Prelude.{◌≡◌, ◌∷◌, ◌++◌, [], List};
+    ghost use Rattle.std.specs.Prelude.{◌≡◌, ◌∷◌, ◌++◌, [], List, false, if◌then◌else◌};
     ghost use Rattle.ffm_model.specs.declared.machine.Outcome.{Outcome};
     ghost use Rattle.ffm_model.specs.declared.script.Instruction.{Instruction};
-    ghost use Rattle.ffm_model.specs.ScriptRuns.{next_call, only_part};
-    ghost use Rattle.partition_sim.specs.Standing.{Asked, Follows};
+    ghost use Rattle.ffm_model.specs.Plans.{engine_answered};
+    ghost use Rattle.ffm_model.specs.Records.{is_blocked_outcome};
+    ghost use Rattle.ffm_model.specs.ScriptRuns.{Point, arrived, call_at, only_part, script_engine, script_plan, start};
+    ghost use Rattle.partition_sim.specs.Standing.{Asked, AtCall, Follows, Reaches};
 
     /// A runner at the start, which has seen no outcome of any script.
     pub fn new() -> Runner
-        ensures { (script : List Instruction) → Follows script [] result }
+        ensures reaches { (script : List Instruction) → Reaches script start result }
+        ensures waits { result.waiting ≡ false }
+        ensures follows { (script : List Instruction) → Follows script [] result }
     {
         Runner {
             registers: [0; 16],
@@ -172,7 +176,14 @@ impl Runner {
 
     /// The call that the script makes next. Asked again before `after`, it is the same call.
     pub fn next(&mut self, script: &Script) -> Call
-        ensures call { (outcomes : List Outcome) → Follows (only_part script.now) outcomes self.old → result ≡ next_call (only_part script.now) outcomes }
+        // By the point where the script goes on after the last event.
+        ensures due { (p : Point) → Reaches (only_part script.now) p self.old → result ≡ (if self.old.waiting then Call.Resume else call_at (only_part script.now) (arrived (only_part script.now) p)) }
+        ensures at_call { (p : Point) → Reaches (only_part script.now) p self.old → AtCall (only_part script.now) p self.new }
+        ensures reaches { (p : Point) → Reaches (only_part script.now) p self.old → Reaches (only_part script.now) p self.new }
+        ensures waits { self.new.waiting ≡ self.old.waiting }
+
+        // By the outcomes of the script's calls.
+        ensures call { (outcomes : List Outcome) → Follows (only_part script.now) outcomes self.old → result ≡ script_plan (only_part script.now) outcomes }
         ensures asked { (outcomes : List Outcome) → Follows (only_part script.now) outcomes self.old → Asked (only_part script.now) outcomes self.new }
         ensures again { (outcomes : List Outcome) → Follows (only_part script.now) outcomes self.old → Follows (only_part script.now) outcomes self.new }
     {
@@ -186,7 +197,10 @@ impl Runner {
 
     /// Takes the outcome of the call that was asked for.
     pub fn after(&mut self, outcome: &Outcome)
-        ensures { (script : List Instruction) (outcomes : List Outcome) → Asked script outcomes self.old → Follows script (outcomes ++ outcome.now ∷ []) self.new }
+        // The script goes on at the point behind the outcome.
+        ensures reaches { (script : List Instruction) (p : Point) → AtCall script p self.old → Reaches script (engine_answered (script_engine script) outcome.now p) self.new }
+        ensures waits { self.new.waiting ≡ is_blocked_outcome outcome.now }
+        ensures follows { (script : List Instruction) (outcomes : List Outcome) → Asked script outcomes self.old → Follows script (outcomes ++ outcome.now ∷ []) self.new }
     {
         if is_blocked(outcome) {
             self.waiting = true;

@@ -27,17 +27,21 @@ p1 reply 7 -129 -> done
 p1 notify 32 -> done
 p1 clear -> done
 p1 eoi 0x40000000 -> panicked
+p1 irq_enable 0x00000010 -> done
+p1 irq_disable 0x00abcdef -> number 1
+p1 reset_signal 0x80000000 -> panicked
 p1 panic -> panicked
-stalled 11
+stalled 14
 ";
 
 const EVENTS: &[u8] = b"p1 load 0xffffffff 4 -> number 0
 n1 store 0x20000000 1 0x000000ab -> done
 dev raise 4294967295 -> done
+dev fire 0 4294967295 -> value -129
 dev stop end -> done
 p1 stop spent -> done
 n1 resume -> value 1
-full 6
+full 7
 ";
 
 #[test]
@@ -109,6 +113,9 @@ fn reads_each_service_call(rt: HostRuntime) -> Result<(), Fail> {
         Call::Notify { partition: 32 },
         Call::Clear,
         Call::Eoi { signal: 0x40000000 },
+        Call::IrqEnable { signal: 0x10 },
+        Call::IrqDisable { signal: 0xabcdef },
+        Call::ResetSignal { signal: 0x80000000 },
         Call::Panic,
     ];
     assert_eq!(rt; trace.verdict, Verdict::Stalled);
@@ -139,6 +146,13 @@ fn reads_each_event(rt: HostRuntime) -> Result<(), Fail> {
             },
         ),
         (48, Call::Raise { source: 4294967295 }),
+        (
+            48,
+            Call::Fire {
+                source: 0,
+                result: 4294967295,
+            },
+        ),
         (48, Call::Stop { spent: false }),
         (0, Call::Stop { spent: true }),
         (32, Call::Resume),
@@ -238,6 +252,15 @@ fn tells_the_first_wrong_line(rt: HostRuntime) {
         ("p1 close 2147483648 -> done\nquiet 1\n", 1),
         ("p1 close -2147483649 -> done\nquiet 1\n", 1),
         ("p1 raise 4294967296 -> done\nquiet 1\n", 1),
+        ("p1 fire 0 -> done\nquiet 1\n", 1),
+        ("p1 fire 00 1 -> done\nquiet 1\n", 1),
+        ("p1 fire 0 01 -> done\nquiet 1\n", 1),
+        ("p1 fire 0 1 0 -> done\nquiet 1\n", 1),
+        ("p1 irq_enable -> done\nquiet 1\n", 1),
+        ("p1 irq_enable 0x0000001A -> done\nquiet 1\n", 1),
+        ("p1 irq_disable 16 -> number 1\nquiet 1\n", 1),
+        ("p1 irq_disable 0x10 -> number 1\nquiet 1\n", 1),
+        ("p1 reset_signal 0x00000010 1 -> done\nquiet 1\n", 1),
         ("p1 version 0x0000100A -> number 1\nquiet 1\n", 1),
         ("p1 version 0x1000 -> number 1\nquiet 1\n", 1),
         ("p1 version 0x000001000 -> number 1\nquiet 1\n", 1),

@@ -60,7 +60,7 @@ const SCRIPTS: [(&str, Option<u32>); 45] = [
 ];
 
 // Each call: a right line, one with another number of operands, and whether clients have it.
-const CALLS: [(&str, &str, bool); 19] = [
+const CALLS: [(&str, &str, bool); 22] = [
     ("framework_version", "framework_version 1", true),
     ("version 0x40", "version", true),
     ("connect 0x40 r1", "connect 0x40", true),
@@ -79,6 +79,9 @@ const CALLS: [(&str, &str, bool); 19] = [
     ("notify -1", "notify", false),
     ("clear", "clear 8", false),
     ("eoi 16", "eoi", false),
+    ("irq_enable 0x10", "irq_enable", false),
+    ("irq_disable r1", "irq_disable 0x10 0", false),
+    ("reset_signal 16", "reset_signal", false),
     ("panic", "panic 0", false),
 ];
 
@@ -144,8 +147,10 @@ fn calls_of_kinds(rt: HostRuntime) -> Result<(), Fail> {
 #[test]
 fn no_line_raises(rt: HostRuntime) -> Result<(), Fail> {
     for kind in [ActorKind::Partition, ActorKind::Client, ActorKind::Device] {
-        let found = first_wrong(&rt, rt.alloc(), kind, "end\nraise 0")?;
-        assert_eq!(rt; found, Some(1), "{kind:?}");
+        for text in ["end\nraise 0", "end\nfire 0 1"] {
+            let found = first_wrong(&rt, rt.alloc(), kind, text)?;
+            assert_eq!(rt; found, Some(1), "{kind:?} {text:?}");
+        }
     }
     Ok(())
 }

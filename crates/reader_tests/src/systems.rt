@@ -172,6 +172,8 @@ fn source(alloc: Global, text: &str, signal_text: &str, signal: u32) -> Result<S
         signal_name: name(alloc, signal_text)?,
         owner: 0,
         signal,
+        flih: false,
+        enabled: true,
     })
 }
 

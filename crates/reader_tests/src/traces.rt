@@ -61,6 +61,13 @@ fn prints_each_client_call(rt: HostRuntime) {
             Call::Raise { source: 4294967295 },
             "p1 raise 4294967295 -> done\n",
         ),
+        (
+            Call::Fire {
+                source: 0,
+                result: 4294967295,
+            },
+            "p1 fire 0 4294967295 -> done\n",
+        ),
         (Call::Stop { spent: false }, "p1 stop end -> done\n"),
         (Call::Stop { spent: true }, "p1 stop spent -> done\n"),
         (Call::Resume, "p1 resume -> done\n"),
@@ -136,6 +143,18 @@ fn prints_each_service_call(rt: HostRuntime) {
         (
             Call::Eoi { signal: 0x40000000 },
             "p1 eoi 0x40000000 -> done\n",
+        ),
+        (
+            Call::IrqEnable { signal: 0x10 },
+            "p1 irq_enable 0x00000010 -> done\n",
+        ),
+        (
+            Call::IrqDisable { signal: 0xabcdef },
+            "p1 irq_disable 0x00abcdef -> done\n",
+        ),
+        (
+            Call::ResetSignal { signal: 0x80000000 },
+            "p1 reset_signal 0x80000000 -> done\n",
         ),
         (Call::Panic, "p1 panic -> done\n"),
     ] {

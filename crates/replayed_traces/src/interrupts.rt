@@ -1,6 +1,6 @@
 //! Calls of the device, and ends of an interrupt.
 
-use crate::systems::TWO_TICKS;
+use crate::systems::{DISABLED, TWO_TICKS};
 use crate::written::expect_each;
 use std::test::Fail;
 
@@ -28,6 +28,72 @@ fn interrupts(rt: HostRuntime) -> Result<(), Fail> {
                 ],
                 "legal 10",
             ),
+        ],
+    )
+}
+
+#[test]
+fn disabled_sources(rt: HostRuntime) -> Result<(), Fail> {
+    expect_each(
+        &rt,
+        &DISABLED,
+        &[
+            // The source is enabled at the start, and isn't any more.
+            (
+                &[(1, 1, "p1 irq_disable 0x00000010 -> number 0\n")],
+                "illegal 1",
+            ),
+            (
+                &[(3, 1, "p1 irq_disable 0x00000010 -> number 1\n")],
+                "illegal 3",
+            ),
+            // The interrupt waits while the source is disabled, and comes when it is enabled.
+            (
+                &[(
+                    5,
+                    1,
+                    "p1 wait 0x00000010 0x00000000 -> signals 0x00000010\n",
+                )],
+                "illegal 5",
+            ),
+            (
+                &[(6, 1, "p1 irq_enable 0x00000010 -> panicked\n")],
+                "illegal 6",
+            ),
+            (&[(6, 1, ""), (9, 1, "quiet 7\n")], "illegal 6"),
+            (
+                &[(
+                    7,
+                    1,
+                    "p1 wait 0x00000010 0x00000000 -> signals 0x00000000\n",
+                )],
+                "illegal 7",
+            ),
+            // A signal with a second-level handler isn't reset, but ended; its source isn't fired.
+            (
+                &[(8, 1, "p1 reset_signal 0x00000010 -> done\n")],
+                "illegal 8",
+            ),
+            (
+                &[(
+                    8,
+                    2,
+                    "p1 eoi 0x00000010 -> done\np1 stop end -> done\nquiet 9\n",
+                )],
+                "legal 9",
+            ),
+            (
+                &[
+                    (2, 1, "dev fire 0 1 -> value -129\n"),
+                    (
+                        7,
+                        1,
+                        "p1 wait 0x00000010 0x00000000 -> signals 0x00000000\n",
+                    ),
+                ],
+                "legal 8",
+            ),
+            (&[(2, 1, "dev fire 0 1 -> done\n")], "illegal 2"),
         ],
     )
 }

@@ -37,13 +37,24 @@ pub(crate) const LONG_WRITE: Pair<'static> = Pair {
 {"address":"0x20000020","bytes":"68656c6c6f"}]}"#,
 };
 
-/// A partition that handles an interrupt, which is raised twice before it runs.
-pub(crate) const TWO_TICKS: Pair<'static> = Pair {
-    system: r#"{"isolation_level":3,"manifests":[{"psa_framework_version":"1.0","name":"TICKER",
+/// A partition that handles an interrupt.
+const TICKER: &str =
+    r#"{"isolation_level":3,"manifests":[{"psa_framework_version":"1.0","name":"TICKER",
 "type":"APPLICATION-ROT","priority":"NORMAL","entry_point":"main","stack_size":"0x400",
-"services":[],"irqs":[{"source":17,"signal":"TICK_SIGNAL"}]}]}"#,
+"services":[],"irqs":[{"source":17,"signal":"TICK_SIGNAL"}]}]}"#;
+
+/// The interrupt is raised twice before the partition runs.
+pub(crate) const TWO_TICKS: Pair<'static> = Pair {
+    system: TICKER,
     scenario: r#"{"scripts":[{"actor":"TICKER","lines":["wait 0x10 0","eoi 0x10","wait 0x10 0",
 "eoi 0x10","wait 0x10 0"]}],"interrupts":[17,17],"schedule":["device","device"]}"#,
+};
+
+/// A partition that disables its interrupt source, enables it, and resets a signal that it should end.
+pub(crate) const DISABLED: Pair<'static> = Pair {
+    system: TICKER,
+    scenario: r#"{"scripts":[{"actor":"TICKER","lines":["irq_disable 0x10","irq_disable 0x10",
+"wait 0x10 0","irq_enable 0x10","wait 0x10 0","reset_signal 0x10"]}],"interrupts":[17]}"#,
 };
 
 /// A strict and a relaxed service of version 2, to which a client connects with several versions.

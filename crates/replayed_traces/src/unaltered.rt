@@ -1,6 +1,6 @@
 //! Traces as they were written.
 
-use crate::systems::{LONG_WRITE, ONE_REQUEST, POLICIES, TWO_TICKS};
+use crate::systems::{DISABLED, LONG_WRITE, ONE_REQUEST, POLICIES, TWO_TICKS};
 use crate::written::{expect, run};
 use std::test::Fail;
 
@@ -10,6 +10,7 @@ fn unaltered_traces(rt: HostRuntime) -> Result<(), Fail> {
         (ONE_REQUEST, "legal 25"),
         (LONG_WRITE, "legal 17"),
         (TWO_TICKS, "legal 9"),
+        (DISABLED, "legal 8"),
         (POLICIES, "legal 17"),
     ] {
         let trace = run(&rt, &pair)?;

@@ -84,6 +84,7 @@ place_of n (l ∷ ls) = if is_label n l then Some 0 else option_map (λ k. width
 -- which call lines a script of this kind may have: clients have no `psa/service.h`
 unfoldable pub has_line : ActorKind → CallName → Bool
 has_line Partition name.Raise = false
+has_line Partition name.Fire = false
 has_line Partition _ = true
 has_line Client name.FrameworkVersion = true
 has_line Client name.Version = true

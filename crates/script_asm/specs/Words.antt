@@ -101,11 +101,14 @@ first_words =
     ∷ (asks (codes "notify") (Make name.Notify 1)
     ∷ (asks (codes "clear") (Make name.Clear 0)
     ∷ (asks (codes "eoi") (Make name.Eoi 1)
+    ∷ (asks (codes "irq_enable") (Make name.IrqEnable 1)
+    ∷ (asks (codes "irq_disable") (Make name.IrqDisable 1)
+    ∷ (asks (codes "reset_signal") (Make name.ResetSignal 1)
     ∷ (asks (codes "panic") (Make name.Panic 0)
     ∷ (asks (codes "load") (Make name.Load 2)
     ∷ (asks (codes "store") (Make name.Store 3)
     ∷ (asks (codes "end") (Make name.Stop 0)
-    ∷ []))))))))))))))))))))))))))))
+    ∷ [])))))))))))))))))))))))))))))))
 
 -- what a word asks for by a table
 abbrev pub look_up : List (Word × Head) → Word → Option Head

@@ -15,7 +15,7 @@ pub enum Head {
     Make(CallName, usize),
 }
 
-const FIRST_WORDS: [(&str, Head); 29] = [
+const FIRST_WORDS: [(&str, Head); 32] = [
     ("set", Head::Change(Operation::Set)),
     ("add", Head::Change(Operation::Add)),
     ("sub", Head::Change(Operation::Sub)),
@@ -44,6 +44,9 @@ const FIRST_WORDS: [(&str, Head); 29] = [
     ("notify", Head::Make(CallName::Notify, 1)),
     ("clear", Head::Make(CallName::Clear, 0)),
     ("eoi", Head::Make(CallName::Eoi, 1)),
+    ("irq_enable", Head::Make(CallName::IrqEnable, 1)),
+    ("irq_disable", Head::Make(CallName::IrqDisable, 1)),
+    ("reset_signal", Head::Make(CallName::ResetSignal, 1)),
     ("panic", Head::Make(CallName::Panic, 0)),
     ("load", Head::Make(CallName::Load, 2)),
     ("store", Head::Make(CallName::Store, 3)),

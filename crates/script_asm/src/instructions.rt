@@ -29,7 +29,7 @@ fn has_line(kind: ActorKind, name: CallName) -> bool
     ensures { result ≡ has_line kind name }
 {
     match kind {
-        ActorKind::Partition => !matches!(name, CallName::Raise),
+        ActorKind::Partition => !matches!(name, CallName::Raise | CallName::Fire),
         ActorKind::Client => matches!(
             name,
             CallName::FrameworkVersion

@@ -15,10 +15,10 @@ use Rattle.handle_table.specs.Table.{connections}
 use Rattle.slot_names.specs.Changes.{OneMessageEach}
 use Rattle.slot_names.specs.Named.{KeepsNames}
 use Rattle.slot_names.proofs.Changes.{names-same, names-connection, names-message}
-use Rattle.slot_names.proofs.Removals.{fitting-messages, names-answered, names-ended}
+use Rattle.slot_names.proofs.Removals.{fitting-messages, names-answered, names-ended, names-replied}
 use Rattle.spm_tables.specs.declared.item.QueuedMessage.{QueuedMessage}
 use Rattle.spm_tables.specs.TablesView.{TablesView, held_message, spm_of}
-use Rattle.service_calls.specs.Connections.{ChangesAt, IsConnectionOf}
+use Rattle.service_calls.specs.Connections.{ChangesAt, ChangesWhere, IsConnectionOf}
 
 -- ---- the vectors of the messages
 
@@ -64,9 +64,9 @@ was-moved d new t v some after =
 pub moved-all : (P : Vectors → Type 0) (d new : TablesView) (t : Slot) (v : Vectors) → IsMoved d new t v → P v → All (λ m. P m.vectors) (spm_of d).messages → All (λ m. P m.vectors) (spm_of new).messages
 moved-all P d new t v it own all = all-put P d new t (record it.item { vectors = v }) (ap (λ (e : TablesView). e.waiting) it.after) own all
 
-pub moved-names : (s : System) (d new : TablesView) (t : Slot) (v : Vectors) → IsKept 256 d.waiting → IsMoved d new t v → KeepsNames s d new
+pub moved-names : (s : System) (d new : TablesView) (t : Slot) (v : Vectors) → IsKept 304 d.waiting → IsMoved d new t v → KeepsNames s d new
 moved-names s d new t v kept it =
-    names-message s d new t it.item (record it.item { vectors = v }) kept it.live refl refl (ap (λ (e : TablesView). e.linked) it.after) (ap (λ (e : TablesView). e.waiting) it.after)
+    names-message s d new t it.item (record it.item { vectors = v }) kept it.live refl refl refl (ap (λ (e : TablesView). e.linked) it.after) (ap (λ (e : TablesView). e.waiting) it.after)
 
 -- ---- names where a call changes no message
 
@@ -79,7 +79,7 @@ phase-names s d new phases after = names-same s d new (ap (λ (e : TablesView). 
 pub rhandle-names : (s : System) (d new : TablesView) (u : Slot) (m : QueuedMessage) (r : ℕ) → IsKept 256 d.linked → IsConnectionOf d.linked m u
     → IfSome (item_at d.linked u) (λ c. new ≡ record d { linked = with_item d.linked u (record c { rhandle = r }) }) → KeepsNames s d new
 rhandle-names s d new u m r kept own after =
-    let Own : OpenConnection → Type 0 = λ c. (c.serial ≡ m.serial) × (find (λ x. x.serial == m.serial) (connections d.linked) ≡ Some c) in
+    let Own : OpenConnection → Type 0 = λ c. (m.serial ≡ Some c.serial) × (find (λ x. x.serial == c.serial) (connections d.linked) ≡ Some c) in
     let go : (o : Option OpenConnection) → item_at d.linked u ≡ o → IsSomeAnd o Own → IfSome o (λ c. new ≡ record d { linked = with_item d.linked u (record c { rhandle = r }) }) → KeepsNames s d new =
     elim [
       | None ↦ λ e x f. absurd x
@@ -89,15 +89,16 @@ rhandle-names s d new u m r kept own after =
 
 -- ---- a reply
 
--- a message is gone, and its connection changed or gone
-pub reply-names : (s : System) (d mid new : TablesView) (t u : Slot) → ObjectsFit s (spm_of d) → IsKept 256 d.linked → mid ≡ record d { waiting = without d.waiting t } → ChangesAt u mid.linked new.linked
+-- a message is gone, and its connection, where it has one, changed or gone
+pub reply-names : (s : System) (d mid new : TablesView) (t : Slot) (link : Option Slot) → ObjectsFit s (spm_of d) → IsKept 256 d.linked → mid ≡ record d { waiting = without d.waiting t } → ChangesWhere link mid.linked new.linked
     → new.waiting ≡ mid.waiting → KeepsNames s d new
-reply-names s d mid new t u fit kept dropped changes same =
+reply-names s d mid new t link fit kept dropped changes same =
     let one : OneMessageEach (spm_of d) = fitting-messages s (spm_of d) fit in
     let waiting : new.waiting ≡ without d.waiting t = same ∙ ap (λ (e : TablesView). e.waiting) dropped in
-    let go : ChangesAt u d.linked new.linked → KeepsNames s d new =
-    elim [
+    let at : (u : Slot) → ChangesAt u d.linked new.linked → KeepsNames s d new =
+    λ u. elim [
       | inl x ↦ names-answered s d new t u x.0 x.1 one kept x.2 x.3 x.4 waiting
       | inr gone ↦ names-ended s d new t u one gone waiting
     ] in
-    go (subst (λ (e : TablesView). ChangesAt u e.linked new.linked) dropped changes)
+    let go : (o : Option Slot) → ChangesWhere o d.linked new.linked → KeepsNames s d new = elim [ None ↦ λ e. names-replied s d new t one e waiting | Some u ↦ at u ] in
+    go link (subst (λ (e : TablesView). ChangesWhere link e.linked new.linked) dropped changes)

@@ -1,7 +1,7 @@
 -- What psa_reply leaves, from what was done to the message and its connection.
 use Rattle.std.proofs.Common.{ℕ, zero, suc, ◌≡◌, Bool, true, false, cond, not, ◌&&◌, List, [], ◌∷◌, ◌∙◌, ap, sym, refl, subst}
 use Rattle.std.specs.Prelude.{ℤ, pos, negsuc, int_lt, int_le, count_by, take, slice_set, Option, Some, None, IfSome, option_and_then, if◌then◌else◌}
-use Rattle.std.specs.Option.{option_map}
+use Rattle.std.specs.Option.{option_map, option_map_or}
 use Rattle.std.specs.Ordering.{int_eq}
 use Rattle.ffm_model.specs.declared.constants.TheConstants.{PSA_IPC_CALL, PSA_IPC_CONNECT, PSA_ERROR_PROGRAMMER_ERROR}
 use Rattle.ffm_model.specs.declared.machine.ActorId.{ActorId}
@@ -17,8 +17,8 @@ use Rattle.ffm_model.specs.Actors.{is_partition, kind_of}
 use Rattle.ffm_model.specs.ClientCalls.{Effect, effect}
 use Rattle.ffm_model.specs.Memory.{lengths_written}
 use Rattle.ffm_model.specs.Panic.{panic_effect}
-use Rattle.ffm_model.specs.State.{SpmState, message_held, phase_of, with_connection_phase, with_phase, without_message}
-use Rattle.ffm_model.specs.ServiceCalls.{Answered, answered, close_answered, connect_answered, is_connect_status, owes_panic, psa_reply, replied, reply_of, reply_on, reply_to}
+use Rattle.ffm_model.specs.State.{SpmState, message_held, phase_of, with_phase, without_message}
+use Rattle.ffm_model.specs.ServiceCalls.{Answered, answered, close_answered, connect_answered, is_connect_status, owes_panic, psa_reply, replied, reply_of, reply_on, reply_to, request_answered, with_request_phase}
 use Rattle.counting_law.specs.Objects.{ObjectsFit, accepted_as, is_joining}
 use Rattle.counting_law.proofs.Balance.{Balanced, balanced-fit, fit-balanced, one}
 use Rattle.counting_law.proofs.Keeps.{ready-quiet, request-ready}
@@ -72,6 +72,19 @@ left-due s d new a k status t m owing it =
     ∙ ap (λ (b : SpmState). Some (record { spm = b; owing = if owes_panic s n status then Some m.client.0 else None })) (sym it.state)
     ∙ ap (λ (o : Option ℕ). Some (record { spm = spm_of new; owing = o })) (sym it.owes)
 
+-- ---- a request
+
+-- what the answer to a request is, where the status is PROGRAMMER ERROR or not, and where the client is a partition or not
+pub request-is : (s : System) (b : SpmState) (m : PendingMessage) (status : ℤ) (x y : Bool) → int_eq status PSA_ERROR_PROGRAMMER_ERROR ≡ x → is_partition (kind_of s m.client.0) ≡ y
+    → request_answered s b m status
+    ≡ cond {A = SpmState} x (cond {A = SpmState} y (with_request_phase b m Error) (with_phase (with_request_phase b m Error) m.client.0 (Ready (Value PSA_ERROR_PROGRAMMER_ERROR))))
+    (with_phase (with_request_phase b m Idle) m.client.0 (Ready (Value status)))
+request-is s b m status x y e f =
+    let owing : SpmState = with_request_phase b m Error in
+    let told : SpmState = with_phase owing m.client.0 (Ready (Value PSA_ERROR_PROGRAMMER_ERROR)) in
+    let idle : SpmState = with_phase (with_request_phase b m Idle) m.client.0 (Ready (Value status)) in
+    ap (λ z. cond {A = SpmState} z (cond {A = SpmState} (is_partition (kind_of s m.client.0)) owing told) idle) e ∙ ap (λ z. cond {A = SpmState} x (cond {A = SpmState} z owing told) idle) f
+
 -- ---- the panic that is owed
 
 panic-is : (s : System) (b : SpmState) (owing : Option ActorId) (n : ℕ) (x : Bool) → option_map (λ (p : ActorId). p.0) owing ≡ (if x then Some n else None) → (if x then panic_effect s b n else b) ≡ once_panicked s b owing
@@ -117,11 +130,11 @@ running-told : (s : System) (b : SpmState) (h : Handle) (status : ℤ) (m : Pend
     → with_phase (replied s b h status m) m.client.0 Running ≡ with_phase (settled b h status m) m.client.0 Running
 running-told s b h status m e =
     let rest : SpmState = without_message b h in
-    let failed : SpmState = with_connection_phase rest m.connection Error in
+    let failed : SpmState = with_request_phase rest m Error in
     same-after (λ x. with_phase x m.client.0 Running) (int_eq m.kind PSA_IPC_CONNECT) (int_lt m.kind PSA_IPC_CALL) (int_le PSA_IPC_CALL m.kind) (int_eq status PSA_ERROR_PROGRAMMER_ERROR) (is_partition (kind_of s m.client.0))
-    (connect_answered rest m status) (close_answered rest m) failed (with_phase failed m.client.0 (Ready (Value PSA_ERROR_PROGRAMMER_ERROR)))
-    (with_phase (with_connection_phase rest m.connection Idle) m.client.0 (Ready (Value status))) (high m.kind)
-    (ap (λ (ps : List ActorPhase). record failed { phases = ps }) (sym (set-twice b.phases m.client.0 (Ready (Value PSA_ERROR_PROGRAMMER_ERROR)) Running))) e
+    (option_map_or (λ n. connect_answered rest n m status) m.connection rest) (option_map_or (λ n. close_answered rest n m) m.connection rest) failed (with_phase failed m.client.0 (Ready (Value PSA_ERROR_PROGRAMMER_ERROR)))
+    (with_phase (with_request_phase rest m Idle) m.client.0 (Ready (Value status))) (high m.kind)
+    (ap (λ (ps : List ActorPhase). record failed { phases = ps }) (sym (set-twice failed.phases m.client.0 (Ready (Value PSA_ERROR_PROGRAMMER_ERROR)) Running))) e
 
 -- and its objects fit then
 pub owed-running : (s : System) (b : SpmState) (a : ℕ) (h : Handle) (status : ℤ) (m : PendingMessage) → ObjectsFit s b → message_held s b a h ≡ Some m → owes_panic s m status ≡ true

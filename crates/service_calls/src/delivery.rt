@@ -1,6 +1,6 @@
 //! The delivery of messages.
 
-ghost use Rattle.std.specs.Prelude.{◌≡◌, ◌<◌, ◌==◌, ◌&&◌, ◌++◌, ℕ, length, List, All, IfOk, IsSome, Some, map, position, if◌then◌else◌};
+ghost use Rattle.std.specs.Prelude.{◌≡◌, ◌<◌, ◌==◌, ◌&&◌, ◌++◌, ℕ, length, List, All, IfOk, IfSome, IsSome, Some, map, option_and_then, position, if◌then◌else◌};
 ghost use Rattle.std.specs.Option.{option_map_or};
 ghost use Rattle.std.specs.Ordering.{int_eq};
 ghost use Rattle.counting_law.specs.Objects.{ObjectsFit};
@@ -83,23 +83,25 @@ fn words_of(message: Message) -> [u32; 12]
     joined(head, message.in_size, message.out_size)
 }
 
-// The rhandle that a message carries: 0 for that of a `psa_connect`, else its connection's.
+// The rhandle that a message carries: 0 for that of a `psa_connect` or of no connection, else its connection's.
 fn rhandle_of(tables: &Tables, slot: Slot, message: QueuedMessage) -> u32
     requires item { item_at tables.now.waiting slot ≡ Some message }
-    requires there { IsSome (connection_by_serial (spm_of tables.now) message.serial) }
-    ensures { result ≡ (if int_eq message.kind PSA_IPC_CONNECT then 0 else option_map_or (λ c. c.rhandle) (connection_by_serial (spm_of tables.now) message.serial) 0) }
+    requires there { IfSome message.serial (λ n. IsSome (connection_by_serial (spm_of tables.now) n)) }
+    ensures { result ≡ (if int_eq message.kind PSA_IPC_CONNECT then 0 else option_map_or (λ c. c.rhandle) (option_and_then (connection_by_serial (spm_of tables.now)) message.serial) 0) }
 {
     if message.kind == PSA_IPC_CONNECT {
         return 0;
     }
-    let connection = connection_of(tables, slot, message);
-    tables.connections().connection(connection).rhandle
+    match connection_of(tables, slot, message) {
+        Some(connection) => tables.connections().connection(connection).rhandle,
+        None => 0,
+    }
 }
 
 // What a partition is told of a message that it gets.
 fn shown(system: &System, tables: &Tables, slot: Slot, message: QueuedMessage) -> Message
     requires item { item_at tables.now.waiting slot ≡ Some message }
-    requires there { IsSome (connection_by_serial (spm_of tables.now) message.serial) }
+    requires there { IfSome message.serial (λ n. IsSome (connection_by_serial (spm_of tables.now) n)) }
     requires client { message.client.0 < actor_count system.now }
     ensures { result ≡ shown_message system.now (spm_of tables.now) (message_of slot message) (handle_at family.Message slot) }
 {
@@ -114,7 +116,8 @@ fn shown(system: &System, tables: &Tables, slot: Slot, message: QueuedMessage) -
     }
 }
 
-/// `psa_get`: the oldest message that waits for the service with the signal is delivered, and its 48 bytes are stored at `msg`.
+/// `psa_get`: the oldest message that waits for the service with the signal is delivered, and its 48 bytes are stored at `msg`. They
+/// show the rhandle 0 for `psa_connect` and for a request of no connection, and else that of the message's connection.
 /// `Fault` exactly where the signal isn't one service's of the partition, no message waits for that service, or the 48 bytes at `msg`
 /// aren't a valid buffer of the partition; then nothing changed.
 pub fn get(

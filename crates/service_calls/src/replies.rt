@@ -1,7 +1,7 @@
 //! Replies to messages, and the rhandles of their connections.
 
 ghost use Rattle.std.specs.Prelude.{◌≡◌, ◌<◌, ◌&&◌, length, All, IsSome, IfSome, IfOk, List, Some, None, option_and_then, if◌then◌else◌, int_lt, take};
-ghost use Rattle.std.specs.Option.{option_map};
+ghost use Rattle.std.specs.Option.{option_map, option_map_or};
 ghost use Rattle.std.specs.Ordering.{int_eq};
 ghost use Rattle.counting_law.specs.Objects.{ObjectsFit};
 ghost use Rattle.ffm_model.specs.declared.machine.Handle.{Handle as HandleSeen};
@@ -10,15 +10,16 @@ ghost use Rattle.ffm_model.specs.declared.system.System.{System as SystemSeen};
 ghost use Rattle.ffm_model.specs.Actors.{is_partition, kind_of};
 ghost use Rattle.ffm_model.specs.ClientCalls.{effect};
 ghost use Rattle.ffm_model.specs.Memory.{lengths_written};
-ghost use Rattle.ffm_model.specs.ServiceCalls.{answered, close_answered, connect_answered, is_connect_status, owes_panic, psa_reply, psa_set_rhandle, reply_on, reply_to, request_answered};
+ghost use Rattle.ffm_model.specs.ServiceCalls.{answered, close_answered, connect_answered, is_connect_status, owes_panic, psa_reply, psa_set_rhandle, reply_on, reply_to, request_answered, with_request_phase};
 ghost use Rattle.ffm_model.specs.State.{with_phase};
 ghost use Rattle.memory_image.specs.Pieces.{byte_at, ranges_of, regions_of};
 ghost use Rattle.message_vectors.specs.Vectors.{AreWithin};
 ghost use Rattle.object_pools.specs.Pool.{item_at};
 ghost use Rattle.service_calls.specs.Answers.{LeavesReply, once_panicked};
-ghost use Rattle.service_calls.specs.Connections.{ChangesAt, IsConnectionOf};
+ghost use Rattle.service_calls.specs.Connections.{ChangesAt, ChangesWhere, IsConnectionOf, IsLinkOf};
 ghost use Rattle.slot_names.specs.Named.{KeepsNames};
 ghost use Rattle.spm_tables.specs.Answers.{Answers, state_with};
+ghost use Rattle.spm_tables.specs.declared.item.QueuedMessage.{QueuedMessage as QueuedSeen};
 ghost use Rattle.spm_tables.specs.TablesView.{MadeFor, fresh_message, message_at, shape_of, spm_of};
 
 use crate::connection::connection_of;
@@ -32,7 +33,7 @@ use object_pools::Slot;
 use spm_tables::{QueuedMessage, Tables};
 
 /// `psa_set_rhandle`: the connection of a message that the partition holds has the rhandle from now on. `Fault` exactly where the
-/// handle isn't that of such a message; then nothing changed.
+/// handle isn't that of such a message, or the message is of no connection; then nothing changed.
 pub fn set_rhandle(
     tables: &mut Tables,
     actor: ActorId,
@@ -49,7 +50,9 @@ pub fn set_rhandle(
         return Err(Fault);
     };
     let message = tables.queued(slot);
-    let connection = connection_of(tables, slot, message);
+    let Some(connection) = connection_of(tables, slot, message) else {
+        return Err(Fault);
+    };
     tables.set_rhandle(connection, rhandle);
     Ok(())
 }
@@ -97,14 +100,15 @@ fn tell_lengths(image: &mut Image, message: QueuedMessage)
 
 fn answer_connect(tables: &mut Tables, connection: Slot, message: QueuedMessage, status: Status)
     requires connection { IsConnectionOf tables.old.linked message connection }
-    ensures state { spm_of tables.new ≡ connect_answered (spm_of tables.old) (fresh_message message) status.0 }
+    ensures state { spm_of tables.new ≡ option_map_or (λ n. connect_answered (spm_of tables.old) n (fresh_message message) status.0) message.serial (spm_of tables.old) }
     ensures linked { ChangesAt connection tables.old.linked tables.new.linked }
     ensures waiting { tables.new.waiting ≡ tables.old.waiting }
     ensures shape { shape_of tables.new ≡ shape_of tables.old }
 {
     if status.0 == PSA_SUCCESS {
+        let serial = tables.connections().connection(connection).serial;
         tables.set_connection_phase(connection, ConnPhase::Idle);
-        tables.set_phase(message.client, ActorPhase::Connected(message.serial));
+        tables.set_phase(message.client, ActorPhase::Connected(serial));
     } else {
         tables.free(connection);
         tables.set_phase(message.client, ActorPhase::Ready(Outcome::Value(status.0)));
@@ -113,7 +117,7 @@ fn answer_connect(tables: &mut Tables, connection: Slot, message: QueuedMessage,
 
 fn answer_close(tables: &mut Tables, connection: Slot, message: QueuedMessage)
     requires connection { IsConnectionOf tables.old.linked message connection }
-    ensures state { spm_of tables.new ≡ close_answered (spm_of tables.old) (fresh_message message) }
+    ensures state { spm_of tables.new ≡ option_map_or (λ n. close_answered (spm_of tables.old) n (fresh_message message)) message.serial (spm_of tables.old) }
     ensures linked { ChangesAt connection tables.old.linked tables.new.linked }
     ensures waiting { tables.new.waiting ≡ tables.old.waiting }
     ensures shape { shape_of tables.new ≡ shape_of tables.old }
@@ -124,27 +128,40 @@ fn answer_close(tables: &mut Tables, connection: Slot, message: QueuedMessage)
     }
 }
 
+// The connection of a request, where it has one, gets the phase.
+fn set_request_phase(tables: &mut Tables, connection: Option<Slot>, phase: ConnPhase)
+    requires live { IfSome connection (λ slot. IsSome (item_at tables.old.linked slot)) }
+    ensures state { (m : QueuedSeen) → IsLinkOf tables.old.linked m connection → spm_of tables.new ≡ with_request_phase (spm_of tables.old) (fresh_message m) phase }
+    ensures linked { ChangesWhere connection tables.old.linked tables.new.linked }
+    ensures waiting { tables.new.waiting ≡ tables.old.waiting }
+    ensures shape { shape_of tables.new ≡ shape_of tables.old }
+{
+    if let Some(slot) = connection {
+        tables.set_connection_phase(slot, phase);
+    }
+}
+
 // The partition that has to panic, if one has.
 fn answer_request(
     system: &System,
     tables: &mut Tables,
-    connection: Slot,
+    connection: Option<Slot>,
     message: QueuedMessage,
     status: Status,
 ) -> Option<ActorId>
-    requires connection { IsConnectionOf tables.old.linked message connection }
+    requires connection { IsLinkOf tables.old.linked message connection }
     ensures state { spm_of tables.new ≡ request_answered system.now (spm_of tables.old) (fresh_message message) status.0 }
     ensures owing { option_map (λ p. p.0) result ≡ (if int_eq status.0 PSA_ERROR_PROGRAMMER_ERROR && is_partition (kind_of system.now message.client.0) then Some message.client.0 else None) }
-    ensures linked { ChangesAt connection tables.old.linked tables.new.linked }
+    ensures linked { ChangesWhere connection tables.old.linked tables.new.linked }
     ensures waiting { tables.new.waiting ≡ tables.old.waiting }
     ensures shape { shape_of tables.new ≡ shape_of tables.old }
 {
     if status.0 != PSA_ERROR_PROGRAMMER_ERROR {
-        tables.set_connection_phase(connection, ConnPhase::Idle);
+        set_request_phase(tables, connection, ConnPhase::Idle);
         tables.set_phase(message.client, ActorPhase::Ready(Outcome::Value(status.0)));
         return None;
     }
-    tables.set_connection_phase(connection, ConnPhase::Error);
+    set_request_phase(tables, connection, ConnPhase::Error);
     if is_partition(system, message.client) {
         return Some(message.client);
     }
@@ -159,31 +176,35 @@ fn answer_request(
 fn answer(
     system: &System,
     tables: &mut Tables,
-    connection: Slot,
+    connection: Option<Slot>,
     message: QueuedMessage,
     status: Status,
 ) -> Option<ActorId>
-    requires connection { IsConnectionOf tables.old.linked message connection }
+    requires connection { IsLinkOf tables.old.linked message connection }
     ensures state { spm_of tables.new ≡ answered system.now (spm_of tables.old) (fresh_message message) status.0 }
     ensures owing { option_map (λ p. p.0) result ≡ (if owes_panic system.now (fresh_message message) status.0 then Some message.client.0 else None) }
-    ensures linked { ChangesAt connection tables.old.linked tables.new.linked }
+    ensures linked { ChangesWhere connection tables.old.linked tables.new.linked }
     ensures waiting { tables.new.waiting ≡ tables.old.waiting }
     ensures shape { shape_of tables.new ≡ shape_of tables.old }
 {
+    if message.kind >= PSA_IPC_CALL {
+        return answer_request(system, tables, connection, message, status);
+    }
+    // Only a request can be of no connection.
+    let Some(connection) = connection else {
+        return None;
+    };
     if message.kind == PSA_IPC_CONNECT {
         answer_connect(tables, connection, message, status);
-        None
-    } else if message.kind < PSA_IPC_CALL {
-        answer_close(tables, connection, message);
-        None
     } else {
-        answer_request(system, tables, connection, message, status)
+        answer_close(tables, connection, message);
     }
+    None
 }
 
-/// `psa_reply`: the message is gone, and its client is answered; that of a request is told how many bytes were written of each output
-/// vector. Some(client) exactly where a partition's request was answered with PROGRAMMER ERROR: the caller then makes that partition
-/// panic. `Fault` exactly where the handle isn't that of a message that the partition holds, or the status is none for `psa_connect`;
+/// `psa_reply`: the message is gone, and its client is answered; that of a request, on a connection or not, is told how many bytes were
+/// written of each output vector. Some(client) exactly where a partition's request was answered with PROGRAMMER ERROR: the caller then
+/// makes that partition panic. `Fault` exactly where the handle isn't that of a message that the partition holds, or the status is none for `psa_connect`;
 /// then nothing changed.
 pub fn reply(
     system: &System,

@@ -7,7 +7,7 @@ use Rattle.std.proofs.lemmas.List.{length-map}
 use Rattle.std.proofs.lemmas.List.Elements.{All-head, All-tail}
 use Rattle.ffm_model.specs.declared.system.System.{System}
 use Rattle.ffm_model.specs.declared.objects.OpenConnection.{OpenConnection}
-use Rattle.ffm_model.specs.Names.{NamesSoFar, SlotName, capacity, live_connections, names_after, next_slot, no_slot, slots_kept, stays, with_connection, with_messages}
+use Rattle.ffm_model.specs.Names.{NamesSoFar, SlotName, capacity, live_connections, message_capacity, names_after, next_slot, no_slot, slots_kept, stays, with_connection, with_messages}
 use Rattle.object_pools.specs.declared.slot.Slot.{Slot}
 use Rattle.object_pools.specs.declared.slot.Held.{Held}
 use Rattle.object_pools.specs.Pool.{Places, IsKept, free_slot, item_at, taken, with_item, without}
@@ -32,33 +32,33 @@ added old new ts n longer = omega (arith, longer, length-map new.waiting.held he
 
 -- where no connection is made
 pub after-still : (s : System) (old new : TablesView) (k : NamesSoFar) (ts : List SlotName) → kept_names old new k.messages ≡ ts → new.linked.takes ≡ old.linked.takes
-    → names_after s (spm_of old) (spm_of new) k ≡ with_messages (capacity s) (length (message_list new.waiting.held) - length ts) (record k { messages = ts })
+    → names_after s (spm_of old) (spm_of new) k ≡ with_messages (message_capacity s) (length (message_list new.waiting.held) - length ts) (record k { messages = ts })
 after-still s old new k ts kept made =
     let size : ℕ = capacity s in
     let joined : List SlotName → NamesSoFar = λ us. with_connection size (spm_of old) (spm_of new) (record k { messages = us }) in
     let not_less : nat_lt old.linked.takes new.linked.takes ≡ false = grind (arith, nat_tests) in
     let unjoined : joined ts ≡ record k { messages = ts } =
     ap (λ (b : Bool). cond {A = NamesSoFar} b (record k { messages = ts; connections = k.connections ++ next_slot size (live_connections k (spm_of old)) k.connections ∷ [] }) (record k { messages = ts })) not_less in
-    ap (λ us. with_messages size (length (message_list new.waiting.held) - length us) (joined us)) kept ∙ ap (with_messages size (length (message_list new.waiting.held) - length ts)) unjoined
+    ap (λ us. with_messages (message_capacity s) (length (message_list new.waiting.held) - length us) (joined us)) kept ∙ ap (with_messages (message_capacity s) (length (message_list new.waiting.held) - length ts)) unjoined
 
 pub after-is : (s : System) (old new : TablesView) (k : NamesSoFar) (ts : List SlotName) (n : ℕ) → kept_names old new k.messages ≡ ts → length new.waiting.held ≡ length ts + n → new.linked.takes ≡ old.linked.takes
-    → names_after s (spm_of old) (spm_of new) k ≡ with_messages (capacity s) n (record k { messages = ts })
+    → names_after s (spm_of old) (spm_of new) k ≡ with_messages (message_capacity s) n (record k { messages = ts })
 after-is s old new k ts n kept longer made =
-    after-still s old new k ts kept made ∙ ap (λ m. with_messages (capacity s) m (record k { messages = ts })) (added old new ts n longer)
+    after-still s old new k ts kept made ∙ ap (λ m. with_messages (message_capacity s) m (record k { messages = ts })) (added old new ts n longer)
 
 -- where one is
 pub after-joined : (s : System) (old new : TablesView) (k : NamesSoFar) (ts : List SlotName) (n : ℕ) → kept_names old new k.messages ≡ ts → length new.waiting.held ≡ length ts + n → new.linked.takes ≡ old.linked.takes + 1
     → names_after s (spm_of old) (spm_of new) k
-    ≡ with_messages (capacity s) n (record k { messages = ts; connections = k.connections ++ next_slot (capacity s) (live_connections k (spm_of old)) k.connections ∷ [] })
+    ≡ with_messages (message_capacity s) n (record k { messages = ts; connections = k.connections ++ next_slot (capacity s) (live_connections k (spm_of old)) k.connections ∷ [] })
 after-joined s old new k ts n kept longer made =
     let size : ℕ = capacity s in
     let next : NamesSoFar = record k { messages = ts; connections = k.connections ++ next_slot size (live_connections k (spm_of old)) k.connections ∷ [] } in
     let joined : List SlotName → NamesSoFar = λ us. with_connection size (spm_of old) (spm_of new) (record k { messages = us }) in
     let less : nat_lt old.linked.takes new.linked.takes ≡ true = grind (arith, nat_tests) in
     let is_joined : joined ts ≡ next = ap (λ (b : Bool). cond {A = NamesSoFar} b next (record k { messages = ts })) less in
-    ap (λ us. with_messages size (length (message_list new.waiting.held) - length us) (joined us)) kept
-    ∙ ap (λ m. with_messages size m (joined ts)) (added old new ts n longer)
-    ∙ ap (with_messages size n) is_joined
+    ap (λ us. with_messages (message_capacity s) (length (message_list new.waiting.held) - length us) (joined us)) kept
+    ∙ ap (λ m. with_messages (message_capacity s) m (joined ts)) (added old new ts n longer)
+    ∙ ap (with_messages (message_capacity s) n) is_joined
 
 -- all messages stay
 all-kept : (old new : TablesView) (k : NamesSoFar) → NamesAre old k → All (λ h. list_any (is_like h) new.waiting.held ≡ true) old.waiting.held → kept_names old new k.messages ≡ k.messages
@@ -88,10 +88,10 @@ names-connection s old new slot c changed kept live serial linked waiting =
     names-changed s old new (relinks-to old.linked new.linked (with_item old.linked slot changed) linked (relinks-item 256 old.linked slot c changed kept live serial)) (rewaits-same old.waiting new.waiting waiting)
 
 -- a message changes in its slot
-pub names-message : (s : System) (old new : TablesView) (slot : Slot) (m changed : QueuedMessage) → IsKept 256 old.waiting → item_at old.waiting slot ≡ Some m → changed.serial ≡ m.serial → changed.kind ≡ m.kind
-    → new.linked ≡ old.linked → new.waiting ≡ with_item old.waiting slot changed → KeepsNames s old new
-names-message s old new slot m changed kept live serial kind linked waiting =
-    names-changed s old new (relinks-same old.linked new.linked linked) (rewaits-to old.waiting new.waiting (with_item old.waiting slot changed) waiting (rewaits-item 256 old.waiting slot m changed kept live serial kind))
+pub names-message : (s : System) (old new : TablesView) (slot : Slot) (m changed : QueuedMessage) → IsKept 304 old.waiting → item_at old.waiting slot ≡ Some m → changed.serial ≡ m.serial → changed.client ≡ m.client
+    → changed.kind ≡ m.kind → new.linked ≡ old.linked → new.waiting ≡ with_item old.waiting slot changed → KeepsNames s old new
+names-message s old new slot m changed kept live serial client kind linked waiting =
+    names-changed s old new (relinks-same old.linked new.linked linked) (rewaits-to old.waiting new.waiting (with_item old.waiting slot changed) waiting (rewaits-item 304 old.waiting slot m changed kept live serial client kind))
 
 -- a connection is freed
 pub names-freed : (s : System) (old new : TablesView) (slot : Slot) → new.linked ≡ without old.linked slot → new.waiting ≡ old.waiting → KeepsNames s old new
@@ -103,7 +103,7 @@ names-freed s old new slot linked waiting =
 connection_slots : (d : TablesView) (s : System) → MadeFor d s → length d.linked.generations ≡ capacity s
 connection_slots d s made = ap (λ (h : Shape). h.connections) made
 
-message_slots : (d : TablesView) (s : System) → MadeFor d s → length d.waiting.generations ≡ capacity s
+message_slots : (d : TablesView) (s : System) → MadeFor d s → length d.waiting.generations ≡ message_capacity s
 message_slots d s made = ap (λ (h : Shape). h.messages) made
 
 stay-pushed : (old new : TablesView) (slot : Slot) (x : QueuedMessage) → new.waiting ≡ taken old.waiting slot x → All (λ h. list_any (is_like h) new.waiting.held ≡ true) old.waiting.held
@@ -119,7 +119,7 @@ names-added s old new slot x made linked free waiting = λ k was.
     let mid : TablesView = record old { linked = new.linked } in
     let between : NamesAre mid k = names-stay old mid k was linked (rewaits-same old.waiting old.waiting refl) in
     subst (NamesAre new) (sym (after-is s old new k k.messages 1 (all-kept old new k was (stay-pushed old new slot x waiting)) (pushed-length old new k slot x was waiting) linked.takes))
-    (names-enqueued mid new k slot x (capacity s) between (message_slots old s made) free refl waiting)
+    (names-enqueued mid new k slot x (message_capacity s) between (message_slots old s made) free refl waiting)
 
 -- the message of a connection that changes in its slot
 pub names-asked : (s : System) (old new : TablesView) (slot place : Slot) (c changed : OpenConnection) (x : QueuedMessage) → MadeFor old s → IsKept 256 old.linked → item_at old.linked slot ≡ Some c → changed.serial ≡ c.serial
@@ -149,6 +149,6 @@ names-connected s old new slot place c x made table free serial linked room wait
     let between : NamesAre mid (joined (slot_name slot)) = names-started old mid k slot c was table free serial linked refl in
     let grown : new.linked.takes ≡ old.linked.takes + 1 = ap (λ (p : Places OpenConnection). p.takes) linked in
     subst (NamesAre new)
-    (ap (λ t. with_messages size 1 (joined t)) next
+    (ap (λ t. with_messages (message_capacity s) 1 (joined t)) next
     ∙ sym (after-joined s old new k k.messages 1 (all-kept old new k was (stay-pushed old new place x waiting)) (pushed-length old new k place x was waiting) grown))
-    (names-enqueued mid new (joined (slot_name slot)) place x size between (message_slots old s made) room refl waiting)
+    (names-enqueued mid new (joined (slot_name slot)) place x (message_capacity s) between (message_slots old s made) room refl waiting)

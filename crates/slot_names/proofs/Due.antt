@@ -33,7 +33,7 @@ none-mapped f [] e = refl
 none-mapped f (x ∷ xs) e = cc
 
 -- tables that took nothing yet have no names
-pub names-begin : (s : System) (d : TablesView) → IsKept 256 d.linked → IsKept 256 d.waiting → spm_of d ≡ opening_spm s → d.waiting.takes ≡ 0 → NamesAre d no_names
+pub names-begin : (s : System) (d : TablesView) → IsKept 256 d.linked → IsKept 304 d.waiting → spm_of d ≡ opening_spm s → d.waiting.takes ≡ 0 → NamesAre d no_names
 names-begin s d linked waiting opens untaken =
     let made : d.linked.takes ≡ 0 = ap (λ (b : SpmState). b.connections_made) opens in
     let no_connection : d.linked.held ≡ [] = none-mapped (λ (h : Held OpenConnection). h.item) d.linked.held (ap (λ (b : SpmState). b.connections) opens) in

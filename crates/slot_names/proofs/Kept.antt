@@ -1,15 +1,14 @@
 -- The slots of the messages that stay.
-use Rattle.std.proofs.Common.{ℕ, zero, suc, ◌≡◌, ◌<◌, ◌==◌, Bool, true, false, cond, ◌&&◌, ◌||◌, List, [], ◌∷◌, ◌++◌, length, map, filter, get_or, arith, ◌∙◌, ap, refl}
+use Rattle.std.proofs.Common.{ℕ, zero, suc, ◌≡◌, ◌<◌, Bool, true, false, cond, ◌||◌, List, [], ◌∷◌, ◌++◌, length, map, filter, get_or, arith, ◌∙◌, ap, refl}
 use Rattle.std.specs.Prelude.{All}
 use Rattle.std.specs.List.{list_any}
-use Rattle.std.specs.Ordering.{int_eq}
-use Rattle.std.proofs.lemmas.Bool.Decides.{Decides-int_eq}
 use Rattle.std.proofs.lemmas.List.Elements.{All-head, All-tail}
 use Rattle.std.proofs.lemmas.List.Folds.{list_any-append}
 use Rattle.ffm_model.specs.declared.objects.PendingMessage.{PendingMessage}
-use Rattle.ffm_model.specs.Names.{SlotName, slots_kept, stays}
+use Rattle.ffm_model.specs.Names.{SlotName, is_same_message, slots_kept, stays}
 use Rattle.object_pools.specs.declared.slot.Held.{Held}
 use Rattle.handle_table.specs.Handles.{slot_name}
+use Rattle.counting_law.proofs.Slots.{same-self}
 use Rattle.spm_tables.specs.declared.item.QueuedMessage.{QueuedMessage}
 use Rattle.spm_tables.specs.TablesView.{held_message}
 use Rattle.slot_names.specs.Changes.{is_like}
@@ -26,7 +25,7 @@ any-map f p (x ∷ xs) = ap (λ b. p (f x) || b) (any-map f p xs)
 
 -- whether a message stays, by the items of the tables
 pub stays-is : (ns : List (Held QueuedMessage)) (h : Held QueuedMessage) → stays (message_list ns) (held_message h) ≡ list_any (is_like h) ns
-stays-is ns h = any-map held_message (λ n. (n.connection == h.item.serial) && int_eq n.kind h.item.kind) ns
+stays-is ns h = any-map held_message (is_same_message (held_message h)) ns
 
 -- the slots of the messages that pass a test are those of the items that pass it
 pub kept-where : (p : PendingMessage → Bool) (q : Held QueuedMessage → Bool) (hs : List (Held QueuedMessage)) → All (λ h. p (held_message h) ≡ q h) hs
@@ -57,11 +56,8 @@ any-at q [] k d lt e = absurd (omega (arith, lt))
 any-at q (x ∷ xs) zero d lt e = ap (λ b. b || list_any q xs) e
 any-at q (x ∷ xs) (suc k) d lt e = ap (λ b. q x || b) (any-at q xs k d (omega (arith, lt)) e) ∙ or_true (q x)
 
-number_itself : (n : ℕ) → (n == n) ≡ true
-number_itself n = grind arith
-
 pub like_itself : (h : Held QueuedMessage) → is_like h h ≡ true
-like_itself h = ap (λ b. b && int_eq h.item.kind h.item.kind) (number_itself h.item.serial) ∙ (Decides-int_eq h.item.kind h.item.kind).1 refl
+like_itself h = same-self (held_message h)
 
 -- each message of the first part stays
 pub stay-own : (hs rest : List (Held QueuedMessage)) → All (λ h. list_any (is_like h) (hs ++ rest) ≡ true) hs

@@ -6,8 +6,9 @@ use Rattle.std.specs.List.{list_any, filter_map, cons_option}
 use Rattle.std.proofs.Math.Seq.{get_or-append_seam}
 use Rattle.std.proofs.lemmas.List.{get_or_append_left}
 use Rattle.std.proofs.lemmas.List.Elements.{All-cons, All-head, All-map, All-nil, All-push, All-tail, All-weaker, All-filter}
+use Rattle.ffm_model.specs.declared.machine.ActorId.{ActorId}
 use Rattle.ffm_model.specs.declared.objects.OpenConnection.{OpenConnection}
-use Rattle.ffm_model.specs.Names.{NamesSoFar, SlotName, next_slot, no_slot, with_messages}
+use Rattle.ffm_model.specs.Names.{NamesSoFar, SlotName, is_same_connection, next_slot, no_slot, with_messages}
 use Rattle.object_pools.specs.declared.slot.Slot.{Slot}
 use Rattle.object_pools.specs.declared.slot.Held.{Held}
 use Rattle.object_pools.specs.Pool.{Places, IsKept, free_slot, has_slot, item_at, item_put, taken, with_item, without}
@@ -141,24 +142,35 @@ names-put : (s : Slot) (m : QueuedMessage) (hs : List (Held QueuedMessage)) → 
 names-put s m [] = refl
 names-put s m (h ∷ hs) = ap (λ (u : Slot). slot_name u ∷ name_list (map (item_put s m) hs)) (put-slot s m h) ∙ ap (λ (ts : List SlotName). slot_name h.slot ∷ ts) (names-put s m hs)
 
-like-put : (s : Slot) (m : QueuedMessage) (x h : Held QueuedMessage) → (has_slot s h ≡ true → (h.item.serial ≡ m.serial) × (h.item.kind ≡ m.kind)) → is_like x (item_put s m h) ≡ is_like x h
+-- of one connection, client and kind
+record IsSameItem (m n : QueuedMessage) : Type 0 where
+  serial : m.serial ≡ n.serial
+  client : m.client ≡ n.client
+  kind : m.kind ≡ n.kind
+
+like-put : (s : Slot) (m : QueuedMessage) (x h : Held QueuedMessage) → (has_slot s h ≡ true → IsSameItem h.item m) → is_like x (item_put s m h) ≡ is_like x h
 like-put s m x h same =
     let go : (b : Bool) → has_slot s h ≡ b → is_like x (cond {A = Held QueuedMessage} b (record h { item = m }) h) ≡ is_like x h =
     elim [
-      | true ↦ λ e. ap (λ n. (n == x.item.serial) && int_eq m.kind x.item.kind) (sym (same e).0) ∙ ap (λ (z : ℤ). (h.item.serial == x.item.serial) && int_eq z x.item.kind) (sym (same e).1)
+      | true ↦ λ e.
+          let it : IsSameItem h.item m = same e in
+          ap (λ (n : Option ℕ). is_same_connection n x.item.serial && ((m.client.0 == x.item.client.0) && int_eq m.kind x.item.kind)) (sym it.serial)
+          ∙ ap (λ (a : ActorId). is_same_connection h.item.serial x.item.serial && ((a.0 == x.item.client.0) && int_eq m.kind x.item.kind)) (sym it.client)
+          ∙ ap (λ (z : ℤ). is_same_connection h.item.serial x.item.serial && ((h.item.client.0 == x.item.client.0) && int_eq z x.item.kind)) (sym it.kind)
       | false ↦ λ e. refl
     ] in
     go (has_slot s h) refl
 
-likes-put : (s : Slot) (m : QueuedMessage) (x : Held QueuedMessage) (hs : List (Held QueuedMessage)) → All (λ h. has_slot s h ≡ true → (h.item.serial ≡ m.serial) × (h.item.kind ≡ m.kind)) hs
+likes-put : (s : Slot) (m : QueuedMessage) (x : Held QueuedMessage) (hs : List (Held QueuedMessage)) → All (λ h. has_slot s h ≡ true → IsSameItem h.item m) hs
     → list_any (is_like x) (map (item_put s m) hs) ≡ list_any (is_like x) hs
 likes-put s m x [] same = refl
 likes-put s m x (h ∷ hs) same =
-    let P : Held QueuedMessage → Type 0 = λ y. has_slot s y ≡ true → (y.item.serial ≡ m.serial) × (y.item.kind ≡ m.kind) in
+    let P : Held QueuedMessage → Type 0 = λ y. has_slot s y ≡ true → IsSameItem y.item m in
     ap (λ b. b || list_any (is_like x) (map (item_put s m) hs)) (like-put s m x h (All-head P h hs same)) ∙ ap (λ b. is_like x h || b) (likes-put s m x hs (All-tail P h hs same))
 
-pub rewaits-item : (capacity : ℕ) (p : Places QueuedMessage) (s : Slot) (m changed : QueuedMessage) → IsKept capacity p → item_at p s ≡ Some m → changed.serial ≡ m.serial → changed.kind ≡ m.kind → KeepsMessageNames p (with_item p s changed)
-rewaits-item capacity p s m changed kept live serial kind = record {
+pub rewaits-item : (capacity : ℕ) (p : Places QueuedMessage) (s : Slot) (m changed : QueuedMessage) → IsKept capacity p → item_at p s ≡ Some m → changed.serial ≡ m.serial → changed.client ≡ m.client → changed.kind ≡ m.kind
+    → KeepsMessageNames p (with_item p s changed)
+rewaits-item capacity p s m changed kept live serial client kind = record {
   generations = refl;
   takes = refl;
   names = names-put s changed p.held;
@@ -166,7 +178,11 @@ rewaits-item capacity p s m changed kept live serial kind = record {
       likes-put s changed x p.held
       (λ k d lt e.
       let it : (get_or p.held k d).item ≡ m = only-item capacity p s m kept live k d lt e in
-      (ap (λ (y : QueuedMessage). y.serial) it ∙ sym serial, ap (λ (y : QueuedMessage). y.kind) it ∙ sym kind));
+      record {
+        serial = ap (λ (y : QueuedMessage). y.serial) it ∙ sym serial;
+        client = ap (λ (y : QueuedMessage). y.client) it ∙ sym client;
+        kind = ap (λ (y : QueuedMessage). y.kind) it ∙ sym kind;
+      });
 }
 
 -- ---- the names of changed tables

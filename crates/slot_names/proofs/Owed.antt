@@ -5,7 +5,7 @@ use Rattle.std.proofs.lemmas.List.Elements.{All-head, All-tail}
 use Rattle.std.proofs.lemmas.List.Sums.{length-filter}
 use Rattle.ffm_model.specs.declared.system.System.{System}
 use Rattle.ffm_model.specs.declared.objects.PendingMessage.{PendingMessage}
-use Rattle.ffm_model.specs.Names.{NamesSoFar, SlotName, capacity, slots_kept, stays}
+use Rattle.ffm_model.specs.Names.{NamesSoFar, SlotName, is_same_connection, slots_kept, stays}
 use Rattle.counting_law.proofs.Slots.{kept-length, same-self}
 use Rattle.counting_law.proofs.Takes.{same_message}
 use Rattle.spm_tables.specs.TablesView.{TablesView, held_message, spm_of}
@@ -14,7 +14,7 @@ use Rattle.slot_names.proofs.Kept.{any-at, message_list}
 use Rattle.slot_names.proofs.Changes.{after-is, after-still, kept_names, names-length}
 use Rattle.slot_names.proofs.Partings.{any-filter, both_on, like-kept}
 use Rattle.std.specs.Prelude.{ℤ, pos, int_lt, All, if◌then◌else◌, Option, Some, None, option_and_then}
-use Rattle.std.specs.Option.{option_map}
+use Rattle.std.specs.Option.{option_map, option_map_or}
 use Rattle.std.specs.Ordering.{int_eq}
 use Rattle.std.proofs.lemmas.List.{append-nil}
 use Rattle.std.proofs.lemmas.List.Folds.{list_any-append}
@@ -22,10 +22,11 @@ use Rattle.ffm_model.specs.declared.constants.TheConstants.{PSA_IPC_CALL, PSA_IP
 use Rattle.ffm_model.specs.declared.machine.Handle.{Handle}
 use Rattle.ffm_model.specs.declared.objects.OpenConnection.{OpenConnection}
 use Rattle.ffm_model.specs.declared.objects.ConnPhase.{ConnPhase}
+use Rattle.ffm_model.specs.declared.objects.ConnPhase.TheVariants.{Error, Idle}
 use Rattle.ffm_model.specs.declared.objects.ActorPhase.{ActorPhase}
 use Rattle.ffm_model.specs.Actors.{is_partition, is_service_of, kind_of}
 use Rattle.ffm_model.specs.Panic.{is_dead, panic_effect}
-use Rattle.ffm_model.specs.ServiceCalls.{Answered, answered, is_connect_status, owes_panic, replied, reply_on}
+use Rattle.ffm_model.specs.ServiceCalls.{Answered, answered, close_answered, connect_answered, is_connect_status, owes_panic, replied, reply_on, with_request_phase}
 use Rattle.ffm_model.specs.Signals.{is_blocked}
 use Rattle.ffm_model.specs.State.{SpmState, has_handle, message_held, phase_of, with_connection_phase, with_phase, without_connection, without_message}
 use Rattle.counting_law.specs.Objects.{ObjectsFit}
@@ -34,7 +35,6 @@ use Rattle.counting_law.proofs.Losses.{after_panic, after_panic-is, disconnect_m
 use Rattle.counting_law.proofs.Owed.{owed-request}
 use Rattle.counting_law.proofs.Pairs.{count-split, member-counts}
 use Rattle.counting_law.proofs.Parts.{right_true}
-use Rattle.slot_names.proofs.Panics.{same-narrow}
 use Rattle.slot_names.proofs.Removals.{fitting-messages}
 
 -- two tests that agree keep the same slots
@@ -81,7 +81,6 @@ pub names-joined : (s : System) (old mid new : TablesView) (r : PendingMessage �
     → mid.linked.takes ≡ old.linked.takes → new.linked.takes ≡ mid.linked.takes
     → All (λ m. r m ≡ false → (stays (spm_of mid).messages m ≡ false) × (stays (spm_of new).messages m ≡ false)) (spm_of old).messages → KeepsNames s old new
 names-joined s old mid new r one two messages made still gone = λ k was.
-    let size : ℕ = capacity s in
     let ms : List PendingMessage = message_list old.waiting.held in
     let ns : List PendingMessage = message_list new.waiting.held in
     let ts : List SlotName = slots_kept r ms k.messages in
@@ -108,15 +107,16 @@ answered-keeps : {T : Type 0} (f : SpmState → T) (s : System) (b : SpmState) (
     → ((n : ℕ) (ph : ConnPhase) → f (with_connection_phase b n ph) ≡ f b) → ((n : ℕ) → f (without_connection b n) ≡ f b) → ((c : SpmState) (a : ℕ) (ph : ActorPhase) → f (with_phase c a ph) ≡ f c)
     → f (answered s b m status) ≡ f b
 answered-keeps f s b m status put out set =
-    let n : ℕ = m.connection in
     let a : ℕ = m.client.0 in
+    let on : (g : ℕ → SpmState) (o : Option ℕ) → ((n : ℕ) → f (g n) ≡ f b) → f (option_map_or g o b) ≡ f b = λ g. elim [ None ↦ λ k. refl | Some n ↦ λ k. k n ] in
+    let request : (ph : ConnPhase) → f (with_request_phase b m ph) ≡ f b = λ ph. on (λ n. with_connection_phase b n ph) m.connection (λ n. put n ph) in
     either f (f b) (int_eq m.kind PSA_IPC_CONNECT) _ _
-    (either f (f b) (int_eq status PSA_SUCCESS) _ _ (set _ a _ ∙ put n _) (set _ a _ ∙ out n))
+    (on (λ n. connect_answered b n m status) m.connection (λ n. either f (f b) (int_eq status PSA_SUCCESS) _ _ (set _ a _ ∙ put n _) (set _ a _ ∙ out n)))
     (either f (f b) (int_lt m.kind PSA_IPC_CALL) _ _
-    (either f (f b) (is_blocked (phase_of b a)) _ _ (set _ a _ ∙ out n) (out n))
+    (on (λ n. close_answered b n m) m.connection (λ n. either f (f b) (is_blocked (phase_of b a)) _ _ (set _ a _ ∙ out n) (out n)))
     (either f (f b) (int_eq status PSA_ERROR_PROGRAMMER_ERROR) _ _
-    (either f (f b) (is_partition (kind_of s a)) _ _ (put n _) (set _ a _ ∙ put n _))
-    (set _ a _ ∙ put n _)))
+    (either f (f b) (is_partition (kind_of s a)) _ _ (request Error) (set _ a _ ∙ request Error))
+    (set _ a _ ∙ request Idle)))
 
 record Owes (s : System) (b after : SpmState) (a : ℕ) (h : Handle) (status : ℤ) : Type 0 where
   pub m : PendingMessage
@@ -162,7 +162,7 @@ no-disconnect s p n (c ∷ cs) off =
       | true ↦ λ k ph. refl
       | false ↦ elim [
         | true ↦ λ ph.
-            let go : (x : Bool) → stays (if x then [] else disconnect_message c ∷ []) n ≡ false = elim [ true ↦ refl | false ↦ ap (λ b. b || false) (off_and (c.serial == n.connection) (int_eq PSA_IPC_DISCONNECT n.kind) off) ] in
+            let go : (x : Bool) → stays (if x then [] else disconnect_message c ∷ []) n ≡ false = elim [ true ↦ refl | false ↦ ap (λ b. b || false) (off_and (is_same_connection (Some c.serial) n.connection) _ (off_and (c.client.0 == n.client.0) (int_eq PSA_IPC_DISCONNECT n.kind) off)) ] in
             go (is_dead ph)
         | false ↦ λ ph. refl
       ]
@@ -223,7 +223,7 @@ names-owed s old mid new a p h status fits reply effect one two =
     let shown : has_handle n.handle h ≡ true = not_off (has_handle n.handle h) off in
     let left : stays (spm_of mid).messages n ≡ false =
     ap (λ (xs : List PendingMessage). stays xs n) (messages ∙ sym (append-nil (filter r ms)))
-    ∙ like-kept same_message (λ x. x.connection) same-self same-narrow r ms [] (fitting-messages s b fits) (λ j e k g. refl) i d lt ∙ off in (
+    ∙ like-kept same_message same-self r ms [] (fitting-messages s b fits) (λ j e k g. refl) i d lt ∙ off in (
       left,
       ap (λ (xs : List PendingMessage). stays xs n) last
           ∙ list_any-append (same_message n) (filter svc (spm_of mid).messages) (disconnect_messages s p (spm_of mid).connections)

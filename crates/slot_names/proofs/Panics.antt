@@ -1,16 +1,18 @@
 -- A panic: some messages and connections go, and then messages are taken in, one after another.
 use Rattle.std.proofs.Common.{ℕ, zero, suc, ◌≡◌, ◌≤◌, ◌+◌, ◌==◌, Bool, true, false, not, ◌&&◌, List, [], ◌∷◌, ◌++◌, length, filter, get_or, add-one, arith, ◌∙◌, ap, sym, refl, subst, length-append}
-use Rattle.std.specs.Prelude.{All, Some, count_by, if◌then◌else◌}
+use Rattle.std.specs.Prelude.{All, Option, Some, None, count_by, if◌then◌else◌}
+use Rattle.std.specs.Option.{option_map_or}
 use Rattle.std.specs.Ordering.{int_eq}
 use Rattle.std.proofs.lemmas.List.{get_or-map, length-map}
 use Rattle.ffm_model.specs.declared.system.System.{System}
+use Rattle.ffm_model.specs.declared.constants.TheConstants.{PSA_IPC_DISCONNECT}
 use Rattle.ffm_model.specs.declared.objects.OpenConnection.{OpenConnection}
 use Rattle.ffm_model.specs.declared.objects.PendingMessage.{PendingMessage}
 use Rattle.ffm_model.specs.declared.objects.ConnPhase.{ConnPhase}
 use Rattle.ffm_model.specs.Actors.{is_service_of}
 use Rattle.ffm_model.specs.State.{SpmState}
 use Rattle.ffm_model.specs.Panic.{is_dead, panic_effect}
-use Rattle.ffm_model.specs.Names.{NamesSoFar, SlotName, capacity, next_slot, stays, with_messages}
+use Rattle.ffm_model.specs.Names.{NamesSoFar, SlotName, is_same_connection, message_capacity, next_slot, stays, with_messages}
 use Rattle.object_pools.specs.declared.slot.Slot.{Slot}
 use Rattle.object_pools.specs.declared.slot.Held.{Held}
 use Rattle.object_pools.specs.Pool.{Places, free_slot, taken, without}
@@ -20,7 +22,8 @@ use Rattle.counting_law.proofs.Counts.{bit, any-count, count-cons, count-le}
 use Rattle.counting_law.proofs.Parts.{both-le-left, both-le-right, is_itself, unique}
 use Rattle.counting_law.proofs.Losses.{after_panic-is, disconnect_message, disconnect_as, disconnect_messages}
 use Rattle.counting_law.proofs.Panic.{count-append}
-use Rattle.counting_law.proofs.Pairs.{count-split, member-counts}
+use Rattle.counting_law.proofs.Pairs.{count-split, member-counts, none-counts}
+use Rattle.counting_law.proofs.Reply.{marked_as}
 use Rattle.counting_law.proofs.Slots.{same-self}
 use Rattle.counting_law.proofs.Takes.{same_message}
 use Rattle.spm_tables.specs.declared.item.QueuedMessage.{QueuedMessage}
@@ -80,18 +83,15 @@ more-messages size (suc n) k =
     let t : SlotName = next_slot size k.messages k.past_messages in
     omega (arith, more-messages size n (one_more size k), length-append k.messages (t ∷ []))
 
-pub same-narrow : (m n : PendingMessage) → bit (same_message m n) ≤ bit (n.connection == m.connection)
-same-narrow m n = both-le-left (n.connection == m.connection) (int_eq n.kind m.kind)
-
 -- the messages that pass the test stay, the others go, and those that come are like none of them
-pub names-closed : (s : System) (old new : TablesView) (r : PendingMessage → Bool) (added : List PendingMessage) (kept : List SlotName) (n : ℕ) → TakesOn (capacity s) old kept n new
+pub names-closed : (s : System) (old new : TablesView) (r : PendingMessage → Bool) (added : List PendingMessage) (kept : List SlotName) (n : ℕ) → TakesOn (message_capacity s) old kept n new
     → kept ≡ names_of (λ h. r (held_message h)) old.waiting → new.linked.takes ≡ old.linked.takes → (spm_of new).messages ≡ filter r (spm_of old).messages ++ added
     → OneMessageEach (spm_of old) → All (λ m. r m ≡ false → stays added m ≡ false) (spm_of old).messages → KeepsNames s old new
 names-closed s old new r added kept n so_far names made messages one apart = λ k was.
     let hs : List (Held QueuedMessage) = old.waiting.held in
     let ms : List PendingMessage = message_list hs in
-    let now : NamesAre new (with_messages (capacity s) n (record k { messages = kept })) = so_far k was in
-    let part : All (λ m. stays (filter r ms ++ added) m ≡ r m) ms = like-kept same_message (λ m. m.connection) same-self same-narrow r ms added one apart in
+    let now : NamesAre new (with_messages (message_capacity s) n (record k { messages = kept })) = so_far k was in
+    let part : All (λ m. stays (filter r ms ++ added) m ≡ r m) ms = like-kept same_message same-self r ms added one apart in
     let stay : All (λ h. stays (message_list new.waiting.held) (held_message h) ≡ r (held_message h)) hs =
     λ i d lt.
     let h : Held QueuedMessage = get_or hs i d in
@@ -99,20 +99,29 @@ names-closed s old new r added kept n so_far names made messages one apart = λ 
     ap (λ (ns : List PendingMessage). stays ns (held_message h)) messages
     ∙ subst (λ (m : PendingMessage). stays (filter r ms ++ added) m ≡ r m) at (part i (held_message d) (omega (arith, lt, length-map hs held_message))) in
     let is_kept : kept_names old new k.messages ≡ kept = ap (kept_names old new) was.messages ∙ kept-where (stays (message_list new.waiting.held)) (λ h. r (held_message h)) hs stay ∙ sym names in
-    let longer : length new.waiting.held ≡ length kept + n = omega (arith, names-length new (with_messages (capacity s) n (record k { messages = kept })) now, more-messages (capacity s) n (record k { messages = kept })) in
+    let longer : length new.waiting.held ≡ length kept + n = omega (arith, names-length new (with_messages (message_capacity s) n (record k { messages = kept })) now, more-messages (message_capacity s) n (record k { messages = kept })) in
     subst (NamesAre new) (sym (after-is s old new k kept n is_kept longer made)) now
 
 -- ---- a panic in the machine's words
 
-disconnect-le : (m : PendingMessage) (c : OpenConnection) (o k : Bool) (ph : ConnPhase) → count_by (same_message m) (disconnect_as o k ph c) ≤ bit (not o && (c.serial == m.connection))
+-- the number of a connection
+abbrev is_number : Option ℕ → ℕ → Bool
+is_number o n = option_map_or (λ k. n == k) o false
+
+same-number : (m : PendingMessage) (c : OpenConnection) → bit (same_message m (disconnect_message c)) ≤ bit (is_number m.connection c.serial)
+same-number m c =
+    let go : (o : Option ℕ) (x : Bool) → bit (is_same_connection (Some c.serial) o && x) ≤ bit (is_number o c.serial) = elim [ None ↦ λ x. omega arith | Some k ↦ λ x. both-le-left (c.serial == k) x ] in
+    go m.connection ((c.client.0 == m.client.0) && int_eq PSA_IPC_DISCONNECT m.kind)
+
+disconnect-le : (m : PendingMessage) (c : OpenConnection) (o k : Bool) (ph : ConnPhase) → count_by (same_message m) (disconnect_as o k ph c) ≤ bit (not o && is_number m.connection c.serial)
 disconnect-le m c true k ph = omega arith
 disconnect-le m c false true ph =
-    let go : (b : Bool) → count_by (same_message m) (if b then [] else disconnect_message c ∷ []) ≤ bit (c.serial == m.connection) =
-    elim [ true ↦ omega arith | false ↦ omega (arith, count-cons (same_message m) (disconnect_message c) [], same-narrow m (disconnect_message c)) ] in
+    let go : (b : Bool) → count_by (same_message m) (if b then [] else disconnect_message c ∷ []) ≤ bit (is_number m.connection c.serial) =
+    elim [ true ↦ omega arith | false ↦ omega (arith, count-cons (same_message m) (disconnect_message c) [], same-number m c) ] in
     go (is_dead ph)
 disconnect-le m c false false ph = omega arith
 
-disconnects-le : (s : System) (p : ℕ) (m : PendingMessage) (cs : List OpenConnection) → count_by (same_message m) (disconnect_messages s p cs) ≤ count_by (λ c. not (is_service_of s p c.service) && (c.serial == m.connection)) cs
+disconnects-le : (s : System) (p : ℕ) (m : PendingMessage) (cs : List OpenConnection) → count_by (same_message m) (disconnect_messages s p cs) ≤ count_by (λ c. not (is_service_of s p c.service) && is_number m.connection c.serial) cs
 disconnects-le s p m [] = omega arith
 disconnects-le s p m (c ∷ cs) =
     omega (
@@ -120,34 +129,45 @@ disconnects-le s p m (c ∷ cs) =
       count-append (same_message m) (disconnect_as (is_service_of s p c.service) (c.client.0 == p) c.phase c) (disconnect_messages s p cs),
       disconnect-le m c (is_service_of s p c.service) (c.client.0 == p) c.phase,
       disconnects-le s p m cs,
-      count-cons (λ d. not (is_service_of s p d.service) && (d.serial == m.connection)) c cs,
+      count-cons (λ d. not (is_service_of s p d.service) && is_number m.connection d.serial) c cs,
     )
 
 -- the disconnections that a panic sends are of other connections than the messages that it takes from its services
 pub disconnects-apart : (s : System) (b : SpmState) (p : ℕ) → PairsOff b → All (λ m. not (is_service_of s p m.service) ≡ false → stays (disconnect_messages s p b.connections) m ≡ false) b.messages
 disconnects-apart s b p h = λ i d lt off.
     let m : PendingMessage = get_or b.messages i d in
-    let t : Mark = λ n a v ph. is_service_of s p v && (n == m.connection) in
-    let here : message_marked t m ≡ true = both_on (is_service_of s p m.service) (m.connection == m.connection) (not_off (is_service_of s p m.service) off) (is_itself m.connection) in
-    let none : count_by (same_message m) (disconnect_messages s p b.connections) ≡ 0 =
+    let flip : (x n : ℕ) → (x == n) ≡ (n == x) = λ x n. grind arith in
+    let numbered : (n : ℕ) → m.connection ≡ Some n → count_by (λ c. not (is_service_of s p c.service) && (c.serial == n)) b.connections ≡ 0 =
+    λ n conn.
+    let t : Mark = λ k a v ph. is_service_of s p v && (k == n) in
+    let here : message_marked t m ≡ true = marked_as m n t conn ∙ both_on (is_service_of s p m.service) (n == n) (not_off (is_service_of s p m.service) off) (is_itself n) in
     omega (
       arith,
-      disconnects-le s p m b.connections,
       member-counts (message_marked t) b.messages i d lt,
       ap bit here,
       h.paired t,
-      count-le (connection_marked t) (λ c. is_service_of s p c.service && (c.serial == m.connection)) (λ c. both-le-right (is_awaited c.phase) (is_service_of s p c.service && (c.serial == m.connection))) b.connections,
-      count-split (λ c. is_service_of s p c.service) (λ c. c.serial == m.connection) b.connections,
-      unique 0 b.connections_made m.connection b.connections h.rising,
+      count-le (connection_marked t) (λ c. is_service_of s p c.service && (c.serial == n)) (λ c. both-le-right (is_awaited c.phase) (is_service_of s p c.service && (c.serial == n))) b.connections,
+      count-split (λ c. is_service_of s p c.service) (λ c. c.serial == n) b.connections,
+      unique 0 b.connections_made n b.connections h.rising,
     ) in
+    let nobody : (o : Option ℕ) → m.connection ≡ o → count_by (λ c. not (is_service_of s p c.service) && is_number o c.serial) b.connections ≡ 0 =
+    elim [
+      | None ↦ λ e. none-counts (λ c. not (is_service_of s p c.service) && false) (λ c. and_false (not (is_service_of s p c.service))) b.connections
+      | Some n ↦ λ e. numbered n e
+    ] in
+    let none : count_by (same_message m) (disconnect_messages s p b.connections) ≡ 0 = omega (arith, disconnects-le s p m b.connections, nobody m.connection refl) in
     let go : (x : Bool) → stays (disconnect_messages s p b.connections) m ≡ x → x ≡ false = elim [ true ↦ λ e. absurd (omega (arith, any-count (same_message m) (disconnect_messages s p b.connections) e, none)) | false ↦ λ e. refl ] in
     go (stays (disconnect_messages s p b.connections) m) refl where
       not_off : (x : Bool) → not x ≡ false → x ≡ true
       not_off true e = refl
       not_off false e = cc
 
+      and_false : (x : Bool) → (x && false) ≡ false
+      and_false true = refl
+      and_false false = refl
+
 pub names-panicked : (s : System) (old new : TablesView) (p : ℕ) (kept : List SlotName) (n : ℕ) → PairsOff (spm_of old) → spm_of new ≡ panic_effect s (spm_of old) p
-    → kept ≡ names_of (λ h. not (is_service_of s p h.item.service)) old.waiting → TakesOn (capacity s) old kept n new → KeepsNames s old new
+    → kept ≡ names_of (λ h. not (is_service_of s p h.item.service)) old.waiting → TakesOn (message_capacity s) old kept n new → KeepsNames s old new
 names-panicked s old new p kept n pairs effect names so_far =
     let is_after = effect ∙ after_panic-is s (spm_of old) p in
     names-closed s old new (λ m. not (is_service_of s p m.service)) (disconnect_messages s p (spm_of old).connections) kept n so_far names

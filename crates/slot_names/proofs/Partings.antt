@@ -1,9 +1,9 @@
--- Items of a list that go while others stay, where no two items have one key.
-use Rattle.std.proofs.Common.{ℕ, ◌≡◌, ◌≤◌, ◌==◌, Bool, true, false, cond, not, ◌&&◌, ◌||◌, List, [], ◌∷◌, ◌++◌, filter, get_or, arith, ◌∙◌, ap, refl}
+-- Items of a list that go while others stay, where no two items are like each other.
+use Rattle.std.proofs.Common.{◌≡◌, ◌≤◌, Bool, true, false, cond, not, ◌&&◌, ◌||◌, List, [], ◌∷◌, ◌++◌, filter, get_or, arith, ◌∙◌, ap, refl}
 use Rattle.std.specs.Prelude.{count_by, All}
 use Rattle.std.specs.List.{list_any}
 use Rattle.std.proofs.lemmas.List.Folds.{list_any-append}
-use Rattle.counting_law.proofs.Counts.{bit, any-count, count-le}
+use Rattle.counting_law.proofs.Counts.{bit, any-count}
 use Rattle.counting_law.proofs.Pairs.{count-split, member-counts}
 use Rattle.slot_names.proofs.Kept.{any-at}
 
@@ -18,18 +18,12 @@ pub both_on : (a b : Bool) → a ≡ true → b ≡ true → (a && b) ≡ true
 both_on true b e f = f
 both_on false b e f = cc
 
-both-le : (a b c : Bool) → bit b ≤ bit c → bit (a && b) ≤ bit (a && c)
-both-le true b c le = le
-both-le false b c le = omega arith
-
 -- an item is like one of those that stay, or of the new ones, exactly where it stays itself
-pub like-kept : {X : Type 0} (like : X → X → Bool) (key : X → ℕ) → ((x : X) → like x x ≡ true) → ((x y : X) → bit (like x y) ≤ bit (key y == key x)) → (q : X → Bool) (xs new : List X)
-    → ((n : ℕ) → count_by (λ x. key x == n) xs ≤ 1) → All (λ x. q x ≡ false → list_any (like x) new ≡ false) xs
+pub like-kept : {X : Type 0} (like : X → X → Bool) → ((x : X) → like x x ≡ true) → (q : X → Bool) (xs new : List X)
+    → ((x : X) → count_by (like x) xs ≤ 1) → All (λ x. q x ≡ false → list_any (like x) new ≡ false) xs
     → All (λ x. list_any (like x) (filter q xs ++ new) ≡ q x) xs
-like-kept {X} like key self narrow q xs new one apart = λ k d lt.
+like-kept {X} like self q xs new one apart = λ k d lt.
     let x : X = get_or xs k d in
-    let n : ℕ = key x in
-    let same : (key x == n) ≡ true = grind arith in
     let stays : q x ≡ true → list_any (λ y. q y && like x y) xs ≡ true = λ e. any-at (λ y. q y && like x y) xs k d lt (both_on (q x) (like x x) e (self x)) in
     let gone : q x ≡ false → (b : Bool) → list_any (λ y. q y && like x y) xs ≡ b → b ≡ false =
     λ e. elim [
@@ -37,11 +31,10 @@ like-kept {X} like key self narrow q xs new one apart = λ k d lt.
           absurd (omega (
             arith,
             any-count (λ y. q y && like x y) xs f,
-            count-le (λ y. q y && like x y) (λ y. q y && (key y == n)) (λ y. both-le (q y) (like x y) (key y == n) (narrow x y)) xs,
-            member-counts (λ y. not (q y) && (key y == n)) xs k d lt,
-            ap bit (both_on (not (q x)) (key x == n) (ap not e) same),
-            count-split q (λ y. key y == n) xs,
-            one n,
+            member-counts (λ y. not (q y) && like x y) xs k d lt,
+            ap bit (both_on (not (q x)) (like x x) (ap not e) (self x)),
+            count-split q (like x) xs,
+            one x,
           ))
       | false ↦ λ f. refl
     ] in

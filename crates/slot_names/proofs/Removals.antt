@@ -1,19 +1,21 @@
 -- Changes of tables that remove messages and make nothing.
-use Rattle.std.proofs.Common.{ℕ, ◌≡◌, ◌≤◌, ◌+◌, ◌==◌, Bool, not, List, [], ◌++◌, length, filter, get_or, arith, ◌∙◌, ap, sym, refl, subst}
-use Rattle.std.specs.Prelude.{count_by, All, Some}
+use Rattle.std.proofs.Common.{ℕ, ◌≡◌, ◌≤◌, ◌+◌, ◌==◌, ◌&&◌, Bool, false, not, List, [], ◌++◌, length, filter, get_or, arith, ◌∙◌, ap, sym, refl, subst}
+use Rattle.std.specs.Prelude.{count_by, is_none, All, Option, Some, None}
+use Rattle.std.specs.Option.{option_map_or}
 use Rattle.std.specs.List.{list_any}
 use Rattle.std.specs.Ordering.{int_eq}
 use Rattle.std.proofs.lemmas.List.{append-nil, length-map}
 use Rattle.ffm_model.specs.declared.system.System.{System}
 use Rattle.ffm_model.specs.declared.objects.OpenConnection.{OpenConnection}
 use Rattle.ffm_model.specs.State.{SpmState}
-use Rattle.ffm_model.specs.Names.{stays}
+use Rattle.ffm_model.specs.Names.{is_same_connection, is_same_message, stays}
 use Rattle.object_pools.specs.declared.slot.Slot.{Slot}
 use Rattle.object_pools.specs.declared.slot.Held.{Held}
 use Rattle.object_pools.specs.Pool.{Places, IsKept, has_slot, item_at, with_item, without}
 use Rattle.handle_table.specs.Handles.{slot_name}
 use Rattle.handle_table.proofs.Twins.{count-map}
-use Rattle.counting_law.specs.Objects.{ObjectsFit, Mark, is_awaited, connection_marked}
+use Rattle.counting_law.specs.Objects.{ObjectsFit, Mark, called_by, is_awaited, connection_marked, message_marked}
+use Rattle.counting_law.proofs.Slots.{one-call}
 use Rattle.counting_law.proofs.Counts.{bit, count-le}
 use Rattle.counting_law.proofs.Parts.{both-le-left, both-le-right, unique}
 use Rattle.spm_tables.specs.declared.item.QueuedMessage.{QueuedMessage}
@@ -26,28 +28,42 @@ use Rattle.slot_names.proofs.Changes.{after-is, kept_names}
 use Rattle.slot_names.proofs.Partings.{like-kept}
 
 pub fitting-pairs-off : (s : System) (b : SpmState) → ObjectsFit s b → PairsOff b
-fitting-pairs-off s b h = record { paired = h.paired; rising = h.rising }
+fitting-pairs-off s b h = record { paired = h.paired; calls = λ a. one-call s b a h; rising = h.rising }
 
--- so each connection has one message at most
+-- so each connection has one message at most, and each actor one without
 pub one-message : (b : SpmState) → PairsOff b → OneMessageEach b
 one-message b h = λ n.
-    let t : Mark = λ serial a v ph. serial == n in
-    omega (
-      arith,
-      h.paired t,
-      count-le (connection_marked t) (λ c. c.serial == n) (λ c. both-le-right (is_awaited c.phase) (c.serial == n)) b.connections,
-      unique 0 b.connections_made n b.connections h.rising,
-    )
+    let t : ℕ → Mark = λ k serial a v ph. serial == k in
+    let numbered : (k o : Option ℕ) (x : Bool) (i : ℕ) → k ≡ Some i → bit (is_same_connection o k && x) ≤ bit (option_map_or (λ z. z == i) o false) =
+    λ k. elim [
+      | None ↦ λ x i e. omega (arith, ap (λ (w : Option ℕ). bit (is_same_connection None w && x)) e)
+      | Some z ↦ λ x i e. omega (arith, ap (λ (w : Option ℕ). bit (is_same_connection (Some z) w && x)) e, both-le-left (z == i) x)
+    ] in
+    let call : (k o : Option ℕ) (x : ℕ) (y : Bool) → k ≡ None → bit (is_same_connection o k && ((x == n.client.0) && y)) ≤ bit (is_none o && (x == n.client.0)) =
+    λ k. elim [
+      | None ↦ λ x y e. omega (arith, ap (λ (w : Option ℕ). bit (is_same_connection None w && ((x == n.client.0) && y))) e, both-le-left (x == n.client.0) y)
+      | Some z ↦ λ x y e. omega (arith, ap (λ (w : Option ℕ). bit (is_same_connection (Some z) w && ((x == n.client.0) && y))) e)
+    ] in
+    let go : (k : Option ℕ) → n.connection ≡ k → count_by (is_same_message n) b.messages ≤ 1 =
+    elim [
+      | None ↦ λ e. omega (arith, count-le (is_same_message n) (called_by n.client.0) (λ m. call n.connection m.connection m.client.0 (int_eq m.kind n.kind) e) b.messages, h.calls n.client.0)
+      | Some i ↦ λ e.
+          omega (
+            arith,
+            count-le (is_same_message n) (message_marked (t i)) (λ m. numbered n.connection m.connection ((m.client.0 == n.client.0) && int_eq m.kind n.kind) i e) b.messages,
+            h.paired (t i),
+            count-le (connection_marked (t i)) (λ c. c.serial == i) (λ c. both-le-right (is_awaited c.phase) (c.serial == i)) b.connections,
+            unique 0 b.connections_made i b.connections h.rising,
+          )
+    ] in
+    go n.connection refl
 
 pub fitting-messages : (s : System) (b : SpmState) → ObjectsFit s b → OneMessageEach b
 fitting-messages s b h = one-message b (fitting-pairs-off s b h)
 
 -- the same, of the items
-pub one-item : (d : TablesView) → OneMessageEach (spm_of d) → (n : ℕ) → count_by (λ h. h.item.serial == n) d.waiting.held ≤ 1
-one-item d one n = omega (arith, one n, count-map held_message (λ m. m.connection == n) d.waiting.held)
-
-pub like-narrow : (h x : Held QueuedMessage) → bit (is_like h x) ≤ bit (x.item.serial == h.item.serial)
-like-narrow h x = both-le-left (x.item.serial == h.item.serial) (int_eq x.item.kind h.item.kind)
+pub one-item : (d : TablesView) → OneMessageEach (spm_of d) → (h : Held QueuedMessage) → count_by (is_like h) d.waiting.held ≤ 1
+one-item d one h = omega (arith, one (held_message h), count-map held_message (is_same_message (held_message h)) d.waiting.held)
 
 -- the messages that pass the test stay, and the others go
 pub names-removed : (s : System) (old new : TablesView) (q : Held QueuedMessage → Bool) → OneMessageEach (spm_of old) → KeepsConnectionNames old.linked new.linked
@@ -57,7 +73,7 @@ names-removed s old new q one linked waiting = λ k was.
     let ts = name_list (filter q hs) in
     let held : new.waiting.held ≡ filter q hs = ap (λ (p : Places QueuedMessage). p.held) waiting in
     let apart : All (λ h. list_any (is_like h) (filter q hs ++ []) ≡ q h) hs =
-    like-kept is_like (λ h. h.item.serial) like_itself like-narrow q hs [] (one-item old one) (λ i d lt e. refl) in
+    like-kept is_like like_itself q hs [] (one-item old one) (λ i d lt e. refl) in
     let stay : All (λ h. stays (message_list new.waiting.held) (held_message h) ≡ q h) hs =
     λ i d lt.
     let h : Held QueuedMessage = get_or hs i d in

@@ -5,11 +5,12 @@ use Rattle.std.specs.List.{list_any}
 use Rattle.std.specs.Ordering.{int_eq}
 use Rattle.ffm_model.specs.declared.objects.OpenConnection.{OpenConnection}
 use Rattle.ffm_model.specs.State.{SpmState}
-use Rattle.ffm_model.specs.Names.{NamesSoFar, SlotName, with_messages}
+use Rattle.ffm_model.specs.declared.objects.PendingMessage.{PendingMessage}
+use Rattle.ffm_model.specs.Names.{NamesSoFar, SlotName, is_same_connection, is_same_message, with_messages}
 use Rattle.object_pools.specs.declared.slot.Held.{Held}
 use Rattle.object_pools.specs.Pool.{Places}
 use Rattle.handle_table.specs.Handles.{live_names, slot_name}
-use Rattle.counting_law.specs.Objects.{Mark, RisesTo, connection_marked, message_marked}
+use Rattle.counting_law.specs.Objects.{Mark, RisesTo, called_by, connection_marked, message_marked}
 use Rattle.spm_tables.specs.declared.item.QueuedMessage.{QueuedMessage}
 use Rattle.spm_tables.specs.TablesView.{TablesView}
 use Rattle.slot_names.specs.Named.{IsNamedBy, NamesAre}
@@ -20,11 +21,11 @@ pub record KeepsConnectionNames (old new : Places OpenConnection) : Type 0 where
   pub takes : new.takes ≡ old.takes
   pub held : (ts : List SlotName) → All (IsNamedBy ts) old.held → All (IsNamedBy ts) new.held
 
--- a message of the same connection and kind
+-- a message of the same connection, client and kind
 abbrev pub is_like : Held QueuedMessage → Held QueuedMessage → Bool
-is_like h n = (n.item.serial == h.item.serial) && int_eq n.item.kind h.item.kind
+is_like h n = is_same_connection n.item.serial h.item.serial && ((n.item.client.0 == h.item.client.0) && int_eq n.item.kind h.item.kind)
 
--- no message comes or goes, and each has the slot, connection and kind that it had
+-- no message comes or goes, and each has the slot, connection, client and kind that it had
 pub record KeepsMessageNames (old new : Places QueuedMessage) : Type 0 where
   pub generations : new.generations ≡ old.generations
   pub takes : new.takes ≡ old.takes
@@ -39,11 +40,12 @@ names_of q p = map (λ (h : Held QueuedMessage). slot_name h.slot) (filter q p.h
 abbrev pub TakesOn : ℕ → TablesView → List SlotName → ℕ → TablesView → Type 0
 TakesOn size old kept n d = (k : NamesSoFar) → NamesAre old k → NamesAre d (with_messages size n (record k { messages = kept }))
 
--- no two messages are of one connection
+-- no two messages are of one connection, client and kind
 abbrev pub OneMessageEach : SpmState → Type 0
-OneMessageEach b = (n : ℕ) → count_by (λ m. m.connection == n) b.messages ≤ 1
+OneMessageEach b = (n : PendingMessage) → count_by (is_same_message n) b.messages ≤ 1
 
--- messages pair off with the connections whose service owes an answer, whatever the phases of the actors
+-- messages pair off with the connections whose service owes an answer, and no actor has two requests by stateless handles, whatever the phases of the actors
 pub record PairsOff (b : SpmState) : Type 0 where
   pub paired : (t : Mark) → count_by (message_marked t) b.messages ≡ count_by (connection_marked t) b.connections
+  pub calls : (a : ℕ) → count_by (called_by a) b.messages ≤ 1
   pub rising : RisesTo 0 b.connections b.connections_made

@@ -13,7 +13,7 @@ ghost use Rattle.ffm_model.specs.declared.objects.OpenConnection.{OpenConnection
 ghost use Rattle.ffm_model.specs.declared.objects.PendingMessage.{PendingMessage};
 ghost use Rattle.ffm_model.specs.Actors.{is_service_of};
 ghost use Rattle.ffm_model.specs.Memory.{ByteMap};
-ghost use Rattle.ffm_model.specs.Names.{NamesSoFar, SlotName, capacity, name_due, no_names, stays};
+ghost use Rattle.ffm_model.specs.Names.{NamesSoFar, SlotName, message_capacity, name_due, no_names, stays};
 ghost use Rattle.ffm_model.specs.Panic.{panic_effect};
 ghost use Rattle.ffm_model.specs.ServiceCalls.{reply_on, service_of_signal};
 ghost use Rattle.ffm_model.specs.State.{opening_spm, phase_of};
@@ -36,7 +36,7 @@ pub fn slots_follow_names()
     ensures untouched { (s : System) (old new : TablesView) → new.linked ≡ old.linked → new.waiting ≡ old.waiting → KeepsNames s old new }
     ensures connection_changes { (s : System) (old new : TablesView) (slot : Slot) (c changed : OpenConnection) → IsKept 256 old.linked → item_at old.linked slot ≡ Some c → changed.serial ≡ c.serial
         → new.linked ≡ with_item old.linked slot changed → new.waiting ≡ old.waiting → KeepsNames s old new }
-    ensures message_changes { (s : System) (old new : TablesView) (place : Slot) (m changed : QueuedMessage) → IsKept 256 old.waiting → item_at old.waiting place ≡ Some m → changed.serial ≡ m.serial → changed.kind ≡ m.kind
+    ensures message_changes { (s : System) (old new : TablesView) (place : Slot) (m changed : QueuedMessage) → IsKept 304 old.waiting → item_at old.waiting place ≡ Some m → changed.serial ≡ m.serial → changed.client ≡ m.client → changed.kind ≡ m.kind
         → new.linked ≡ old.linked → new.waiting ≡ with_item old.waiting place changed → KeepsNames s old new }
 
     // psa_connect
@@ -68,7 +68,7 @@ pub fn panics_follow_names()
     ensures message_comes { (size : ℕ) (old mid new : TablesView) (kept : List SlotName) (n : ℕ) (place : Slot) (m : QueuedMessage) → TakesOn size old kept n mid → length mid.waiting.generations ≡ size
         → free_slot mid.waiting ≡ Some place → KeepsConnectionNames mid.linked new.linked → new.waiting ≡ taken mid.waiting place m → TakesOn size old kept (n + 1) new }
     ensures panic { (s : System) (old new : TablesView) (partition : ℕ) (kept : List SlotName) (n : ℕ) → PairsOff (spm_of old) → spm_of new ≡ panic_effect s (spm_of old) partition
-        → kept ≡ names_of (λ h. not (is_service_of s partition h.item.service)) old.waiting → TakesOn (capacity s) old kept n new → KeepsNames s old new }
+        → kept ≡ names_of (λ h. not (is_service_of s partition h.item.service)) old.waiting → TakesOn (message_capacity s) old kept n new → KeepsNames s old new }
     ensures both { (s : System) (old mid new : TablesView) (stay : PendingMessage → Bool) → KeepsNames s old mid → KeepsNames s mid new
         → (spm_of mid).messages ≡ filter stay (spm_of old).messages → mid.linked.takes ≡ old.linked.takes → new.linked.takes ≡ mid.linked.takes
         → All (λ m. stay m ≡ false → (stays (spm_of mid).messages m ≡ false) × (stays (spm_of new).messages m ≡ false)) (spm_of old).messages → KeepsNames s old new }
@@ -79,7 +79,7 @@ pub fn panics_follow_names()
 
 /// Tables begin without names, and the handle of a slot is the name that a call has to show.
 pub fn handles_are_names()
-    ensures opening { (s : System) (d : TablesView) → IsKept 256 d.linked → IsKept 256 d.waiting → spm_of d ≡ opening_spm s → d.waiting.takes ≡ 0 → NamesAre d no_names }
+    ensures opening { (s : System) (d : TablesView) → IsKept 256 d.linked → IsKept 304 d.waiting → spm_of d ≡ opening_spm s → d.waiting.takes ≡ 0 → NamesAre d no_names }
     ensures at_return { (s : System) (d : TablesView) (given : List Handle) (m : ByteMap) (a : ℕ) (k : NamesSoFar) (slot : Slot) (c : OpenConnection) → NamesAre d k → item_at d.linked slot ≡ Some c
         → phase_of (spm_of d) a ≡ actor.Connected c.serial → name_due s (state_with d given m) a call.Resume k ≡ Some (handle_at family.Connection slot) }
     ensures at_get { (s : System) (d : TablesView) (given : List Handle) (m : ByteMap) (a signal msg service : ℕ) (k : NamesSoFar) (h : Held QueuedMessage) → NamesAre d k → service_of_signal s a signal ≡ Some service

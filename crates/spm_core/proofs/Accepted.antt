@@ -1,11 +1,12 @@
 -- The connection that a client is still to be told of, and the returns of calls that waited.
-use Rattle.std.proofs.Common.{ℕ, ◌≡◌, ◌<◌, ◌≤◌, Bool, true, false, List, [], ◌∷◌, refl, ap, sym, subst, ◌∙◌, arith, All}
-use Rattle.std.specs.Prelude.{Option, Some, None, IsNone, IfSome, IsSomeAnd, IsTrue, ◌&&◌, ◌==◌, nat_le, find, count_by, option_and_then, cond, get_or, bit_and, pos}
+use Rattle.std.proofs.Common.{ℕ, ◌≡◌, ◌≤◌, Bool, true, false, List, [], ◌∷◌, refl, ap, sym, subst, ◌∙◌, arith, All}
+use Rattle.std.specs.Prelude.{Option, Some, None, IfSome, IsSomeAnd, IsTrue, ◌&&◌, ◌==◌, nat_le, find, count_by, cond, get_or, bit_and, pos}
 use Rattle.std.proofs.lemmas.Bool.Decides.{nat_tests}
 use Rattle.ffm_model.specs.declared.system.System.{System}
 use Rattle.ffm_model.specs.declared.objects.ActorPhase.{ActorPhase}
 use Rattle.ffm_model.specs.declared.objects.ActorPhase.TheVariants as phase
 use Rattle.ffm_model.specs.declared.objects.OpenConnection.{OpenConnection}
+use Rattle.ffm_model.specs.declared.objects.PendingMessage.{PendingMessage}
 use Rattle.ffm_model.specs.declared.machine.Call.TheVariants as call
 use Rattle.ffm_model.specs.declared.machine.Handle.{Handle}
 use Rattle.ffm_model.specs.declared.machine.Outcome.TheVariants.{Value, Signals}
@@ -14,7 +15,7 @@ use Rattle.ffm_model.specs.ClientCalls.{returned}
 use Rattle.ffm_model.specs.Names.{name_at_return}
 use Rattle.ffm_model.specs.Signals.{signals_of}
 use Rattle.ffm_model.specs.State.{phase_of, with_phase}
-use Rattle.counting_law.specs.Objects.{ObjectsFit, PhaseFits, accepted_as, awaited_of, asking_of}
+use Rattle.counting_law.specs.Objects.{ObjectsFit, PhaseFits, accepted_as, awaited_by, asked_by}
 use Rattle.counting_law.proofs.Counts.{some-found, find-passes}
 use Rattle.counting_law.proofs.Parts.{left_true, right_true, equal_from}
 use Rattle.ffm_model.specs.Names.{NamesSoFar, name_of, no_slot}
@@ -87,16 +88,17 @@ accepted-first a n cs (Some c) one is least =
 pub joined-accepted : (s : System) (d : TablesView) (a n : ℕ) → ObjectsFit s (spm_of d) → phase_of (spm_of d) a ≡ phase.Connected n → count_by (accepted_as a n) (spm_of d).connections ≡ 1
 joined-accepted s d a n fits is =
     let cs : List OpenConnection = (spm_of d).connections in
-    let fit : PhaseFits (phase.Connected n) (count_by (awaited_of a) cs) (count_by (asking_of a) cs) (λ m. count_by (accepted_as a m) cs) =
-    subst (λ (p : ActorPhase). PhaseFits p (count_by (awaited_of a) cs) (count_by (asking_of a) cs) (λ m. count_by (accepted_as a m) cs)) is (fits.phases a) in
+    let ms : List PendingMessage = (spm_of d).messages in
+    let fit : PhaseFits (phase.Connected n) (awaited_by cs ms a) (asked_by cs ms a) (λ m. count_by (accepted_as a m) cs) =
+    subst (λ (p : ActorPhase). PhaseFits p (awaited_by cs ms a) (asked_by cs ms a) (λ m. count_by (accepted_as a m) cs)) is (fits.phases a) in
     fit.1
 
 -- a live slot with this serial number can be named
-pub live-nameable : (p : Places OpenConnection) (s : Slot) (n : ℕ) → IsKept 256 p → IsSomeAnd (item_at p s) (λ c. c.serial ≡ n) → IsNameable s
+pub live-nameable : (p : Places OpenConnection) (s : Slot) (n : ℕ) → IsKept 256 p → IsSomeAnd (item_at p s) (λ c. c.serial ≡ n) → IsNameable Connection s
 live-nameable p s n kept live =
-    let go : (o : Option OpenConnection) → item_at p s ≡ o → IsSomeAnd o (λ c. c.serial ≡ n) → IsNameable s = elim [
+    let go : (o : Option OpenConnection) → item_at p s ≡ o → IsSomeAnd o (λ c. c.serial ≡ n) → IsNameable Connection s = elim [
       | None ↦ λ is h. absurd h
-      | Some c ↦ λ is h. nameable-at p s c kept is
+      | Some c ↦ λ is h. nameable-at Connection p s c kept is
     ] in
     go (item_at p s) refl live
 

@@ -1,7 +1,7 @@
 -- What the calls of the crates below are as calls of the machine.
-use Rattle.std.proofs.Common.{ℕ, ◌≡◌, Bool, true, false, List, [], ◌∷◌, ◌++◌, refl, ap, sym, subst, ◌∙◌}
+use Rattle.std.proofs.Common.{ℕ, ◌≡◌, Bool, true, false, List, [], refl, ap, sym, subst, ◌∙◌}
 use Rattle.std.specs.Prelude.{Option, Some, None, Result, Ok, Err, IsSomeAnd, IfOk, IsErr, is_none, ◌||◌, if◌then◌else◌}
-use Rattle.std.specs.Option.{option_map, option_map_or}
+use Rattle.std.specs.Option.{option_map}
 use Rattle.ffm_model.specs.declared.system.System.{System}
 use Rattle.ffm_model.specs.declared.system.ActorKind.{ActorKind}
 use Rattle.ffm_model.specs.declared.scenario.Bytes.{Bytes}
@@ -16,14 +16,14 @@ use Rattle.ffm_model.specs.Actors.{kind_of}
 use Rattle.ffm_model.specs.Memory.{ByteMap}
 use Rattle.ffm_model.specs.State.{State, phase_of, handle_eq}
 use Rattle.ffm_model.specs.ClientCalls.{Move, Effect, move, effect, in_state}
-use Rattle.ffm_model.specs.Calls.{call_case, case_of, effect_of, effect_or_error, error_effect, has_call, programmer_error}
+use Rattle.ffm_model.specs.Calls.{call_case, case_of, effect_or_error, has_call, programmer_error}
 use Rattle.ffm_model.specs.Names.{NamesSoFar, name_due, name_at_return}
 use Rattle.ffm_model.specs.Step.{handle_shown}
 use Rattle.memory_image.specs.Pieces.{byte_at}
 use Rattle.slot_names.specs.Named.{NamesAre}
 use Rattle.spm_tables.specs.Answers.{Answers, state_with}
 use Rattle.spm_tables.specs.TablesView.{TablesView, spm_of}
-use Rattle.spm_core.specs.Performed.{Attempts, Does, IsEffect, IsRefusedCall, IsReturned, ShowsName, entry_of}
+use Rattle.spm_core.specs.Performed.{Attempts, Does, IsEffect, IsRefusedCall, IsReturned, ShowsName}
 
 pub some-and : {X : Type 0} (P : X → Type 0) (o : Option X) (x : X) → o ≡ Some x → P x → IsSomeAnd o P
 some-and P o x is p = subst (λ y. IsSomeAnd y P) (sym is) p

@@ -2,7 +2,6 @@
 use Rattle.std.proofs.Common.{ℕ, ◌≡◌, ◌<◌, ◌≤◌, ◌+◌, Bool, true, false, List, [], ◌∷◌, ◌++◌, length, refl, ap, sym, subst, ◌∙◌, arith, length-append, All, inl, inr}
 use Rattle.std.specs.Prelude.{Option, Some, None, option_and_then, IsSomeAnd, IsSome, IfSome, ◌&&◌, ◌||◌, not, nat_lt, nat_le, is_some, get_or, if◌then◌else◌, ◌⊎◌}
 use Rattle.std.specs.Option.{option_map, option_map_or}
-use Rattle.std.specs.List.{list_any, range_with_len}
 use Rattle.std.proofs.lemmas.Bool.Decides.{nat_tests}
 use Rattle.std.proofs.lemmas.List.Folds.{list_any_at}
 use Rattle.std.proofs.lemmas.List.FromFn.{length-range_with_len, get_or-range_with_len}
@@ -24,11 +23,10 @@ use Rattle.ffm_model.specs.Calls.{effect_of}
 use Rattle.ffm_model.specs.declared.machine.Outcome.{Outcome}
 use Rattle.ffm_model.specs.declared.machine.Phase.{Phase}
 use Rattle.ffm_model.specs.State.{SpmState, State, opening_spm, phase_of}
-use Rattle.ffm_model.specs.Signals.{enabled, may_resume, can_go_on, signals_of, is_panicked}
+use Rattle.ffm_model.specs.Signals.{enabled, may_resume, is_panicked}
 use Rattle.ffm_model.specs.Step.{step, after, may_call, returns_when_due, handle_shown}
 use Rattle.ffm_model.specs.Verdicts.{some_enabled, all_actors, verdict_at, verdict_of}
 use Rattle.ffm_model.specs.Names.{NamedState, named_step, named_after, first_named, NamesSoFar, names}
-use Rattle.ffm_model.specs.Records.{ends_blocked}
 use Rattle.ffm_model.proofs.StepLemmas.{after-push}
 use Rattle.counting_law.specs.Objects.{ObjectsFit}
 use Rattle.counting_law.specs.Takes.{TakesFew}
@@ -196,7 +194,7 @@ last-kept o history bytes d capacity a keeps stays =
 
 -- a manager at its start
 pub keeps-first : (o : Opening) (d : TablesView) (capacity : ℕ) → o.limit ≤ MAX_ENTRIES → o.limit ≤ capacity → regions_of o.memory ≡ ranges_of o.system.regions → MadeFor d o.system
-    → IsKept 256 d.linked → IsKept 256 d.waiting → spm_of d ≡ opening_spm o.system → d.waiting.takes ≡ 0 → Keeps o [] o.memory d capacity
+    → IsKept 256 d.linked → IsKept 304 d.waiting → spm_of d ≡ opening_spm o.system → d.waiting.takes ≡ 0 → Keeps o [] o.memory d capacity
 keeps-first o d capacity limited room regions made linked waiting opens untaken = record {
   limited = limited;
   within = omega arith;

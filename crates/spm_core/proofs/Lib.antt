@@ -2,3 +2,4 @@ pub mod Accepted
 pub mod Attempted
 pub mod Kept
 pub mod Made
+pub mod InterruptLemmas

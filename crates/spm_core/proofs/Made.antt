@@ -1,9 +1,8 @@
 -- A made event is a step of the machine, under the name that is due, and what the manager keeps is kept.
-use Rattle.std.proofs.Common.{ℕ, ◌≡◌, ◌<◌, ◌≤◌, ◌+◌, ◌||◌, ◌&&◌, Bool, true, false, not, List, [], ◌∷◌, ◌++◌, length, refl, ap, sym, subst, ◌∙◌, arith, length-append, ℤ, pos}
-use Rattle.std.specs.Prelude.{Option, Some, None, option_and_then, nat_lt, nat_le, is_none, is_some, get_or, find, position, if◌then◌else◌, IsSomeAnd, IsSome}
+use Rattle.std.proofs.Common.{ℕ, ◌≡◌, ◌<◌, ◌≤◌, ◌||◌, Bool, true, false, not, List, [], ◌∷◌, ◌++◌, length, refl, sym, subst, arith, pos}
+use Rattle.std.specs.Prelude.{Option, Some, None, option_and_then, nat_lt, is_none, is_some, get_or, find, position, if◌then◌else◌, IsSomeAnd}
 use Rattle.std.specs.List.{position_or_len}
 use Rattle.std.specs.Option.{option_map, option_map_or}
-use Rattle.std.specs.Ordering.{int_eq}
 use Rattle.std.proofs.lemmas.Bool.Decides.{nat_tests, Decides-int_eq}
 use Rattle.ffm_model.specs.declared.constants.TheConstants.{MAX_ENTRIES}
 use Rattle.ffm_model.specs.declared.system.System.{System}
@@ -16,15 +15,14 @@ use Rattle.ffm_model.specs.declared.objects.ActorPhase.{ActorPhase}
 use Rattle.ffm_model.specs.declared.objects.ActorPhase.TheVariants as phase
 use Rattle.ffm_model.specs.declared.objects.PendingMessage.{PendingMessage}
 use Rattle.ffm_model.specs.declared.scenario.Bytes.{Bytes}
-use Rattle.ffm_model.specs.Actors.{actor_count, kind_of}
+use Rattle.ffm_model.specs.Actors.{kind_of}
 use Rattle.ffm_model.specs.Memory.{ByteMap, valid_buffer}
 use Rattle.ffm_model.specs.State.{SpmState, State, phase_of, handle_eq, fresh, is_undelivered}
-use Rattle.ffm_model.specs.ClientCalls.{Effect, effect}
 use Rattle.ffm_model.specs.ServiceCalls.{service_of_signal, message_size, get_of}
 use Rattle.ffm_model.specs.Calls.{programmer_error, effect_of, has_call}
 use Rattle.ffm_model.specs.Step.{step, after, may_call, handle_allowed, handle_shown, gives_handle}
 use Rattle.ffm_model.specs.Names.{NamedState, NamesSoFar, named_step, named_after, name_due, name_of, name_at_return, shows_name, names_after, no_slot}
-use Rattle.ffm_model.proofs.StepLemmas.{after-push, named_after-push, step-fits, Fits}
+use Rattle.ffm_model.proofs.StepLemmas.{named_after-push, step-fits, Fits}
 use Rattle.counting_law.specs.Fresh.{NamesFit}
 use Rattle.counting_law.proofs.Walk.{place-found}
 use Rattle.counting_law.proofs.Fresh.{run-names}

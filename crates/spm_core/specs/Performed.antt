@@ -1,7 +1,6 @@
 -- What the manager keeps true of itself, and what its calls do.
 -- Source: this manager's. These serve its own proof; no public contract cites them.
-use Rattle.std.specs.Prelude.{ℕ, ◌≡◌, ◌≤◌, Bool, true, false, List, [], ◌∷◌, length, Option, Some, None, Result, Ok, Err, IsSomeAnd}
-use Rattle.std.specs.List.{All}
+use Rattle.std.specs.Prelude.{ℕ, ◌≡◌, ◌≤◌, true, List, length, Some, None, Result, Ok, Err, IsSomeAnd}
 use Rattle.ffm_model.specs.declared.constants.TheConstants.{MAX_ENTRIES}
 use Rattle.ffm_model.specs.declared.system.System.{System}
 use Rattle.ffm_model.specs.declared.scenario.Bytes.{Bytes}
@@ -13,14 +12,14 @@ use Rattle.ffm_model.specs.declared.machine.Outcome.{Outcome}
 use Rattle.ffm_model.specs.declared.machine.Outcome.TheVariants as outcome
 use Rattle.ffm_model.specs.Actors.{kind_of}
 use Rattle.ffm_model.specs.Memory.{ByteMap}
-use Rattle.ffm_model.specs.State.{State, phase_of}
+use Rattle.ffm_model.specs.State.{phase_of}
 use Rattle.ffm_model.specs.ClientCalls.{Effect, effect, returned}
 use Rattle.ffm_model.specs.Accesses.{load, store}
 use Rattle.ffm_model.specs.Calls.{call_case, effect_of, error_effect}
 use Rattle.ffm_model.specs.Step.{handle_shown}
 use Rattle.ffm_model.specs.Names.{NamedState, NamesSoFar, named_after, shows_name}
 use Rattle.memory_image.specs.Pieces.{byte_at, regions_of, ranges_of}
-use Rattle.slot_names.specs.Named.{NamesAre, KeepsNames}
+use Rattle.slot_names.specs.Named.{NamesAre}
 use Rattle.spm_tables.specs.Answers.{state_with}
 use Rattle.spm_tables.specs.TablesView.{TablesView, spm_of, MadeFor}
 use Rattle.spm_core.specs.Manager.{Opening}

@@ -14,8 +14,9 @@ ghost use Rattle.spm_core.specs.declared.groups.Group.TheVariants as group;
 ghost use Rattle.spm_core.specs.Performed.{Attempts, ShowsName};
 
 use crate::accesses::{load, store};
+use crate::interrupts::{fire_interrupt, raise_interrupt};
 use client_calls::{close, connect, framework_version, invoke, version};
-use doorbell_irq::{clear, eoi, notify, raise};
+use doorbell_irq::{clear, disable, enable, eoi, notify, reset};
 use ffm_model::{ActorId, Call, Fault, Handle, Outcome, Status, System};
 use memory_image::Image;
 use panic_state::panic;
@@ -166,7 +167,7 @@ fn answer(
     Ok(Outcome::Done)
 }
 
-/// Rings or clears a doorbell, or raises or ends an interrupt.
+/// Rings or clears a doorbell; raises, ends, enables or disables an interrupt.
 pub(crate) fn signal_call(
     system: &System,
     tables: &mut Tables,
@@ -183,8 +184,15 @@ pub(crate) fn signal_call(
         Call::Notify { partition } => notify(system, tables, partition)?,
         Call::Clear => clear(tables, actor)?,
         Call::Eoi { signal } => eoi(system, tables, actor, signal)?,
-        Call::Raise { source } if (source as usize) < system.sources.len() => raise(tables, source),
-        _ => return Err(Fault),
+        Call::IrqEnable { signal } => enable(system, tables, actor, signal)?,
+        Call::IrqDisable { signal } => {
+            let was_enabled = disable(system, tables, actor, signal)?;
+            return Ok(Outcome::Number(was_enabled));
+        }
+        Call::ResetSignal { signal } => reset(system, tables, actor, signal)?,
+        Call::Raise { source } => raise_interrupt(system, tables, source)?,
+        Call::Fire { source, result } => fire_interrupt(system, tables, source, result)?,
+        _ => unreachable!(),
     }
     Ok(Outcome::Done)
 }

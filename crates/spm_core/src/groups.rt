@@ -35,7 +35,14 @@ pub(crate) fn group_of(call: Call) -> Group
         | Call::Skip { .. }
         | Call::Write { .. }
         | Call::Reply { .. } => Group::Service,
-        Call::Notify { .. } | Call::Clear | Call::Eoi { .. } | Call::Raise { .. } => Group::Signal,
+        Call::Notify { .. }
+        | Call::Clear
+        | Call::Eoi { .. }
+        | Call::IrqEnable { .. }
+        | Call::IrqDisable { .. }
+        | Call::ResetSignal { .. }
+        | Call::Raise { .. }
+        | Call::Fire { .. } => Group::Signal,
         Call::Load { .. } | Call::Store { .. } => Group::Memory,
         Call::Panic | Call::Stop { .. } | Call::Resume => Group::Actor,
     }

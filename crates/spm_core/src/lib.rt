@@ -5,6 +5,7 @@ mod accesses;
 mod actors;
 mod calls;
 mod groups;
+mod interrupts;
 mod perform;
 mod returns;
 mod spm;

@@ -5,6 +5,7 @@ ghost use Rattle.ffm_model.specs.Memory.{ByteMap};
 ghost use Rattle.ffm_model.specs.State.{phase_of};
 ghost use Rattle.ffm_model.specs.Signals.{may_resume};
 ghost use Rattle.counting_law.specs.Objects.{ObjectsFit, accepted_as};
+ghost use Rattle.handle_table.specs.declared.handles.Family.TheVariants as family;
 ghost use Rattle.handle_table.specs.Handles.{IsNameable};
 ghost use Rattle.object_pools.specs.Pool.{IsKept, item_at};
 ghost use Rattle.slot_names.specs.Named.{KeepsNames};
@@ -19,7 +20,7 @@ use spm_tables::Tables;
 pub(crate) fn accepted(tables: &Tables, actor: ActorId, serial: u32) -> Slot
     requires { count_by (accepted_as actor.0 serial) (spm_of tables.now).connections ≡ 1 }
     ensures live { IsSomeAnd (item_at tables.now.linked result) (λ c. c.serial ≡ serial) }
-    ensures nameable { IsNameable result }
+    ensures nameable { IsNameable family.Connection result }
     ensures kept { IsKept 256 tables.now.linked }
 {
     tables.law();

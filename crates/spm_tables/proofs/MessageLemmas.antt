@@ -69,7 +69,7 @@ put-none {X = X} p g (x ∷ xs) none =
 
 -- ---- handles and slots
 
-equal-slots : (s t : Slot) → IsNameable s → IsNameable t → handle_at Message s ≡ handle_at Message t → s ≡ t
+equal-slots : (s t : Slot) → IsNameable Message s → IsNameable Message t → handle_at Message s ≡ handle_at Message t → s ≡ t
 equal-slots s t m n e =
     let numbers : pos (s.generation * 1024 + s.index + 512) ≡ pos (t.generation * 1024 + t.index + 512) = ap (λ (h : Handle). h.0) e in
     let same : s.generation * 1024 + s.index + 512 ≡ t.generation * 1024 + t.index + 512 = cc in
@@ -97,14 +97,14 @@ has_same s h e = ap (λ (t : Slot). (t.index == s.index) && (t.generation == s.g
 abbrev pub shows : Handle → PendingMessage → Bool
 shows k m = has_handle m.handle k
 
-narrow-slot : (p : Places QueuedMessage) (s : Slot) → IsKept 256 p → IsNameable s → All (λ h. shows (handle_at Message s) (held_message h) ≡ true → has_slot s h ≡ true) p.held
+narrow-slot : (p : Places QueuedMessage) (s : Slot) → IsKept 304 p → IsNameable Message s → All (λ h. shows (handle_at Message s) (held_message h) ≡ true → has_slot s h ≡ true) p.held
 narrow-slot p s kept named =
-    All-weaker (λ h. IsNameable h.slot) (λ h. shows (handle_at Message s) (held_message h) ≡ true → has_slot s h ≡ true)
-    (λ h n e. has_same s h (equal-slots h.slot s n named (shown-is h (handle_at Message s) e))) p.held (nameable p kept)
+    All-weaker (λ h. IsNameable Message h.slot) (λ h. shows (handle_at Message s) (held_message h) ≡ true → has_slot s h ≡ true)
+    (λ h n e. has_same s h (equal-slots h.slot s n named (shown-is h (handle_at Message s) e))) p.held (nameable Message p kept)
 
-shown-once : (p : Places QueuedMessage) (s : Slot) → IsKept 256 p → IsNameable s → count_by (λ h. shows (handle_at Message s) (held_message h)) p.held ≤ 1
+shown-once : (p : Places QueuedMessage) (s : Slot) → IsKept 304 p → IsNameable Message s → count_by (λ h. shows (handle_at Message s) (held_message h)) p.held ≤ 1
 shown-once p s kept named =
-    omega (arith, one_slot 256 p s kept, count-narrow (λ h. shows (handle_at Message s) (held_message h)) (has_slot s) p.held (narrow-slot p s kept named))
+    omega (arith, one_slot 304 p s kept, count-narrow (λ h. shows (handle_at Message s) (held_message h)) (has_slot s) p.held (narrow-slot p s kept named))
 
 shows-own : (h : Held QueuedMessage) (m : QueuedMessage) (s : Slot) → h.item ≡ m → h.slot ≡ s → m.delivered ≡ true → shows (handle_at Message s) (held_message h) ≡ true
 shows-own h m s item slot on =
@@ -115,25 +115,25 @@ shows-own h m s item slot on =
 
 -- ---- changes of a delivered message
 
-pub vectors-state : (d : TablesView) (s : Slot) (m : QueuedMessage) (v : Vectors) → IsKept 256 d.waiting → item_at d.waiting s ≡ Some m → m.delivered ≡ true
+pub vectors-state : (d : TablesView) (s : Slot) (m : QueuedMessage) (v : Vectors) → IsKept 304 d.waiting → item_at d.waiting s ≡ Some m → m.delivered ≡ true
     → spm_of (record d { waiting = with_item d.waiting s (record m { vectors = v }) }) ≡ with_vectors (spm_of d) (handle_at Message s) v
 vectors-state d s m v kept live on =
     let it = held-of d.waiting s m live in
-    let named : IsNameable s = nameable-at d.waiting s m kept live in
+    let named : IsNameable Message s = nameable-at Message d.waiting s m kept live in
     let same : held_message (record it.0 { item = record m { vectors = v } }) ≡ record (held_message it.0) { vectors = v } =
     ap (λ (i : QueuedMessage). message_of (it.0).slot (record i { vectors = v })) (sym it.2) in
     let messages : map held_message (with_item d.waiting s (record m { vectors = v })).held ≡ (with_vectors (spm_of d) (handle_at Message s) v).messages =
     twin-put held_message (has_slot s) (shows (handle_at Message s)) (λ h. record h { item = record m { vectors = v } }) (λ n. record n { vectors = v }) it.0 same
-    (shows-own it.0 m s it.2 it.3 on) d.waiting.held it.1 (one_slot 256 d.waiting s kept) (shown-once d.waiting s kept named) in
+    (shows-own it.0 m s it.2 it.3 on) d.waiting.held it.1 (one_slot 304 d.waiting s kept) (shown-once d.waiting s kept named) in
     ap (λ (ms : List PendingMessage). record (spm_of d) { messages = ms }) messages
 
-pub dropped-state : (d : TablesView) (s : Slot) (m : QueuedMessage) → IsKept 256 d.waiting → item_at d.waiting s ≡ Some m → m.delivered ≡ true
+pub dropped-state : (d : TablesView) (s : Slot) (m : QueuedMessage) → IsKept 304 d.waiting → item_at d.waiting s ≡ Some m → m.delivered ≡ true
     → spm_of (record d { waiting = without d.waiting s }) ≡ without_message (spm_of d) (handle_at Message s)
 dropped-state d s m kept live on =
     let it = held-of d.waiting s m live in
-    let named : IsNameable s = nameable-at d.waiting s m kept live in
+    let named : IsNameable Message s = nameable-at Message d.waiting s m kept live in
     let messages : map held_message (without d.waiting s).held ≡ (without_message (spm_of d) (handle_at Message s)).messages =
-    twin-out held_message (has_slot s) (shows (handle_at Message s)) it.0 (shows-own it.0 m s it.2 it.3 on) d.waiting.held it.1 (one_slot 256 d.waiting s kept) (shown-once d.waiting s kept named) in
+    twin-out held_message (has_slot s) (shows (handle_at Message s)) it.0 (shows-own it.0 m s it.2 it.3 on) d.waiting.held it.1 (one_slot 304 d.waiting s kept) (shown-once d.waiting s kept named) in
     ap (λ (ms : List PendingMessage). record (spm_of d) { messages = ms }) messages
 
 -- ---- the oldest undelivered message
@@ -145,14 +145,14 @@ pub record IsOldest (p : Places QueuedMessage) (v : ℕ) (s : Slot) : Type 0 whe
   pub here : find (has_slot s) p.held ≡ Some held
   pub slot : held.slot ≡ s
 
-pub oldest-of : (p : Places QueuedMessage) (v : ℕ) (s : Slot) → IsKept 256 p → Some s ≡ option_map (λ (h : Held QueuedMessage). h.slot) (find (waits_for v) p.held) → IsOldest p v s
+pub oldest-of : (p : Places QueuedMessage) (v : ℕ) (s : Slot) → IsKept 304 p → Some s ≡ option_map (λ (h : Held QueuedMessage). h.slot) (find (waits_for v) p.held) → IsOldest p v s
 oldest-of p v s kept =
     let go : (o : Option (Held QueuedMessage)) → find (waits_for v) p.held ≡ o → Some s ≡ option_map (λ (h : Held QueuedMessage). h.slot) o → IsOldest p v s =
     elim [
       | None ↦ λ f e. cc
       | Some h ↦ λ f e.
           let same : h.slot ≡ s = cc in
-          record { held = h; first = f; here = found-too (waits_for v) (has_slot s) p.held h (has_same s h same) (one_slot 256 p s kept) f; slot = same }
+          record { held = h; first = f; here = found-too (waits_for v) (has_slot s) p.held h (has_same s h same) (one_slot 304 p s kept) f; slot = same }
     ] in
     go (find (waits_for v) p.held) refl
 
@@ -223,11 +223,11 @@ delivered-put v s m (x ∷ xs) h slot item f one =
     ] in
     go (waits_for v x) refl f
 
-pub delivered-state : (d : TablesView) (v : ℕ) (s : Slot) (m : QueuedMessage) → IsKept 256 d.waiting → IsOldest d.waiting v s → item_at d.waiting s ≡ Some m
+pub delivered-state : (d : TablesView) (v : ℕ) (s : Slot) (m : QueuedMessage) → IsKept 304 d.waiting → IsOldest d.waiting v s → item_at d.waiting s ≡ Some m
     → spm_of (record d { waiting = with_item d.waiting s (record m { delivered = true }) }) ≡ record (spm_of d) { messages = delivered v (handle_at Message s) (spm_of d).messages }
 delivered-state d v s m kept o live =
     let was : (o.held).item ≡ m = same_item (o.held).item m (sym (oldest-item d.waiting v s o) ∙ live) in
-    ap (λ (ms : List PendingMessage). record (spm_of d) { messages = ms }) (delivered-put v s m d.waiting.held o.held o.slot was o.first (one_slot 256 d.waiting s kept)) where
+    ap (λ (ms : List PendingMessage). record (spm_of d) { messages = ms }) (delivered-put v s m d.waiting.held o.held o.slot was o.first (one_slot 304 d.waiting s kept)) where
       same_item : (a b : QueuedMessage) → Some a ≡ Some b → a ≡ b
       same_item a b e = cc
 
@@ -235,27 +235,27 @@ delivered-state d v s m kept o live =
 
 -- only this slot gives the handle
 abbrev pub Names : Option Slot → Handle → Type 0
-Names o k = (t : Slot) → IsNameable t → handle_at Message t ≡ k → o ≡ Some t
+Names o k = (t : Slot) → IsNameable Message t → handle_at Message t ≡ k → o ≡ Some t
 
 abbrev pub held_by : (ℕ → Bool) → Handle → PendingMessage → Bool
 held_by q k m = q m.service && has_handle m.handle k
 
-pub none-by : (p : Places QueuedMessage) (q : ℕ → Bool) (k : Handle) → IsKept 256 p → Names None k → find (held_by q k) (map held_message p.held) ≡ None
+pub none-by : (p : Places QueuedMessage) (q : ℕ → Bool) (k : Handle) → IsKept 304 p → Names None k → find (held_by q k) (map held_message p.held) ≡ None
 none-by p q k kept names =
     find-all_fail (held_by q k) (map held_message p.held)
     (All-map (λ m. held_by q k m ≡ true → ⊥) held_message p.held
-    (All-weaker (λ h. IsNameable h.slot) (λ h. held_by q k (held_message h) ≡ true → ⊥)
-    (λ h n e. no_slot h.slot (names h.slot n (shown-is h k (both (q h.item.service) (has_handle (shown_handle h.item.delivered h.slot) k) e).1))) p.held (nameable p kept))) where
+    (All-weaker (λ h. IsNameable Message h.slot) (λ h. held_by q k (held_message h) ≡ true → ⊥)
+    (λ h n e. no_slot h.slot (names h.slot n (shown-is h k (both (q h.item.service) (has_handle (shown_handle h.item.delivered h.slot) k) e).1))) p.held (nameable Message p kept))) where
       no_slot : (s : Slot) → None ≡ Some s → ⊥
       no_slot s e = cc
 
-pub found-by : (p : Places QueuedMessage) (q : ℕ → Bool) (k : Handle) (s : Slot) → IsKept 256 p → Names (Some s) k → handle_at Message s ≡ k
+pub found-by : (p : Places QueuedMessage) (q : ℕ → Bool) (k : Handle) (s : Slot) → IsKept 304 p → Names (Some s) k → handle_at Message s ≡ k
     → find (held_by q k) (map held_message p.held) ≡ option_and_then (λ m. cond (q m.service && m.delivered) (Some (message_of s m)) None) (item_at p s)
 found-by p q k s kept names gives =
     twin-find held_message (has_slot s) (held_by q k) p.held
-    (All-weaker (λ h. IsNameable h.slot) (λ h. held_by q k (held_message h) ≡ true → has_slot s h ≡ true)
-    (λ h n e. has_same s h (same_slot h.slot (names h.slot n (shown-is h k (both (q h.item.service) (has_handle (shown_handle h.item.delivered h.slot) k) e).1)))) p.held (nameable p kept))
-    (one_slot 256 p s kept)
+    (All-weaker (λ h. IsNameable Message h.slot) (λ h. held_by q k (held_message h) ≡ true → has_slot s h ≡ true)
+    (λ h n e. has_same s h (same_slot h.slot (names h.slot n (shown-is h k (both (q h.item.service) (has_handle (shown_handle h.item.delivered h.slot) k) e).1)))) p.held (nameable Message p kept))
+    (one_slot 304 p s kept)
     ∙ seen (find (has_slot s) p.held) refl where
       same_slot : (t : Slot) → Some s ≡ Some t → t ≡ s
       same_slot t e = cc
@@ -289,16 +289,16 @@ pub held-is : (s : System) (d : TablesView) (p : ℕ) (k : Handle) → MadeFor d
 held-is s d p k made =
     same-find (held_by (is_owned d.services p) k) (held_by (is_service_of s p) k) (λ m. ap (λ (b : Bool). b && has_handle m.handle k) (owned-is s d p m.service made)) (map held_message d.waiting.held)
 
-pub find-none : (d : TablesView) (s : System) (p : ℕ) (k : Handle) → IsKept 256 d.waiting → Names None k → MadeFor d s → None ≡ message_held s (spm_of d) p k
+pub find-none : (d : TablesView) (s : System) (p : ℕ) (k : Handle) → IsKept 304 d.waiting → Names None k → MadeFor d s → None ≡ message_held s (spm_of d) p k
 find-none d s p k kept names made = sym (none-by d.waiting (is_owned d.services p) k kept names) ∙ held-is s d p k made
 
-pub find-gone : (d : TablesView) (s : System) (p : ℕ) (k : Handle) (t : Slot) → IsKept 256 d.waiting → Names (Some t) k → handle_at Message t ≡ k → MadeFor d s → None ≡ item_at d.waiting t
+pub find-gone : (d : TablesView) (s : System) (p : ℕ) (k : Handle) (t : Slot) → IsKept 304 d.waiting → Names (Some t) k → handle_at Message t ≡ k → MadeFor d s → None ≡ item_at d.waiting t
     → None ≡ message_held s (spm_of d) p k
 find-gone d s p k t kept names gives made gone =
     ap (option_and_then (λ m. cond (is_owned d.services p m.service && m.delivered) (Some (message_of t m)) None)) gone
     ∙ sym (found-by d.waiting (is_owned d.services p) k t kept names gives) ∙ held-is s d p k made
 
-pub find-shown : (d : TablesView) (s : System) (p : ℕ) (k : Handle) (t : Slot) (m : QueuedMessage) (b : Bool) → IsKept 256 d.waiting → Names (Some t) k → handle_at Message t ≡ k → MadeFor d s → Some m ≡ item_at d.waiting t
+pub find-shown : (d : TablesView) (s : System) (p : ℕ) (k : Handle) (t : Slot) (m : QueuedMessage) (b : Bool) → IsKept 304 d.waiting → Names (Some t) k → handle_at Message t ≡ k → MadeFor d s → Some m ≡ item_at d.waiting t
     → b ≡ (is_owned d.services p m.service && m.delivered) → cond b (Some (message_of t m)) None ≡ message_held s (spm_of d) p k
 find-shown d s p k t m b kept names gives made live test =
     ap (λ (x : Bool). cond x (Some (message_of t m)) None) test
@@ -331,7 +331,7 @@ all-both P Q R (x ∷ xs) each ps qs = All-cons R x xs (each x (All-head P x xs 
 abbrev pub NoneBelow : Places QueuedMessage → ℕ → ℕ → Type 0
 NoneBelow p service n = (i : ℕ) (h : Held QueuedMessage) → i < n → find (is_at i) p.held ≡ Some h → h.item.service ≡ service → ⊥
 
-pub least-all : (p : Places QueuedMessage) (service n : ℕ) → IsKept 256 p → NoneBelow p service n → All (λ h. h.item.service ≡ service → n ≤ h.slot.index) p.held
+pub least-all : (p : Places QueuedMessage) (service n : ℕ) → IsKept 304 p → NoneBelow p service n → All (λ h. h.item.service ≡ service → n ≤ h.slot.index) p.held
 least-all p service n kept none =
     All-weaker (λ h. find (is_at h.slot.index) p.held ≡ Some h) (λ h. h.item.service ≡ service → n ≤ h.slot.index)
     (λ h f same. above h f same (nat_lt h.slot.index n) refl) p.held (all-found p.held kept.once) where
@@ -339,7 +339,7 @@ least-all p service n kept none =
       above h f same true e = absurd (none h.slot.index h (grind (arith, nat_tests)) f same)
       above h f same false e = grind (arith, nat_tests)
 
-pub none-all : (p : Places QueuedMessage) (service n : ℕ) → IsKept 256 p → length p.generations ≤ n → NoneBelow p service n → All (λ h. h.item.service ≡ service → ⊥) p.held
+pub none-all : (p : Places QueuedMessage) (service n : ℕ) → IsKept 304 p → length p.generations ≤ n → NoneBelow p service n → All (λ h. h.item.service ≡ service → ⊥) p.held
 none-all p service n kept past none =
     all-both (λ h. h.item.service ≡ service → n ≤ h.slot.index) (λ h. IsNamed p.generations h.slot) (λ h. h.item.service ≡ service → ⊥) p.held
     (λ h above named same. absurd (omega (arith, above same, named.below))) (least-all p service n kept none) kept.named
@@ -347,9 +347,9 @@ none-all p service n kept past none =
 pub none-seen : (service : ℕ) (held : List (Held QueuedMessage)) → All (λ h. h.item.service ≡ service → ⊥) held → All (λ m. m.service ≡ service → ⊥) (map held_message held)
 none-seen service held none = All-map (λ m. m.service ≡ service → ⊥) held_message held none
 
-pub found-live : (p : Places QueuedMessage) (i : ℕ) (h : Held QueuedMessage) → IsKept 256 p → find (is_at i) p.held ≡ Some h → item_at p h.slot ≡ Some h.item
+pub found-live : (p : Places QueuedMessage) (i : ℕ) (h : Held QueuedMessage) → IsKept 304 p → find (is_at i) p.held ≡ Some h → item_at p h.slot ≡ Some h.item
 found-live p i h kept f =
-    ap (option_map (λ (x : Held QueuedMessage). x.item)) (found-too (is_at i) (has_slot h.slot) p.held h (has_own h.slot) (one_slot 256 p h.slot kept) f)
+    ap (option_map (λ (x : Held QueuedMessage). x.item)) (found-too (is_at i) (has_slot h.slot) p.held h (has_own h.slot) (one_slot 304 p h.slot kept) f)
 
 pub found-index : (p : Places QueuedMessage) (i : ℕ) (h : Held QueuedMessage) → find (is_at i) p.held ≡ Some h → h.slot.index ≡ i
 found-index p i h f = equal h.slot.index i (find-passes (is_at i) p.held h f) where

@@ -87,7 +87,7 @@ waits-service v h e = same_number h.item.service v (both (is_none (shown_handle 
 same-held : (o : Option (Held QueuedMessage)) (g h : Held QueuedMessage) → o ≡ Some g → o ≡ Some h → g ≡ h
 same-held o g h e f = cc
 
-pub apart-of : (p : Places QueuedMessage) → IsKept 256 p → Apart (queue_in p) (length p.generations)
+pub apart-of : (p : Places QueuedMessage) → IsKept 304 p → Apart (queue_in p) (length p.generations)
 apart-of p kept = record {
   once = λ v i. omega (arith, times-places (waits_for v) p.held i, kept.once i);
   one = λ v w i a b.
@@ -96,7 +96,7 @@ apart-of p kept = record {
       sym (waits-service v g.0 g.2) ∙ ap (λ (x : Held QueuedMessage). x.item.service) (same-held (find (is_at i) p.held) g.0 h.0 g.1 h.1) ∙ waits-service w h.0 h.2;
   below = λ v i a.
       let g = at-place (waits_for v) p.held i (kept.once i) a in
-      let named : IsNamed p.generations (g.0).slot = named-at p (g.0).slot (g.0).item 256 kept (found-live p i g.0 kept g.1) in
+      let named : IsNamed p.generations (g.0).slot = named-at p (g.0).slot (g.0).item 304 kept (found-live p i g.0 kept g.1) in
       omega (arith, named.below, found-index p i g.0 g.1);
 }
 
@@ -124,7 +124,7 @@ push-no t (x ∷ xs) h e =
 abbrev pub Only : Slot → Held QueuedMessage → List (Held QueuedMessage) → Type 0
 Only s h xs = All (λ x. is_at s.index x ≡ true → x ≡ h) xs
 
-pub only-here : (p : Places QueuedMessage) (s : Slot) (h : Held QueuedMessage) → IsKept 256 p → find (has_slot s) p.held ≡ Some h → Only s h p.held
+pub only-here : (p : Places QueuedMessage) (s : Slot) (h : Held QueuedMessage) → IsKept 304 p → find (has_slot s) p.held ≡ Some h → Only s h p.held
 only-here p s h kept f =
     let at : is_at s.index h ≡ true = (both (h.slot.index == s.index) (h.slot.generation == s.generation) (find-passes (has_slot s) p.held h f)).0 in
     let here : find (is_at s.index) p.held ≡ Some h = found-too (has_slot s) (is_at s.index) p.held h at (kept.once s.index) f in
@@ -230,10 +230,10 @@ known-found bound p (x ∷ xs) h a f =
 -- ---- what the tables keep
 
 module _ (p : Places QueuedMessage) (services : List OwnedSignal) (ls : List Link) (es : List Ends) where
-  same-size : KeepsQueues p services ls es → IsKept 256 p → Apart (queue_in p) (length ls)
+  same-size : KeepsQueues p services ls es → IsKept 304 p → Apart (queue_in p) (length ls)
   same-size k kept = subst (Apart (queue_in p)) (sym k.linked) (apart-of p kept)
 
-  pub keeps-take : (s : Slot) (x : QueuedMessage) → IsKept 256 p → KeepsQueues p services ls es → free_slot p ≡ Some s → x.delivered ≡ false → x.service < length services
+  pub keeps-take : (s : Slot) (x : QueuedMessage) → IsKept 304 p → KeepsQueues p services ls es → free_slot p ≡ Some s → x.delivered ≡ false → x.service < length services
       → KeepsQueues (taken p s x) services (joined ls (ends_at es x.service).last s.index) (set es x.service (joined_ends (ends_at es x.service) s.index))
   keeps-take s x kept k free fresh below =
       let parts = free-parts p s free in
@@ -278,7 +278,7 @@ module _ (p : Places QueuedMessage) (services : List OwnedSignal) (ls : List Lin
       let it = held-of p s m live in
       subst (λ (i : QueuedMessage). i.service < length services) it.2 (known-found (length services) (has_slot s) p.held it.0 k.known it.1)
 
-  keeps-delivered : (s : Slot) (m : QueuedMessage) → IsKept 256 p → KeepsQueues p services ls es → item_at p s ≡ Some m → m.delivered ≡ false
+  keeps-delivered : (s : Slot) (m : QueuedMessage) → IsKept 304 p → KeepsQueues p services ls es → item_at p s ≡ Some m → m.delivered ≡ false
       → KeepsQueues (with_item p s (record m { delivered = true })) services (unlinked ls (link_at ls s.index)) (set es m.service (unlinked_ends (ends_at es m.service) (link_at ls s.index)))
   keeps-delivered s m kept k live fresh =
       let it = held-of p s m live in
@@ -291,7 +291,7 @@ module _ (p : Places QueuedMessage) (services : List OwnedSignal) (ls : List Lin
             (λ v. put-out (waits_for v) s (record m { delivered = true }) it.0 p.held (λ x. refl) (only-here p s it.0 kept it.1) (own-slot s it.0 it.1));
       }
 
-  keeps-dropped : (s : Slot) (m : QueuedMessage) → IsKept 256 p → KeepsQueues p services ls es → item_at p s ≡ Some m → m.delivered ≡ false
+  keeps-dropped : (s : Slot) (m : QueuedMessage) → IsKept 304 p → KeepsQueues p services ls es → item_at p s ≡ Some m → m.delivered ≡ false
       → KeepsQueues (without p s) services (unlinked ls (link_at ls s.index)) (set es m.service (unlinked_ends (ends_at es m.service) (link_at ls s.index)))
   keeps-dropped s m kept k live fresh =
       let it = held-of p s m live in
@@ -307,7 +307,7 @@ module _ (p : Places QueuedMessage) (services : List OwnedSignal) (ls : List Lin
   same-queues : (q r : ℕ → List ℕ) → ((v : ℕ) → r v ≡ q v) → AreQueues ls es q → AreQueues ls es r
   same-queues q r same a = let whole : r ≡ q = λ j v. same v j in subst (AreQueues ls es) (sym whole) a
 
-  keeps-given : (s : Slot) (m : QueuedMessage) → IsKept 256 p → KeepsQueues p services ls es → item_at p s ≡ Some m → m.delivered ≡ true → KeepsQueues (without p s) services ls es
+  keeps-given : (s : Slot) (m : QueuedMessage) → IsKept 304 p → KeepsQueues p services ls es → item_at p s ≡ Some m → m.delivered ≡ true → KeepsQueues (without p s) services ls es
   keeps-given s m kept k live on =
       let it = held-of p s m live in
       record {
@@ -335,7 +335,7 @@ module _ (p : Places QueuedMessage) (services : List OwnedSignal) (ls : List Lin
               on_off b e f = cc
 
   -- a message leaves its queue where it waits in one
-  pub keeps-out : (s : Slot) (m : QueuedMessage) → IsKept 256 p → KeepsQueues p services ls es → item_at p s ≡ Some m
+  pub keeps-out : (s : Slot) (m : QueuedMessage) → IsKept 304 p → KeepsQueues p services ls es → item_at p s ≡ Some m
       → KeepsQueues (without p s) services (if m.delivered then ls else unlinked ls (link_at ls s.index))
       (if m.delivered then es else set es m.service (unlinked_ends (ends_at es m.service) (link_at ls s.index)))
   keeps-out s m kept k live =
@@ -357,7 +357,7 @@ module _ (p : Places QueuedMessage) (services : List OwnedSignal) (ls : List Lin
         shows_none true e = cc
         shows_none false e = refl
 
-  pub keeps-oldest : (v : ℕ) (s : Slot) (m : QueuedMessage) → IsKept 256 p → KeepsQueues p services ls es → IsOldest p v s → item_at p s ≡ Some m
+  pub keeps-oldest : (v : ℕ) (s : Slot) (m : QueuedMessage) → IsKept 304 p → KeepsQueues p services ls es → IsOldest p v s → item_at p s ≡ Some m
       → KeepsQueues (with_item p s (record m { delivered = true })) services (if m.delivered then ls else unlinked ls (link_at ls s.index))
       (if m.delivered then es else set es m.service (unlinked_ends (ends_at es m.service) (link_at ls s.index)))
   keeps-oldest v s m kept k o live =
@@ -365,7 +365,7 @@ module _ (p : Places QueuedMessage) (services : List OwnedSignal) (ls : List Lin
       subst (λ (b : Bool). KeepsQueues (with_item p s (record m { delivered = true })) services (cond b ls (unlinked ls (link_at ls s.index))) (cond b es (set es m.service (unlinked_ends (ends_at es m.service) (link_at ls s.index)))))
       (sym fresh) (keeps-delivered s m kept k live fresh)
 
-  pub keeps-vectors : (s : Slot) (m : QueuedMessage) (w : Vectors) → IsKept 256 p → KeepsQueues p services ls es → item_at p s ≡ Some m → KeepsQueues (with_item p s (record m { vectors = w })) services ls es
+  pub keeps-vectors : (s : Slot) (m : QueuedMessage) (w : Vectors) → IsKept 304 p → KeepsQueues p services ls es → item_at p s ≡ Some m → KeepsQueues (with_item p s (record m { vectors = w })) services ls es
   keeps-vectors s m w kept k live =
       let it = held-of p s m live in
       record {
@@ -414,7 +414,7 @@ first-is p services ls es v k =
       above : (m n : ℕ) → nat_lt m n ≡ false → n ≤ m
       above m n e = grind (arith, nat_tests)
 
-pub oldest-at : (p : Places QueuedMessage) (v : ℕ) (o : Option ℕ) → IsKept 256 p → o ≡ first_of (queue_in p v)
+pub oldest-at : (p : Places QueuedMessage) (v : ℕ) (o : Option ℕ) → IsKept 304 p → o ≡ first_of (queue_in p v)
     → option_map (λ (h : Held QueuedMessage). h.slot) (option_and_then (λ i. find (is_at i) p.held) o) ≡ option_map (λ (h : Held QueuedMessage). h.slot) (find (waits_for v) p.held)
 oldest-at p v o kept e =
     let go : (x : Option (Held QueuedMessage)) → find (waits_for v) p.held ≡ x

@@ -1,7 +1,7 @@
 -- Which connection a message belongs to, after a connection or a message comes, changes or goes.
-use Rattle.std.proofs.Common.{ℕ, ◌≡◌, ◌<◌, ◌≤◌, ◌+◌, ◌==◌, ◌⊎◌, inl, inr, ⊎_elim, Bool, true, false, cond, not, List, [], ◌∷◌, arith, ◌∙◌, ap, sym, refl, subst}
+use Rattle.std.proofs.Common.{ℕ, ◌≡◌, ◌<◌, ◌≤◌, ◌+◌, ◌==◌, Bool, true, false, cond, not, List, [], ◌∷◌, arith, ◌∙◌, ap, sym, refl, subst}
 use Rattle.std.specs.Prelude.{count_by, find, Option, Some, None, map, All, IsSome, IfSome, option_and_then, if◌then◌else◌}
-use Rattle.std.specs.Option.{option_map, option_map_or}
+use Rattle.std.specs.Option.{option_map}
 use Rattle.std.proofs.lemmas.List.Elements.{All-nil, All-cons, All-push, All-filter, All-weaker, All-map, All-head, All-tail}
 use Rattle.ffm_model.specs.declared.objects.OpenConnection.{OpenConnection}
 use Rattle.object_pools.specs.declared.slot.Slot.{Slot}
@@ -13,7 +13,6 @@ use Rattle.handle_table.proofs.TableLemmas.{rises-bounds, one_serial}
 use Rattle.handle_table.proofs.Twins.{find-passes, count-map}
 use Rattle.spm_tables.specs.declared.item.MessageItem.{MessageItem}
 use Rattle.spm_tables.specs.declared.item.QueuedMessage.{QueuedMessage}
-use Rattle.spm_tables.specs.declared.item.TheConstants.{NO_CONNECTION}
 use Rattle.spm_tables.specs.TablesView.{queued, queued_as, serial_at}
 use Rattle.spm_tables.specs.Slots.{BelongsTo, KeepSlots}
 use Rattle.spm_tables.proofs.MessageLemmas.{find-map, found-too}
@@ -31,12 +30,12 @@ All-found P q (y ∷ ys) x a f =
 
 -- if it is the message's connection, the message names its slot
 abbrev Slotted : QueuedMessage → Held OpenConnection → Type 0
-Slotted m h = h.item.serial ≡ m.serial → m.connection ≡ Some h.slot
+Slotted m h = m.serial ≡ Some h.item.serial → m.connection ≡ Some h.slot
 
-pub named-slot : (p : Places OpenConnection) (s : Slot) (c : OpenConnection) (m : QueuedMessage) → BelongsTo p m → item_at p s ≡ Some c → c.serial ≡ m.serial → m.connection ≡ Some s
+pub named-slot : (p : Places OpenConnection) (s : Slot) (c : OpenConnection) (m : QueuedMessage) → BelongsTo p m → item_at p s ≡ Some c → m.serial ≡ Some c.serial → m.connection ≡ Some s
 named-slot p s c m b live same =
     let it = held-of p s c live in
-    All-found (Slotted m) (has_slot s) p.held it.0 b.slot it.1 (ap (λ (d : OpenConnection). d.serial) it.2 ∙ same) ∙ ap (λ (t : Slot). Some t) it.3
+    All-found (Slotted m) (has_slot s) p.held it.0 b.slot it.1 (same ∙ ap (λ (d : OpenConnection). Some d.serial) (sym it.2)) ∙ ap (λ (t : Slot). Some t) it.3
 
 -- ---- changes of the connections
 
@@ -44,10 +43,17 @@ pub slots-start : (p : Places OpenConnection) (w : Places QueuedMessage) (s : Sl
 slots-start p w s c serial few k =
     All-weaker (λ h. BelongsTo p h.item) (λ h. BelongsTo (taken p s c) h.item)
     (λ h b. record {
-      made = ⊎_elim (λ (l : h.item.serial < p.takes). inl (omega arith)) (λ (n : h.item.serial ≡ NO_CONNECTION). inr n) b.made;
+      made = longer h.item.serial b.made;
       slot = All-push (Slotted h.item) p.held (record { slot = s; item = c }) b.slot
-          (λ e. ⊎_elim (λ (l : h.item.serial < p.takes). absurd (omega arith)) (λ (n : h.item.serial ≡ NO_CONNECTION). absurd (omega arith)) b.made);
-    }) w.held k
+          (λ e. absurd (newer h.item.serial b.made e));
+    }) w.held k where
+      longer : (o : Option ℕ) → IfSome o (λ n. n < p.takes) → IfSome o (λ n. n < p.takes + 1)
+      longer None l = tt
+      longer (Some n) l = omega (arith, l)
+
+      newer : (o : Option ℕ) → IfSome o (λ n. n < p.takes) → o ≡ Some c.serial → ⊥
+      newer None l e = cc
+      newer (Some n) l e = let it : n ≡ c.serial = cc in omega (arith, l, it, serial)
 
 pub slots-change : (p : Places OpenConnection) (w : Places QueuedMessage) (s : Slot) (c d : OpenConnection) → item_at p s ≡ Some c → d.serial ≡ c.serial → KeepSlots p w → KeepSlots (with_item p s d) w
 slots-change p w s c d live same k =
@@ -58,7 +64,7 @@ slots-change p w s c d live same k =
           (All-weaker (Slotted h.item) (λ x. Slotted h.item (item_put s d x)) (λ x old. put h.item b x old (has_slot s x) refl) p.held b.slot);
     }) w.held k where
       put : (m : QueuedMessage) → BelongsTo p m → (x : Held OpenConnection) → Slotted m x → (b : Bool) → has_slot s x ≡ b → Slotted m (cond b (record x { item = d }) x)
-      put m b x old true e = λ serial. named-slot p s c m b live (sym same ∙ serial) ∙ ap (λ (t : Slot). Some t) (sym (slot-is s x e))
+      put m b x old true e = λ serial. named-slot p s c m b live (serial ∙ ap (λ n. Some n) same) ∙ ap (λ (t : Slot). Some t) (sym (slot-is s x e))
       put m b x old false e = old
 
 pub slots-changed : (p q : Places OpenConnection) (w : Places QueuedMessage) (s : Slot) (f : OpenConnection → OpenConnection) → ((c : OpenConnection) → (f c).serial ≡ c.serial)
@@ -92,7 +98,7 @@ slots-put p w s m n live serial slot k =
     All-map (λ h. BelongsTo p h.item) (item_put s n) w.held
     (All-weaker (λ h. BelongsTo p h.item) (λ h. BelongsTo p (item_put s n h).item) (λ h old. put h old (has_slot s h)) w.held k) where
       new : BelongsTo p m → BelongsTo p n
-      new b = record { made = subst (λ k. (k < p.takes) ⊎ (k ≡ NO_CONNECTION)) (sym serial) b.made; slot = All-weaker (Slotted m) (Slotted n) (λ h old e. slot ∙ old (e ∙ serial)) p.held b.slot }
+      new b = record { made = subst (λ (k : Option ℕ). IfSome k (λ i. i < p.takes)) (sym serial) b.made; slot = All-weaker (Slotted m) (Slotted n) (λ h old e. slot ∙ old (sym serial ∙ e)) p.held b.slot }
 
       put : (h : Held QueuedMessage) → BelongsTo p h.item → (b : Bool) → BelongsTo p (cond b (record h { item = n }) h).item
       put h old true = new (belongs-at p w s m k live)
@@ -137,53 +143,53 @@ one-place low made (y ∷ ys) q x r f =
 -- ---- a message of a connection
 
 -- of a live one, in its slot
-belongs-to : (p : Places OpenConnection) (s : Slot) (c : OpenConnection) (m : QueuedMessage) → IsTable p → item_at p s ≡ Some c → m.serial ≡ c.serial → m.connection ≡ Some s → BelongsTo p m
+belongs-to : (p : Places OpenConnection) (s : Slot) (c : OpenConnection) (m : QueuedMessage) → IsTable p → item_at p s ≡ Some c → m.serial ≡ Some c.serial → m.connection ≡ Some s → BelongsTo p m
 belongs-to p s c m t live serial names =
     let it = held-of p s c live in
     let same : (it.0).item.serial ≡ c.serial = ap (λ (d : OpenConnection). d.serial) it.2 in
     record {
-      made = inl (omega (arith, All-found (λ h. h.item.serial < p.takes) (has_slot s) p.held it.0 (below-made 0 p.takes p.held t.rising) it.1));
+      made = subst (λ (k : Option ℕ). IfSome k (λ i. i < p.takes)) (sym serial) (omega (arith, same, All-found (λ h. h.item.serial < p.takes) (has_slot s) p.held it.0 (below-made 0 p.takes p.held t.rising) it.1));
       slot = All-weaker (λ h. h.item.serial ≡ (it.0).item.serial → h.slot ≡ (it.0).slot) (Slotted m)
-          (λ h one e. names ∙ ap (λ (u : Slot). Some u) (sym (one (e ∙ serial ∙ sym same) ∙ it.3))) p.held (one-place 0 p.takes p.held (has_slot s) it.0 t.rising it.1);
+          (λ h one e. names ∙ ap (λ (u : Slot). Some u) (sym (one (let is : h.item.serial ≡ c.serial = cc in is ∙ sym same) ∙ it.3))) p.held (one-place 0 p.takes p.held (has_slot s) it.0 t.rising it.1);
     }
 
 -- of none
-belongs-nowhere : (p : Places OpenConnection) (m : QueuedMessage) → IsKept 256 p → IsTable p → m.serial ≡ NO_CONNECTION → BelongsTo p m
+belongs-nowhere : (p : Places OpenConnection) (m : QueuedMessage) → IsKept 256 p → IsTable p → m.serial ≡ None → BelongsTo p m
 belongs-nowhere p m kept t serial = record {
-  made = inr serial;
-  slot = All-weaker (λ h. h.item.serial < p.takes) (Slotted m) (λ h below e. absurd (omega (arith, kept.takes_left))) p.held (below-made 0 p.takes p.held t.rising);
+  made = subst (λ (k : Option ℕ). IfSome k (λ i. i < p.takes)) (sym serial) tt;
+  slot = All-weaker (λ h. h.item.serial < p.takes) (Slotted m) (λ h below e. cc) p.held (below-made 0 p.takes p.held t.rising);
 }
 
 -- of the one in its slot, or of none where none is there
 pub belongs-queued : (p : Places OpenConnection) (m : MessageItem) → IsKept 256 p → IsTable p → BelongsTo p (queued p m)
 belongs-queued p m kept t = in_slot m.connection refl where
   there : (s : Slot) (o : Option OpenConnection) → m.connection ≡ Some s → item_at p s ≡ o → BelongsTo p (queued p m)
-  there s None e live = belongs-nowhere p (queued p m) kept t (ap (serial_at p) e ∙ ap (λ (o : Option OpenConnection). option_map_or (λ c. c.serial) o NO_CONNECTION) live)
-  there s (Some c) e live = belongs-to p s c (queued p m) t live (ap (serial_at p) e ∙ ap (λ (o : Option OpenConnection). option_map_or (λ c. c.serial) o NO_CONNECTION) live) e
+  there s None e live = belongs-nowhere p (queued p m) kept t (ap (serial_at p) e ∙ ap (λ (o : Option OpenConnection). option_map (λ c. c.serial) o) live)
+  there s (Some c) e live = belongs-to p s c (queued p m) t live (ap (serial_at p) e ∙ ap (λ (o : Option OpenConnection). option_map (λ c. c.serial) o) live) e
 
   in_slot : (o : Option Slot) → m.connection ≡ o → BelongsTo p (queued p m)
   in_slot None e = belongs-nowhere p (queued p m) kept t (ap (serial_at p) e)
   in_slot (Some s) e = there s (item_at p s) e refl
 
 -- a message that names the slot of a live connection has its serial number
-pub queued-live : (p : Places OpenConnection) (s : Slot) (c : OpenConnection) (m : MessageItem) → m.connection ≡ Some s → item_at p s ≡ Some c → queued p m ≡ queued_as c.serial m
+pub queued-live : (p : Places OpenConnection) (s : Slot) (c : OpenConnection) (m : MessageItem) → m.connection ≡ Some s → item_at p s ≡ Some c → queued p m ≡ queued_as (Some c.serial) m
 queued-live p s c m names live =
-    ap (λ (n : ℕ). queued_as n m) (ap (serial_at p) names ∙ ap (λ (o : Option OpenConnection). option_map_or (λ d. d.serial) o NO_CONNECTION) live)
+    ap (λ (n : Option ℕ). queued_as n m) (ap (serial_at p) names ∙ ap (λ (o : Option OpenConnection). option_map (λ d. d.serial) o) live)
 
 -- a message's connection, while it is there, is in the slot that the message names
-pub slot-of-serial : (p : Places OpenConnection) (m : QueuedMessage) (c : OpenConnection) → IsKept 256 p → BelongsTo p m → find (λ d. d.serial == m.serial) (connections p) ≡ Some c
+pub slot-of-serial : (p : Places OpenConnection) (m : QueuedMessage) (n : ℕ) (c : OpenConnection) → IsKept 256 p → BelongsTo p m → m.serial ≡ Some n → find (λ d. d.serial == n) (connections p) ≡ Some c
     → (s : Slot) × (m.connection ≡ Some s) × (item_at p s ≡ Some c)
-slot-of-serial p m c kept b f =
-    let go : (o : Option (Held OpenConnection)) → find (λ h. h.item.serial == m.serial) p.held ≡ o → option_map (λ (h : Held OpenConnection). h.item) o ≡ Some c
+slot-of-serial p m n c kept b numbered f =
+    let go : (o : Option (Held OpenConnection)) → find (λ h. h.item.serial == n) p.held ≡ o → option_map (λ (h : Held OpenConnection). h.item) o ≡ Some c
     → (s : Slot) × (m.connection ≡ Some s) × (item_at p s ≡ Some c) =
     elim [
       | None ↦ λ e g. cc
       | Some h ↦ λ e g.
-          let here : find (has_slot h.slot) p.held ≡ Some h = found-too (λ x. x.item.serial == m.serial) (has_slot h.slot) p.held h (has_own h.slot) (one_slot 256 p h.slot kept) e in
-          let serial : h.item.serial ≡ m.serial = equal h.item.serial m.serial (find-passes (λ x. x.item.serial == m.serial) p.held h e) in
-          (h.slot, All-found (Slotted m) (λ x. x.item.serial == m.serial) p.held h b.slot e serial, ap (option_map (λ (x : Held OpenConnection). x.item)) here ∙ g)
+          let here : find (has_slot h.slot) p.held ≡ Some h = found-too (λ x. x.item.serial == n) (has_slot h.slot) p.held h (has_own h.slot) (one_slot 256 p h.slot kept) e in
+          let serial : h.item.serial ≡ n = equal h.item.serial n (find-passes (λ x. x.item.serial == n) p.held h e) in
+          (h.slot, All-found (Slotted m) (λ x. x.item.serial == n) p.held h b.slot e (numbered ∙ ap (λ (k : ℕ). Some k) (sym serial)), ap (option_map (λ (x : Held OpenConnection). x.item)) here ∙ g)
     ] in
-    go (find (λ h. h.item.serial == m.serial) p.held) refl (sym (find-map (λ (h : Held OpenConnection). h.item) (λ d. d.serial == m.serial) p.held) ∙ f) where
+    go (find (λ h. h.item.serial == n) p.held) refl (sym (find-map (λ (h : Held OpenConnection). h.item) (λ d. d.serial == n) p.held) ∙ f) where
       equal : (k n : ℕ) → (k == n) ≡ true → k ≡ n
       equal k n e = grind arith
 
@@ -204,32 +210,54 @@ by-serial p s c kept t live =
 abbrev pub of_serial : ℕ → OpenConnection → Option OpenConnection
 of_serial serial c = if c.serial == serial then Some c else None
 
--- a message's connection is what the slot has that the message names, if that has its serial number
-pub connection-of : (p : Places OpenConnection) (m : QueuedMessage) → IsKept 256 p → IsTable p → BelongsTo p m
-    → find (λ d. d.serial == m.serial) (connections p) ≡ option_and_then (λ s. option_and_then (of_serial m.serial) (item_at p s)) m.connection
-connection-of p m kept t b =
-    let go : (o : Option OpenConnection) → find (λ d. d.serial == m.serial) (connections p) ≡ o → o ≡ option_and_then (λ s. option_and_then (of_serial m.serial) (item_at p s)) m.connection =
+-- the connection with a message's serial number is what the slot has that the message names, if that has this number
+numbered-of : (p : Places OpenConnection) (m : QueuedMessage) (n : ℕ) → m.serial ≡ Some n → IsKept 256 p → IsTable p → BelongsTo p m
+    → find (λ d. d.serial == n) (connections p) ≡ option_and_then (λ s. option_and_then (of_serial n) (item_at p s)) m.connection
+numbered-of p m n numbered kept t b =
+    let go : (o : Option OpenConnection) → find (λ d. d.serial == n) (connections p) ≡ o → o ≡ option_and_then (λ s. option_and_then (of_serial n) (item_at p s)) m.connection =
     elim [
       | Some c ↦ λ f.
-          let it = slot-of-serial p m c kept b f in
-          let serial : (c.serial == m.serial) ≡ true = find-passes (λ d. d.serial == m.serial) (connections p) c f in
-          sym (ap (option_and_then (λ s. option_and_then (of_serial m.serial) (item_at p s))) it.1 ∙ ap (option_and_then (of_serial m.serial)) it.2 ∙ ap (λ x. cond x (Some c) None) serial)
+          let it = slot-of-serial p m n c kept b numbered f in
+          let serial : (c.serial == n) ≡ true = find-passes (λ d. d.serial == n) (connections p) c f in
+          sym (ap (option_and_then (λ s. option_and_then (of_serial n) (item_at p s))) it.1 ∙ ap (option_and_then (of_serial n)) it.2 ∙ ap (λ x. cond x (Some c) None) serial)
       | None ↦ λ f. none f m.connection
     ] in
-    go (find (λ d. d.serial == m.serial) (connections p)) refl where
-      other : find (λ d. d.serial == m.serial) (connections p) ≡ None → (s : Slot) (c : OpenConnection) → item_at p s ≡ Some c → (x : Bool) → (c.serial == m.serial) ≡ x → None ≡ cond x (Some c) None
+    go (find (λ d. d.serial == n) (connections p)) refl where
+      other : find (λ d. d.serial == n) (connections p) ≡ None → (s : Slot) (c : OpenConnection) → item_at p s ≡ Some c → (x : Bool) → (c.serial == n) ≡ x → None ≡ cond x (Some c) None
       other f s c live true e =
-          let same : c.serial ≡ m.serial = equal c.serial m.serial e in
-          let here : find (λ d. d.serial == m.serial) (connections p) ≡ Some c = subst (λ n. find (λ d. d.serial == n) (connections p) ≡ Some c) same (by-serial p s c kept t live) in
+          let same : c.serial ≡ n = equal c.serial n e in
+          let here : find (λ d. d.serial == n) (connections p) ≡ Some c = subst (λ n. find (λ d. d.serial == n) (connections p) ≡ Some c) same (by-serial p s c kept t live) in
           cc where
             equal : (k n : ℕ) → (k == n) ≡ true → k ≡ n
             equal k n e = grind arith
       other f s c live false e = refl
 
-      at : find (λ d. d.serial == m.serial) (connections p) ≡ None → (s : Slot) (o : Option OpenConnection) → item_at p s ≡ o → None ≡ option_and_then (of_serial m.serial) o
+      at : find (λ d. d.serial == n) (connections p) ≡ None → (s : Slot) (o : Option OpenConnection) → item_at p s ≡ o → None ≡ option_and_then (of_serial n) o
       at f s None live = refl
-      at f s (Some c) live = other f s c live (c.serial == m.serial) refl
+      at f s (Some c) live = other f s c live (c.serial == n) refl
 
-      none : find (λ d. d.serial == m.serial) (connections p) ≡ None → (o : Option Slot) → None ≡ option_and_then (λ s. option_and_then (of_serial m.serial) (item_at p s)) o
+      none : find (λ d. d.serial == n) (connections p) ≡ None → (o : Option Slot) → None ≡ option_and_then (λ s. option_and_then (of_serial n) (item_at p s)) o
       none f None = refl
       none f (Some s) = at f s (item_at p s) refl
+
+-- a message's connection, where it has one
+abbrev pub connection_in : Option ℕ → OpenConnection → Option OpenConnection
+connection_in None c = None
+connection_in (Some n) c = of_serial n c
+
+pub connection-of : (p : Places OpenConnection) (m : QueuedMessage) → IsKept 256 p → IsTable p → BelongsTo p m
+    → option_and_then (λ n. find (λ d. d.serial == n) (connections p)) m.serial ≡ option_and_then (λ s. option_and_then (connection_in m.serial) (item_at p s)) m.connection
+connection-of p m kept t b =
+    let go : (o : Option ℕ) → m.serial ≡ o → option_and_then (λ n. find (λ d. d.serial == n) (connections p)) o ≡ option_and_then (λ s. option_and_then (connection_in o) (item_at p s)) m.connection =
+    elim [
+      | None ↦ λ e. nowhere m.connection
+      | Some n ↦ λ e. numbered-of p m n e kept t b
+    ] in
+    go m.serial refl where
+      at : (o : Option OpenConnection) → None ≡ option_and_then (connection_in None) o
+      at None = refl
+      at (Some c) = refl
+
+      nowhere : (o : Option Slot) → None ≡ option_and_then (λ s. option_and_then (connection_in None) (item_at p s)) o
+      nowhere None = refl
+      nowhere (Some s) = at (item_at p s)

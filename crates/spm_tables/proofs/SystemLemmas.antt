@@ -1,9 +1,15 @@
--- How many connections a system declares.
-use Rattle.std.proofs.Common.{◌≡◌, ◌≤◌, ◌+◌, true, length, arith}
-use Rattle.std.specs.Prelude.{sum_by, nat_le}
+-- How many connections a system declares, and how many messages there may be.
+use Rattle.std.proofs.Common.{ℕ, zero, suc, ◌≡◌, ◌≤◌, ◌+◌, true, List, [], ◌∷◌, ◌++◌, length, arith, ◌∙◌, ap}
+use Rattle.std.specs.Prelude.{sum_by, nat_le, count_by}
+use Rattle.std.specs.List.{range_with_len}
 use Rattle.std.proofs.lemmas.Bool.Decides.{nat_tests}
+use Rattle.std.proofs.lemmas.List.Sums.{count_by-le-length}
+use Rattle.std.proofs.lemmas.List.FromFn.{length-range_with_len}
 use Rattle.ffm_model.specs.declared.system.System.{System}
+use Rattle.ffm_model.specs.Names.{calls_stateless, message_capacity}
 use Rattle.ffm_model.specs.WellFormed.{is_well_formed, budgets_fit}
+use Rattle.ffm_model.proofs.ActorLemmas.{few_partitions, few_clients}
+use Rattle.object_pools.proofs.Counts.{bit, count-push}
 use Rattle.handle_table.proofs.SlotLemmas.{both}
 
 fits : (s : System) → budgets_fit (length s.partitions + length s.clients) s.services s.budgets ≡ true
@@ -13,3 +19,33 @@ fits s = (both _ (budgets_fit (length s.partitions + length s.clients) s.service
 -- at most 256
 pub few_connections : (s : System) → sum_by (λ b. b.count) s.budgets ≤ 256
 few_connections s = let h : nat_le (sum_by (λ b. b.count) s.budgets) 256 ≡ true = (both _ (nat_le (sum_by (λ b. b.count) s.budgets) 256) (fits s)).1 in grind (arith, nat_tests)
+
+-- ---- partitions and clients that may use a stateless service
+
+range-more : (a n : ℕ) → range_with_len a (suc n) ≡ range_with_len a n ++ (a + n) ∷ []
+range-more a zero = ap (λ (x : ℕ). x ∷ []) (omega arith)
+range-more a (suc n) =
+    let same : a + 1 + n ≡ a + suc n = omega arith in
+    ap (λ (xs : List ℕ). a ∷ xs) (range-more (a + 1) n ∙ ap (λ (x : ℕ). range_with_len (a + 1) n ++ x ∷ []) same)
+
+-- one actor more
+pub callers_more : (s : System) (n : ℕ) → count_by (calls_stateless s) (range_with_len 0 (n + 1)) ≡ count_by (calls_stateless s) (range_with_len 0 n) + bit (calls_stateless s n)
+callers_more s n =
+    let next : n + 1 ≡ suc n = omega arith in
+    let same : 0 + n ≡ n = omega arith in
+    omega (
+      arith,
+      ap (λ k. count_by (calls_stateless s) (range_with_len 0 k)) next,
+      ap (count_by (calls_stateless s)) (range-more 0 n),
+      count-push (calls_stateless s) (range_with_len 0 n) (0 + n),
+      ap (λ k. bit (calls_stateless s k)) same,
+    )
+
+-- at most 48
+pub few_callers : (s : System) → count_by (calls_stateless s) (range_with_len 0 (length s.partitions + length s.clients)) ≤ 48
+few_callers s =
+    let n : ℕ = length s.partitions + length s.clients in
+    omega (arith, count_by-le-length (calls_stateless s) (range_with_len 0 n), length-range_with_len 0 n, few_partitions s, few_clients s)
+
+pub few_messages : (s : System) → message_capacity s ≤ 304
+few_messages s = omega (arith, few_connections s, few_callers s)

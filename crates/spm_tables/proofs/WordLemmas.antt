@@ -1,5 +1,5 @@
 -- The words that the tables keep, as what asserts signals changes.
-use Rattle.std.proofs.Common.{ℕ, ◌≡◌, ◌≢◌, ◌<◌, ◌≤◌, ◌+◌, ◌==◌, Bool, true, false, ◌&&◌, List, [], ◌∷◌, length, get_or, set, replicate, ◌∙◌, ap, sym, refl, subst, arith, suc}
+use Rattle.std.proofs.Common.{ℕ, zero, ◌≡◌, ◌≢◌, ◌<◌, ◌≤◌, ◌+◌, ◌==◌, Bool, true, false, ◌&&◌, List, [], ◌∷◌, length, map, get_or, set, replicate, ◌∙◌, ap, sym, refl, subst, arith, suc}
 use Rattle.std.specs.Prelude.{Option, Some, None, if◌then◌else◌, is_some, bit_or, nat_lt, not}
 use Rattle.std.specs.List.{filter_map, enumerate_from, cons_option, list_all}
 use Rattle.std.proofs.Math.ListN.{length-set}
@@ -156,21 +156,29 @@ all-clear X f n i x d e g =
     go (nat_lt i n) refl
 
 -- nothing asserts a signal: no queue has a message, no doorbell rang and no source is asserted
-silent : (services sources : List OwnedSignal) (n m k p : ℕ) (f : SourceFlags) → f.asserted ≡ false
-    → word_of services (replicate n no_ends) (replicate m false) sources (replicate k f) p ≡ 0
-silent services sources n m k p f clear =
+silent : (services sources : List OwnedSignal) (n m p : ℕ) (fs : List SourceFlags) → ((i : ℕ) → (get_or fs i no_flags).asserted ≡ false)
+    → word_of services (replicate n no_ends) (replicate m false) sources fs p ≡ 0
+silent services sources n m p fs clear =
     let firsts = none-from (λ v. is_some (ends_at (replicate n no_ends) v).first) (λ v. all-clear Ends (λ x. is_some x.first) n v no_ends no_ends refl refl) p services 0 in
-    let asserted-none = none-from (λ i. (get_or (replicate k f) i no_flags).asserted) (λ i. all-clear SourceFlags (λ x. x.asserted) k i f no_flags clear refl) p sources 0 in
+    let asserted-none = none-from (λ i. (get_or fs i no_flags).asserted) clear p sources 0 in
     let bell = all-clear Bool (λ b. b) m p false false refl refl in
-    ap (λ (ys : List ℕ). bit_or (union_of ys) (bit_or (if get_or (replicate m false) p false then PSA_DOORBELL else 0) (union_of (asserted (λ i. (get_or (replicate k f) i no_flags).asserted) sources p)))) firsts
+    ap (λ (ys : List ℕ). bit_or (union_of ys) (bit_or (if get_or (replicate m false) p false then PSA_DOORBELL else 0) (union_of (asserted (λ i. (get_or fs i no_flags).asserted) sources p)))) firsts
     ∙ ap (λ (ys : List ℕ). bit_or 0 (bit_or (if get_or (replicate m false) p false then PSA_DOORBELL else 0) (union_of ys))) asserted-none
     ∙ ap (λ (b : Bool). bit_or 0 (bit_or (if b then PSA_DOORBELL else 0) 0)) bell
 
-pub keeps-new : (services sources : List OwnedSignal) (n m k : ℕ) (f : SourceFlags) → f.asserted ≡ false
-    → KeepsWords services (replicate n no_ends) (replicate m false) sources (replicate k f) (replicate m 0)
-keeps-new services sources n m k f clear = record {
+-- the flags of the sources at the start
+abbrev pub first_flags : List Source → List SourceFlags
+first_flags xs = map (λ (x : Source). record { enabled = x.enabled; pending = false; asserted = false }) xs
+
+pub unasserted : (xs : List Source) (i : ℕ) → (get_or (first_flags xs) i no_flags).asserted ≡ false
+unasserted [] i = refl
+unasserted (x ∷ xs) zero = refl
+unasserted (x ∷ xs) (suc i) = unasserted xs i
+
+pub keeps-new : (services sources : List OwnedSignal) (n m : ℕ) (xs : List Source) → KeepsWords services (replicate n no_ends) (replicate m false) sources (first_flags xs) (replicate m 0)
+keeps-new services sources n m xs = record {
   counted = length-replicate m 0 ∙ sym (length-replicate m false);
-  right = λ p inside. get_or-replicate m p 0 0 (subst (λ q. p < q) (length-replicate m 0) inside) ∙ sym (silent services sources n m k p f clear);
+  right = λ p inside. get_or-replicate m p 0 0 (subst (λ q. p < q) (length-replicate m 0) inside) ∙ sym (silent services sources n m p (first_flags xs) (unasserted xs));
 }
 
 pub queues-new : (services : List OwnedSignal) (size m : ℕ) → m ≡ length services

@@ -1,16 +1,15 @@
 -- Which connection a message belongs to: the one of its serial number, in the slot that the message names, or none.
 -- Source: FF-M 1.0, a message is of one connection; the slots are this manager's.
-use Rattle.std.specs.Prelude.{◌≡◌, ◌<◌, ◌⊎◌, Some, All}
+use Rattle.std.specs.Prelude.{◌≡◌, ◌<◌, Some, IfSome, All}
 use Rattle.ffm_model.specs.declared.objects.OpenConnection.{OpenConnection}
 use Rattle.object_pools.specs.Pool.{Places}
 use Rattle.spm_tables.specs.declared.item.QueuedMessage.{QueuedMessage}
-use Rattle.spm_tables.specs.declared.item.TheConstants.{NO_CONNECTION}
 
 pub record BelongsTo (linked : Places OpenConnection) (m : QueuedMessage) : Type 0 where
-  -- its serial number is that of a connection that was made, or the one that says that it has none
-  pub made : (m.serial < linked.takes) ⊎ (m.serial ≡ NO_CONNECTION)
+  -- its serial number, where it has one, is that of a connection that was made
+  pub made : IfSome m.serial (λ n. n < linked.takes)
   -- and while its connection is there, it is in the slot that the message names
-  pub slot : All (λ h. h.item.serial ≡ m.serial → m.connection ≡ Some h.slot) linked.held
+  pub slot : All (λ h. m.serial ≡ Some h.item.serial → m.connection ≡ Some h.slot) linked.held
 
 -- what the tables keep of their messages
 abbrev pub KeepSlots : Places OpenConnection → Places QueuedMessage → Type 0

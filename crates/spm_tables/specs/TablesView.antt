@@ -12,7 +12,7 @@ use Rattle.ffm_model.specs.declared.objects.PendingMessage.{PendingMessage}
 use Rattle.ffm_model.specs.declared.objects.ActorPhase.{ActorPhase}
 use Rattle.ffm_model.specs.declared.objects.SourceFlags.{SourceFlags}
 use Rattle.ffm_model.specs.Actors.{actor_count}
-use Rattle.ffm_model.specs.Names.{capacity}
+use Rattle.ffm_model.specs.Names.{capacity, message_capacity}
 use Rattle.ffm_model.specs.State.{SpmState, is_undelivered}
 use Rattle.object_pools.specs.declared.slot.Slot.{Slot}
 use Rattle.object_pools.specs.declared.slot.Held.{Held}
@@ -22,7 +22,6 @@ use Rattle.handle_table.specs.Handles.{handle_at}
 use Rattle.handle_table.specs.Table.{connections}
 use Rattle.spm_tables.specs.declared.item.MessageItem.{MessageItem}
 use Rattle.spm_tables.specs.declared.item.QueuedMessage.{QueuedMessage}
-use Rattle.spm_tables.specs.declared.item.TheConstants.{NO_CONNECTION}
 use Rattle.spm_tables.specs.declared.signals.OwnedSignal.{OwnedSignal}
 
 pub record TablesView : Type 0 where
@@ -40,17 +39,17 @@ pub record TablesView : Type 0 where
 
 -- ---- messages
 
--- the message of a connection with that serial number
-abbrev pub queued_as : ℕ → MessageItem → QueuedMessage
+-- the message of a connection with that serial number, or of none
+abbrev pub queued_as : Option ℕ → MessageItem → QueuedMessage
 queued_as n m = record { service = m.service; client = m.client; connection = m.connection; serial = n; kind = m.kind; vectors = m.vectors; delivered = m.delivered }
 
 -- a message without the serial number
 abbrev pub item_of : QueuedMessage → MessageItem
 item_of m = record { service = m.service; client = m.client; connection = m.connection; kind = m.kind; vectors = m.vectors; delivered = m.delivered }
 
--- the serial number of the connection in the slot, and where none is there a number that no connection has
-abbrev pub serial_at : Places OpenConnection → Option Slot → ℕ
-serial_at linked slot = option_map_or (λ c. c.serial) (option_and_then (item_at linked) slot) NO_CONNECTION
+-- the serial number of the connection in the slot, where one is there
+abbrev pub serial_at : Places OpenConnection → Option Slot → Option ℕ
+serial_at linked slot = option_map (λ c. c.serial) (option_and_then (item_at linked) slot)
 
 -- the message of the connection in its slot
 abbrev pub queued : Places OpenConnection → MessageItem → QueuedMessage
@@ -114,10 +113,10 @@ shape_of d = record {
 }
 
 abbrev pub service_signal : Service → OwnedSignal
-service_signal v = record { owner = v.owner; signal = v.signal }
+service_signal v = record { owner = v.owner; signal = v.signal; flih = false }
 
 abbrev pub source_signal : Source → OwnedSignal
-source_signal v = record { owner = v.owner; signal = v.signal }
+source_signal v = record { owner = v.owner; signal = v.signal; flih = v.flih }
 
 abbrev pub system_shape : System → Shape
 system_shape s = record {
@@ -126,8 +125,12 @@ system_shape s = record {
   services = map service_signal s.services;
   sources = map source_signal s.sources;
   connections = capacity s;
-  messages = capacity s;
+  messages = message_capacity s;
 }
+
+-- whether a source has a first-level handler, which the tables of a system keep
+abbrev pub handling : TablesView → ℕ → Bool
+handling d i = option_map_or (λ x. x.flih) (slice_get d.sources i) false
 
 -- tables that were made for the system
 abbrev pub MadeFor : TablesView → System → Type 0

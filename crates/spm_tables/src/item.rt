@@ -17,7 +17,7 @@ pub struct MessageItem {
     /// The place of its service.
     pub service: u32,
     pub client: ActorId,
-    /// The slot of its connection, as long as that is there.
+    /// The slot of its connection, as long as that is there. None for a request by a stateless handle.
     pub connection: Option<Slot>,
     pub kind: i32,
     pub vectors: Vectors,
@@ -25,19 +25,16 @@ pub struct MessageItem {
     pub delivered: bool,
 }
 
-/// The serial number of a message that was taken in for no live connection: no connection has it.
-pub const NO_CONNECTION: u32 = u32::MAX;
-
 /// A message as the tables hold it: beside the slot of its connection there is the connection's serial number.
 #[derive(Clone, Copy, Debug)]
 pub struct QueuedMessage {
     /// The place of its service.
     pub service: u32,
     pub client: ActorId,
-    /// The slot of its connection, as long as that is there.
+    /// The slot of its connection, as long as that is there. None for a request by a stateless handle.
     pub connection: Option<Slot>,
-    /// The serial number of its connection, or `NO_CONNECTION`.
-    pub serial: u32,
+    /// The serial number of its connection. None where it was taken in for no live connection, as a request by a stateless handle.
+    pub serial: Option<u32>,
     pub kind: i32,
     pub vectors: Vectors,
     /// Whether `psa_get` delivered it.
@@ -61,12 +58,12 @@ impl QueuedMessage {
 }
 
 // The serial number of the connection in the slot.
-fn serial_at(connections: &Connections, slot: Option<Slot>) -> u32
+fn serial_at(connections: &Connections, slot: Option<Slot>) -> Option<u32>
     ensures { result ≡ serial_at connections.now slot }
 {
     match slot {
-        Some(slot) if connections.is_live(slot) => connections.connection(slot).serial,
-        _ => NO_CONNECTION,
+        Some(slot) if connections.is_live(slot) => Some(connections.connection(slot).serial),
+        _ => None,
     }
 }
 
@@ -86,7 +83,7 @@ pub(crate) fn queued(connections: &Connections, item: MessageItem) -> QueuedMess
 }
 
 // The message at the first index of a queue.
-fn held_at(messages: &Pool<QueuedMessage, 256>, first: Option<u32>) -> Option<Held<QueuedMessage>>
+fn held_at(messages: &Pool<QueuedMessage, 304>, first: Option<u32>) -> Option<Held<QueuedMessage>>
     ensures { result ≡ option_and_then (λ i. find (is_at i) messages.now.held) first }
 {
     match first {
@@ -97,7 +94,7 @@ fn held_at(messages: &Pool<QueuedMessage, 256>, first: Option<u32>) -> Option<He
 
 // The oldest undelivered message of a service, in constant time.
 pub(crate) fn oldest(
-    messages: &Pool<QueuedMessage, 256>,
+    messages: &Pool<QueuedMessage, 304>,
     ends: &[Ends],
     service: usize,
 ) -> Option<Slot>
@@ -111,14 +108,14 @@ pub(crate) fn oldest(
     }
 }
 
-pub(crate) fn item_at(messages: &Pool<QueuedMessage, 256>, slot: Slot) -> Option<QueuedMessage>
+pub(crate) fn item_at(messages: &Pool<QueuedMessage, 304>, slot: Slot) -> Option<QueuedMessage>
     ensures { result ≡ item_at messages.now slot }
 {
     messages.get(slot).copied()
 }
 
 // The live message of a slot.
-pub(crate) fn live_item(messages: &Pool<QueuedMessage, 256>, slot: Slot) -> QueuedMessage
+pub(crate) fn live_item(messages: &Pool<QueuedMessage, 304>, slot: Slot) -> QueuedMessage
     requires { IsSome (item_at messages.now slot) }
     ensures { item_at messages.now slot ≡ Some result }
 {
@@ -129,7 +126,7 @@ pub(crate) fn live_item(messages: &Pool<QueuedMessage, 256>, slot: Slot) -> Queu
 }
 
 // The message of a service with the least index, delivered or not.
-pub(crate) fn least_to(messages: &Pool<QueuedMessage, 256>, service: u32) -> Option<Slot>
+pub(crate) fn least_to(messages: &Pool<QueuedMessage, 304>, service: u32) -> Option<Slot>
     ensures none { IsNone result → All (λ h. ¬ (h.item.service ≡ service)) messages.now.held }
     ensures service { IfSome result (λ slot. IfSome (item_at messages.now slot) (λ m. m.service ≡ service)) }
     ensures live { IfSome result (λ slot. IsSome (item_at messages.now slot)) }

@@ -6,6 +6,6 @@ mod queues;
 mod signals;
 mod tables;
 
-pub use item::{MessageItem, NO_CONNECTION, QueuedMessage};
+pub use item::{MessageItem, QueuedMessage};
 pub use signals::OwnedSignal;
 pub use tables::Tables;

@@ -18,6 +18,8 @@ pub struct OwnedSignal {
     /// The place of its partition.
     pub owner: u32,
     pub signal: u32,
+    /// Whether it is that of an interrupt source with a first-level handler.
+    pub flih: bool,
 }
 
 pub(crate) fn service_signals(
@@ -31,6 +33,7 @@ pub(crate) fn service_signals(
         signals.push(OwnedSignal {
             owner: service.owner,
             signal: service.signal,
+            flih: false,
         })?;
     }
     Ok(signals)
@@ -44,9 +47,25 @@ pub(crate) fn source_signals(alloc: Global, sources: &[Source]) -> Result<Vec<Ow
         signals.push(OwnedSignal {
             owner: source.owner,
             signal: source.signal,
+            flih: source.flih,
         })?;
     }
     Ok(signals)
+}
+
+// The flags of the sources at the start.
+pub(crate) fn opening_flags(alloc: Global, sources: &[Source]) -> Result<Vec<SourceFlags>, Memory>
+    ensures { IfOk result (λ v. v.items ≡ map (λ x. record { enabled = x.enabled; pending = false; asserted = false }) sources.now) }
+{
+    let mut flags = Vec::new(alloc);
+    for source in sources {
+        flags.push(SourceFlags {
+            enabled: source.enabled,
+            pending: false,
+            asserted: false,
+        })?;
+    }
+    Ok(flags)
 }
 
 pub(crate) fn flags_at(flags: &[SourceFlags], source: usize) -> SourceFlags

@@ -1,7 +1,9 @@
 //! Worked cases.
 
 use ffm_model::{ActorId, ConnPhase, Handle};
-use handle_table::{Connection, Connections, Family, handle_of, slot_of};
+use handle_table::{
+    Connection, Connections, Family, handle_of, slot_of, stateless_handle, stateless_index,
+};
 use object_pools::Slot;
 use std::process::Abort;
 
@@ -28,19 +30,48 @@ fn handles_of_slots(rt: HostRuntime) {
         assert_eq!(rt; slot_of(Handle(number)), Some((Family::Connection, named)));
         assert_eq!(rt; slot_of(Handle(message)), Some((Family::Message, named)));
     }
+    // There are more messages than connections.
+    for (number, index) in [(1792, 256), (1839, 303)] {
+        let named = slot(index, 1);
+        assert_eq!(rt; slot_of(Handle(number)), Some((Family::Message, named)));
+    }
     for number in [
         0,
         -1,
         255,
         1023,
         1280,
+        1327,
         1535,
-        1792,
+        1840,
+        2047,
         0x40000000,
+        0x40000001,
         i32::MIN,
         i32::MAX,
     ] {
         assert_eq!(rt; slot_of(Handle(number)), None);
+    }
+}
+
+#[test]
+fn handles_without_connections(rt: HostRuntime) {
+    for (index, number) in [(1, 0x40000001), (17, 0x40000011), (32, 0x40000020)] {
+        assert!(rt; 1 <= index && index <= 32);
+        assert_eq!(rt; stateless_handle(index), Handle(number));
+        assert_eq!(rt; stateless_index(Handle(number)), Some(index));
+    }
+    for number in [
+        i32::MIN,
+        -1,
+        0,
+        1,
+        0x3fffffff,
+        0x40000000,
+        0x40000021,
+        i32::MAX,
+    ] {
+        assert_eq!(rt; stateless_index(Handle(number)), None);
     }
 }
 

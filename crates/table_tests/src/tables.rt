@@ -4,8 +4,8 @@ ghost use Rattle.std.specs.Prelude.{◌≡◌, false};
 
 use ffm_model::{ActorId, ActorPhase, ConnPhase, Handle, PSA_DOORBELL, SourceFlags, Span, Vectors};
 use object_pools::Slot;
-use sample_systems::system_of;
-use spm_tables::{MessageItem, NO_CONNECTION, Tables};
+use sample_systems::{extended, system_of};
+use spm_tables::{MessageItem, Tables};
 use std::alloc::Global;
 use std::process::Abort;
 use std::test::Fail;
@@ -74,7 +74,7 @@ fn drop_message(rt: &impl Abort, tables: &mut Tables, slot: Slot) -> MessageItem
     tables.drop_message(slot)
 }
 
-fn serial(rt: &impl Abort, tables: &Tables, slot: Slot) -> u32 {
+fn serial(rt: &impl Abort, tables: &Tables, slot: Slot) -> Option<u32> {
     assert!(rt; tables.messages().get(slot).is_some());
     tables.queued(slot).serial
 }
@@ -199,8 +199,13 @@ fn signals_and_handles(rt: HostRuntime) -> Result<(), Fail> {
     Ok(())
 }
 
-// A message of that slot is delivered and dropped, and has that serial number.
-fn passes_through(rt: &impl Abort, tables: &mut Tables, connection: Option<Slot>, number: u32) {
+// A message of that slot is delivered and dropped, and has that serial number or none.
+fn passes_through(
+    rt: &impl Abort,
+    tables: &mut Tables,
+    connection: Option<Slot>,
+    number: Option<u32>,
+) {
     let slot = enqueue(rt, tables, connection, 0, 1);
     assert_eq!(rt; message(rt, tables, slot).connection, connection);
     assert_eq!(rt; serial(rt, tables, slot), number);
@@ -218,11 +223,45 @@ fn messages_of_no_connection(rt: HostRuntime) -> Result<(), Fail> {
     let mut tables = Tables::new(rt.alloc(), &system)?;
     let first = start(&rt, &mut tables);
     let second = start(&rt, &mut tables);
-    passes_through(&rt, &mut tables, Some(second), 1);
+    passes_through(&rt, &mut tables, Some(second), Some(1));
     assert!(rt; tables.connections().is_live(second));
     tables.free(second);
-    passes_through(&rt, &mut tables, Some(second), NO_CONNECTION);
-    passes_through(&rt, &mut tables, None, NO_CONNECTION);
-    passes_through(&rt, &mut tables, Some(first), 0);
+    passes_through(&rt, &mut tables, Some(second), None);
+    passes_through(&rt, &mut tables, None, None);
+    passes_through(&rt, &mut tables, Some(first), Some(0));
+    Ok(())
+}
+
+// A partition with three services, a partition that may use two of them, one that may use one, and a client of all.
+const SHARED: &str = r#"{"isolation_level":3,"manifests":[
+{"psa_framework_version":1.0,"name":"VAULT","type":"APPLICATION-ROT",
+"priority":"NORMAL","entry_point":"main","stack_size":"0x400",
+"services":[{"name":"CLOCK","sid":"0x40","non_secure_clients":true},
+{"name":"METER","sid":"0x41","non_secure_clients":true},
+{"name":"KEYS","sid":"0x42","non_secure_clients":true}]},
+{"psa_framework_version":1.0,"name":"APP","type":"APPLICATION-ROT",
+"priority":"NORMAL","entry_point":"main","stack_size":"0x400",
+"dependencies":["CLOCK","METER"]},
+{"psa_framework_version":1.0,"name":"SPY","type":"APPLICATION-ROT",
+"priority":"NORMAL","entry_point":"main","stack_size":"0x400",
+"dependencies":["METER"]}],
+"non_secure_ram":"0x1000","clients":["NS"],
+"connections":[{"client":"NS","service":"KEYS","count":5}]}"#;
+
+#[test]
+fn sizes_of_pools(rt: HostRuntime) -> Result<(), Fail> {
+    for (indices, connections, messages) in [
+        ([0, 0, 0], 10, 10),
+        ([1, 0, 0], 8, 10),
+        ([0, 1, 0], 7, 10),
+        ([1, 32, 0], 5, 8),
+        ([3, 2, 1], 0, 3),
+    ] {
+        let system = extended(system_of(rt.alloc(), SHARED)?, &indices, &[]);
+        let system = system.ok_or("the parts don't fit")?;
+        let tables = Tables::new(rt.alloc(), &system)?;
+        assert_eq!(rt; tables.connections().size(), connections);
+        assert_eq!(rt; tables.messages().size(), messages, "{indices:?}");
+    }
     Ok(())
 }

@@ -7,14 +7,14 @@ use Rattle.ffm_model.specs.declared.machine.Message.{Message}
 use Rattle.ffm_model.specs.declared.machine.Outcome.{Outcome}
 use Rattle.ffm_model.specs.declared.machine.Outcome.TheVariants as outcome
 use Rattle.ffm_model.specs.TraceText.{Word, Phrase, field_word, call_phrase, message_phrase, size_fields, outcome_phrase, CallFits, AreFourSizes, OutcomeFits, MessageFits}
-use Rattle.trace_print.specs.Reading.{call_at, call_named, message_call_named, signal_call_named, event_named, version_at, connect_at, invoke_at, close_at, wait_at, get_at, set_rhandle_at, read_at, skip_at, write_at, reply_at, notify_at, eoi_at, load_at, store_at, raise_at, stop_at, outcome_at, outcome_named, value_at, number_at, signals_at, message_at, sizes_at}
+use Rattle.trace_print.specs.Reading.{call_at, call_named, message_call_named, signal_call_named, event_named, version_at, connect_at, invoke_at, close_at, wait_at, get_at, set_rhandle_at, read_at, skip_at, write_at, reply_at, notify_at, eoi_at, irq_enable_at, irq_disable_at, reset_signal_at, fire_at, interrupt_call_named, load_at, store_at, raise_at, stop_at, outcome_at, outcome_named, value_at, number_at, signals_at, message_at, sizes_at}
 use Rattle.trace_print.proofs.Numbers.{hexadecimal_again, unsigned_again, signed_again}
 
 abbrev pub phrase_words : Phrase → List Word
 phrase_words p = p.names ++ map field_word p.fields
 
 pub call_again : (c : Call) (rest : List Word) → CallFits c → call_at (phrase_words (call_phrase c) ++ rest) ≡ Some (c, rest)
-unfolding call_named message_call_named signal_call_named event_named version_at connect_at invoke_at close_at wait_at get_at set_rhandle_at read_at skip_at write_at reply_at notify_at eoi_at load_at store_at raise_at stop_at
+unfolding call_named message_call_named signal_call_named interrupt_call_named event_named irq_enable_at irq_disable_at reset_signal_at fire_at version_at connect_at invoke_at close_at wait_at get_at set_rhandle_at read_at skip_at write_at reply_at notify_at eoi_at load_at store_at raise_at stop_at
 call_again call.FrameworkVersion rest fits = refl
 call_again (call.Version sid) rest fits = rw (hexadecimal_again sid.0 fits.0) refl
 call_again (call.Connect sid version) rest fits = rw (hexadecimal_again sid.0 fits.0, unsigned_again version fits.1.0) refl
@@ -30,10 +30,14 @@ call_again (call.Reply handle status) rest fits = rw (signed_again handle.0 fits
 call_again (call.Notify partition) rest fits = rw (signed_again partition fits.0) refl
 call_again call.Clear rest fits = refl
 call_again (call.Eoi signal) rest fits = rw (hexadecimal_again signal fits.0) refl
+call_again (call.IrqEnable signal) rest fits = rw (hexadecimal_again signal fits.0) refl
+call_again (call.IrqDisable signal) rest fits = rw (hexadecimal_again signal fits.0) refl
+call_again (call.ResetSignal signal) rest fits = rw (hexadecimal_again signal fits.0) refl
 call_again call.Panic rest fits = refl
 call_again (call.Load address size) rest fits = rw (hexadecimal_again address fits.0, unsigned_again size fits.1.0) refl
 call_again (call.Store address size value) rest fits = rw (hexadecimal_again address fits.0, unsigned_again size fits.1.0, hexadecimal_again value fits.1.1.0) refl
 call_again (call.Raise source) rest fits = rw (unsigned_again source fits.0) refl
+call_again (call.Fire source result) rest fits = rw (unsigned_again source fits.0, unsigned_again result fits.1.0) refl
 call_again (call.Stop false) rest fits = refl
 call_again (call.Stop true) rest fits = refl
 call_again call.Resume rest fits = refl

@@ -1,6 +1,6 @@
-pub mod Digits
 pub mod Messages
 pub mod Counting
+pub mod Decimals
 pub mod Parts
 pub mod Numbers
 pub mod Again

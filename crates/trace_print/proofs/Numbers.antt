@@ -10,8 +10,8 @@ use Rattle.trace_print.specs.Numbers.{◌>>=◌, digit_at, more, with_digit, num
 digit_again : (d : ℕ) → d < 16 → digit_at (hexadecimal_digit d) ≡ Some d
 digit_again d lt = grind (arith, nat_tests)
 
-more_is : (base n d : ℕ) → n * base + d < 2 ^ 32 → more base n d ≡ Some (n * base + d)
-more_is base n d lt = grind (arith, nat_tests)
+more_is : (base n d : ℕ) → d < base → n * base + d < 2 ^ 32 → more base n d ≡ Some (n * base + d)
+more_is base n d digit lt = grind (arith, nat_tests)
 
 digit_step : (base : ℕ) (xs ys : List ℕ) (o : Option ℕ) → ((m : ℕ) → number_after base m (xs ++ ys) ≡ (number_after base m xs >>= λ k. number_after base k ys))
     → (o >>= λ m. number_after base m (xs ++ ys)) ≡ ((o >>= λ m. number_after base m xs) >>= λ k. number_after base k ys)
@@ -24,9 +24,9 @@ number_append base n [] ys = refl
 number_append base n (x ∷ xs) ys = digit_step base xs ys (with_digit base n x) (λ m. number_append base m xs ys)
 
 -- one more digit at the end
-number_push : (base n m d : ℕ) (ds : List ℕ) → number_after base n ds ≡ Some m → d < 16 → m * base + d < 2 ^ 32 → number_after base n (ds ++ hexadecimal_digit d ∷ []) ≡ Some (m * base + d)
+number_push : (base n m d : ℕ) (ds : List ℕ) → number_after base n ds ≡ Some m → d < 16 → d < base → m * base + d < 2 ^ 32 → number_after base n (ds ++ hexadecimal_digit d ∷ []) ≡ Some (m * base + d)
 unfolding number_after
-number_push base n m d ds e lt fits = number_append base n ds (hexadecimal_digit d ∷ []) ∙ rw (e, digit_again d lt, more_is base m d fits) refl
+number_push base n m d ds e lt digit fits = number_append base n ds (hexadecimal_digit d ∷ []) ∙ rw (e, digit_again d lt, more_is base m d digit fits) refl
 
 pub hexadecimal_digits_again : (k n : ℕ) → n < 16 ^ k → n < 2 ^ 32 → number_after 16 0 (hexadecimal_digits k n) ≡ Some n
 unfolding hexadecimal_digits number_after
@@ -35,7 +35,7 @@ hexadecimal_digits_again (suc k) n lt fits =
     let wide : n < 16 ^ k * 16 = rw pow-suc at lt in
     let shorter : n / 16 < 16 ^ k = omega arith in
     let e : (n / 16) * 16 + n % 16 ≡ n = omega arith in
-    number_push 16 0 (n / 16) (n % 16) (hexadecimal_digits k (n / 16)) (hexadecimal_digits_again k (n / 16) shorter (omega arith)) (omega arith) (omega arith) ∙ ap Some e
+    number_push 16 0 (n / 16) (n % 16) (hexadecimal_digits k (n / 16)) (hexadecimal_digits_again k (n / 16) shorter (omega arith)) (omega arith) (omega arith) (omega arith) ∙ ap Some e
 
 pub hexadecimal_again : (n : ℕ) → n < 2 ^ 32 → hexadecimal_of (hexadecimal_word n) ≡ Some n
 unfolding hexadecimal_word
@@ -52,14 +52,14 @@ one_digit : (n : ℕ) → n < 10 → DecimalAgain n ((48 + n) ∷ [])
 unfolding DecimalAgain number_after
 one_digit n lt fits =
     let e : 0 * 10 + n ≡ n = omega arith in
-    rw (glyph_of n lt) (number_push 10 0 0 n [] refl (omega arith) (omega arith) ∙ ap Some e)
+    rw (glyph_of n lt) (number_push 10 0 0 n [] refl (omega arith) (omega arith) (omega arith) ∙ ap Some e)
 
 more_digits : (n : ℕ) (ds : List ℕ) → 10 ≤ n → DecimalAgain (n / 10) ds → DecimalAgain n (ds ++ ((48 + n % 10) ∷ []))
 unfolding DecimalAgain
 more_digits n ds le h fits =
     let lt : n % 10 < 10 = omega arith in
     let e : (n / 10) * 10 + n % 10 ≡ n = omega arith in
-    rw (glyph_of (n % 10) lt) (number_push 10 0 (n / 10) (n % 10) ds (h (omega arith)) (omega arith) (omega arith) ∙ ap Some e)
+    rw (glyph_of (n % 10) lt) (number_push 10 0 (n / 10) (n % 10) ds (h (omega arith)) (omega arith) (omega arith) (omega arith) ∙ ap Some e)
 
 pub unsigned_again : (n : ℕ) → n < 2 ^ 32 → unsigned_of (decimal n) ≡ Some n
 unfolding DecimalAgain

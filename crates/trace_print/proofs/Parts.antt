@@ -1,9 +1,12 @@
 -- The parts of a text between separators.
-use Rattle.std.proofs.Common.{◌≡◌, ◌≢◌, ℕ, ◌+◌, ◌<◌, ◌==◌, false, List, [], ◌∷◌, take, drop, length, get_or, arith}
+use Rattle.std.proofs.Common.{◌≡◌, ◌≢◌, ℕ, ◌+◌, ◌<◌, ◌==◌, false, true, List, [], ◌∷◌, take, drop, length, get_or, arith}
 use Rattle.std.specs.List.{All, position_or_len, before_first, after_first}
 use Rattle.std.proofs.lemmas.Bool.{ne_eqb, eq-eqb}
 use Rattle.std.proofs.lemmas.List.Sums.{position_or_len_is}
+use Rattle.std.proofs.lemmas.List.Elements.{All-from_get_or}
 use Rattle.std.proofs.lemmas.List.Splits.{slice_split_first, slice_split_none}
+use Rattle.std.proofs.lemmas.Bool.Decides.{nat_tests}
+use Rattle.memchr.specs.Find.{NoneBefore, Nowhere, Passes, is_byte}
 use Rattle.trace_print.specs.View.{parts}
 
 -- the first separator stands at a place
@@ -17,3 +20,14 @@ cut_at s xs i inside here before =
 -- there is no separator
 pub not_cut : (s : ℕ) (xs : List ℕ) → All (λ b. (b == s) ≡ false) xs → parts s xs ≡ xs ∷ []
 not_cut s xs none = slice_split_none (λ b. b == s) xs none
+
+is_at : (s b : ℕ) → (b == s) ≡ true → b ≡ s
+is_at s b e = grind (arith, nat_tests, e)
+
+-- the first separator was found by a search
+pub found_at : (s : ℕ) (xs : List ℕ) (i : ℕ) → NoneBefore (Passes (is_byte s) xs) 0 (length xs) i → Passes (is_byte s) xs i → parts s xs ≡ take i xs ∷ parts s (drop (i + 1) xs)
+found_at s xs i first here = cut_at s xs i first.high (is_at s (get_or xs i 0) here) (λ k lt is. first.before k (omega arith) lt (eq-eqb (get_or xs k 0) s is))
+
+-- a search found no separator
+pub found_nowhere : (s : ℕ) (xs : List ℕ) → Nowhere (Passes (is_byte s) xs) 0 (length xs) → parts s xs ≡ xs ∷ []
+found_nowhere s xs none = not_cut s xs (All-from_get_or (λ b. (b == s) ≡ false) xs 0 (λ k lt. ne_eqb (get_or xs k 0) s (λ is. none k (omega arith) lt (eq-eqb (get_or xs k 0) s is))))

@@ -1,3 +1,4 @@
+pub mod Buffer
 pub mod Fields
 pub mod Numbers
 pub mod Reading

@@ -12,9 +12,9 @@ None >>= f = None
 abbrev pub digit_at : ℕ → Option ℕ
 digit_at b = if nat_le 48 b && nat_le b 57 then Some (b - 48) else (if nat_le 97 b && nat_le b 102 then Some (b - 87) else None)
 
--- a number with one more digit, as long as it is below 2^32
+-- a number with one more digit of its base, as long as it is below 2^32
 abbrev pub more : ℕ → ℕ → ℕ → Option ℕ
-more base n d = if nat_lt (n * base + d) (2 ^ 32) then Some (n * base + d) else None
+more base n d = if nat_lt d base && nat_lt (n * base + d) (2 ^ 32) then Some (n * base + d) else None
 
 abbrev pub with_digit : ℕ → ℕ → ℕ → Option ℕ
 with_digit base n b = digit_at b >>= more base n

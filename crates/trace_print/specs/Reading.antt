@@ -114,6 +114,21 @@ eoi_at ws = do
   signal ← hexadecimal_at ws
   Some (call.Eoi signal.0, signal.1)
 
+unfoldable pub irq_enable_at : List Word → Option (Call × List Word)
+irq_enable_at ws = do
+  signal ← hexadecimal_at ws
+  Some (call.IrqEnable signal.0, signal.1)
+
+unfoldable pub irq_disable_at : List Word → Option (Call × List Word)
+irq_disable_at ws = do
+  signal ← hexadecimal_at ws
+  Some (call.IrqDisable signal.0, signal.1)
+
+unfoldable pub reset_signal_at : List Word → Option (Call × List Word)
+reset_signal_at ws = do
+  signal ← hexadecimal_at ws
+  Some (call.ResetSignal signal.0, signal.1)
+
 unfoldable pub load_at : List Word → Option (Call × List Word)
 load_at ws = do
   address ← hexadecimal_at ws
@@ -132,6 +147,12 @@ raise_at ws = do
   source ← unsigned_at ws
   Some (call.Raise source.0, source.1)
 
+unfoldable pub fire_at : List Word → Option (Call × List Word)
+fire_at ws = do
+  source ← unsigned_at ws
+  result ← unsigned_at source.1
+  Some (call.Fire source.0 result.0, result.1)
+
 abbrev pub spent_of : Word → Option Bool
 spent_of w = if bytes_eq w (codes "end") then Some false else (if bytes_eq w (codes "spent") then Some true else None)
 
@@ -146,18 +167,27 @@ event_named name ws =
     if bytes_eq name (codes "load") then load_at ws
     else (if bytes_eq name (codes "store") then store_at ws
     else (if bytes_eq name (codes "raise") then raise_at ws
+    else (if bytes_eq name (codes "fire") then fire_at ws
     else (if bytes_eq name (codes "stop") then stop_at ws
     else (if bytes_eq name (codes "resume") then Some (call.Resume, ws)
-    else None))))
+    else None)))))
 
--- calls of a partition on its signals, or else an event that is no call
+-- calls of a partition on its interrupts, or else an event that is no call
+unfoldable pub interrupt_call_named : Word → List Word → Option (Call × List Word)
+interrupt_call_named name ws =
+    if bytes_eq name (codes "eoi") then eoi_at ws
+    else (if bytes_eq name (codes "irq_enable") then irq_enable_at ws
+    else (if bytes_eq name (codes "irq_disable") then irq_disable_at ws
+    else (if bytes_eq name (codes "reset_signal") then reset_signal_at ws
+    else event_named name ws)))
+
+-- calls of a partition on its doorbell and its end, or else another call
 unfoldable pub signal_call_named : Word → List Word → Option (Call × List Word)
 signal_call_named name ws =
     if bytes_eq name (codes "notify") then notify_at ws
     else (if bytes_eq name (codes "clear") then Some (call.Clear, ws)
-    else (if bytes_eq name (codes "eoi") then eoi_at ws
     else (if bytes_eq name (codes "panic") then Some (call.Panic, ws)
-    else event_named name ws)))
+    else interrupt_call_named name ws))
 
 -- calls of a service on its messages, or else another call
 unfoldable pub message_call_named : Word → List Word → Option (Call × List Word)

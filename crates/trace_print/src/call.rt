@@ -2,7 +2,7 @@
 
 ghost use Rattle.std.specs.Prelude.{◌≡◌};
 ghost use Rattle.std.specs.Option.{option_map};
-ghost use Rattle.trace_print.specs.Reading.{version_at, connect_at, invoke_at, close_at, wait_at, get_at, set_rhandle_at, read_at, skip_at, write_at, reply_at, notify_at, eoi_at, load_at, store_at, raise_at, spent_of, stop_at, event_named, signal_call_named, message_call_named, call_named, call_at};
+ghost use Rattle.trace_print.specs.Reading.{version_at, connect_at, invoke_at, close_at, wait_at, get_at, set_rhandle_at, read_at, skip_at, write_at, reply_at, notify_at, eoi_at, irq_enable_at, irq_disable_at, reset_signal_at, fire_at, interrupt_call_named, load_at, store_at, raise_at, spent_of, stop_at, event_named, signal_call_named, message_call_named, call_named, call_at};
 ghost use Rattle.trace_print.specs.View.{words_of, seen};
 
 use crate::number::{Words, hexadecimal, signed, unsigned, word};
@@ -161,6 +161,30 @@ fn eoi<'a>(words: Words<'a>) -> CallAndRest<'a>
     Some((Call::Eoi { signal }, words))
 }
 
+#[tactic(auto, unfolding(crate::specs::Reading::irq_enable_at))]
+fn irq_enable<'a>(words: Words<'a>) -> CallAndRest<'a>
+    ensures { option_map seen result ≡ irq_enable_at (words_of words.entry) }
+{
+    let (signal, words) = hexadecimal(words)?;
+    Some((Call::IrqEnable { signal }, words))
+}
+
+#[tactic(auto, unfolding(crate::specs::Reading::irq_disable_at))]
+fn irq_disable<'a>(words: Words<'a>) -> CallAndRest<'a>
+    ensures { option_map seen result ≡ irq_disable_at (words_of words.entry) }
+{
+    let (signal, words) = hexadecimal(words)?;
+    Some((Call::IrqDisable { signal }, words))
+}
+
+#[tactic(auto, unfolding(crate::specs::Reading::reset_signal_at))]
+fn reset_signal<'a>(words: Words<'a>) -> CallAndRest<'a>
+    ensures { option_map seen result ≡ reset_signal_at (words_of words.entry) }
+{
+    let (signal, words) = hexadecimal(words)?;
+    Some((Call::ResetSignal { signal }, words))
+}
+
 #[tactic(auto, unfolding(crate::specs::Reading::load_at))]
 fn load<'a>(words: Words<'a>) -> CallAndRest<'a>
     ensures { option_map seen result ≡ load_at (words_of words.entry) }
@@ -191,6 +215,15 @@ fn raise<'a>(words: Words<'a>) -> CallAndRest<'a>
 {
     let (source, words) = unsigned(words)?;
     Some((Call::Raise { source }, words))
+}
+
+#[tactic(auto, unfolding(crate::specs::Reading::fire_at))]
+fn fire<'a>(words: Words<'a>) -> CallAndRest<'a>
+    ensures { option_map seen result ≡ fire_at (words_of words.entry) }
+{
+    let (source, words) = unsigned(words)?;
+    let (result, words) = unsigned(words)?;
+    Some((Call::Fire { source, result }, words))
 }
 
 // Whether a stop says that the script's steps are spent.
@@ -226,6 +259,8 @@ fn event<'a>(name: &[u8], words: Words<'a>) -> CallAndRest<'a>
         store(words)
     } else if name == b"raise".as_slice() {
         raise(words)
+    } else if name == b"fire".as_slice() {
+        fire(words)
     } else if name == b"stop".as_slice() {
         stop(words)
     } else if name == b"resume".as_slice() {
@@ -235,7 +270,25 @@ fn event<'a>(name: &[u8], words: Words<'a>) -> CallAndRest<'a>
     }
 }
 
-// Calls of a partition on signals, and what else there is.
+// Calls of a partition on its interrupts, and what else there is.
+#[tactic(auto, unfolding(crate::specs::Reading::interrupt_call_named))]
+fn interrupt_call<'a>(name: &[u8], words: Words<'a>) -> CallAndRest<'a>
+    ensures { option_map seen result ≡ interrupt_call_named name.now (words_of words.entry) }
+{
+    if name == b"eoi".as_slice() {
+        eoi(words)
+    } else if name == b"irq_enable".as_slice() {
+        irq_enable(words)
+    } else if name == b"irq_disable".as_slice() {
+        irq_disable(words)
+    } else if name == b"reset_signal".as_slice() {
+        reset_signal(words)
+    } else {
+        event(name, words)
+    }
+}
+
+// Calls of a partition on its doorbell and its end, and what else there is.
 #[tactic(auto, unfolding(crate::specs::Reading::signal_call_named))]
 fn signal_call<'a>(name: &[u8], words: Words<'a>) -> CallAndRest<'a>
     ensures { option_map seen result ≡ signal_call_named name.now (words_of words.entry) }
@@ -244,12 +297,10 @@ fn signal_call<'a>(name: &[u8], words: Words<'a>) -> CallAndRest<'a>
         notify(words)
     } else if name == b"clear".as_slice() {
         Some((Call::Clear, words))
-    } else if name == b"eoi".as_slice() {
-        eoi(words)
     } else if name == b"panic".as_slice() {
         Some((Call::Panic, words))
     } else {
-        event(name, words)
+        interrupt_call(name, words)
     }
 }
 

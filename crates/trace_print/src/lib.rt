@@ -5,12 +5,14 @@ mod call;
 mod error;
 mod field;
 mod line;
+mod line_buffer;
 mod number;
 mod outcome;
 mod read;
 mod whole;
 
 pub use error::TraceError;
-pub use field::{LINE_CAPACITY, Line, hexadecimal};
-pub use line::{LONGEST_LINE, print, print_verdict};
+pub use field::hexadecimal;
+pub use line::{LONGEST_LINE, print, print_into, print_verdict};
+pub use line_buffer::{LINE_CAPACITY, Line};
 pub use whole::{one_wrong_line, read_trace, texts_differ};

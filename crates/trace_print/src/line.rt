@@ -2,12 +2,13 @@
 
 ghost use Rattle.std.specs.Prelude.{◌≡◌, ◌+◌, ◌*◌, ◌≤◌, ◌<◌, ◌++◌, length, codes};
 ghost use Rattle.std.specs.List.{flat_map, sum_by, AllByRecursion};
-ghost use Rattle.arrayvec.specs.ArrayVec.{array_vec_len};
+ghost use Rattle.trace_print.specs.Buffer.{line_len};
 ghost use Rattle.ffm_model.specs.TraceText.{call_phrase, outcome_phrase, message_phrase, message_front, spaced, spaced_field, spaced_phrase, actor_word, entry_text, verdict_word, verdict_text, line, FieldFits, CallFits, MessageFits, OutcomeFits, EntryFits, IsActorOf};
 ghost use Rattle.trace_print.specs.Fields.{width_of};
 
 use crate::field::Field::{Hex, Signed, Unsigned};
-use crate::field::{Line, append, append_fields, append_phrase, append_sizes, append_unsigned};
+use crate::field::{append, append_fields, append_phrase, append_sizes, append_unsigned};
+use crate::line_buffer::Line;
 use ffm_model::{ActorId, Call, Counts, Entry, Handle, Message, Outcome, Verdict};
 
 /// How many bytes the longest line of an entry has, with its line feed.
@@ -15,10 +16,10 @@ pub const LONGEST_LINE: usize = 223;
 
 #[tactic(auto, unfolding(ffm_model::specs::TraceText::actor_word))]
 fn append_actor(line: &mut Line, counts: Counts, actor: ActorId)
-    requires empty { array_vec_len line.old ≡ 0 }
+    requires empty { line_len line.old ≡ 0 }
     requires known { IsActorOf counts actor.0 }
     ensures items { line.new.items ≡ line.old.items ++ actor_word counts actor.0 }
-    ensures grows { array_vec_len line.new ≤ 3 }
+    ensures grows { line_len line.new ≤ 3 }
 {
     if actor.0 < counts.partitions {
         append(line, b"p");
@@ -52,10 +53,14 @@ fn call_name(call: Call) -> &'static [u8]
         Call::Notify { .. } => b"notify",
         Call::Clear => b"clear",
         Call::Eoi { .. } => b"eoi",
+        Call::IrqEnable { .. } => b"irq_enable",
+        Call::IrqDisable { .. } => b"irq_disable",
+        Call::ResetSignal { .. } => b"reset_signal",
         Call::Panic => b"panic",
         Call::Load { .. } => b"load",
         Call::Store { .. } => b"store",
         Call::Raise { .. } => b"raise",
+        Call::Fire { .. } => b"fire",
         Call::Stop { spent: false } => b"stop end",
         Call::Stop { spent: true } => b"stop spent",
         Call::Resume => b"resume",
@@ -72,9 +77,9 @@ fn append_invoke(
     out_vec: u32,
     out_len: u32,
 )
-    requires { array_vec_len line.old ≤ 76 }
+    requires { line_len line.old ≤ 76 }
     ensures items { line.new.items ≡ line.old.items ++ flat_map spaced_field (call_phrase (Call.Invoke handle kind in_vec in_len out_vec out_len)).fields }
-    ensures grows { array_vec_len line.new ≤ array_vec_len line.old + 68 }
+    ensures grows { line_len line.new ≤ line_len line.old + 68 }
     ensures fits { CallFits (Call.Invoke handle kind in_vec in_len out_vec out_len) }
 {
     append_fields(
@@ -92,9 +97,9 @@ fn append_invoke(
 
 // Appends the numbers of `psa_read` or `psa_write`.
 fn append_transfer(line: &mut Line, handle: Handle, index: u32, buffer: u32, len: u32)
-    requires { array_vec_len line.old ≤ 76 }
+    requires { line_len line.old ≤ 76 }
     ensures items { line.new.items ≡ line.old.items ++ flat_map spaced_field (call_phrase (Call.Read handle index buffer len)).fields }
-    ensures grows { array_vec_len line.new ≤ array_vec_len line.old + 45 }
+    ensures grows { line_len line.new ≤ line_len line.old + 45 }
     ensures fits { CallFits (Call.Read handle index buffer len) }
 {
     append_fields(
@@ -110,9 +115,9 @@ fn append_transfer(line: &mut Line, handle: Handle, index: u32, buffer: u32, len
 
 // Appends the numbers of a call.
 fn append_call_fields(line: &mut Line, call: Call)
-    requires { array_vec_len line.old ≤ 76 }
+    requires { line_len line.old ≤ 76 }
     ensures items { line.new.items ≡ line.old.items ++ flat_map spaced_field (call_phrase call).fields }
-    ensures grows { array_vec_len line.new ≤ array_vec_len line.old + sum_by width_of (call_phrase call).fields }
+    ensures grows { line_len line.new ≤ line_len line.old + sum_by width_of (call_phrase call).fields }
     ensures fits { CallFits call }
 {
     match call {
@@ -155,7 +160,10 @@ fn append_call_fields(line: &mut Line, call: Call)
             &[Signed(handle.0), Signed(status.0)],
         ),
         Call::Notify { partition } => append_fields(line, &[Signed(partition)]),
-        Call::Eoi { signal } => append_fields(line, &[Hex(signal)]),
+        Call::Eoi { signal }
+        | Call::IrqEnable { signal }
+        | Call::IrqDisable { signal }
+        | Call::ResetSignal { signal } => append_fields(line, &[Hex(signal)]),
         Call::Load { address, size } => append_fields(line, &[Hex(address), Unsigned(size)]),
         Call::Store {
             address,
@@ -163,13 +171,14 @@ fn append_call_fields(line: &mut Line, call: Call)
             value,
         } => append_fields(line, &[Hex(address), Unsigned(size), Hex(value)]),
         Call::Raise { source } => append_fields(line, &[Unsigned(source)]),
+        Call::Fire { source, result } => append_fields(line, &[Unsigned(source), Unsigned(result)]),
     }
 }
 
 fn append_call(line: &mut Line, call: Call)
-    requires { array_vec_len line.old ≤ 3 }
+    requires { line_len line.old ≤ 3 }
     ensures items { line.new.items ≡ line.old.items ++ spaced_phrase (call_phrase call) }
-    ensures grows { array_vec_len line.new ≤ array_vec_len line.old + 73 }
+    ensures grows { line_len line.new ≤ line_len line.old + 73 }
     ensures fits { CallFits call }
 {
     append(line, b" ");
@@ -179,9 +188,9 @@ fn append_call(line: &mut Line, call: Call)
 
 // Appends a message without its sizes.
 fn append_front(line: &mut Line, message: Message)
-    requires { array_vec_len line.old ≤ 79 }
+    requires { line_len line.old ≤ 79 }
     ensures items { line.new.items ≡ line.old.items ++ (spaced (codes "message") ++ flat_map spaced_field (message_front message)) }
-    ensures grows { array_vec_len line.new ≤ array_vec_len line.old + 55 }
+    ensures grows { line_len line.new ≤ line_len line.old + 55 }
     ensures fits { AllByRecursion FieldFits (message_front message) }
 {
     append_phrase(
@@ -197,9 +206,9 @@ fn append_front(line: &mut Line, message: Message)
 }
 
 fn append_message(line: &mut Line, message: Message)
-    requires { array_vec_len line.old ≤ 79 }
+    requires { line_len line.old ≤ 79 }
     ensures items { line.new.items ≡ line.old.items ++ spaced_phrase (message_phrase message) }
-    ensures grows { array_vec_len line.new ≤ array_vec_len line.old + 143 }
+    ensures grows { line_len line.new ≤ line_len line.old + 143 }
     ensures fits { MessageFits message }
 {
     append_front(line, message);
@@ -208,9 +217,9 @@ fn append_message(line: &mut Line, message: Message)
 }
 
 fn append_outcome(line: &mut Line, outcome: Outcome)
-    requires { array_vec_len line.old ≤ 79 }
+    requires { line_len line.old ≤ 79 }
     ensures items { line.new.items ≡ line.old.items ++ spaced_phrase (outcome_phrase outcome) }
-    ensures grows { array_vec_len line.new ≤ array_vec_len line.old + 143 }
+    ensures grows { line_len line.new ≤ line_len line.old + 143 }
     ensures fits { OutcomeFits outcome }
 {
     match outcome {
@@ -224,33 +233,57 @@ fn append_outcome(line: &mut Line, outcome: Outcome)
     }
 }
 
-/// The text of an entry, without the line feed.
+// Puts the text of an entry, without the line feed, in a line with no text.
 #[tactic(auto, unfolding(ffm_model::specs::TraceText::entry_text))]
+fn put_text(out: &mut Line, counts: Counts, entry: &Entry)
+    requires empty { line_len out.old ≡ 0 }
+    requires known { IsActorOf counts entry.now.actor.0 }
+    ensures text { out.new.items ≡ entry_text counts entry.now }
+    ensures short { line_len out.new < LONGEST_LINE }
+    ensures fits { EntryFits counts entry.now }
+{
+    append_actor(out, counts, entry.actor);
+    append_call(out, entry.call);
+    append(out, b" ->");
+    append_outcome(out, entry.outcome);
+}
+
+/// The text of an entry, without the line feed.
 pub fn entry_text(counts: Counts, entry: &Entry) -> Line
     requires { IsActorOf counts entry.now.actor.0 }
     ensures text { result.items ≡ entry_text counts entry.now }
-    ensures short { array_vec_len result < LONGEST_LINE }
+    ensures short { line_len result < LONGEST_LINE }
     ensures fits { EntryFits counts entry.now }
 {
     let mut line = Line::new();
-    append_actor(&mut line, counts, entry.actor);
-    append_call(&mut line, entry.call);
-    append(&mut line, b" ->");
-    append_outcome(&mut line, entry.outcome);
+    put_text(&mut line, counts, entry);
     line
 }
 
-/// The line of an entry, `ACTOR CALL -> OUTCOME` and a line feed, with the arguments in the order of
-/// `psa/client.h` and `psa/service.h`. The actor is one that the counts name: partitions are `p1` to
-/// `p32`, non-secure clients `n1` to `n16`, and the device is `dev`.
+/// Puts the line of an entry in the place of what a line had: `ACTOR CALL -> OUTCOME` and a line
+/// feed, with the arguments in the order of `psa/client.h` and `psa/service.h`. The actor is one
+/// that the counts name: partitions are `p1` to `p32`, non-secure clients `n1` to `n16`, and the
+/// device is `dev`.
+pub fn print_into(out: &mut Line, counts: Counts, entry: &Entry)
+    requires { IsActorOf counts entry.now.actor.0 }
+    ensures text { out.new.items ≡ line (entry_text counts entry.now) }
+    ensures fits { EntryFits counts entry.now }
+    ensures short { line_len out.new ≤ LONGEST_LINE }
+{
+    out.clear();
+    put_text(out, counts, entry);
+    out.push(b'\n');
+}
+
+/// The line of an entry, as `print_into` puts it.
 pub fn print(counts: Counts, entry: &Entry) -> Line
     requires { IsActorOf counts entry.now.actor.0 }
     ensures text { result.items ≡ line (entry_text counts entry.now) }
     ensures fits { EntryFits counts entry.now }
-    ensures short { array_vec_len result ≤ LONGEST_LINE }
+    ensures short { line_len result ≤ LONGEST_LINE }
 {
-    let mut line = entry_text(counts, entry);
-    line.push(b'\n');
+    let mut line = Line::new();
+    print_into(&mut line, counts, entry);
     line
 }
 
@@ -269,7 +302,7 @@ fn verdict_word(verdict: Verdict) -> &'static [u8]
 #[tactic(auto, unfolding(ffm_model::specs::TraceText::verdict_text))]
 pub fn verdict_text(verdict: Verdict, count: u32) -> Line
     ensures text { result.items ≡ verdict_text verdict count }
-    ensures short { array_vec_len result ≤ 18 }
+    ensures short { line_len result ≤ 18 }
 {
     let mut line = Line::new();
     append(&mut line, verdict_word(verdict));
@@ -281,7 +314,7 @@ pub fn verdict_text(verdict: Verdict, count: u32) -> Line
 /// The last line of a trace: the verdict, the number of the trace's entries, and a line feed.
 pub fn print_verdict(verdict: Verdict, count: u32) -> Line
     ensures text { result.items ≡ line (verdict_text verdict count) }
-    ensures short { array_vec_len result ≤ LONGEST_LINE }
+    ensures short { line_len result ≤ LONGEST_LINE }
 {
     let mut text = verdict_text(verdict, count);
     text.push(b'\n');

@@ -7,6 +7,8 @@ ghost use Rattle.trace_print.specs.Numbers.{digit_at, more, with_digit, number_a
 ghost use Rattle.trace_print.specs.Reading.{word_at, unsigned_at, hexadecimal_at, signed_at};
 ghost use Rattle.trace_print.specs.View.{parts, parts_left, words_of, seen, seen_word};
 
+use memchr::memchr;
+
 /// The words that are left of a line, as text. `None` is no word, and an empty text is an empty
 /// word.
 pub type Words<'a> = Option<&'a [u8]>;
@@ -17,6 +19,17 @@ pub fn split_once(separator: u8, text: &[u8]) -> (&[u8], Option<&[u8]>)
     ensures joined { IfSome result.1 (λ rest. text.now ≡ result.0.now ++ separator ∷ rest.now) }
 {
     match text.iter().position(|byte| *byte == separator) {
+        Some(end) => (&text[..end], Some(&text[end + 1..])),
+        None => (text, None),
+    }
+}
+
+/// The bytes before the first line feed, and those behind it where there is one.
+pub fn split_line(text: &[u8]) -> (&[u8], Option<&[u8]>)
+    ensures parts { parts 10 text.now ≡ result.0.now ∷ parts_left 10 result.1 }
+    ensures joined { IfSome result.1 (λ rest. text.now ≡ result.0.now ++ 10 ∷ rest.now) }
+{
+    match memchr(b'\n', text) {
         Some(end) => (&text[..end], Some(&text[end + 1..])),
         None => (text, None),
     }
@@ -43,7 +56,11 @@ fn digit_at(byte: u8) -> Option<u8>
 fn more(base: u8, n: u32, digit: u8) -> Option<u32>
     ensures { result ≡ more base n digit }
 {
-    u32::try_from(u64::from(n) * u64::from(base) + u64::from(digit)).ok()
+    if digit < base {
+        u32::try_from(u64::from(n) * u64::from(base) + u64::from(digit)).ok()
+    } else {
+        None
+    }
 }
 
 fn with_digit(base: u8, n: u32, byte: u8) -> Option<u32>

@@ -13,7 +13,7 @@ ghost use Rattle.trace_print.specs.View.{parts};
 
 use crate::error::TraceError;
 use crate::line::verdict_text;
-use crate::number::split_once;
+use crate::number::split_line;
 use crate::read::entry_of;
 use ffm_model::{Counts, Entry, List, MAX_ENTRIES, Trace, Verdict};
 use std::alloc::Global;
@@ -46,7 +46,7 @@ fn first_line(counts: Counts, count: u32, text: &[u8]) -> Result<TraceLine, u32>
     requires { count ≤ MAX_ENTRIES }
     ensures { ReadsLine counts count text.now result }
 {
-    let (line, rest) = split_once(b'\n', text);
+    let (line, rest) = split_line(text);
     let Some(rest) = rest else {
         return Err(count + 1);
     };

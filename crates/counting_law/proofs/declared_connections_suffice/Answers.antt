@@ -1,6 +1,7 @@
 use Rattle.counting_law.proofs.Runs.{run-objects}
 use Rattle.counting_law.proofs.Bounds.{few-connections}
-use Rattle.counting_law.proofs.Rooms.{few-messages-of, fitting-room}
+use Rattle.counting_law.proofs.Callers.{few-messages-of}
+use Rattle.counting_law.proofs.Rooms.{fitting-room}
 use Rattle.counting_law.proofs.declared_connections_suffice.Goals as goal
 
 pub returns-clause-connections : goal.returns-clause-connections

@@ -12,7 +12,7 @@ use Rattle.ffm_model.specs.declared.system.System.{System}
 use Rattle.ffm_model.specs.Actors.{actor_count, budget_of}
 use Rattle.ffm_model.specs.ClientCalls.{new_connection}
 use Rattle.ffm_model.specs.State.{SpmState, has_handle, opening_spm, with_connection_handle, with_connection_phase}
-use Rattle.counting_law.specs.Objects.{ObjectsFit, PhaseFits, allowed, accepted_as, asking_of, awaited_of, connection_marked, is_awaited, is_joining, is_opening, same, wrongly_shown}
+use Rattle.counting_law.specs.Objects.{ObjectsFit, PhaseFits, allowed, accepted_as, asked_by, awaited_by, awaited_of, connection_marked, is_awaited, is_joining, is_opening, same, wrongly_shown}
 use Rattle.counting_law.proofs.Counts.{bit, bit-le, count-cons}
 use Rattle.counting_law.proofs.Parts.{off_left, off_right}
 use Rattle.object_pools.specs.Pool.{item_at, with_item}
@@ -51,8 +51,9 @@ one-fits s c h budget quiet serial told =
     record {
       budgets = λ a v. omega (arith, count-cons (λ d. (d.client.0 == a) && (d.service == v)) c [], within a v (c.client.0 == a) (c.service == v) refl refl);
       paired = λ t. omega (arith, count-cons (connection_marked t) c [], off_left (is_awaited c.phase) (t c.serial c.client.0 c.service c.phase) quiet);
+      called = refl;
       rising = (omega arith, omega arith);
-      phases = λ a. start-fits (actor_count s) a (count_by (awaited_of a) (c ∷ [])) (count_by (asking_of a) (c ∷ [])) (λ n. count_by (accepted_as a n) (c ∷ []))
+      phases = λ a. start-fits (actor_count s) a (awaited_by (c ∷ []) [] a) (asked_by (c ∷ []) [] a) (λ n. count_by (accepted_as a n) (c ∷ []))
           (omega (arith, count-cons (awaited_of a) c [], off_right (c.client.0 == a) (is_awaited c.phase) quiet));
       shown = omega (
         arith,

@@ -34,5 +34,5 @@ returns-clause-fits g c =
     c.set_phase.ensures.state
     ∙ ap (λ (x : SpmState). with_phase x a Blocked)
     (c.enqueue.ensures.state ∙ ap (λ (x : SpmState). with_sent x (fresh_message (queued c.start-slot.new.self.linked c.greeting.result))) c.start-slot.ensures.state
-    ∙ ap (with_sent added) (ap fresh_message as_queued ∙ c.greeting.ensures.message b.connections_made)) in
+    ∙ ap (with_sent added) (ap fresh_message as_queued ∙ c.greeting.ensures.message (Some b.connections_made))) in
     subst (λ (x : SpmState). ObjectsFit s x) (sym is) (connect-fits s b a v c.requires.fits running below)

@@ -57,7 +57,7 @@ returns-clause-answer c =
     at-item (item_at m.linked c.start-slot.result) new (λ x. spm_of c.send.new.tables ≡ with_phase (with_message (spm_of m) x PSA_IPC_CONNECT no_vectors) x.client.0 Blocked) live c.send.ensures.state in
     let issued : spm_of c.send.new.tables ≡ connect_issued (spm_of d) a c.in-Some.place =
     sent ∙ ap (λ (b : SpmState). with_phase (with_message b new PSA_IPC_CONNECT no_vectors) a Blocked) c.start-slot.ensures.state in
-    connect-issues s (spm_of d) a c.args.version c.in-Some.place c.in-Some-budget.budget c.args.sid (sym c.in-Some.ensures) (sym c.in-Some-budget.ensures) (search rules) (search rules) free
+    connect-issues s (spm_of d) a c.args.version c.in-Some.place c.in-Some-budget.budget c.args.sid (sym c.in-Some.ensures) (sym c.in-Some-budget.ensures) (search rules) (search rules) (search rules) free
     ∙ ap (λ (b : SpmState). Some (move Blocks b)) (sym issued)
 
 pub returns-in_default-clause-names : goal.returns-in_default-clause-names
@@ -66,8 +66,8 @@ returns-in_default-clause-names c = names_kept c.args.system.now c.args.tables.n
 pub returns-in_default-budget-clause-names : goal.returns-in_default-budget-clause-names
 returns-in_default-budget-clause-names c = names_kept c.args.system.now c.args.tables.now
 
-pub returns-then-not-takes_version-clause-names : goal.returns-then-not-takes_version-clause-names
-returns-then-not-takes_version-clause-names c = names_kept c.args.system.now c.args.tables.now
+pub returns-then-is_stateless-clause-names : goal.returns-then-is_stateless-clause-names
+returns-then-is_stateless-clause-names c = names_kept c.args.system.now c.args.tables.now
 
 pub returns-then-is_service_panicked-clause-names : goal.returns-then-is_service_panicked-clause-names
 returns-then-is_service_panicked-clause-names c = names_kept c.args.system.now c.args.tables.now

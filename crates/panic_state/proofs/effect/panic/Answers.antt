@@ -29,7 +29,7 @@ leave_services-requires-clause-few c =
     let p = c.args.partition.0 in
     omega (
       arith,
-      few-disconnects s p c.args.tables.now c.requires.made c.requires.partition c.requires.fits,
+      few-disconnects s p c.args.tables.now c.requires.fits,
       c.requires.few,
       ap (λ (d : TablesView). d.waiting.takes + length (disconnect_messages p d.linked)) c.end_services.ensures,
     )
@@ -59,7 +59,7 @@ returns-clause-message_takes c =
     let p = c.args.partition.0 in
     omega (
       arith,
-      few-disconnects s p c.args.tables.now c.requires.made c.requires.partition c.requires.fits,
+      few-disconnects s p c.args.tables.now c.requires.fits,
       c.leave_services.ensures.takes,
       ap (λ (d : TablesView). d.waiting.takes + length (disconnect_messages p d.linked)) c.end_services.ensures,
     )

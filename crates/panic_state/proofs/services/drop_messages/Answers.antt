@@ -10,15 +10,15 @@ loop-place-init c = messages_from-none c.args.system.now c.args.partition.0 c.ar
 pub loop-place-smaller-then-is_service_of : goal.loop-place-smaller-then-is_service_of
 loop-place-smaller-then-is_service_of c =
     let n = c.loop-place.place in
-    let shorter : length c.drop_message.new.self.waiting.held + 1 ≡ length c.loop-place.tables.waiting.held =
-    gone-shorter n c.loop-place.tables c.drop_message.new.self c.message_at-held.result c.message_at-held.ensures.kept c.message_at-held.ensures.at c.drop_message.ensures.after in
+    let shorter : length c.drop_message.new.tables.waiting.held + 1 ≡ length c.loop-place.tables.waiting.held =
+    gone-shorter n c.loop-place.tables c.drop_message.new.tables c.message_at-held.result c.message_at-held.ensures.kept c.message_at-held.ensures.at c.drop_message.ensures in
     omega (arith, shorter, c.live.ensures, c.loop-place-test.true, ap (λ (q : Places QueuedMessage). length q.held) c.messages.ensures)
 
 pub loop-place-preserved-then-is_service_of : goal.loop-place-preserved-then-is_service_of
 loop-place-preserved-then-is_service_of c =
     let n = c.loop-place.place in
-    messages_from-gone c.args.system.now c.args.partition.0 n c.loop-place.tables c.drop_message.new.self c.message_at-held.result c.message_at-held.ensures.kept c.message_at-held.ensures.at
-    (sym c.is_service_of.ensures ∙ c.if-is_service_of.true) c.drop_message.ensures.after
+    messages_from-gone c.args.system.now c.args.partition.0 n c.loop-place.tables c.drop_message.new.tables c.message_at-held.result c.message_at-held.ensures.kept c.message_at-held.ensures.at
+    (sym c.is_service_of.ensures ∙ c.if-is_service_of.true) c.drop_message.ensures
     ∙ c.loop-place.invariant
 
 pub loop-place-preserved : goal.loop-place-preserved

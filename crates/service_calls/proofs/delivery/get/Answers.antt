@@ -1,5 +1,5 @@
-use Rattle.std.proofs.Common.{Some, ◌≡◌, ◌<◌, ap, sym, subst, ◌∙◌}
-use Rattle.std.specs.Prelude.{IsSome}
+use Rattle.std.proofs.Common.{ℕ, Some, ◌≡◌, ◌<◌, ap, sym, subst, ◌∙◌}
+use Rattle.std.specs.Prelude.{IfSome, IsSome, Option}
 use Rattle.ffm_model.specs.Actors.{actor_count}
 use Rattle.ffm_model.specs.State.{connection_by_serial, is_undelivered}
 use Rattle.memory_image.proofs.Systems.{buffer_inside}
@@ -18,11 +18,11 @@ pub shown-shown-requires-clause-there : goal.shown-shown-requires-clause-there
 shown-shown-requires-clause-there c =
     let it = was-delivered c.args.tables.now c.dequeue.new.self c.in-Some.service c.in-Some-dequeue.slot c.queued-message.result c.in-Some-dequeue.ensures.found c.in-Some-dequeue.ensures.oldest
     c.in-Some-dequeue.ensures.after c.queued-message.ensures in
-    let there : IsSome (connection_by_serial (spm_of c.args.tables.now) it.item.serial) =
+    let there : IfSome it.item.serial (λ n. IsSome (connection_by_serial (spm_of c.args.tables.now) n)) =
     connection-there c.args.system.now (spm_of c.args.tables.now) (is_undelivered c.in-Some.service) (message_of c.in-Some-dequeue.slot it.item) c.requires.fits it.first in
     let same : it.item.serial ≡ c.queued-message.result.serial = ap (λ (m : QueuedMessage). m.serial) (sym it.since) in
-    subst (λ (d : TablesView). IsSome (connection_by_serial (spm_of d) c.queued-message.result.serial)) (sym it.after)
-    (subst (λ n. IsSome (connection_by_serial (spm_of c.args.tables.now) n)) same there)
+    subst (λ (d : TablesView). IfSome c.queued-message.result.serial (λ n. IsSome (connection_by_serial (spm_of d) n))) (sym it.after)
+    (subst (λ (o : Option ℕ). IfSome o (λ n. IsSome (connection_by_serial (spm_of c.args.tables.now) n))) same there)
 
 pub shown-shown-requires-clause-client : goal.shown-shown-requires-clause-client
 shown-shown-requires-clause-client c =

@@ -9,8 +9,8 @@ use Rattle.std.proofs.Common.{refl}
 use Rattle.service_calls.proofs.Kept.{rhandle-names}
 use Rattle.service_calls.proofs.replies.set_rhandle.Goals as goal
 
-pub connection_of-connection-requires-clause-there : goal.connection_of-connection-requires-clause-there
-connection_of-connection-requires-clause-there c =
+pub connection_of-requires-clause-there : goal.connection_of-requires-clause-there
+connection_of-requires-clause-there c =
     let s = c.requires.fits.0 in
     connection-there s (spm_of c.args.tables.now) (λ m. is_service_of s c.args.actor.0 m.service && has_handle m.handle c.args.handle) (message_of c.in-Some.slot c.queued-message.result) c.requires.fits.1.1
     (message-is c.args.tables.now c.in-Some.slot c.queued-message.result _ c.queued-message.ensures (c.in-Some.ensures.message s c.requires.fits.1.0))
@@ -18,6 +18,9 @@ connection_of-connection-requires-clause-there c =
 pub returns-in_default-clause-names : goal.returns-in_default-clause-names
 returns-in_default-clause-names c = λ s made. unchanged-names s c.args.tables.now c.args.tables.now refl
 
+pub returns-in_default-connection_of-clause-names : goal.returns-in_default-connection_of-clause-names
+returns-in_default-connection_of-clause-names c = λ s made. unchanged-names s c.args.tables.now c.args.tables.now refl
+
 pub returns-clause-names : goal.returns-clause-names
 returns-clause-names c = λ s made.
-    rhandle-names s c.args.tables.now c.set_rhandle.new.self c.connection_of-connection.result c.queued-message.result c.args.rhandle c.law.ensures.connections c.connection_of-connection.ensures c.set_rhandle.ensures.item
+    rhandle-names s c.args.tables.now c.set_rhandle.new.self c.in-Some-connection_of.connection c.queued-message.result c.args.rhandle c.law.ensures.connections c.in-Some-connection_of.ensures c.set_rhandle.ensures.item

@@ -1,8 +1,6 @@
 use Rattle.std.proofs.Common.{◌≡◌, true, rules}
 use Rattle.ffm_model.specs.Memory.{may_read}
 use Rattle.memory_image.proofs.Systems.{readable_inside}
-use Rattle.spm_core.proofs.Attempted.{some-and}
-use Rattle.spm_core.proofs.Made.{named-on}
 use Rattle.spm_core.proofs.accesses.load.Goals as goal
 
 pub load-requires-clause-inside : goal.load-requires-clause-inside

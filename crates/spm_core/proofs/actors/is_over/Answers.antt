@@ -1,10 +1,8 @@
 use Rattle.std.proofs.Common.{◌≡◌, true, rules}
-use Rattle.std.specs.Prelude.{not}
 use Rattle.ffm_model.specs.Signals.{enabled}
 use Rattle.ffm_model.specs.Verdicts.{some_enabled}
 use Rattle.spm_tables.specs.TablesView.{spm_of}
 use Rattle.spm_core.proofs.Kept.{some-enabled}
-use Rattle.spm_core.proofs.Made.{named-on}
 use Rattle.spm_core.proofs.actors.is_over.Goals as goal
 
 pub returns-else-not-is_enabled : goal.returns-else-not-is_enabled

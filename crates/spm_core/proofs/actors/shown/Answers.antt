@@ -1,14 +1,12 @@
-use Rattle.std.proofs.Common.{◌≡◌, refl, rules, ap, sym, ◌∙◌, to_z, of_z, w32, SFits, ℕ, ℤ}
+use Rattle.std.proofs.Common.{◌≡◌, rules, ap, sym, ◌∙◌, w32, SFits}
 use Rattle.std.specs.Prelude.{get_or}
 use Rattle.std.proofs.Math.Facts.{to_z-of_z}
 use Rattle.ffm_model.specs.declared.objects.ActorPhase.TheVariants.{Connected}
 use Rattle.ffm_model.specs.declared.machine.Handle.{Handle}
 use Rattle.ffm_model.specs.declared.machine.Outcome.TheVariants.{Value}
 use Rattle.ffm_model.specs.declared.machine.Phase.TheVariants.{Ready}
-use Rattle.ffm_model.specs.Names.{NamesSoFar, name_of, no_slot}
+use Rattle.ffm_model.specs.Names.{name_of, no_slot}
 use Rattle.ffm_model.specs.State.{phase_of}
-use Rattle.handle_table.specs.Handles.{handle_at}
-use Rattle.handle_table.specs.declared.handles.Family.TheVariants.{Connection}
 use Rattle.spm_tables.specs.TablesView.{spm_of}
 use Rattle.spm_core.specs.Views.{shown_phase}
 use Rattle.spm_core.proofs.Accepted.{accepted-name, joined-accepted}

@@ -1,5 +1,5 @@
-use Rattle.std.proofs.Common.{◌≡◌, refl, rules, subst}
-use Rattle.std.specs.Prelude.{Result, Ok, Some}
+use Rattle.std.proofs.Common.{◌≡◌, rules}
+use Rattle.std.specs.Prelude.{Some}
 use Rattle.ffm_model.specs.ServiceCalls.{reply_on}
 use Rattle.slot_names.proofs.Owed.{names-owed}
 use Rattle.spm_tables.specs.TablesView.{spm_of}

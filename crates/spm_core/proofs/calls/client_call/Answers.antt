@@ -1,14 +1,12 @@
 use Rattle.std.proofs.Common.{◌≡◌, refl, rules, subst, ℤ, to_z, of_z, w32, SFits}
-use Rattle.std.specs.Prelude.{None, List, IfOk}
+use Rattle.std.specs.Prelude.{List}
 use Rattle.std.proofs.Math.Facts.{to_z-of_z}
-use Rattle.ffm_model.specs.declared.machine.Call.{Call}
 use Rattle.ffm_model.specs.declared.machine.Call.TheVariants as call
 use Rattle.ffm_model.specs.declared.machine.Handle.{Handle}
 use Rattle.ffm_model.specs.ClientCalls.{psa_call}
 use Rattle.memory_image.specs.Pieces.{byte_at}
 use Rattle.slot_names.proofs.Changes.{names-same}
 use Rattle.spm_tables.specs.Answers.{Answers, state_with}
-use Rattle.spm_core.specs.Performed.{Attempts, ShowsName}
 use Rattle.spm_core.proofs.Attempted.{attempts-answer, shows-all}
 use Rattle.spm_core.proofs.calls.client_call.Goals as goal
 

@@ -1,4 +1,4 @@
-use Rattle.std.proofs.Common.{◌≡◌, refl, rules}
+use Rattle.std.proofs.Common.{refl, rules}
 use Rattle.std.specs.Prelude.{IsErr, [], ◌∷◌, ◌++◌}
 use Rattle.ffm_model.specs.declared.machine.Call.TheVariants.{Get}
 use Rattle.ffm_model.specs.declared.machine.Outcome.TheVariants.{Got}

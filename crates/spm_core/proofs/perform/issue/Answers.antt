@@ -1,4 +1,4 @@
-use Rattle.std.proofs.Common.{◌≡◌, refl, rules, subst, sym, true, false}
+use Rattle.std.proofs.Common.{◌≡◌, rules, subst, true, false}
 use Rattle.ffm_model.specs.Actors.{kind_of}
 use Rattle.ffm_model.specs.Calls.{has_call}
 use Rattle.memory_image.specs.Pieces.{byte_at}

@@ -1,4 +1,3 @@
-use Rattle.std.proofs.Common.{◌≡◌, refl, rules}
 use Rattle.memory_image.specs.Pieces.{byte_at}
 use Rattle.spm_core.proofs.Attempted.{does-return}
 use Rattle.spm_core.proofs.perform.perform.Goals as goal

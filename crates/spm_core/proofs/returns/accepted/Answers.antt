@@ -1,9 +1,6 @@
-use Rattle.std.proofs.Common.{◌≡◌, refl, rules, ap, sym, subst, ◌∙◌}
-use Rattle.std.specs.Prelude.{Option, Some, None, IfSome, IsSomeAnd, IsTrue, find, option_and_then, ◌≤◌, All}
-use Rattle.ffm_model.specs.declared.objects.OpenConnection.{OpenConnection}
-use Rattle.handle_table.specs.Table.{is_owned_from}
+use Rattle.std.proofs.Common.{rules}
+use Rattle.std.specs.Prelude.{None}
 use Rattle.object_pools.specs.Pool.{item_at}
-use Rattle.object_pools.specs.declared.slot.Slot.{Slot}
 use Rattle.spm_tables.specs.TablesView.{spm_of}
 use Rattle.spm_core.proofs.Accepted.{accepted-first, live-nameable}
 use Rattle.spm_core.proofs.returns.accepted.Goals as goal

@@ -1,4 +1,4 @@
-use Rattle.std.proofs.Common.{◌≡◌, refl, rules, ap, sym, ◌∙◌, subst, to_z, of_z, w32, SFits, ℤ}
+use Rattle.std.proofs.Common.{◌≡◌, rules, ap, sym, ◌∙◌, subst, w32, SFits, ℤ}
 use Rattle.std.specs.Prelude.{IsSomeAnd}
 use Rattle.std.proofs.Math.Facts.{to_z-of_z}
 use Rattle.ffm_model.specs.declared.machine.Call.TheVariants.{Resume}

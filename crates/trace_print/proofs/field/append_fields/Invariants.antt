@@ -1,6 +1,6 @@
 use Rattle.std.proofs.Common.{◌≡◌, ◌≤◌, ◌+◌, ◌*◌, ◌++◌, take}
 use Rattle.std.specs.List.{flat_map, sum_by}
-use Rattle.arrayvec.specs.ArrayVec.{array_vec_len}
+use Rattle.trace_print.specs.Buffer.{line_len}
 use Rattle.ffm_model.specs.TraceText.{spaced_field}
 use Rattle.trace_print.specs.Fields.{numbers, width_of}
 use Rattle.trace_print.proofs.field.append_fields.Given as goal
@@ -8,6 +8,6 @@ use Rattle.trace_print.proofs.field.append_fields.Given as goal
 abbrev pub invariant-loop-field : goal.invariant-loop-field
 invariant-loop-field l = record {
   items : l.line.items ≡ l.initial.line.items ++ flat_map spaced_field (numbers (take l.field-index l.fields));
-  grows : array_vec_len l.line ≤ array_vec_len l.initial.line + sum_by width_of (numbers (take l.field-index l.fields));
-  room : array_vec_len l.line ≤ array_vec_len l.initial.line + 12 * l.field-index;
+  grows : line_len l.line ≤ line_len l.initial.line + sum_by width_of (numbers (take l.field-index l.fields));
+  room : line_len l.line ≤ line_len l.initial.line + 12 * l.field-index;
 }

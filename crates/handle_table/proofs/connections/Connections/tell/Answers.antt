@@ -1,10 +1,11 @@
 use Rattle.std.proofs.Common.{refl, Some}
+use Rattle.handle_table.specs.declared.handles.Family.TheVariants.{Connection}
 use Rattle.handle_table.proofs.SlotLemmas.{nameable-at}
 use Rattle.handle_table.proofs.TableLemmas.{IsTable-put, spm-put}
 use Rattle.handle_table.proofs.connections.Connections.tell.Goals as goal
 
 pub handle_of-handle-requires : goal.handle_of-handle-requires
-handle_of-handle-requires c = nameable-at _ c.args.slot _ c.open_at-connection.ensures.kept c.open_at-connection.ensures.item
+handle_of-handle-requires c = nameable-at Connection _ c.args.slot _ c.open_at-connection.ensures.kept c.open_at-connection.ensures.item
 
 pub invariant_of-self : goal.invariant_of-self
 invariant_of-self c =

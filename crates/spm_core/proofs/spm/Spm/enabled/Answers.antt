@@ -1,4 +1,4 @@
-use Rattle.std.proofs.Common.{◌≡◌, Bool, ap, sym, ◌∙◌}
+use Rattle.std.proofs.Common.{Bool, ap, sym, ◌∙◌}
 use Rattle.std.specs.Prelude.{Some}
 use Rattle.spm_core.proofs.Kept.{enabled-kept}
 use Rattle.spm_core.proofs.spm.Spm.enabled.Goals as goal

@@ -1,4 +1,4 @@
-use Rattle.spm_core.proofs.Kept.{names-kept, run-kept}
+use Rattle.spm_core.proofs.Kept.{run-kept}
 use Rattle.spm_core.proofs.spm.Spm.length.Goals as goal
 
 pub returns-clause-run : goal.returns-clause-run

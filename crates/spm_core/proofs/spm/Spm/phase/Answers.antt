@@ -1,4 +1,3 @@
-use Rattle.std.proofs.Common.{◌≡◌, sym}
 use Rattle.spm_core.proofs.Kept.{objects-kept, phase-kept}
 use Rattle.spm_core.proofs.spm.Spm.phase.Goals as goal
 

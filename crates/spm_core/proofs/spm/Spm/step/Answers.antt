@@ -1,12 +1,11 @@
-use Rattle.std.proofs.Common.{◌≡◌, ◌<◌, ◌+◌, length, arith, ◌∙◌, rules, refl, sym}
-use Rattle.std.specs.Prelude.{None, Some, true}
+use Rattle.std.proofs.Common.{◌≡◌, ◌<◌, ◌+◌, length, arith, ◌∙◌, rules}
+use Rattle.std.specs.Prelude.{None, Some}
 use Rattle.std.proofs.lemmas.Grind.{common_steps}
 use Rattle.ffm_model.specs.Actors.{actor_count}
-use Rattle.ffm_model.specs.Step.{may_call}
 use Rattle.spm_tables.specs.TablesView.{spm_of}
 use Rattle.spm_core.specs.Manager.{refusal_at}
 use Rattle.spm_core.proofs.Made.{IsCalled}
-use Rattle.spm_core.proofs.Kept.{IsFree, free, keeps-next, made-next, may-kept, objects-kept, reach-next, reach-still, refusal-kept, refused-answers, takes-kept, vectors-kept}
+use Rattle.spm_core.proofs.Kept.{IsFree, free, keeps-next, made-next, may-kept, objects-kept, reach-next, refusal-kept, refused-answers, takes-kept, vectors-kept}
 use Rattle.spm_core.proofs.spm.Spm.step.Goals as goal
 
 pub returns-in-Some-clause-answer : goal.returns-in-Some-clause-answer

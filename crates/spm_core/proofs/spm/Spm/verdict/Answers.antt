@@ -1,4 +1,4 @@
-use Rattle.std.proofs.Common.{◌≡◌, length, sym, refl, rules, ◌∙◌, true, false}
+use Rattle.std.proofs.Common.{◌≡◌, length, sym, rules, ◌∙◌}
 use Rattle.std.specs.Prelude.{Some, None}
 use Rattle.ffm_model.specs.declared.machine.Verdict.TheVariants.{Quiet, Stalled, Full}
 use Rattle.ffm_model.specs.Verdicts.{verdict_at}

@@ -1,0 +1,165 @@
+-- At most one message for each connection, and one more for each actor that may use a stateless service.
+use Rattle.std.proofs.Common.{ℕ, zero, suc, ◌≡◌, ◌≤◌, ◌+◌, ◌==◌, Bool, true, false, cond, not, ◌&&◌, ◌||◌, List, [], ◌∷◌, ◌++◌, length, arith, ◌∙◌, ap, sym, refl}
+use Rattle.std.specs.Prelude.{count_by, find, nat_lt, nat_le, int_le, is_none, is_some, slice_get, sum_by, Option, Some, None}
+use Rattle.std.specs.List.{list_any, list_all, range_with_len}
+use Rattle.std.specs.Option.{option_map, option_map_or}
+use Rattle.std.proofs.lemmas.Bool.Decides.{nat_tests}
+use Rattle.std.proofs.lemmas.List.Sums.{count_by-le-length}
+use Rattle.ffm_model.specs.declared.constants.TheConstants.{PSA_IPC_CALL}
+use Rattle.ffm_model.specs.declared.system.System.{System}
+use Rattle.ffm_model.specs.declared.system.Budget.{Budget}
+use Rattle.ffm_model.specs.declared.objects.PendingMessage.{PendingMessage}
+use Rattle.ffm_model.specs.Actors.{is_stateless, permits}
+use Rattle.ffm_model.specs.State.{SpmState}
+use Rattle.ffm_model.specs.Names.{calls_stateless, message_capacity}
+use Rattle.ffm_model.specs.WellFormed.{is_well_formed, budget_before, budgets_fit, each_pair}
+use Rattle.counting_law.specs.Objects.{ObjectsFit, called_by, is_awaited, message_marked, wrongly_called}
+use Rattle.counting_law.proofs.Counts.{bit, count-cons, count-found, count-le, count-push, find-passes, some-found}
+use Rattle.counting_law.proofs.Parts.{equal_from, left_true, right_true, and_on}
+use Rattle.counting_law.proofs.Bounds.{count-all, few-connections}
+use Rattle.counting_law.proofs.Pairs.{count-sum, none-counts}
+use Rattle.counting_law.proofs.Slots.{one-call}
+
+-- the clients of budgets are partitions and non-secure clients
+all-at : {X : Type 0} (p : X → Bool) (xs : List X) (q : X → Bool) (x : X) → list_all p xs ≡ true → find q xs ≡ Some x → p x ≡ true
+all-at p [] q x all f = cc
+all-at {X = X} p (y ∷ ys) q x all f =
+    let go : (b : Bool) → cond b (Some y) (find q ys) ≡ Some x → p x ≡ true =
+    elim [ true ↦ λ g. let it : y ≡ x = cc in ap p (sym it) ∙ left_true (p y) (list_all p ys) all | false ↦ λ g. all-at p ys q x (right_true (p y) (list_all p ys) all) g ] in
+    go (q y) f
+
+budgets-there : (s : System)
+    → list_all (λ (b : Budget). nat_lt b.client.0 (length s.partitions + length s.clients) && option_map_or (λ v. not (v.owner == b.client.0)) (slice_get s.services b.service) false) s.budgets ≡ true
+unfolding is_well_formed
+budgets-there s =
+    left_true _ (each_pair budget_before s.budgets) (left_true _ (nat_le (sum_by (λ b. b.count) s.budgets) 256)
+    (right_true _ (budgets_fit (length s.partitions + length s.clients) s.services s.budgets) s.well_formed))
+
+-- the budget of a permitted pair
+budget-there : (s : System) (a v : ℕ) → permits s a v ≡ true → (b : Budget) × (find (λ c. (c.client.0 == a) && (c.service == v)) s.budgets ≡ Some b)
+budget-there s a v e =
+    let go : (o : Option Budget) → is_some (option_map (λ (b : Budget). b.count) o) ≡ true → (b : Budget) × (o ≡ Some b) = elim [ None ↦ λ k. cc | Some b ↦ λ k. (b, refl) ] in
+    go (find (λ c. (c.client.0 == a) && (c.service == v)) s.budgets) e
+
+permitted-there : (s : System) (a v : ℕ) → permits s a v ≡ true → nat_lt a (length s.partitions + length s.clients) ≡ true
+permitted-there s a v e =
+    let it = budget-there s a v e in
+    let own : it.0.client.0 ≡ a = equal_from it.0.client.0 a (left_true _ _ (find-passes (λ c. (c.client.0 == a) && (c.service == v)) s.budgets it.0 it.1)) in
+    let low : nat_lt it.0.client.0 (length s.partitions + length s.clients) ≡ true = left_true _ _ (all-at _ s.budgets _ it.0 (budgets-there s) it.1) in
+    ap (λ k. nat_lt k (length s.partitions + length s.clients)) (sym own) ∙ low
+
+count-any : {X : Type 0} (p : X → Bool) (xs : List X) → 1 ≤ count_by p xs → list_any p xs ≡ true
+count-any p [] h = absurd (omega (arith, h))
+count-any p (x ∷ xs) h =
+    let go : (b : Bool) → 1 ≤ bit b + count_by p xs → (b || list_any p xs) ≡ true = elim [ true ↦ λ k. refl | false ↦ λ k. count-any p xs (omega (arith, k)) ] in
+    go (p x) (omega (arith, h, count-cons p x xs))
+
+permitted-calls : (s : System) (a v : ℕ) → permits s a v ≡ true → is_stateless s v ≡ true → calls_stateless s a ≡ true
+permitted-calls s a v e stateless =
+    let it = budget-there s a v e in
+    let passes : ((it.0.client.0 == a) && (it.0.service == v)) ≡ true = find-passes (λ c. (c.client.0 == a) && (c.service == v)) s.budgets it.0 it.1 in
+    let service : it.0.service ≡ v = equal_from it.0.service v (right_true _ _ passes) in
+    let own : ((it.0.client.0 == a) && is_stateless s it.0.service) ≡ true = and_on _ _ (left_true _ _ passes) (ap (is_stateless s) service ∙ stateless) in
+    count-any (λ b. (b.client.0 == a) && is_stateless s b.service) s.budgets
+    (omega (arith, count-found (λ c. (c.client.0 == a) && (c.service == v)) (λ b. (b.client.0 == a) && is_stateless s b.service) s.budgets it.0 it.1, ap bit own))
+
+-- a request of an actor shows that it may call
+and_not : (x y : Bool) → x ≡ true → bit (x && not y) ≡ 0 → y ≡ true
+and_not true true e h = refl
+and_not true false e h = absurd (omega (arith, h))
+and_not false y e h = cc
+
+lawful : (s : System) (m : PendingMessage) → is_none m.connection ≡ true → bit (wrongly_called s m) ≡ 0 → (is_stateless s m.service ≡ true) × (permits s m.client.0 m.service ≡ true)
+lawful s m none h =
+    let all : (int_le PSA_IPC_CALL m.kind && (is_stateless s m.service && permits s m.client.0 m.service)) ≡ true = and_not _ _ none h in
+    let both : (is_stateless s m.service && permits s m.client.0 m.service) ≡ true = right_true _ _ all in
+    (left_true _ _ both, right_true _ _ both)
+
+calls-allowed : (s : System) (b : SpmState) (a : ℕ) → ObjectsFit s b → count_by (called_by a) b.messages ≤ bit (calls_stateless s a)
+calls-allowed s b a h =
+    let go : (n : ℕ) → count_by (called_by a) b.messages ≡ n → count_by (called_by a) b.messages ≤ bit (calls_stateless s a) =
+    elim [
+      | zero ↦ λ e. omega (arith, e)
+      | suc n ↦ λ e.
+          let it = some-found (called_by a) b.messages (omega (arith, e)) in
+          let m : PendingMessage = it.0 in
+          let passes : called_by a m ≡ true = find-passes (called_by a) b.messages m it.1 in
+          let right = lawful s m (left_true _ _ passes) (omega (arith, count-found (called_by a) (wrongly_called s) b.messages m it.1, h.called)) in
+          let own : m.client.0 ≡ a = equal_from m.client.0 a (right_true _ _ passes) in
+          let may : calls_stateless s a ≡ true = ap (calls_stateless s) (sym own) ∙ permitted-calls s m.client.0 m.service right.1 right.0 in
+          omega (arith, one-call s b a h, ap bit may)
+    ] in
+    go _ refl
+
+-- the requests of the first actors
+calls-below : ℕ → PendingMessage → Bool
+calls-below n m = is_none m.connection && nat_lt m.client.0 n
+
+range-more : (a n : ℕ) → range_with_len a (suc n) ≡ range_with_len a n ++ (a + n) ∷ []
+range-more a zero = ap (λ (x : ℕ). x ∷ []) (omega arith)
+range-more a (suc n) =
+    let same : a + 1 + n ≡ a + suc n = omega arith in
+    ap (λ (xs : List ℕ). a ∷ xs) (range-more (a + 1) n ∙ ap (λ (x : ℕ). range_with_len (a + 1) n ++ x ∷ []) same)
+
+zero-plus : (n : ℕ) → 0 + n ≡ n
+zero-plus n = omega arith
+
+none-below : (x : ℕ) → nat_lt x 0 ≡ false
+none-below x = grind arith
+
+calls-first : (s : System) (b : SpmState) → ObjectsFit s b → (n : ℕ) → count_by (calls-below n) b.messages ≤ count_by (calls_stateless s) (range_with_len 0 n)
+unfolding calls-below
+calls-first s b h zero =
+    let none : (m : PendingMessage) → bit (calls-below 0 m) ≤ bit false = λ m. let go : (x : Bool) → bit (x && nat_lt m.client.0 0) ≤ 0 = elim [ true ↦ omega (arith, ap bit (none-below m.client.0)) | false ↦ omega arith ] in go (is_none m.connection) in
+    omega (arith, count-le (calls-below 0) (λ m. false) none b.messages, none-counts (λ (m : PendingMessage). false) (λ m. refl) b.messages)
+calls-first s b h (suc n) =
+    let split : (m : PendingMessage) → bit (calls-below (suc n) m) ≤ bit (calls-below n m) + bit (called_by n m) =
+    λ m.
+    let one : bit (nat_lt m.client.0 (suc n)) ≤ bit (nat_lt m.client.0 n) + bit (m.client.0 == n) = grind (arith, nat_tests) in
+    let go : (x : Bool) → bit (x && nat_lt m.client.0 (suc n)) ≤ bit (x && nat_lt m.client.0 n) + bit (x && (m.client.0 == n)) = elim [ true ↦ one | false ↦ omega arith ] in
+    go (is_none m.connection) in
+    omega (
+      arith,
+      count-sum (calls-below (suc n)) (calls-below n) (called_by n) split b.messages,
+      calls-first s b h n,
+      calls-allowed s b n h,
+      ap (count_by (calls_stateless s)) (range-more 0 n),
+      count-push (calls_stateless s) (range_with_len 0 n) (0 + n),
+      ap (λ k. bit (calls_stateless s k)) (zero-plus n),
+    )
+
+-- a message has a connection, or is one of these
+any-message : (s : System) (m : PendingMessage) → bit true ≤ bit (message_marked (λ n a v ph. true) m) + bit (is_none m.connection)
+any-message s m =
+    let go : (o : Option ℕ) → 1 ≤ bit (option_map_or (λ n. true) o false) + bit (is_none o) = elim [ None ↦ omega arith | Some n ↦ omega arith ] in
+    go m.connection
+
+call-there : (s : System) (m : PendingMessage) → bit (is_none m.connection) ≤ bit (calls-below (length s.partitions + length s.clients) m) + bit (wrongly_called s m)
+unfolding calls-below
+call-there s m =
+    let may : (x : Bool) → permits s m.client.0 m.service ≡ x → bit x ≤ bit (nat_lt m.client.0 (length s.partitions + length s.clients)) = elim [ true ↦ λ e. omega (arith, ap bit (permitted-there s m.client.0 m.service e)) | false ↦ λ e. omega arith ] in
+    let go : (n k v x y : Bool) → bit x ≤ bit y → bit n ≤ bit (n && y) + bit (n && not (k && (v && x))) =
+    elim [
+      | true ↦ elim [
+        | true ↦ elim [ true ↦ elim [ true ↦ λ y le. omega (arith, le) | false ↦ λ y le. omega arith ] | false ↦ λ x y le. omega arith ]
+        | false ↦ λ v x y le. omega arith
+      ]
+      | false ↦ λ k v x y le. omega arith
+    ] in
+    go (is_none m.connection) (int_le PSA_IPC_CALL m.kind) (is_stateless s m.service) (permits s m.client.0 m.service) (nat_lt m.client.0 (length s.partitions + length s.clients)) (may _ refl)
+
+pub few-messages : (s : System) (b : SpmState) → ObjectsFit s b → length b.messages ≤ length b.connections + count_by (calls_stateless s) (range_with_len 0 (length s.partitions + length s.clients))
+few-messages s b h =
+    omega (
+      arith,
+      count-all b.messages,
+      count-sum (λ m. true) (message_marked (λ n a v ph. true)) (λ m. is_none m.connection) (any-message s) b.messages,
+      h.paired (λ n a v ph. true),
+      count_by-le-length (λ c. is_awaited c.phase && true) b.connections,
+      count-sum (λ m. is_none m.connection) (calls-below (length s.partitions + length s.clients)) (wrongly_called s) (call-there s) b.messages,
+      h.called,
+      calls-first s b h (length s.partitions + length s.clients),
+    )
+
+pub few-messages-of : (s : System) (b : SpmState) → ObjectsFit s b → length b.messages ≤ message_capacity s
+few-messages-of s b h = omega (arith, few-messages s b h, few-connections s b h)

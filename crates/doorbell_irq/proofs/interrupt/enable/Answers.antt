@@ -1,0 +1,5 @@
+use Rattle.doorbell_irq.proofs.NameLemmas.{names-stay}
+use Rattle.doorbell_irq.proofs.interrupt.enable.Goals as goal
+
+pub returns-in_err-source-clause-names : goal.returns-in_err-source-clause-names
+returns-in_err-source-clause-names c = λ s made. names-stay s _

@@ -1,0 +1,8 @@
+use Rattle.memory_image.specs.Pieces.{ranges_of}
+use Rattle.machine_calls.proofs.machine.Machine.call_connection.Goals as goal
+
+pub returns-clause-kept : goal.returns-clause-kept
+returns-clause-kept c = record {
+  regions = c.requires.regions;
+  messages = c.call_on.ensures.fits (ranges_of c.args.system.now.regions) c.in-Some-vectors_of.ensures.fits c.requires.messages;
+}

@@ -1,0 +1,132 @@
+//! Runs all scripts in turns.
+ghost use Rattle.std.specs.Prelude.{◌≡◌, ◌<◌, ◌≤◌, ℕ, [], IfOk, IsSome, OnErr, OnOk, length};
+ghost use Rattle.std.specs.List.{All};
+ghost use Rattle.ffm_model.specs.Actors.{actor_count};
+ghost use Rattle.ffm_model.specs.Plans.{PlanRun};
+ghost use Rattle.ffm_model.specs.Records.{entries_of};
+ghost use Rattle.ffm_model.specs.Schedule.{Scheduled};
+ghost use Rattle.ffm_model.specs.ScriptRuns.{plan_at};
+ghost use Rattle.ffm_model.specs.Verdicts.{verdict_of};
+ghost use Rattle.memory_image.specs.Pieces.{byte_at};
+ghost use Rattle.partition_sim.specs.Driving.{AreNew, Driving, IsDriven, Turned, Underway};
+
+use crate::runner::Runner;
+use ffm_model::{ActorId, Answer, List, Memory, Script};
+use spm_core::Spm;
+use std::alloc::Global;
+
+// No further entry is made: no actor can go on, or the limit is reached.
+#[derive(Clone, Copy)]
+struct Over;
+
+// One turn of an actor: whether it made an entry.
+fn take_turn(
+    spm: &mut Spm,
+    runners: &mut [Runner],
+    scripts: &[Script],
+    actor: ActorId,
+) -> Result<bool, Over>
+    requires exists { actor.0 < actor_count spm.old.opening.system }
+    requires short { length spm.old.history ≤ spm.old.opening.limit }
+    requires driving { Driving scripts.now spm.old.opening spm.old.history runners.old }
+    ensures opening { spm.new.opening ≡ spm.old.opening }
+    ensures driving { Driving scripts.now spm.old.opening spm.new.history runners.new }
+    ensures turned { Turned spm.old.opening spm.old.history actor.0 result spm.new.history }
+{
+    let at = actor.0 as usize;
+    let runner = &mut runners[at];
+    let call = runner.next(&scripts[at]);
+    match spm.step(actor, call) {
+        Answer::Made { entry, .. } => {
+            runner.after(&entry.outcome);
+            Ok(true)
+        }
+        Answer::Gone => Ok(false),
+        Answer::NotYet => Ok(false),
+        Answer::Over => Err(Over),
+        Answer::Full => Err(Over),
+    }
+}
+
+// All turns of a run.
+fn run_turns(
+    spm: &mut Spm,
+    runners: &mut [Runner],
+    scripts: &[Script],
+    schedule: &[ActorId],
+    count: u32,
+)
+    requires underway { Underway scripts.now schedule.now spm.old.opening spm.old runners.old 0 }
+    requires known { All (λ a. a.0 < actor_count spm.old.opening.system) schedule.now }
+    requires counted { count ≡ actor_count spm.old.opening.system }
+    ensures opening { spm.new.opening ≡ spm.old.opening }
+    ensures driven { IsDriven scripts.now schedule.now spm.old.opening spm.new.history }
+{
+    'order: for actor in schedule {
+        match take_turn(spm, runners, scripts, *actor) {
+            Ok(_) => {}
+            Err(Over) => return,
+        }
+    }
+    'rounds: loop {
+        let mut made = false;
+        'round: for a in 0..count {
+            match take_turn(spm, runners, scripts, ActorId(a)) {
+                Ok(one) => made |= one,
+                Err(Over) => return,
+            }
+        }
+        if !made {
+            return;
+        }
+    }
+}
+
+fn new_runners(alloc: Global, count: u32) -> Result<Vec<Runner>, Memory>
+    ensures { IfOk result (λ v. AreNew count v.items) }
+{
+    let mut runners = Vec::new(alloc);
+    for i in 0..count {
+        runners.push(Runner::new())?;
+    }
+    Ok(runners)
+}
+
+/// Runs the scripts, one for each actor, in turns: those of the schedule, then all actors round and
+/// round. In its turn an enabled actor makes one event, and an actor that isn't enabled is passed.
+/// The run ends when no actor is enabled or the limit is reached.
+///
+/// All memory is taken before the first event. Err where none was found; the manager is then as it
+/// was.
+pub fn drive_scheduled(
+    alloc: Global,
+    spm: &mut Spm,
+    scripts: &List<Script>,
+    schedule: &List<ActorId>,
+) -> Result<(), Memory>
+    requires scripts { length scripts.now ≡ actor_count spm.old.opening.system }
+    requires known { All (λ a. a.0 < actor_count spm.old.opening.system) schedule.now }
+    requires empty { spm.old.history ≡ [] }
+    ensures opening { spm.new.opening ≡ spm.old.opening }
+
+    // From the empty history on, each entry was made in the next turn of an enabled actor.
+    ensures scheduled { OnOk result (Scheduled spm.old.opening.system (byte_at spm.old.opening.memory) schedule.now spm.new.history) }
+
+    // Each actor's entries are a run of its plan, which its scripts give.
+    ensures runs { OnOk result ((a : ℕ) → a < actor_count spm.old.opening.system → PlanRun (plan_at spm.old.opening.system scripts.now a) (entries_of a spm.new.history)) }
+
+    // No actor that could go on is left out below the limit.
+    ensures ended { OnOk result (IsSome (verdict_of spm.old.opening.system (byte_at spm.old.opening.memory) spm.old.opening.limit spm.new.history)) }
+    ensures err { OnErr result (spm.new ≡ spm.old) }
+{
+    let count = spm.actor_count();
+    let mut runners = new_runners(alloc, count)?;
+    run_turns(
+        spm,
+        runners.as_mut_slice(),
+        scripts.as_slice(),
+        schedule.as_slice(),
+        count,
+    );
+    Ok(())
+}
