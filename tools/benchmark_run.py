@@ -5,8 +5,8 @@
 
 Makes a system of 16 partitions with a service each and 16 clients, each of which sends requests with
 a vector of four bytes each way to its own service without end, and runs it for 65,536, 131,072 and
-262,144 events, several times each, into a file; then the trace is judged as often. Prints one row for
-each command: the events, the bytes of the trace, the least and the middle time in milliseconds, the
+262,144 events, several times each, into a file; then the trace is judged as often, and then the same runs
+are made with a thread for each actor. Prints one row for each command: the events, the bytes of the trace, the least and the middle time in milliseconds, the
 most memory in MB, and the last line. At the end it times the largest generated run in the same way."""
 
 import argparse
@@ -91,7 +91,7 @@ def timed(command, output, repeats):
 
 def row(name, events, size, measured):
     times, memory, last = measured
-    print(f"{name:>6} {events:>8} {size:>10} {times[0]:8.1f} {times[len(times) // 2]:8.1f} {memory:6.1f}  {last}")
+    print(f"{name:>7} {events:>8} {size:>10} {times[0]:8.1f} {times[len(times) // 2]:8.1f} {memory:6.1f}  {last}")
 
 
 def main():
@@ -111,6 +111,8 @@ def main():
             size = os.path.getsize(files[2])
             row("run", events, size, ran)
             row("replay", events, size, timed([options.program, "replay", *files], judged, options.repeats))
+            threaded = timed([options.program, "run", "--threads", *files[:2]], files[2], options.repeats)
+            row("threads", events, os.path.getsize(files[2]), threaded)
         made = timed([options.program, "make", "2000"], judged, options.repeats)
         row("make", int(made[2].split()[3]), 0, made)
 

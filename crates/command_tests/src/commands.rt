@@ -1,7 +1,7 @@
 //! What no clause says: that the statuses come with ample memory, and that the texts are the ones wanted.
 
 use ffm_model::{List, OpenGate};
-use ffm_top::ffm;
+use ffm_top::{asks_threads, ffm, ffm_alone};
 use outside_io::{Failed, MemoryFiles, MemorySink, Sink};
 use std::alloc::Global;
 use std::test::Fail;
@@ -274,7 +274,20 @@ fn faults_and_words(rt: HostRuntime) -> Result<(), Fail> {
 }
 
 /// Lists of words, and the status that comes of each over the two files, a trace and a part of one.
-const LISTS: [(&[&str], u8); 23] = [
+const LISTS: [(&[&str], u8); 33] = [
+    (&["ffm", "run", "--threads", "system", "scenario"], 0),
+    (&["ffm", "run", "system", "--threads", "scenario"], 0),
+    (&["ffm", "run", "system", "scenario", "--threads"], 0),
+    (&["ffm", "--threads", "run", "system", "scenario"], 2),
+    (&["ffm", "run", "--threads", "system"], 2),
+    (&["ffm", "run", "--threads", "--threads", "scenario"], 2),
+    (
+        &["ffm", "run", "--threads", "system", "scenario", "--threads"],
+        2,
+    ),
+    (&["ffm", "run", "--threads=x", "system", "scenario"], 2),
+    (&["ffm", "compile", "--threads", "system"], 2),
+    (&["ffm", "run", "--threads", "system", "nothing"], 7),
     (&["ffm", "make"], 2),
     (&["ffm", "make", ""], 2),
     (&["ffm", "make", "0"], 2),
@@ -328,7 +341,10 @@ fn text_of(
     let mut files = files_of(alloc, system, scenario)?;
     files.add(alloc, "trace", trace.as_bytes())?;
     let mut sink = MemorySink::new(alloc, 4096, 256, List::of(Vec::new(alloc)))?;
-    ffm(rt, alloc, &words, &mut files, &mut sink, &OpenGate);
+    if asks_threads(&words) {
+        return Err(Fail::from("a run with threads"));
+    }
+    ffm_alone(alloc, &words, &mut files, &mut sink);
     Ok(sink.bytes().to_vec(alloc)?)
 }
 

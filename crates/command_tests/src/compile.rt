@@ -1,7 +1,7 @@
 //! The compiler at work: refusals with their places, and listings.
 
-use ffm_model::{List, OpenGate};
-use ffm_top::ffm;
+use ffm_model::List;
+use ffm_top::{asks_threads, ffm_alone};
 use outside_io::{MemoryFiles, MemorySink};
 use std::alloc::Global;
 use std::test::Fail;
@@ -60,7 +60,10 @@ fn compiled(rt: &HostRuntime, system: &str) -> Result<(u8, Vec<u8>), Fail> {
     let mut files = MemoryFiles::new(rt.alloc());
     files.add(rt.alloc(), "system", system.as_bytes())?;
     let mut sink = MemorySink::new(rt.alloc(), 8192, 64, List::of(Vec::new(rt.alloc())))?;
-    let status = ffm(rt, rt.alloc(), &words, &mut files, &mut sink, &OpenGate);
+    if asks_threads(&words) {
+        return Err(Fail::from("a run with threads"));
+    }
+    let status = ffm_alone(rt.alloc(), &words, &mut files, &mut sink);
     Ok((status, sink.bytes().to_vec(rt.alloc())?))
 }
 

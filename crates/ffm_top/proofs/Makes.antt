@@ -1,6 +1,6 @@
 -- The run of a generated system, and how many bytes it moves.
 use Rattle.std.proofs.Common.{ℕ, ◌≡◌, ◌<◌, ◌+◌, List, [], ◌∷◌, length, take, ap, sym, ◌∙◌, refl, arith}
-use Rattle.std.specs.Prelude.{None, Ok, IfSome, slice_get}
+use Rattle.std.specs.Prelude.{None, Ok, IfSome, false, slice_get}
 use Rattle.std.proofs.lemmas.List.Sums.{sum_by_more}
 use Rattle.ffm_model.specs.declared.machine.Entry.{Entry}
 use Rattle.ffm_model.specs.declared.machine.Verdict.{Verdict}
@@ -21,7 +21,7 @@ pub is_generated : (rounds : ℕ) (s : System) (c : Scenario) (scripts : List Pa
     → stopped (scenario_in s (scenario_text rounds)) ≡ Ok c → scripts_of s c ≡ Ok scripts → IsGenerated rounds s c scripts
 is_generated rounds s c scripts held empty one two three = record { held = held; empty = empty; system = one; scenario = two; assembled = three }
 
-pub is_made : (rounds : ℕ) (s : System) (c : Scenario) (scripts : List Parts) (es : List Entry) (v : Verdict) → IsGenerated rounds s c scripts → RanBy s (opening_memory c.memory) c scripts es v → IsMade rounds es v
+pub is_made : (rounds : ℕ) (s : System) (c : Scenario) (scripts : List Parts) (es : List Entry) (v : Verdict) → IsGenerated rounds s c scripts → RanBy s (opening_memory c.memory) c scripts false es v → IsMade rounds es v
 is_made rounds s c scripts es v generated ran = record { system = s; scenario = c; scripts = scripts; generated = generated; ran = ran }
 
 pub made_due : (rounds : ℕ) (es : List Entry) (v : Verdict) (text : List ℕ) → IsMade rounds es v → text ≡ summary_line rounds (length es) (bytes_moved es) v → MadeDue rounds text 0

@@ -18,10 +18,10 @@ use Rattle.ffm_top.specs.Lines.{refusal_line, usage_line}
 use Rattle.ffm_top.specs.Report.{text_of}
 use Rattle.ffm_top.specs.Work.{Parts}
 
-pub run_due : (s : System) (c : Scenario) (scripts : List Parts) (ran : Ran) → ran.spm.opening.system ≡ s → RanBy s (opening_memory c.memory) c scripts ran.spm.history ran.verdict
-    → RunDue s c scripts (text_of (report.Ran ran)) (verdict_status ran.verdict)
+pub run_due : (s : System) (c : Scenario) (scripts : List Parts) (threads : Bool) (ran : Ran) → ran.spm.opening.system ≡ s → RanBy s (opening_memory c.memory) c scripts threads ran.spm.history ran.verdict
+    → RunDue s c scripts threads (text_of (report.Ran ran)) (verdict_status ran.verdict)
 unfolding text_of
-run_due s c scripts ran system_is by = record {
+run_due s c scripts threads ran system_is by = record {
   entries = ran.spm.history;
   ended = ran.verdict;
   ran = by;

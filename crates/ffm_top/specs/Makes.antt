@@ -1,6 +1,6 @@
 -- The run of a generated system, and the line that sums it up.
 -- Source: this simulator's.
-use Rattle.std.specs.Prelude.{◌≡◌, ℕ, List, [], ◌∷◌, ◌++◌, length, sum_by, codes, None, Ok}
+use Rattle.std.specs.Prelude.{◌≡◌, ℕ, List, [], ◌∷◌, ◌++◌, length, sum_by, codes, false, None, Ok}
 use Rattle.std.specs.Fmt.{decimal}
 use Rattle.ffm_model.specs.declared.machine.Call.{Call}
 use Rattle.ffm_model.specs.declared.machine.Call.TheVariants.{Read, Write}
@@ -47,7 +47,7 @@ pub record IsMade (rounds : ℕ) (es : List Entry) (v : Verdict) : Type 0 where
   pub scenario : Scenario
   pub scripts : List Parts
   pub generated : IsGenerated rounds system scenario scripts
-  pub ran : RanBy system (opening_memory scenario.memory) scenario scripts es v
+  pub ran : RanBy system (opening_memory scenario.memory) scenario scripts false es v
 
 -- the text sums up such a run
 pub record MadeDue (rounds : ℕ) (text : List ℕ) (status : ℕ) : Type 0 where

@@ -1,6 +1,6 @@
 -- The code's work as contracts see it, and what it keeps.
 -- Source: this simulator's.
-use Rattle.std.specs.Prelude.{◌≡◌, length}
+use Rattle.std.specs.Prelude.{◌≡◌, Bool, false, length}
 use Rattle.ffm_model.specs.Actors.{actor_count}
 use Rattle.ffm_model.specs.Scenarios.{IsScenarioOf}
 use Rattle.ffm_top.specs.declared.work.Work as code
@@ -11,9 +11,14 @@ use Rattle.ffm_top.specs.Work.{Work, listing_of, run_of, replay_of, make_of}
 
 abbrev pub work : code.Work → Work
 work (code_work.Listing system) = listing_of system
-work (code_work.Run run) = run_of run.system run.scenario run.scripts
+work (code_work.Run run) = run_of run.threads run.system run.scenario run.scripts
 work (code_work.Replay replay) = replay_of replay.system replay.scenario replay.trace.items
 work (code_work.Make rounds) = make_of rounds
+
+-- whether a run with threads is to be done
+abbrev pub threads_of : code.Work → Bool
+threads_of (code_work.Run run) = run.threads
+threads_of _ = false
 
 -- a scenario of the system, and one script for each actor
 abbrev pub IsRun : RunWork → Type 0

@@ -1,6 +1,6 @@
 -- Which lists of words are accepted. The first word is the program's name.
 -- Source: this simulator's command line.
-use Rattle.std.specs.Prelude.{ℕ, ◌+◌, ◌*◌, nat_le, Bool, false, not, ◌&&◌, ◌==◌, List, [], ◌∷◌, Option, None, Some, codes, if◌then◌else◌}
+use Rattle.std.specs.Prelude.{ℕ, ◌+◌, ◌*◌, nat_le, Bool, true, false, not, ◌&&◌, ◌==◌, List, [], ◌∷◌, Option, None, Some, codes, if◌then◌else◌}
 use Rattle.std.specs.Char.{digit_value, is_digit}
 use Rattle.std.specs.Option.{option_map}
 use Rattle.std.specs.Str.{bytes_eq}
@@ -11,7 +11,8 @@ use Rattle.ffm_top.specs.declared.words.Command.TheVariants as command
 -- what an accepted list asks for, by the names of the files or by a number
 pub data Order : Type 0 where
   compile : List ℕ → Order
-  run : List ℕ → List ℕ → Order
+  -- with threads or without
+  run : Bool → List ℕ → List ℕ → Order
   replay : List ℕ → List ℕ → List ℕ → Order
   make : ℕ → Order
 
@@ -25,9 +26,25 @@ abbrev pub compile_words : List (List ℕ) → Option Order
 compile_words (system ∷ []) = if is_file_word system then Some (compile system) else None
 compile_words _ = None
 
--- SYSTEM SCENARIO
+-- a run of a scenario over a system, with threads or without
+abbrev pub run_files : Bool → List ℕ → List ℕ → Option Order
+run_files threads system scenario = if is_file_word system && is_file_word scenario then Some (run threads system scenario) else None
+
+-- the flag of a run
+abbrev pub is_flag : List ℕ → Bool
+is_flag word = bytes_eq word (codes "--threads")
+
+-- SYSTEM SCENARIO, with the flag before, between or behind them
+abbrev pub flagged_words : List ℕ → List ℕ → List ℕ → Option Order
+flagged_words first second third =
+    if is_flag first then run_files true second third
+    else (if is_flag second then run_files true first third
+    else (if is_flag third then run_files true first second else None))
+
+-- SYSTEM SCENARIO, with the flag or without
 abbrev pub run_words : List (List ℕ) → Option Order
-run_words (system ∷ scenario ∷ []) = if is_file_word system && is_file_word scenario then Some (run system scenario) else None
+run_words (system ∷ scenario ∷ []) = run_files false system scenario
+run_words (first ∷ second ∷ third ∷ []) = flagged_words first second third
 run_words _ = None
 
 -- a trace, for a scenario over a system
@@ -74,9 +91,18 @@ abbrev pub order_of : List (List ℕ) → Option Order
 order_of (program ∷ name ∷ words) = command_words name words
 order_of _ = None
 
+-- whether a run with threads is asked for
+abbrev pub has_threads : Order → Bool
+has_threads (run threads system scenario) = threads
+has_threads _ = false
+
+abbrev pub asks_threads : Option Order → Bool
+asks_threads None = false
+asks_threads (Some order) = has_threads order
+
 -- what a command of the code asks for
 abbrev pub order : Command → Order
 order (command.Compile system) = compile system.now
-order (command.Run system scenario) = run system.now scenario.now
+order (command.Run threads system scenario) = run threads system.now scenario.now
 order (command.Replay system scenario trace) = replay system.now scenario.now trace.now
 order (command.Make rounds) = make rounds

@@ -1,6 +1,6 @@
 -- The work that an order asks for: what is read of the files, in which order, until the first refusal.
 -- Source: this simulator's order of work: the system file and its manifests, the compiler, the scenario, its scripts, the trace.
-use Rattle.std.specs.Prelude.{ℕ, ◌+◌, List, [], ◌∷◌, ◌++◌, length, get_or, slice_set, replicate, Result, Ok, Err}
+use Rattle.std.specs.Prelude.{ℕ, ◌+◌, Bool, List, [], ◌∷◌, ◌++◌, length, get_or, slice_set, replicate, Result, Ok, Err}
 use Rattle.ffm_model.specs.declared.constants.TheConstants.{MAX_FILE_BYTES}
 use Rattle.ffm_model.specs.declared.machine.ActorId.{ActorId}
 use Rattle.ffm_model.specs.declared.place.Place.{Place}
@@ -88,17 +88,18 @@ scenario_at of s name = do
 
 pub data Work : Type 0 where
   listing_of : System → Work
-  run_of : System → Scenario → List Parts → Work
+  -- with threads or without
+  run_of : Bool → System → Scenario → List Parts → Work
   -- the trace file's bytes
   replay_of : System → Scenario → List ℕ → Work
   make_of : ℕ → Work
 
 -- the scenario's run of a system
-unfoldable pub run_in : Contents → System → List ℕ → Reading Work
-run_in of s scenario = do
+unfoldable pub run_in : Contents → Bool → System → List ℕ → Reading Work
+run_in of threads s scenario = do
   c ← scenario_at of s scenario
   scripts ← asks_nothing (scripts_of s c)
-  asks_nothing (Ok (run_of s c scripts))
+  asks_nothing (Ok (run_of threads s c scripts))
 
 -- the listing of a system
 unfoldable pub list_in : Contents → List ℕ → Reading Work
@@ -107,10 +108,10 @@ list_in of system = do
   asks_nothing (Ok (listing_of s))
 
 -- the scenario's run of a system, from their files
-unfoldable pub run_at : Contents → List ℕ → List ℕ → Reading Work
-run_at of system scenario = do
+unfoldable pub run_at : Contents → Bool → List ℕ → List ℕ → Reading Work
+run_at of threads system scenario = do
   s ← system_at of system
-  run_in of s scenario
+  run_in of threads s scenario
 
 -- a trace file's bytes
 unfoldable pub trace_in : Contents → System → Scenario → List ℕ → Reading Work
@@ -133,6 +134,6 @@ replay_at of system scenario trace = do
 
 abbrev pub work_of : Contents → Order → Reading Work
 work_of of (compile system) = list_in of system
-work_of of (run system scenario) = run_at of system scenario
+work_of of (run threads system scenario) = run_at of threads system scenario
 work_of of (replay system scenario trace) = replay_at of system scenario trace
 work_of of (make rounds) = asks_nothing (Ok (make_of rounds))

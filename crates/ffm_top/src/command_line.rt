@@ -15,10 +15,20 @@ fn word_argument(alloc: Global, id: &str) -> Arg<'_> {
     Arg::new(alloc, id).required(true).action(ArgAction::Set)
 }
 
+// The flag of a run.
+fn threads_argument<'a>(alloc: Global) -> Result<Arg<'a>, Error> {
+    Ok(
+        Arg::new(alloc, "threads")
+            .long("threads")
+            .action(ArgAction::SetTrue),
+    )
+}
+
 // The commands and their arguments.
 fn command_line<'a>(alloc: Global) -> Result<clap::Command<'a>, Error> {
     let compile = clap::Command::new(alloc, "compile").arg(word_argument(alloc, "system"))?;
     let run = clap::Command::new(alloc, "run")
+        .arg(threads_argument(alloc)?)?
         .arg(word_argument(alloc, "system"))?
         .arg(word_argument(alloc, "scenario"))?;
     let replay = clap::Command::new(alloc, "replay")
@@ -42,7 +52,11 @@ fn compile_of<'a>(found: &ArgMatches<'a>) -> Option<Command<'a>> {
 fn run_of<'a>(found: &ArgMatches<'a>) -> Option<Command<'a>> {
     let system = found.get_str("system")?;
     let scenario = found.get_str("scenario")?;
-    Some(Command::Run { system, scenario })
+    Some(Command::Run {
+        threads: found.get_flag("threads"),
+        system,
+        scenario,
+    })
 }
 
 fn replay_of<'a>(found: &ArgMatches<'a>) -> Option<Command<'a>> {

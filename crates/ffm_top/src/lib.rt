@@ -8,8 +8,9 @@ mod make;
 mod replay;
 mod report;
 mod run;
+mod threads;
 mod top;
 mod words;
 mod work;
 
-pub use top::ffm;
+pub use top::{asks_threads, ffm, ffm_alone};

@@ -51,6 +51,7 @@ fn generated(alloc: Global, rounds: u32) -> Result<RunWork, PartsError>
     let scenario = scenario_of(alloc, rounds, &system)?;
     let scripts = scripts_of(alloc, &system, &scenario)?;
     Ok(RunWork {
+        threads: false,
         system,
         scenario,
         scripts,
@@ -131,6 +132,7 @@ fn made(alloc: Global, rounds: u32) -> Result<Ran, PartsError>
         system,
         scenario,
         scripts,
+        ..
     } = generated(alloc, rounds)?;
     Ok(run(alloc, system, &scenario, &scripts)?)
 }

@@ -1,13 +1,15 @@
 //! Runs the scripts of a scenario over a system.
 
-ghost use Rattle.std.specs.Prelude.{◌≡◌, IfOk, length};
+ghost use Rattle.std.specs.Prelude.{◌≡◌, IfOk, false, length};
 ghost use Rattle.std.specs.List.{All};
 ghost use Rattle.ffm_model.specs.Actors.{actor_count};
 ghost use Rattle.ffm_model.specs.Scenarios.{IsScenarioOf};
 ghost use Rattle.ffm_model.specs.Memory.{opening_memory};
 ghost use Rattle.memory_image.specs.Pieces.{byte_at, regions_of, ranges_of};
 ghost use Rattle.ffm_top.specs.Runs.{RanBy};
+ghost use Rattle.ffm_top.specs.View.{IsRun};
 
+use crate::work::RunWork;
 use ffm_model::{List, Memory, Scenario, Script, System, Verdict};
 use memory_image::Image;
 use partition_sim::drive_scheduled;
@@ -37,8 +39,8 @@ pub fn opening_image(alloc: Global, system: &System, scenario: &Scenario) -> Res
     Image::new(alloc, &system.regions, &scenario.memory)
 }
 
-/// The run of a scenario's scripts, one for each actor, over a system. Memory where no memory was
-/// found.
+/// The run of a scenario's scripts, one for each actor, over a system, in the turns of its schedule.
+/// Memory where no memory was found.
 pub fn run(
     alloc: Global,
     system: System,
@@ -48,7 +50,7 @@ pub fn run(
     requires scenario { IsScenarioOf system scenario.now }
     requires scripts { length scripts.now ≡ actor_count system }
     ensures system { IfOk result (λ ran. ran.spm.opening.system ≡ system) }
-    ensures ran { IfOk result (λ ran. RanBy system (opening_memory scenario.now.memory) scenario.now scripts.now ran.spm.history ran.verdict) }
+    ensures ran { IfOk result (λ ran. RanBy system (opening_memory scenario.now.memory) scenario.now scripts.now false ran.spm.history ran.verdict) }
 {
     let image = opening_image(alloc, &system, scenario)?;
     let mut spm = Spm::new(alloc, system, image, scenario.limit)?;
@@ -58,4 +60,23 @@ pub fn run(
         Some(verdict) => Ok(Ran { spm, verdict }),
         None => unreachable!(),
     }
+}
+
+/// The run that work without threads asks for.
+pub fn run_in_turns(alloc: Global, work: RunWork) -> Result<Ran, Memory>
+    requires work { IsRun work }
+    requires threads { work.threads ≡ false }
+    ensures system { IfOk result (λ ran. ran.spm.opening.system ≡ work.system) }
+    ensures ran { IfOk result (λ ran. RanBy work.system (opening_memory work.scenario.memory) work.scenario work.scripts work.threads ran.spm.history ran.verdict) }
+{
+    let RunWork {
+        threads,
+        system,
+        scenario,
+        scripts,
+    } = work;
+    if threads {
+        unreachable!()
+    }
+    run(alloc, system, &scenario, &scripts)
 }

@@ -1,6 +1,6 @@
 //! The top call.
 
-ghost use Rattle.std.specs.Prelude.{◌≡◌, ◌<◌, ◌≤◌, ◌≢◌, ◌↔◌, [], ◌⊎◌, None, Ok, IfOk, IfSome, IsErrOf, IsOk, IsOkAnd, length, map, string_bytes};
+ghost use Rattle.std.specs.Prelude.{◌≡◌, ◌<◌, ◌≤◌, ◌≢◌, ◌↔◌, [], ◌⊎◌, None, Ok, IfOk, IfSome, IsErrOf, IsOk, IsOkAnd, false, length, map, string_bytes, true};
 ghost use Rattle.outside_io.specs.Count.{Rose};
 ghost use Rattle.outside_io.specs.Told.{Puts, Takes};
 ghost use Rattle.ffm_model.specs.Reading.{FailedAmong};
@@ -11,8 +11,8 @@ ghost use Rattle.ffm_top.specs.Replays.{ReplayDue, IsTraceText};
 ghost use Rattle.ffm_top.specs.Runs.{RunDue};
 ghost use Rattle.ffm_top.specs.Lines.{refusal_line, usage_line};
 ghost use Rattle.ffm_top.specs.Report.{text_of, status_of};
-ghost use Rattle.ffm_top.specs.View.{work as work_seen, IsReplay, IsRun, IsWork};
-ghost use Rattle.ffm_top.specs.Words.{order, order_of};
+ghost use Rattle.ffm_top.specs.View.{work as work_seen, IsReplay, IsRun, IsWork, threads_of};
+ghost use Rattle.ffm_top.specs.Words.{asks_threads, has_threads, order, order_of};
 ghost use Rattle.ffm_top.specs.Work.{work_of};
 
 use crate::command_line::{Unread, confirmed};
@@ -20,12 +20,15 @@ use crate::lines::refusal_line;
 use crate::make::make;
 use crate::replay::replay;
 use crate::report::{Report, write_report};
-use crate::run::run;
+use crate::run::run_in_turns;
+use crate::threads::run_as_asked;
 use crate::words::{Command, command_of};
 use crate::work::{ReplayWork, RunWork, Work, work_of};
 use ffm_model::{Gate, PartsError, Refusal, System};
 use outside_io::{Failed, Files, Sink};
 use std::alloc::Global;
+use std::sync::Wait;
+use std::thread::Threads;
 use system_listing::listing;
 
 /// Why there is nothing to write.
@@ -76,18 +79,14 @@ fn listed(alloc: Global, system: &System) -> Result<Report, Halt>
 // The report of a run.
 #[tactic(auto, using(crate::proofs::Reports::run_due))]
 fn ran(alloc: Global, work: RunWork) -> Result<Report, Halt>
-    requires { IsRun work }
-    ensures due { IfOk result (λ report. RunDue work.system work.scenario work.scripts (text_of report) (status_of report)) }
+    requires work { IsRun work }
+    requires threads { work.threads ≡ false }
+    ensures due { IfOk result (λ report. RunDue work.system work.scenario work.scripts work.threads (text_of report) (status_of report)) }
     ensures some { IfOk result (λ report. 0 < length (text_of report)) }
     ensures status { IfOk result (λ report. IsDoneStatus (status_of report)) }
     ensures memory { IsErrOf result Halt.Files → ⊥ }
 {
-    let RunWork {
-        system,
-        scenario,
-        scripts,
-    } = work;
-    match run(alloc, system, &scenario, &scripts) {
+    match run_in_turns(alloc, work) {
         Ok(ran) => Ok(Report::Ran(ran)),
         Err(_) => Err(Halt::Memory),
     }
@@ -123,7 +122,8 @@ fn made(alloc: Global, rounds: u32) -> Result<Report, Halt>
 
 // The report of work that was asked for.
 fn done(alloc: Global, work: Work) -> Result<Report, Halt>
-    requires { IsWork work }
+    requires work { IsWork work }
+    requires threads { threads_of work ≡ false }
     ensures due { IfOk result (λ report. WorkDue (work_seen work) (text_of report) (status_of report)) }
     ensures some { IfOk result (λ report. 0 < length (text_of report)) }
     ensures status { IfOk result (λ report. (status_of report ≡ 1) ⊎ IsDoneStatus (status_of report)) }
@@ -144,6 +144,7 @@ fn report_of_command<F: Files>(
     command: Command<'_>,
     files: &mut F,
 ) -> Result<Report, Halt>
+    requires threads { has_threads (order command) ≡ false }
     ensures due { IfSome (F.held files.old) (λ of. IfOk result (λ report.
         DueBy (work_of of (order command.entry)).gives (text_of report) (status_of report))) }
     ensures valid { IfSome (F.held files.old) (λ of. IsOkAnd (work_of of (order command.entry)).gives IsValidWork →
@@ -166,6 +167,7 @@ fn report_of_command<F: Files>(
 
 // All that is to be written.
 fn report_of<F: Files>(alloc: Global, words: &Vec<String>, files: &mut F) -> Result<Report, Halt>
+    requires threads { asks_threads (order_of (map string_bytes words.now.items)) ≡ false }
     ensures due { IfSome (F.held files.old) (λ of. IfOk result (λ report.
         Due (map string_bytes words.now.items) of (text_of report) (status_of report))) }
     ensures valid { IfSome (F.held files.old) (λ of. IsValid (map string_bytes words.now.items) of →
@@ -189,7 +191,118 @@ fn report_of<F: Files>(alloc: Global, words: &Vec<String>, files: &mut F) -> Res
     }
 }
 
-/// Does what the words ask for over these files, writes the text that is due, and answers the
+// The report of a run, with threads or without.
+#[tactic(auto, using(crate::proofs::Reports::run_due))]
+fn ran_as_asked<R: Threads + Wait + Sync, G: Gate + Sync>(
+    rt: &R,
+    alloc: Global,
+    gate: &G,
+    work: RunWork,
+) -> Result<Report, Halt>
+    requires work { IsRun work }
+    ensures due { IfOk result (λ report. RunDue work.system work.scenario work.scripts work.threads (text_of report) (status_of report)) }
+    ensures some { IfOk result (λ report. 0 < length (text_of report)) }
+    ensures status { IfOk result (λ report. IsDoneStatus (status_of report)) }
+    ensures memory { IsErrOf result Halt.Files → ⊥ }
+{
+    match run_as_asked(rt, alloc, gate, work) {
+        Ok(ran) => Ok(Report::Ran(ran)),
+        Err(_) => Err(Halt::Memory),
+    }
+}
+
+// The report of work that was asked for, with threads or without.
+fn done_as_asked<R: Threads + Wait + Sync, G: Gate + Sync>(
+    rt: &R,
+    alloc: Global,
+    gate: &G,
+    work: Work,
+) -> Result<Report, Halt>
+    requires work { IsWork work }
+    ensures due { IfOk result (λ report. WorkDue (work_seen work) (text_of report) (status_of report)) }
+    ensures some { IfOk result (λ report. 0 < length (text_of report)) }
+    ensures status { IfOk result (λ report. (status_of report ≡ 1) ⊎ IsDoneStatus (status_of report)) }
+    ensures valid { IsValidWork (work_seen work) → IfOk result (λ report. IsDoneStatus (status_of report)) }
+    ensures memory { IsErrOf result Halt.Files → ⊥ }
+{
+    match work {
+        Work::Listing(system) => listed(alloc, &system),
+        Work::Run(run) => ran_as_asked(rt, alloc, gate, run),
+        Work::Replay(replay) => replayed(alloc, &replay),
+        Work::Make(rounds) => made(alloc, rounds),
+    }
+}
+
+// The report of an accepted command, with threads or without.
+fn report_as_asked<R: Threads + Wait + Sync, G: Gate + Sync, F: Files>(
+    rt: &R,
+    alloc: Global,
+    gate: &G,
+    command: Command<'_>,
+    files: &mut F,
+) -> Result<Report, Halt>
+    ensures due { IfSome (F.held files.old) (λ of. IfOk result (λ report.
+        DueBy (work_of of (order command.entry)).gives (text_of report) (status_of report))) }
+    ensures valid { IfSome (F.held files.old) (λ of. IsOkAnd (work_of of (order command.entry)).gives IsValidWork →
+        IfOk result (λ report. IsDoneStatus (status_of report))) }
+    ensures some { IfOk result (λ report. 0 < length (text_of report)) }
+    ensures status { IfOk result (λ report. (status_of report ≡ 1) ⊎ IsDoneStatus (status_of report)) }
+    ensures keeps { F.held files.new ≡ F.held files.old }
+    ensures later { F.faults files.old ≤ F.faults files.new }
+    ensures failed { IsErrOf result Halt.Files → Rose (F.faults files.old) (F.faults files.new) }
+    ensures asked { IsErrOf result Halt.Files → IfSome (F.held files.old) (λ of.
+        FailedAmong (work_of of (order command.entry)).names (F.last_failed files.new)) }
+{
+    match work_of(alloc, command, files) {
+        Ok(work) => done_as_asked(rt, alloc, gate, work),
+        Err(PartsError::Refused(refusal)) => refused(alloc, &refusal),
+        Err(PartsError::ReadFault) => Err(Halt::Files),
+        Err(PartsError::Memory) => Err(Halt::Memory),
+    }
+}
+
+// All that is to be written, with threads or without.
+fn report_in_threads<R: Threads + Wait + Sync, G: Gate + Sync, F: Files>(
+    rt: &R,
+    alloc: Global,
+    gate: &G,
+    words: &Vec<String>,
+    files: &mut F,
+) -> Result<Report, Halt>
+    ensures due { IfSome (F.held files.old) (λ of. IfOk result (λ report.
+        Due (map string_bytes words.now.items) of (text_of report) (status_of report))) }
+    ensures valid { IfSome (F.held files.old) (λ of. IsValid (map string_bytes words.now.items) of →
+        IfOk result (λ report. IsDoneStatus (status_of report))) }
+    ensures usage { IfOk result (λ report. (status_of report ≡ 2) ↔ (order_of (map string_bytes words.now.items) ≡ None)) }
+    ensures no_words { order_of (map string_bytes words.now.items) ≡ None → IsOk result }
+    ensures some { IfOk result (λ report. 0 < length (text_of report)) }
+    ensures status { IfOk result (λ report. (status_of report ≤ 2) ⊎ IsDoneStatus (status_of report)) }
+    ensures keeps { F.held files.new ≡ F.held files.old }
+    ensures later { F.faults files.old ≤ F.faults files.new }
+    ensures failed { IsErrOf result Halt.Files → Rose (F.faults files.old) (F.faults files.new) }
+    ensures asked { IsErrOf result Halt.Files → IfSome (F.held files.old) (λ of.
+        FailedAsked (map string_bytes words.now.items) of (F.last_failed files.new)) }
+{
+    match command_of(words) {
+        None => Ok(usage()),
+        Some(command) => match confirmed(alloc, words.as_slice(), command) {
+            Ok(command) => report_as_asked(rt, alloc, gate, command, files),
+            Err(Unread) => Err(Halt::Memory),
+        },
+    }
+}
+
+/// Whether the words are those of a run with threads.
+pub fn asks_threads(words: &Vec<String>) -> bool
+    ensures { result ≡ asks_threads (order_of (map string_bytes words.now.items)) }
+{
+    match command_of(words) {
+        Some(Command::Run { threads, .. }) => threads,
+        _ => false,
+    }
+}
+
+/// Does what the words ask for over these files, without threads: writes the text that is due, and answers the
 /// status to end with.
 ///
 /// 0: a system is listed, a run is quiet, a trace is legal, or a generated run is summed up. 4 and 5:
@@ -197,14 +310,13 @@ fn report_of<F: Files>(alloc: Global, words: &Vec<String>, files: &mut F) -> Res
 /// words are no command, by the usage line. 7: a file that is asked for can't be read, and nothing is
 /// written. 8: the text can't be written whole. 9: no memory was found, or `clap` reads accepted
 /// words otherwise, and nothing is written.
-pub fn ffm<R, F: Files, S: Sink, G: Gate>(
-    rt: &R,
+pub fn ffm_alone<F: Files, S: Sink>(
     alloc: Global,
     words: &Vec<String>,
     files: &mut F,
     out: &mut S,
-    gate: &G,
 ) -> u8
+    requires { asks_threads (order_of (map string_bytes words.now.items)) ≡ false }
     ensures status { IsStatus result }
 
     // A status below 7 comes with a text that is due with it, written whole: for `compile` the
@@ -247,10 +359,79 @@ pub fn ffm<R, F: Files, S: Sink, G: Gate>(
     ensures files_later { F.faults files.old ≤ F.faults files.new }
     ensures sink_later { S.faults out.old ≤ S.faults out.new }
 {
-    // Only a run with threads needs these.
-    let _ = rt;
-    let _ = gate;
     match report_of(alloc, words, files) {
+        Ok(report) => match write_report(out, &report) {
+            Ok(()) => report.status(),
+            Err(Failed) => 8,
+        },
+        Err(Halt::Files) => 7,
+        Err(Halt::Memory) => 9,
+    }
+}
+
+/// Does what the words ask for over these files, writes the text that is due, and answers the
+/// status to end with.
+///
+/// 0: a system is listed, a run is quiet, a trace is legal, or a generated run is summed up. 4 and 5:
+/// a run is stalled, full. 6: a trace is illegal. 1: a file is refused, by the line written. 2: the
+/// words are no command, by the usage line. 7: a file that is asked for can't be read, and nothing is
+/// written. 8: the text can't be written whole. 9: no memory was found, or `clap` reads accepted
+/// words otherwise, and nothing is written.
+pub fn ffm<R: Threads + Wait + Sync, F: Files, S: Sink, G: Gate + Sync>(
+    rt: &R,
+    alloc: Global,
+    words: &Vec<String>,
+    files: &mut F,
+    out: &mut S,
+    gate: &G,
+) -> u8
+    ensures status { IsStatus result }
+
+    // A status below 7 comes with a text that is due with it, written whole: for `compile` the
+    // listing of the system, for `run` the trace of a run of the FF-M machine in which each actor's
+    // events are its script's calls with the machine's answers, without `--threads` in the turns of
+    // the schedule, for `replay` the judgement of the trace file's trace by that machine or the
+    // refusal of its first wrong line, and for `make` the summary of such a run of the generated
+    // system, by a schedule. So 6 comes exactly with `illegal N`, and N is the place that the machine
+    // gives.
+    ensures due { result < 7 → IfSome (F.held files.old) (λ of.
+        WritesDue (map string_bytes words.now.items) of (S.taken out.old) (S.taken out.new) result) }
+
+    // What the sink only gathered was handed on.
+    ensures handed_on { result < 7 → S.is_handed_on out.new }
+
+    // 2: the words alone decide it, whatever the files tell.
+    ensures usage { result ≡ 2 → order_of (map string_bytes words.now.items) ≡ None }
+    ensures no_words { order_of (map string_bytes words.now.items) ≡ None → (result ≡ 2) ⊎ (result ≡ 8) }
+
+    // 7: a read failed in this call, of a file that is asked for.
+    ensures files { result ≡ 7 → Rose (F.faults files.old) (F.faults files.new) }
+    ensures failed { result ≡ 7 → IfSome (F.held files.old) (λ of.
+        FailedAsked (map string_bytes words.now.items) of (F.last_failed files.new)) }
+
+    // 8: a put or the flush failed in this call, and a proper prefix of a text that is due was written.
+    ensures sink { result ≡ 8 → Rose (S.faults out.old) (S.faults out.new) }
+    ensures part { result ≡ 8 → IfSome (F.held files.old) (λ of.
+        WritesPart (map string_bytes words.now.items) of (S.taken out.old) (S.taken out.new)) }
+
+    // 7 and 9: nothing was written.
+    ensures nothing { (result ≡ 7) ⊎ (result ≡ 9) → Takes (S.taken out.old) (S.taken out.new) [] }
+
+    // Accepted words, files that give no refusal and no fault: what was asked for is done, or no
+    // memory was found.
+    ensures complete { IfSome (F.held files.old) (λ of. IsValid (map string_bytes words.now.items) of →
+        (Rose (F.faults files.old) (F.faults files.new) → ⊥) → (Rose (S.faults out.old) (S.faults out.new) → ⊥) →
+        IsDoneStatus result ⊎ (result ≡ 9)) }
+
+    // What the files hold stays, and no count falls.
+    ensures keeps { F.held files.new ≡ F.held files.old }
+    ensures files_later { F.faults files.old ≤ F.faults files.new }
+    ensures sink_later { S.faults out.old ≤ S.faults out.new }
+{
+    if !asks_threads(words) {
+        return ffm_alone(alloc, words, files, out);
+    }
+    match report_in_threads(rt, alloc, gate, words, files) {
         Ok(report) => match write_report(out, &report) {
             Ok(()) => report.status(),
             Err(Failed) => 8,

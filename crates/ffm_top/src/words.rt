@@ -2,7 +2,7 @@
 
 ghost use Rattle.std.specs.Prelude.{◌≡◌, map, string_bytes};
 ghost use Rattle.std.specs.Option.{option_map};
-ghost use Rattle.ffm_top.specs.Words.{is_file_word, order_of, command_words, compile_words, run_words, replay_files, replay_over, replay_words, make_words, rounds_of, order};
+ghost use Rattle.ffm_top.specs.Words.{is_file_word, order_of, command_words, compile_words, run_files, is_flag, flagged_words, run_words, replay_files, replay_over, replay_words, make_words, rounds_of, order};
 
 use crate::limits::MAX_ROUNDS;
 
@@ -13,8 +13,9 @@ pub enum Command<'a> {
     Compile {
         system: &'a str,
     },
-    /// The run of a scenario's scripts over a system.
+    /// The run of a scenario's scripts over a system, with a thread for each actor or without.
     Run {
+        threads: bool,
         system: &'a str,
         scenario: &'a str,
     },
@@ -70,18 +71,49 @@ fn compile_of(words: &[String]) -> Option<Command<'_>>
     }
 }
 
-fn run_of(words: &[String]) -> Option<Command<'_>>
-    ensures { option_map order result ≡ run_words (map string_bytes words.now) }
+// A run of a scenario over a system.
+fn run_files<'a>(threads: bool, system: &'a str, scenario: &'a str) -> Option<Command<'a>>
+    ensures { option_map order result ≡ run_files threads system.now scenario.now }
 {
-    let (system, words) = words.split_first()?;
-    let (scenario, words) = words.split_first()?;
-    if words.is_empty() && is_file_word(system.as_str()) && is_file_word(scenario.as_str()) {
+    if is_file_word(system) && is_file_word(scenario) {
         Some(Command::Run {
-            system: system.as_str(),
-            scenario: scenario.as_str(),
+            threads,
+            system,
+            scenario,
         })
     } else {
         None
+    }
+}
+
+fn is_flag(word: &str) -> bool
+    ensures { result ≡ is_flag word.now }
+{
+    word == "--threads"
+}
+
+// A run's three words, of which one is the flag.
+fn flagged<'a>(first: &'a str, second: &'a str, third: &'a str) -> Option<Command<'a>>
+    ensures { option_map order result ≡ flagged_words first.now second.now third.now }
+{
+    if is_flag(first) {
+        run_files(true, second, third)
+    } else if is_flag(second) {
+        run_files(true, first, third)
+    } else if is_flag(third) {
+        run_files(true, first, second)
+    } else {
+        None
+    }
+}
+
+fn run_of(words: &[String]) -> Option<Command<'_>>
+    ensures { option_map order result ≡ run_words (map string_bytes words.now) }
+{
+    match words {
+        [system, scenario] => run_files(false, system.as_str(), scenario.as_str()),
+        [first, second, third] => flagged(first.as_str(), second.as_str(), third.as_str()),
+        _ => None,
     }
 }
 

@@ -1,14 +1,14 @@
 //! What a command and its files ask to be done.
 
-ghost use Rattle.std.specs.Prelude.{◌≡◌, ◌<◌, ◌≤◌, ◌^◌, [], Ok, IfOk, IfErr, IfSome, IsErrOf, length, replicate};
+ghost use Rattle.std.specs.Prelude.{◌≡◌, ◌<◌, ◌≤◌, ◌^◌, [], Ok, false, IfOk, IfErr, IfSome, IsErrOf, length, replicate};
 ghost use Rattle.std.specs.List.{All};
 ghost use Rattle.outside_io.specs.Count.{Rose};
 ghost use Rattle.ffm_model.specs.Actors.{actor_count};
 ghost use Rattle.ffm_model.specs.Reading.{Gives, Reads, file_at};
 ghost use Rattle.ffm_model.specs.Scenarios.{IsScenarioOf};
-ghost use Rattle.ffm_top.specs.Words.{order};
+ghost use Rattle.ffm_top.specs.Words.{has_threads, order};
 ghost use Rattle.ffm_top.specs.Work.{empty_script, first_scripts, script_of_actor, scripts_of, system_in, system_at, scenario_at, run_in, list_in, run_at, trace_in, replay_in, replay_at, work_of};
-ghost use Rattle.ffm_top.specs.View.{work, IsWork};
+ghost use Rattle.ffm_top.specs.View.{work, IsWork, threads_of};
 
 use crate::limits::MAX_TRACE_BYTES;
 use crate::words::Command;
@@ -22,9 +22,11 @@ use script_asm::{assemble, device_script};
 use std::alloc::Global;
 use system_json::{read_scenario, read_system};
 
-/// A run of a scenario's scripts, one for each actor, over a system.
+/// A run of a scenario's scripts, one for each actor, over a system, with a thread for each or
+/// without.
 #[derive(Drop)]
 pub struct RunWork {
+    pub threads: bool,
     pub system: System,
     pub scenario: Scenario,
     pub scripts: List<Script>,
@@ -197,18 +199,21 @@ pub fn scripts_of(
 fn run_in<F: Files>(
     alloc: Global,
     files: &mut F,
+    threads: bool,
     system: System,
     name: &str,
 ) -> Result<Work, PartsError>
-    ensures gives { IfSome (F.held files.old) (λ of. Gives work (F.last_failed files.new) result (run_in of system name.now)) }
+    ensures gives { IfSome (F.held files.old) (λ of. Gives work (F.last_failed files.new) result (run_in of threads system name.now)) }
     ensures keeps { F.held files.new ≡ F.held files.old }
     ensures later { F.faults files.old ≤ F.faults files.new }
     ensures failed { IsErrOf result PartsError.ReadFault → Rose (F.faults files.old) (F.faults files.new) }
     ensures kept { IfOk result IsWork }
+    ensures threads { IfOk result (λ work. threads_of work ≡ threads) }
 {
     let scenario = scenario_at(alloc, files, &system, name)?;
     let scripts = scripts_of(alloc, &system, &scenario)?;
     Ok(Work::Run(RunWork {
+        threads,
         system,
         scenario,
         scripts,
@@ -223,6 +228,7 @@ fn list_in<F: Files>(alloc: Global, files: &mut F, name: &str) -> Result<Work, P
     ensures later { F.faults files.old ≤ F.faults files.new }
     ensures failed { IsErrOf result PartsError.ReadFault → Rose (F.faults files.old) (F.faults files.new) }
     ensures kept { IfOk result IsWork }
+    ensures threads { IfOk result (λ work. threads_of work ≡ false) }
 {
     let system = system_at(alloc, files, name)?;
     Ok(Work::Listing(system))
@@ -233,17 +239,19 @@ fn list_in<F: Files>(alloc: Global, files: &mut F, name: &str) -> Result<Work, P
 fn run_at<F: Files>(
     alloc: Global,
     files: &mut F,
+    threads: bool,
     system: &str,
     scenario: &str,
 ) -> Result<Work, PartsError>
-    ensures gives { IfSome (F.held files.old) (λ of. Gives work (F.last_failed files.new) result (run_at of system.now scenario.now)) }
+    ensures gives { IfSome (F.held files.old) (λ of. Gives work (F.last_failed files.new) result (run_at of threads system.now scenario.now)) }
     ensures keeps { F.held files.new ≡ F.held files.old }
     ensures later { F.faults files.old ≤ F.faults files.new }
     ensures failed { IsErrOf result PartsError.ReadFault → Rose (F.faults files.old) (F.faults files.new) }
     ensures kept { IfOk result IsWork }
+    ensures threads { IfOk result (λ work. threads_of work ≡ threads) }
 {
     let system = system_at(alloc, files, system)?;
-    run_in(alloc, files, system, scenario)
+    run_in(alloc, files, threads, system, scenario)
 }
 
 // A trace for a scenario over a system, from its file.
@@ -261,6 +269,7 @@ fn trace_in<F: Files>(
     ensures later { F.faults files.old ≤ F.faults files.new }
     ensures failed { IsErrOf result PartsError.ReadFault → Rose (F.faults files.old) (F.faults files.new) }
     ensures kept { IfOk result IsWork }
+    ensures threads { IfOk result (λ work. threads_of work ≡ false) }
 {
     let trace = bytes_of(alloc, files, Root::Trace, MAX_TRACE_BYTES, name)?;
     Ok(Work::Replay(ReplayWork {
@@ -285,6 +294,7 @@ fn replay_in<F: Files>(
     ensures later { F.faults files.old ≤ F.faults files.new }
     ensures failed { IsErrOf result PartsError.ReadFault → Rose (F.faults files.old) (F.faults files.new) }
     ensures kept { IfOk result IsWork }
+    ensures threads { IfOk result (λ work. threads_of work ≡ false) }
 {
     let scenario = scenario_at(alloc, files, &system, scenario)?;
     let _scripts = scripts_of(alloc, &system, &scenario)?;
@@ -305,6 +315,7 @@ fn replay_at<F: Files>(
     ensures later { F.faults files.old ≤ F.faults files.new }
     ensures failed { IsErrOf result PartsError.ReadFault → Rose (F.faults files.old) (F.faults files.new) }
     ensures kept { IfOk result IsWork }
+    ensures threads { IfOk result (λ work. threads_of work ≡ false) }
 {
     let system = system_at(alloc, files, system)?;
     replay_in(alloc, files, system, scenario, trace)
@@ -321,10 +332,15 @@ pub fn work_of<F: Files>(
     ensures later { F.faults files.old ≤ F.faults files.new }
     ensures failed { IsErrOf result PartsError.ReadFault → Rose (F.faults files.old) (F.faults files.new) }
     ensures kept { IfOk result IsWork }
+    ensures threads { IfOk result (λ work. threads_of work ≡ has_threads (order command.entry)) }
 {
     match command {
         Command::Compile { system } => list_in(alloc, files, system),
-        Command::Run { system, scenario } => run_at(alloc, files, system, scenario),
+        Command::Run {
+            threads,
+            system,
+            scenario,
+        } => run_at(alloc, files, threads, system, scenario),
         Command::Replay {
             system,
             scenario,

@@ -2,8 +2,7 @@
 //! lies beside the example is judged.
 #![tactic(auto)]
 
-use ffm_model::OpenGate;
-use ffm_top::ffm;
+use ffm_top::{asks_threads, ffm_alone};
 use outside_io::{HostFiles, StdoutSink};
 use std::alloc::{AllocError, Global};
 use std::io;
@@ -45,11 +44,14 @@ fn words_of(
     Ok(words)
 }
 
-// Does what the words ask for over the host's files, and writes the status behind its text.
+// Does what the words ask for over the host's files, without threads, and writes the status behind its text.
 fn write(rt: &HostRuntime, words: &Vec<String>) -> io::Result<()> {
+    if asks_threads(words) {
+        return Ok(());
+    }
     let mut files = HostFiles::new(rt);
     let mut out = StdoutSink::new(rt);
-    let status = ffm(rt, rt.alloc(), words, &mut files, &mut out, &OpenGate);
+    let status = ffm_alone(rt.alloc(), words, &mut files, &mut out);
     println!(rt; "status {status}")
 }
 

@@ -2,8 +2,8 @@
 
 use crate::altered::{Change, altered};
 use crate::systems::Pair;
-use ffm_model::{List, OpenGate};
-use ffm_top::ffm;
+use ffm_model::List;
+use ffm_top::{asks_threads, ffm_alone};
 use outside_io::{MemoryFiles, MemorySink};
 use std::alloc::Global;
 use std::str::from_utf8;
@@ -35,7 +35,10 @@ fn written_by(
     files.add(alloc, "scenario", pair.scenario.as_bytes())?;
     files.add(alloc, "trace", trace)?;
     let mut sink = MemorySink::new(alloc, 4096, 256, List::of(Vec::new(alloc)))?;
-    let status = ffm(rt, alloc, &words, &mut files, &mut sink, &OpenGate);
+    if asks_threads(&words) {
+        return Err(Fail::from("a run with threads"));
+    }
+    let status = ffm_alone(alloc, &words, &mut files, &mut sink);
     Ok((String::from_str(alloc, from_utf8(sink.bytes())?)?, status))
 }
 
