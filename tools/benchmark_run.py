@@ -75,16 +75,22 @@ def scenario(events):
     return {"event_limit": events, "scripts": scripts, "memory": memory}
 
 
+def most_memory(command, output):
+    """The most memory of a run in MB. `/usr/bin/time` starts it: by a child of its own the script would count, too."""
+    with open(output, "wb") as out:
+        told = subprocess.run(["/usr/bin/time", "-f", "%M", *command], stdout=out, stderr=subprocess.PIPE, check=False)
+    return int(told.stderr.split()[-1]) / 1000
+
+
 def timed(command, output, repeats):
-    """The times of some runs of a command in milliseconds, the most memory of one in MB, and its last line."""
-    times, memory = [], 0
+    """The times of some runs of a command in milliseconds, the most memory of one more in MB, and its last line."""
+    times = []
     for _ in range(repeats):
         with open(output, "wb") as out:
             start = time.perf_counter()
-            child = subprocess.Popen(command, stdout=out)
-            _, _, usage = os.wait4(child.pid, 0)
+            subprocess.run(command, stdout=out, check=False)
             times.append((time.perf_counter() - start) * 1000)
-            memory = max(memory, usage.ru_maxrss / 1000)
+    memory = most_memory(command, output)
     with open(output, "rb") as text:
         return sorted(times), memory, text.read().splitlines()[-1].decode()
 
