@@ -7,9 +7,9 @@ Run at the top of the repository, with the Python package `jsonschema`. Each exa
 name of an attribute in it is then misspelt in its turn, each value that the schemas restrict is replaced by a
 wrong one, and each such file has to be refused.
 
-With files, these alone are looked at: a file with `scripts`, `schedule`, `interrupts`, `memory` or
-`event_limit` is taken for a scenario, one with `manifests` or `isolation_level` for a system, any other one
-for a manifest. What is wrong is printed with its place. The status is 1 where something is wrong."""
+With files, these alone are looked at: a file with `scripts`, `schedule`, `interrupts`, `memory`, `restarts`
+or `event_limit` is taken for a scenario, one with `manifests` or `isolation_level` for a system, any other
+one for a manifest. What is wrong is printed with its place. The status is 1 where something is wrong."""
 
 import copy
 import json
@@ -21,7 +21,7 @@ import referencing
 
 SCHEMAS = pathlib.Path("schemas")
 EXAMPLES = pathlib.Path("examples")
-SCENARIO_NAMES = {"event_limit", "scripts", "schedule", "interrupts", "memory"}
+SCENARIO_NAMES = {"event_limit", "scripts", "schedule", "interrupts", "memory", "restarts"}
 SYSTEM_NAMES = {"isolation_level", "manifests"}
 
 MANIFEST = {
@@ -30,27 +30,73 @@ MANIFEST = {
     "services": [{"name": "S", "sid": "0x40", "non_secure_clients": True, "version": 1, "version_policy": "STRICT"}],
     "dependencies": ["T"], "irqs": [{"source": 9, "signal": "I"}],
 }
+STATELESS = {
+    "name": "T", "sid": "0x50", "non_secure_clients": False, "connection_based": False, "stateless_handle": 32, "mm_iovec": "disable",
+}
+LATER_MANIFEST = MANIFEST | {
+    "psa_framework_version": 1.1, "name": "Q", "model": "IPC", "entry_init": "q_init", "services": [STATELESS], "dependencies": [],
+    "irqs": [{"source": 10, "name": "I" * 57, "handling": "FLIH"}],
+}
+FUNCTIONS = {
+    "psa_framework_version": "1.1", "name": "R", "type": "PSA-ROT", "priority": "LOW", "model": "SFN", "stack_size": 48, "irqs": [],
+    "services": [{"name": "F", "sid": "0x60", "non_secure_clients": True, "connection_based": True, "mm_iovec": "enable"}],
+}
 SYSTEM = {
-    "isolation_level": 1, "manifests": [MANIFEST], "regions": [{"name": "R", "base": 0, "size": 1}],
+    "isolation_level": 1, "manifests": [MANIFEST, LATER_MANIFEST, FUNCTIONS, "r.json"], "regions": [{"name": "R", "base": 0, "size": 1}],
     "non_secure_ram": 65536, "clients": ["NS"], "connections": [{"client": "NS", "service": "S", "count": 2}],
 }
 SCENARIO = {
-    "event_limit": 8, "scripts": [{"actor": "NS", "lines": ["end"]}], "schedule": ["device"], "interrupts": [9],
-    "memory": [{"address": 0, "bytes": "00ff"}],
+    "event_limit": 8, "scripts": [{"actor": "NS", "lines": ["end"]}, {"actor": "NS", "lines": []}], "schedule": ["device"],
+    "interrupts": [9, "I", {"source": 10, "result": 1}], "memory": [{"address": 0, "bytes": "00ff"}], "restarts": 15,
 }
 
-# Places in the three files above, and values that are wrong there.
+# Each file above with its kind.
+RIGHT = {
+    "system": ("system", SYSTEM),
+    "manifest": ("manifest", MANIFEST),
+    "manifest of 1.1": ("manifest", LATER_MANIFEST),
+    "manifest of functions": ("manifest", FUNCTIONS),
+    "scenario": ("scenario", SCENARIO),
+}
+
+# Other values that are right at places of these files.
+ALSO_RIGHT = {
+    "manifest": [
+        (("psa_framework_version",), ["1.0"]),
+    ],
+    "manifest of 1.1": [
+        (("psa_framework_version",), ["1.1"]),
+        (("services", 0, "stateless_handle"), ["auto", 1]),
+        (("services", 0, "mm_iovec"), ["enable"]),
+        (("services",), [[]]),
+        (("irqs", 0, "handling"), ["SLIH"]),
+        (("irqs", 0, "name"), ["I"]),
+        (("irqs", 0, "source"), ["I"]),
+    ],
+    "manifest of functions": [
+        (("stack_size",), ["0x30", "0x00000100", 4294967295]),
+        (("entry_point",), ["r_main"]),
+    ],
+    "scenario": [
+        (("interrupts", 2, "result"), [0]),
+        (("interrupts", 2, "source"), ["I"]),
+        (("restarts",), [0]),
+    ],
+}
+
+# Values that are wrong at places of these files.
 WRONG = {
     "system": [
         (("isolation_level",), [0, 4, "1", None]),
         (("manifests",), [{}, [5], [None], [MANIFEST] * 257]),
-        (("regions", 0, "size"), [0, "4", -1, 4294967296]),
+        (("manifests", 1, "psa_framework_version"), [1.0, 1.2]),
+        (("regions", 0, "size"), [0, "0x0", "4", -1, 4294967296]),
         (("non_secure_ram",), [-1, "65536", None]),
         (("clients",), [["device"], ["1N"], ["a b"], [""], ["N"] * 17]),
         (("connections", 0, "count"), [257, -1, "2"]),
     ],
     "manifest": [
-        (("psa_framework_version",), [1.1, "1.1", None]),
+        (("psa_framework_version",), [1.1, "1.1", 1.2, "1", "1.", "1.10", None]),
         (("name",), ["", "device", "A-B", "A" * 65, 5]),
         (("type",), ["PSA_ROT", "psa-rot"]),
         (("priority",), ["LOWEST", "low"]),
@@ -58,25 +104,60 @@ WRONG = {
         (("mmio_regions", 0, "permission"), ["READ_ONLY", "READ-WRITE-EXECUTE"]),
         (("services", 0, "sid"), ["40", "SID", 4294967296]),
         (("services", 0, "non_secure_clients"), ["true", 1]),
-        (("services", 0, "version"), [0, "1"]),
+        (("services", 0, "version"), [0, "0x00", "1"]),
         (("services", 0, "version_policy"), ["strict", "LATEST"]),
         (("dependencies", 0), ["T-U", 5]),
         (("irqs", 0, "source"), [-1, "device", "I R"]),
+        (("model",), ["IPC"]),
+        (("entry_init",), ["p_init"]),
+        (("services", 0, "connection_based"), [True, False]),
+        (("services", 0, "stateless_handle"), ["auto", 1]),
+        (("services", 0, "mm_iovec"), ["disable"]),
+        (("irqs", 0, "name"), ["I"]),
+        (("irqs", 0, "handling"), ["SLIH"]),
+    ],
+    "manifest of 1.1": [
+        (("psa_framework_version",), [1.0, "1.0", 1.2, "1,1", None]),
+        (("model",), ["SFN", "ipc", "Ipc", True, None]),
+        (("services", 0, "connection_based"), [True, "false", 0, None]),
+        (("services", 0, "stateless_handle"), [0, 33, -1, "1", "Auto", "0x1", "", None]),
+        (("services", 0, "mm_iovec"), ["Enable", True, 1, None]),
+        (("irqs", 0, "source"), [-1, "device", "I R"]),
+        (("irqs", 0, "name"), ["", "device", "A-B", "A" * 58, 5]),
+        (("irqs", 0, "handling"), ["flih", "FLIH ", "IRQ", 1, None]),
+        (("irqs", 0, "signal"), ["I"]),
+    ],
+    "manifest of functions": [
+        (("psa_framework_version",), [1.0]),
+        (("model",), ["IPC"]),
+        (("stack_size",), [0, 47, "0x2f", "0x0000002F", "0x0", "48"]),
+        (("entry_point",), ["", 5]),
+        (("services",), [[], {}, None]),
+        (("services", 0, "stateless_handle"), ["auto"]),
+        (("irqs",), [[{"source": 10, "name": "I", "handling": "SLIH"}], [{}], None]),
     ],
     "scenario": [
         (("event_limit",), [0, 262145, "8"]),
         (("scripts", 0, "actor"), ["device", "N S"]),
         (("scripts", 0, "lines"), ["end", [5], ["end"] * 4097]),
         (("schedule", 0), [5, None]),
-        (("interrupts", 0), [-1, "I R"]),
+        (("interrupts", 0), [-1, "I R", [9], None]),
+        (("interrupts", 2, "source"), [-1, "I R", {"source": 9}]),
+        (("interrupts", 2, "result"), [2, -1, "1", True, None]),
         (("memory", 0, "address"), ["20000000", -1]),
         (("memory", 0, "bytes"), ["0", "0x00", "zz", "00 ff"]),
+        (("restarts",), [16, -1, "1", True, None]),
     ],
 }
 REQUIRED = {
     "system": [("isolation_level",), ("manifests",), ("regions", 0, "base"), ("connections", 0, "client")],
-    "manifest": [("psa_framework_version",), ("stack_size",), ("services", 0, "sid"), ("irqs", 0, "signal"), ("mmio_regions", 0, "permission"), ("mmio_regions", 0, "size")],
-    "scenario": [("scripts", 0, "lines"), ("memory", 0, "bytes")],
+    "manifest": [
+        ("psa_framework_version",), ("entry_point",), ("stack_size",), ("services", 0, "sid"), ("irqs", 0, "signal"),
+        ("mmio_regions", 0, "permission"), ("mmio_regions", 0, "size"),
+    ],
+    "manifest of 1.1": [("entry_point",), ("services", 0, "connection_based"), ("irqs", 0, "source"), ("irqs", 0, "name"), ("irqs", 0, "handling")],
+    "manifest of functions": [("model",), ("services",)],
+    "scenario": [("scripts", 0, "lines"), ("interrupts", 2, "source"), ("interrupts", 2, "result"), ("memory", 0, "bytes")],
 }
 
 
@@ -110,6 +191,7 @@ def problems(validator, tree):
         error = inner(error)
         place = "".join(f"/{step}" for step in error.absolute_path)
         message = error.message if len(error.message) < 300 else f"is not as the schema's {error.validator} asks"
+        message = "isn't allowed here" if (error.validator, error.validator_value) == ("not", {}) else message
         yield f"{place or 'the file'}: {message}"
 
 
@@ -153,16 +235,29 @@ def misspelt(tree):
                 yield (*place, other), wrong
 
 
+def with_value(tree, place, value):
+    return altered(tree, place, lambda found, step: found.__setitem__(step, value))
+
+
+def right_files():
+    """The kind, what is changed, and the file."""
+    for name, (kind, right) in RIGHT.items():
+        yield kind, f"the plain {name}", right
+        for place, values in ALSO_RIGHT.get(name, []):
+            for value in values:
+                yield kind, f"{name}: {place} is {value}", with_value(right, place, value)
+
+
 def wrong_files():
     """The kind, what is wrong, and the file."""
-    for kind, right in (("system", SYSTEM), ("manifest", MANIFEST), ("scenario", SCENARIO)):
-        for place, values in WRONG[kind]:
+    for name, (kind, right) in RIGHT.items():
+        for place, values in WRONG[name]:
             for value in values:
-                yield kind, f"{place} is {str(value)[:40]}", altered(right, place, lambda tree, step, value=value: tree.__setitem__(step, value))
-        for place in REQUIRED[kind]:
-            yield kind, f"{place} isn't there", altered(right, place, lambda tree, step: tree.pop(step))
+                yield kind, f"{name}: {place} is {str(value)[:40]}", with_value(right, place, value)
+        for place in REQUIRED[name]:
+            yield kind, f"{name}: {place} isn't there", altered(right, place, lambda tree, step: tree.pop(step))
         for place, tree in misspelt(right):
-            yield kind, f"{place} is no name", tree
+            yield kind, f"{name}: {place} is no name", tree
     both = dict(MANIFEST, mmio_regions=[{"name": "R", "base": 0, "size": 1, "permission": "READ-ONLY"}])
     yield "manifest", "an MMIO region by its name and by its base", both
 
@@ -180,22 +275,29 @@ def check_examples(checks):
     return wrong, right
 
 
+def problems_of_file(checks, path):
+    try:
+        tree = json.loads(pathlib.Path(path).read_text())
+    except ValueError as error:
+        return [f"no JSON: {error}"]
+    return problems(checks[kind_of(tree)], tree)
+
+
 def main():
     checks = validators()
     if sys.argv[1:]:
         wrong = []
         for path in sys.argv[1:]:
-            tree = json.loads(pathlib.Path(path).read_text())
-            wrong += [f"{path}: {problem}" for problem in problems(checks[kind_of(tree)], tree)]
+            wrong += [f"{path}: {problem}" for problem in problems_of_file(checks, path)]
         print("\n".join(wrong) if wrong else f"accepted {len(sys.argv) - 1}")
         sys.exit(1 if wrong else 0)
-    wrong = [f"the plain {kind}: {p}" for kind, tree in (("system", SYSTEM), ("manifest", MANIFEST), ("scenario", SCENARIO)) for p in problems(checks[kind], tree)]
+    wrong = [f"{what}: {problem}" for kind, what, tree in right_files() for problem in problems(checks[kind], tree)]
     more, right = check_examples(checks)
     wrong += more
     for kind, what, tree in wrong_files():
         right += 1
         if checks[kind].is_valid(tree):
-            wrong.append(f"{kind}: accepted although {what}")
+            wrong.append(f"accepted although {what}")
     print("\n".join(wrong) if wrong else f"accepted {len(list(EXAMPLES.glob('*/*.json')))} examples, refused {right} wrong files")
     sys.exit(1 if wrong else 0)
 

@@ -34,8 +34,8 @@ def pairs():
     for folder, crate in (("first", "ffm"), ("firmware", "firmware_listing")):
         for path in sorted((EXAMPLES / folder).glob("*.json")):
             yield f"{folder}/{path.name}", path.read_text(), (CRATES / crate / "data" / path.name).read_text()
-    for path in sorted((EXAMPLES / "firmware").glob("sp_*.json")):
-        yield f"firmware/{path.name}, a second time", path.read_text(), (STORED / "data" / path.name).read_text()
+    for path in sorted(EXAMPLES.glob("firmware*/sp*.json")):
+        yield f"{path.parent.name}/{path.name}, as the guided run has it", path.read_text(), (STORED / "data" / path.name).read_text()
     yield "first/trace.txt", (EXAMPLES / "first" / "trace.txt").read_text(), (CRATES / "ffm" / "stdout").read_text()
     yield "firmware/listing.txt", (EXAMPLES / "firmware" / "listing.txt").read_text(), (CRATES / "firmware_listing" / "stdout").read_text()
 

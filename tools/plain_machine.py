@@ -9,7 +9,7 @@ This is a model for readers. It is written from the rules of the calls alone and
 program: one list of connections, one list of messages in order of arrival, and a map of bytes; signals are
 computed where they are asked for. It takes system files and scenario files that hold by the rules of the
 formats, and doesn't look for what is wrong with others. Traces it reads exactly, as the program has to.
-It has no stateless services and no sources that start disabled, for no file can state them.
+Manifests may be of 1.0 and of 1.1.
 
 An actor is numbered from 0: the partitions, then the clients, then the device. A call is its word in the
 trace with its numbers behind it, as `("connect", 64, 1)`, and so is an outcome, as `("value", -130)`. An
@@ -21,12 +21,13 @@ import re
 import sys
 from dataclasses import dataclass
 
-FRAMEWORK_VERSION = 0x0100
+FRAMEWORK_VERSION = 0x0101
 CONNECT, DISCONNECT = -1, -2
 PROGRAMMER_ERROR, REFUSED, BUSY, FAILURE = -129, -130, -131, -145
 BLOCK, DOORBELL = 0x80000000, 8
 FIRST_SIGNAL = 4
 LAST_HANDLE = 0x3FFFFFFF
+STATELESS_HANDLE, MOST_STATELESS = 0x40000000, 32
 SECURE_RAM, NON_SECURE_RAM = 0x30000000, 0x20000000
 MAXIMUM_ENTRIES = 262_144
 MAXIMUM_TRACE = 50_331_648
@@ -59,25 +60,29 @@ DONE = ("done",)
 
 @dataclass
 class Service:
+    """`index` is that of its stateless handle, and 0 where clients connect to it."""
     sid: int
     owner: int
     version: int
     strict: bool
     signal: int
+    index: int = 0
 
 
 @dataclass
 class Source:
-    """`flih` says whether it has a first-level handler, which no file says so far."""
+    """`flih` says whether it has a first-level handler, `enabled` whether it starts enabled."""
     owner: int
     signal: int
     flih: bool = False
+    enabled: bool = True
 
 
 @dataclass
 class System:
     """`ram` and `mmio` say for each actor which regions it reaches: (base, size) and (base, size, writable).
-    `budgets` says for each permitted pair of an actor and a service how many connections are declared."""
+    `budgets` says for each permitted pair of an actor and a service how many connections are declared; none
+    are for a stateless service."""
     partitions: int
     clients: int
     services: list
@@ -96,6 +101,11 @@ class System:
 
     def service_at(self, sid):
         return next((i for i, service in enumerate(self.services) if service.sid == sid), None)
+
+    def stateless_at(self, handle):
+        """The service that has this stateless handle; None where none has."""
+        index = handle - STATELESS_HANDLE
+        return next((i for i, service in enumerate(self.services) if service.index == index > 0), None)
 
     def services_of(self, partition):
         return [i for i, service in enumerate(self.services) if service.owner == partition]
@@ -140,6 +150,59 @@ def layout(tree, manifests):
     return ram, mmio + [[] for _ in tree.get("clients", [])]
 
 
+def is_later(manifest):
+    """Whether the manifest is of 1.1. Its attributes count in no other one."""
+    return str(manifest["psa_framework_version"]) == "1.1"
+
+
+def stated_index(manifest, item):
+    """The index that a service states, `auto`, or 0 where clients connect to it."""
+    stateless = is_later(manifest) and not item.get("connection_based", True)
+    return item.get("stateless_handle", "auto") if stateless else 0
+
+
+def give_indices(services):
+    """Each service with `auto` gets the least index that no other one has so far."""
+    taken = {service.index for service in services} - {"auto"}
+    for service in services:
+        if service.index == "auto":
+            service.index = min(set(range(1, MOST_STATELESS + 1)) - taken)
+            taken.add(service.index)
+
+
+def read_services(manifests):
+    """The services of all partitions, in manifest order; the first signals are theirs."""
+    services = []
+    for owner, manifest in enumerate(manifests):
+        for bit, item in enumerate(manifest.get("services", []), FIRST_SIGNAL):
+            strict = item.get("version_policy", "STRICT") == "STRICT"
+            version, index = number(item.get("version", 1)), stated_index(manifest, item)
+            services.append(Service(number(item["sid"]), owner, version, strict, 1 << bit, index))
+    give_indices(services)
+    return services
+
+
+def read_sources(manifests):
+    """The interrupt sources of all partitions. Those of 1.1 start disabled."""
+    sources = []
+    for owner, manifest in enumerate(manifests):
+        first = FIRST_SIGNAL + len(manifest.get("services", []))
+        for bit, item in enumerate(manifest.get("irqs", []), first):
+            flih = is_later(manifest) and item["handling"] == "FLIH"
+            sources.append(Source(owner, 1 << bit, flih, enabled=not is_later(manifest)))
+    return sources
+
+
+def permitted(tree, manifests):
+    """The names of those who may use each service, by its name, in the order of all services."""
+    items = [item for manifest in manifests for item in manifest.get("services", [])]
+    users = {item["name"]: set(tree.get("clients", []) if item["non_secure_clients"] else []) for item in items}
+    for manifest in manifests:
+        for name in manifest.get("dependencies", []):
+            users[name].add(manifest["name"])
+    return users
+
+
 def read_system(path):
     """The system of a file. Manifests that it names stand beside it."""
     path = pathlib.Path(path)
@@ -148,28 +211,15 @@ def read_system(path):
         json.loads((path.parent / item).read_text()) if isinstance(item, str) else item for item in tree["manifests"]
     ]
     names = [manifest["name"] for manifest in manifests] + tree.get("clients", [])
-    services, sources, permitted = [], [], {}
-    for owner, manifest in enumerate(manifests):
-        bit = FIRST_SIGNAL
-        for item in manifest.get("services", []):
-            strict = item.get("version_policy", "STRICT") == "STRICT"
-            services.append(Service(number(item["sid"]), owner, number(item.get("version", 1)), strict, 1 << bit))
-            permitted[item["name"]] = set(tree.get("clients", []) if item["non_secure_clients"] else [])
-            bit += 1
-        for _ in manifest.get("irqs", []):
-            sources.append(Source(owner, 1 << bit))
-            bit += 1
-    for manifest in manifests:
-        for name in manifest.get("dependencies", []):
-            permitted[name].add(manifest["name"])
+    services = read_services(manifests)
     counts = {(item["client"], item["service"]): item["count"] for item in tree.get("connections", [])}
     budgets = {
-        (names.index(client), service): counts.get((client, name), 1)
-        for service, (name, clients) in enumerate(permitted.items())
+        (names.index(client), place): 0 if services[place].index else counts.get((client, name), 1)
+        for place, (name, clients) in enumerate(permitted(tree, manifests).items())
         for client in clients
     }
     ram, mmio = layout(tree, manifests)
-    return System(len(manifests), len(tree.get("clients", [])), services, sources, ram, mmio, budgets)
+    return System(len(manifests), len(tree.get("clients", [])), services, read_sources(manifests), ram, mmio, budgets)
 
 
 def read_scenario(path):
@@ -210,8 +260,11 @@ NO_VECTORS = [Vector() for _ in range(4)]
 
 @dataclass(eq=False)
 class Message:
-    """It is delivered where it has a handle. `descriptors` are the addresses of the output descriptors."""
-    connection: Connection
+    """It is delivered where it has a handle. `descriptors` are the addresses of the output descriptors. It has
+    no connection where it was sent by a stateless handle."""
+    client: int
+    service: int
+    connection: Connection | None
     kind: int
     inputs: list
     outputs: list
@@ -221,7 +274,7 @@ class Message:
 
 @dataclass
 class Flags:
-    enabled: bool = True
+    enabled: bool
     pending: bool = False
     asserted: bool = False
 
@@ -259,7 +312,7 @@ class Machine:
         self.connections, self.messages = [], []
         self.phases = [RUNNING for _ in system.actors()]
         self.doorbells = [False for _ in range(system.partitions)]
-        self.flags = [Flags() for _ in system.sources]
+        self.flags = [Flags(source.enabled) for source in system.sources]
         self.memory = dict(memory)
         self.given = set()
         self.shown = 0
@@ -326,7 +379,7 @@ class Machine:
         """A service's bit where a message of it waits, the doorbell, and the sources that are asserted."""
         word = DOORBELL if self.doorbells[partition] else 0
         for message in self.messages:
-            service = self.system.services[message.connection.service]
+            service = self.system.services[message.service]
             if service.owner == partition and not message.handle:
                 word |= service.signal
         for source, flags in zip(self.system.sources, self.flags):
@@ -356,7 +409,7 @@ class Machine:
 
     def own_message(self, partition, handle):
         for message in self.messages:
-            owner = self.system.services[message.connection.service].owner
+            owner = self.system.services[message.service].owner
             if owner == partition and message.handle == handle != 0:
                 return message
         raise Fault
@@ -402,7 +455,8 @@ class Machine:
 
     def send(self, connection, kind):
         """A message without vectors goes last."""
-        self.messages.append(Message(connection, kind, NO_VECTORS, NO_VECTORS, []))
+        client, service = connection.client, connection.service
+        self.messages.append(Message(client, service, connection, kind, NO_VECTORS, NO_VECTORS, []))
 
     def close_connection(self, connection):
         connection.phase = "closing"
@@ -425,7 +479,10 @@ class Machine:
                 connection.phase = "dead"
             elif connection.phase == "closing":
                 self.remove_closed(connection)
-        self.messages = [message for message in self.messages if message.connection.service not in served]
+        for message in self.messages:
+            if message.service in served and message.connection is None:
+                self.ready(message.client, ("value", FAILURE))
+        self.messages = [message for message in self.messages if message.service not in served]
         for connection in [c for c in self.connections if c.client == partition]:
             if connection.phase == "dead":
                 self.connections.remove(connection)
@@ -451,6 +508,7 @@ class Machine:
         place = self.system.service_at(sid)
         require((actor, place) in self.system.budgets)
         service = self.system.services[place]
+        require(not service.index)
         require(version == service.version if service.strict else version <= service.version)
         if self.phases[service.owner] == PANICKED:
             return ("value", REFUSED)
@@ -462,17 +520,27 @@ class Machine:
         return BLOCKED
 
     def make_call(self, actor, handle, kind, in_vec, in_len, out_vec, out_len):
-        connection = self.own_connection(actor, handle)
-        require(connection.phase not in ("busy", "error") and kind >= 0 and in_len + out_len <= 4)
+        service = self.system.stateless_at(handle)
+        require(service is None or (actor, service) in self.system.budgets)
+        connection = self.own_connection(actor, handle) if service is None else None
+        require(connection is None or connection.phase not in ("busy", "error"))
+        require(kind >= 0 and in_len + out_len <= 4)
         inputs = self.vectors(actor, in_vec, in_len)
         outputs = self.vectors(actor, out_vec, out_len)
-        if connection.phase == "dead":
+        if self.is_lost(service, connection):
             return ("value", FAILURE)
-        connection.phase = "busy"
+        if connection is not None:
+            service, connection.phase = connection.service, "busy"
         descriptors = [out_vec + 8 * i for i in range(out_len)]
-        self.messages.append(Message(connection, kind, inputs, outputs, descriptors))
+        self.messages.append(Message(actor, service, connection, kind, inputs, outputs, descriptors))
         self.phases[actor] = BLOCKED
         return BLOCKED
+
+    def is_lost(self, service, connection):
+        """Nobody takes a request of this connection, or of this stateless service, any more."""
+        if connection is not None:
+            return connection.phase == "dead"
+        return self.phases[self.system.services[service].owner] == PANICKED
 
     def make_close(self, actor, handle):
         if handle == 0:
@@ -524,10 +592,10 @@ class Machine:
         services = [i for i in self.system.services_of(actor) if self.system.services[i].signal == signal]
         require(is_one_bit(signal) and services)
         require(signal & self.signals(actor) and self.valid_buffer(actor, address, 48))
-        message = next(m for m in self.messages if m.connection.service == services[0] and not m.handle)
+        message = next(m for m in self.messages if m.service == services[0] and not m.handle)
         message.handle = self.fresh_handle()
-        client = self.system.client_id(message.connection.client)
-        rhandle = 0 if message.kind == CONNECT else message.connection.rhandle
+        client = self.system.client_id(message.client)
+        rhandle = 0 if message.kind == CONNECT or message.connection is None else message.connection.rhandle
         sizes = [vector.length for vector in message.inputs + message.outputs]
         words = [message.kind, message.handle, client, rhandle, *sizes]
         for place, word in enumerate(words):
@@ -535,7 +603,9 @@ class Machine:
         return ("message", *words)
 
     def make_set_rhandle(self, actor, handle, value):
-        self.own_message(actor, handle).connection.rhandle = value
+        connection = self.own_message(actor, handle).connection
+        require(connection is not None)
+        connection.rhandle = value
         return DONE
 
     def make_read(self, actor, handle, index, buffer, length):
@@ -563,7 +633,7 @@ class Machine:
         message = self.own_message(actor, handle)
         require(message.kind != CONNECT or status in (0, REFUSED, BUSY))
         self.messages.remove(message)
-        connection, client = message.connection, message.connection.client
+        connection, client = message.connection, message.client
         if message.kind == CONNECT and status == 0:
             connection.phase = "idle"
             self.phases[client] = ("connected", connection)
@@ -579,8 +649,9 @@ class Machine:
     def answer_request(self, message, status):
         for descriptor, vector in zip(message.descriptors, message.outputs):
             self.put_word(descriptor + 4, vector.moved)
-        client = message.connection.client
-        message.connection.phase = "error" if status == PROGRAMMER_ERROR else "idle"
+        client = message.client
+        if message.connection is not None:
+            message.connection.phase = "error" if status == PROGRAMMER_ERROR else "idle"
         if status == PROGRAMMER_ERROR and self.is_partition(client):
             self.panic(client)
         else:

@@ -24,7 +24,7 @@ import threading
 from dataclasses import dataclass
 
 import plain_machine
-from plain_machine import BLOCK, CALLS, OUTCOMES, VERDICTS
+from plain_machine import BLOCK, CALLS, MOST_STATELESS, OUTCOMES, STATELESS_HANDLE, VERDICTS
 
 PROCESSES = 3
 WALK = 250
@@ -45,6 +45,10 @@ def manifest(name, services=(), **others):
     }
 
 
+def stateless(name, sid, index="auto", open_to_all=True):
+    return {"name": name, "sid": sid, "non_secure_clients": open_to_all, "connection_based": False, "stateless_handle": index}
+
+
 def system(*manifests, **others):
     return {"isolation_level": 3, "manifests": list(manifests), **others}
 
@@ -59,6 +63,11 @@ VECTORS = [
 ]
 VAULT = manifest("VAULT", [("VAULT", "0x40")])
 VAULT["services"].append({"name": "ADMIN", "sid": "0x41", "non_secure_clients": False, "version": 2})
+CHIP = manifest(
+    "CHIP", [("STORE", "0x42")], psa_framework_version=1.1,
+    irqs=[{"source": 5, "name": "TIMER", "handling": "FLIH"}, {"source": "DMA", "name": "DMA", "handling": "SLIH"}],
+)
+CHIP["services"] += [stateless("DIGEST", "0x43"), stateless("RANDOM", "0x44", 1), stateless("KEYS", "0x45", 32, open_to_all=False)]
 SERVES = "top:; wait 0xffffffff 0x80000000; get r0 0x30000000; jeq r1 0 req; reply r2 0; jmp top; req:; "
 READS = "read r2 0 0x30000100 3; "
 CALL = "connect 0x40 1; set r5 r0; call r5 0 0x20000000 1 0x20000008 1; "
@@ -110,6 +119,21 @@ BUILT_IN = {
             connections=[{"client": "FRONT", "service": "B", "count": 2}, {"client": "NS2", "service": "C", "count": 0}],
         ),
         {"memory": VECTORS + [{"address": "0x30000000", "bytes": "00010030080000000401003008000000" + "00000000" * 2}]},
+    ),
+    "manifests_of_1_1": (
+        system(
+            CHIP, manifest("APP", [("APP", "0x50")], dependencies=["DIGEST", "KEYS", "STORE"], irqs=[{"source": 6, "signal": "KEY_SIGNAL"}]),
+            clients=["NS", "NS2"],
+        ),
+        scenario(
+            CHIP="irq_enable 0x200; wait 0x200 0x80000000; eoi 0x200; irq_enable 0x100; wait 0x300 0; reset_signal 0x100; "
+            "wait 0x100 0; irq_disable 0x100; irq_disable 0x100; wait 0x20 0x80000000; get 0x20 0x30000000; reply r2 -129; "
+            "get 0x20 0x30000000; read r2 0 0x30000100 3; write r2 0 0x30000100 2; reply r2 7; wait 0x40 0x80000000; "
+            "get 0x40 0x30000000; set_rhandle r2 1",
+            APP="call 0x40000002 0 0 0 0 0",
+            NS="call 0x40000002 0 0x20000000 1 0x20000008 1; call 0x40000001 0 0 0 0 0; call 0x40000001 0 0 0 0 0; connect 0x43 1; close 0x40000002",
+            NS2="call 0x40000020 0 0 0 0 0; connect 0x45 1; version 0x43; version 0x45",
+        ) | {"memory": VECTORS, "interrupts": ["DMA", 5, {"source": 5, "result": 1}, {"source": 5, "result": 0}, 6, "DMA"]},
     ),
 }
 
@@ -294,7 +318,7 @@ def altered_handles(case, lines):
     """Each handle that is given to another number, where it is given alone and wherever it stands."""
     entries, _ = plain_machine.read_trace(case.system, case.text)
     machine = plain_machine.Machine(case.system, case.memory)
-    others = ["0", "1", "-1", str(plain_machine.LAST_HANDLE), str(plain_machine.LAST_HANDLE + 1), "2147483647"]
+    others = ["0", "1", "-1", "2147483647", *(str(plain_machine.LAST_HANDLE + k) for k in range(3))]
     for place, entry in enumerate(entries):
         before = set(machine.given)
         machine.step(entry)
@@ -353,7 +377,8 @@ def fitting_calls(machine, actor, chance):
     """Calls that the actor has a use for in this state."""
     read = machine.system
     if not read.ram[actor : actor + 1]:
-        yield ("raise", chance.randrange(len(read.sources)))
+        source = chance.randrange(len(read.sources))
+        yield ("fire", source, chance.choice((0, 1, 1))) if read.sources[source].flih else ("raise", source)
         return
     base, size = chance.choice(read.ram[actor] + [region[:2] for region in read.mmio[actor]])
     word = base + chance.choice((0, 4, 8, 0x10, 0x20, 0x28, 0x100)) if chance.randrange(2) else chance.choice((0, 4, 7))
@@ -362,14 +387,17 @@ def fitting_calls(machine, actor, chance):
     for offset in (chance.randrange(0x30), 0x40 + 4 * chance.randrange(12), 0x100 + chance.randrange(16)):
         if offset + 4 <= size:
             yield ("load", base + offset, chance.choice((1, 2, 4)))
+    vectors = ((0, 0, 0, 0), (base, 1, base + 8, 1), (base, 2, 0, 0), (base + 8, 1, base, 3))
     for place, service in enumerate(read.services):
-        if (actor, place) in read.budgets:
+        if (actor, place) in read.budgets and service.index:
+            yield from 2 * [("call", STATELESS_HANDLE + service.index, chance.choice((0, 0, 7)), *chance.choice(vectors))]
+        elif (actor, place) in read.budgets:
             free = machine.in_use(actor, place) < read.budgets[actor, place]
             yield from (3 if free else not chance.randrange(6)) * [("connect", service.sid, service.version)]
+        if (actor, place) in read.budgets:
             yield from (not chance.randrange(6)) * [("version", service.sid)]
     for connection in machine.connections:
         if connection.client == actor and connection.handle:
-            vectors = ((0, 0, 0, 0), (base, 1, base + 8, 1), (base, 2, 0, 0), (base + 8, 1, base, 3))
             yield from 8 * [("call", connection.handle, chance.choice((0, 0, 7)), *chance.choice(vectors))]
             yield from (not chance.randrange(3)) * [("close", connection.handle)]
     if machine.is_partition(actor):
@@ -380,7 +408,7 @@ def fitting_calls(machine, actor, chance):
 
 def fitting_partition_calls(machine, actor, chance):
     base, word = machine.system.ram[actor][0][0], machine.signals(actor)
-    bit = 1 << chance.randrange(3, 7)
+    bit = 1 << chance.randrange(3, 9)
     if bit & machine.assigned(actor):
         yield ("wait", bit, chance.choice((0, 0, 0, BLOCK)))
     yield from 2 * [("wait", chance.choice((0xFFFFFFFF, machine.assigned(actor))), chance.choice((5, BLOCK, BLOCK | 5)))]
@@ -392,17 +420,21 @@ def fitting_partition_calls(machine, actor, chance):
             yield from 10 * [("get", machine.system.services[place].signal, base + 0x40)]
     for source, flags in zip(machine.system.sources, machine.flags):
         if source.owner == actor and flags.asserted:
-            yield from 2 * [("eoi", source.signal)]
+            yield from 2 * [("reset_signal" if source.flih else "eoi", source.signal)]
+        if source.owner == actor and not chance.randrange(4 if flags.enabled else 2):
+            yield (chance.choice(("irq_enable", "irq_disable")) if flags.enabled else "irq_enable", source.signal)
     for message in own_messages(machine, actor):
         status = chance.choice((0, 0, 0, 0, 0, 0, -130, -131) if message.kind else (0, 0, 7, 7, -5, -129))
-        yield from 3 * [("reply", message.handle, status)] + [("set_rhandle", message.handle, chance.getrandbits(32))]
+        yield from 3 * [("reply", message.handle, status)]
+        if message.connection is not None:
+            yield ("set_rhandle", message.handle, chance.getrandbits(32))
         if message.kind >= 0:
             yield from 4 * moving_calls(message, base + 0x100 + chance.randrange(9), chance)
 
 
 def own_messages(machine, partition):
     services = machine.system.services_of(partition)
-    return [message for message in machine.messages if message.handle and message.connection.service in services]
+    return [message for message in machine.messages if message.handle and message.service in services]
 
 
 def moving_calls(message, buffer, chance):
@@ -419,6 +451,12 @@ def edge_calls(machine, actor, chance):
     read, given = machine.system, list(machine.given) or [1]
     base, size = read.ram[actor][0] if read.ram[actor : actor + 1] else (0, 0)
     yield from [("raise", 0), ("close", chance.choice(given)), ("call", chance.choice(given), 0, 0, 0, 0, 0)]
+    yield from [("fire", chance.randrange(len(read.sources) + 1), chance.randrange(3)), ("set_rhandle", chance.choice(given), 1)]
+    for index in {0, MOST_STATELESS + 1, *(service.index for service in read.services)}:
+        handle, count = STATELESS_HANDLE + index, chance.randrange(6)
+        yield from [("call", handle, chance.choice((0, -1)), 0, 0, 0, 0), ("call", handle, 0, base, count, base, 5 - count)]
+        yield ("close", handle)
+    yield from [("connect", service.sid, service.version) for service in read.services if service.index]
     for connection in machine.connections:
         if connection.client == actor and connection.handle:
             count = chance.randrange(6)
@@ -429,6 +467,8 @@ def edge_calls(machine, actor, chance):
         return
     services = [read.services[place] for place in read.services_of(actor)]
     yield from [("get", service.signal, base + size - 48 + chance.randrange(2)) for service in services]
+    for source in read.sources:
+        yield (chance.choice(("eoi", "reset_signal", "irq_enable", "irq_disable")), source.signal)
     for message in own_messages(machine, actor):
         rest = message.outputs[0].rest()
         yield from moving_calls(message, base, chance)
@@ -448,7 +488,7 @@ def any_call(machine, actor, chance):
     pool = {
         "h": [0, 8, 16, 32, 24, 4, 0xFFFFFFFF, *edges, *(service.sid for service in read.services)],
         "u": [0, 1, 2, 3, 4, 5, 8, 9, 0xFFFFFFFF],
-        "d": [0, 1, 2, 3, -1, -2, -129, -130, -131, *machine.given],
+        "d": [0, 1, 2, 3, -1, -2, -129, -130, -131, *machine.given, *range(STATELESS_HANDLE, STATELESS_HANDLE + 3)],
         "w": ["end"],
     }
     calls = [call for call in fitting_calls(machine, actor, chance) if call[0] != "stop"]

@@ -1,7 +1,8 @@
 -- The budgets: each is for a service of another partition, and they come in order.
-use Rattle.std.proofs.Common.{ℕ, ◌≡◌, ◌+◌, ◌<◌, ◌≤◌, ◌⊎◌, inl, inr, ⊎_elim, Bool, true, false, not, ◌&&◌, ◌||◌, ◌==◌, List, [], ◌∷◌, ◌++◌, map, flat_map, length, Option, Some, None, IfSome, slice_get, if◌then◌else◌, bytes_eq, refl, sym, ◌∙◌, arith, append_assoc, subst, nat_lt, lt-ltb, le-leb, ltb-false, eq-eqb, ne_eqb, length-append}
+use Rattle.std.proofs.Common.{ℕ, ◌≡◌, ◌+◌, ◌<◌, ◌≤◌, ◌⊎◌, inl, inr, ⊎_elim, Bool, true, false, not, ◌&&◌, ◌||◌, ◌==◌, List, [], ◌∷◌, ◌++◌, map, flat_map, length, Option, Some, None, IfSome, slice_get, if◌then◌else◌, bytes_eq, refl, ap, sym, ◌∙◌, arith, append_assoc, subst, nat_lt, lt-ltb, le-leb, ltb-false, eq-eqb, ne_eqb, length-append}
 use Rattle.std.specs.List.{AllByRecursion as Each, enumerate_from, list_any}
-use Rattle.std.specs.Option.{option_map_or}
+use Rattle.std.specs.Option.{option_map, option_map_or}
+use Rattle.std.proofs.lemmas.Option.{slice_get-map}
 use Rattle.std.proofs.lemmas.Bool.{not_from_false, and_from, or_left, or_right, or_cases, false≢true}
 use Rattle.ffm_model.specs.declared.system.Budget.{Budget}
 use Rattle.ffm_model.specs.declared.system.Service.{Service}
@@ -15,7 +16,7 @@ use Rattle.ffm_model.specs.Rules.{has_service, self_dependencies, too_many_conne
 use Rattle.admitted_systems.proofs.Lists.{get_behind, three, map_nil, filter_nil, only_if_nil, none_any, each_weaker, each_both, each_append, each_map, each_filter_map, all_from, Pairs, pairs_test, pairs_weaker, pairs_map, pairs_append, pairs_filter_map, across_from, across_turned}
 use Rattle.admitted_systems.proofs.Numbered.{Among, each_numbered, numbers_of, numbers_rise, flat_each, flat_pairs}
 use Rattle.admitted_systems.proofs.Located.{each_item, items_below}
-use Rattle.admitted_systems.proofs.Services.{service_at, services_are}
+use Rattle.admitted_systems.proofs.Services.{bare, service_at, services_are}
 
 -- ---- the services that an actor may use
 
@@ -33,6 +34,10 @@ pub record Allowed (services : List Service) (client : ℕ) (pair : Permitted) :
   pub actor : pair.client ≡ client
   pub other : option_map_or (λ v. not (v.owner == client)) (slice_get services pair.service) false ≡ true
 
+-- the services without their indices
+abbrev services_without_index : PartsRecord → List Service
+services_without_index p = map service_at (services_in p)
+
 if_used : {A : Type 0} (P : A → Type 0) (b : Bool) (x : A) → (b ≡ true → P x) → IfSome (if b then Some x else None) P
 if_used P true x h = h refl
 if_used P false x h = tt
@@ -41,22 +46,22 @@ others : (client : ℕ) (found : Option Service) (v : Service) → found ≡ Som
 others client found v e h = rw e (not_from_false _ (ne_eqb _ _ h))
 
 abbrev permit : ℕ → List ℕ → ℕ × Located ServiceRecord → Permitted
-permit client name e = record { client = client; client_name = name; service = e.0; service_name = e.1.value.name }
+permit client name e = record { client = client; client_name = name; service = e.0; service_name = e.1.value.name; connects = e.1.value.connection_based }
 
 abbrev permit_if : ℕ → List ℕ → (ServiceRecord → Bool) → ℕ × Located ServiceRecord → Option Permitted
 permit_if client name may_use e = if may_use e.1.value then Some (permit client name e) else None
 
 permitted_allowed : (p : PartsRecord) (client : ℕ) (name : List ℕ) (may_use : ServiceRecord → Bool)
-    → Each (λ x. may_use x.value ≡ true → x.manifest ≡ client → ⊥) (services_in p) → Each (Allowed (services_of p) client) (permitted_to client name may_use (services_in p))
+    → Each (λ x. may_use x.value ≡ true → x.manifest ≡ client → ⊥) (services_in p) → Each (Allowed (services_without_index p) client) (permitted_to client name may_use (services_in p))
 permitted_allowed p client name may_use h =
-    each_filter_map (Allowed (services_of p) client) (permit_if client name may_use) (enumerate_from 0 (services_in p))
-    (each_weaker (λ e. (slice_get (services_of p) e.0 ≡ Some (service_at e.1)) × (may_use e.1.value ≡ true → e.1.manifest ≡ client → ⊥))
-    (λ e. IfSome (permit_if client name may_use e) (Allowed (services_of p) client))
-    (λ e b. if_used (Allowed (services_of p) client) (may_use e.1.value) (permit client name e)
-    (λ used. record { actor = refl; other = others client (slice_get (services_of p) e.0) (service_at e.1) b.0 (b.1 used) }))
+    each_filter_map (Allowed (services_without_index p) client) (permit_if client name may_use) (enumerate_from 0 (services_in p))
+    (each_weaker (λ e. (slice_get (services_without_index p) e.0 ≡ Some (service_at e.1)) × (may_use e.1.value ≡ true → e.1.manifest ≡ client → ⊥))
+    (λ e. IfSome (permit_if client name may_use e) (Allowed (services_without_index p) client))
+    (λ e b. if_used (Allowed (services_without_index p) client) (may_use e.1.value) (permit client name e)
+    (λ used. record { actor = refl; other = others client (slice_get (services_without_index p) e.0) (service_at e.1) b.0 (b.1 used) }))
     (enumerate_from 0 (services_in p))
-    (each_both (λ e. slice_get (services_of p) e.0 ≡ Some (service_at e.1)) (λ e. may_use e.1.value ≡ true → e.1.manifest ≡ client → ⊥) (enumerate_from 0 (services_in p))
-    (subst (λ vs. Each (λ e. slice_get vs e.0 ≡ Some (service_at e.1)) (enumerate_from 0 (services_in p))) (sym (services_are p)) (numbered_get service_at 0 (services_in p) [] refl))
+    (each_both (λ e. slice_get (services_without_index p) e.0 ≡ Some (service_at e.1)) (λ e. may_use e.1.value ≡ true → e.1.manifest ≡ client → ⊥) (enumerate_from 0 (services_in p))
+    (numbered_get service_at 0 (services_in p) [] refl)
     (each_numbered (λ x. may_use x.value ≡ true → x.manifest ≡ client → ⊥) 0 (services_in p) h)))
 
 abbrev ComesBefore : Permitted → Permitted → Type 0
@@ -96,10 +101,10 @@ not_own p e h =
 none_own : (p : PartsRecord) → self_dependencies p ≡ [] → Each (NoneOwn p) (enumerate_from 0 p.manifests)
 none_own p rule = each_item (λ k d. has_service p k d ≡ false) (λ m. m.dependencies) 0 p.manifests (filter_nil _ _ (map_nil _ _ rule))
 
-of_partition : (p : PartsRecord) (e : ℕ × ManifestRecord) → NoneOwn p e → Each (Allowed (services_of p) e.0) (permitted_to_partition (services_in p) e)
+of_partition : (p : PartsRecord) (e : ℕ × ManifestRecord) → NoneOwn p e → Each (Allowed (services_without_index p) e.0) (permitted_to_partition (services_in p) e)
 of_partition p e h = permitted_allowed p e.0 e.1.name (depends_on e.1) (not_own p e h)
 
-of_client : (p : PartsRecord) (e : ℕ × List ℕ) → length p.manifests ≤ e.0 → Each (Allowed (services_of p) e.0) (permitted_to_client (services_in p) e)
+of_client : (p : PartsRecord) (e : ℕ × List ℕ) → length p.manifests ≤ e.0 → Each (Allowed (services_without_index p) e.0) (permitted_to_client (services_in p) e)
 of_client p e from =
     permitted_allowed p e.0 e.1 (λ v. v.nonsecure)
     (each_weaker (λ x. x.manifest < 0 + length p.manifests) (λ x. x.value.nonsecure ≡ true → x.manifest ≡ e.0 → ⊥) (λ x below used same. omega arith) (services_in p) (items_below (λ m. m.services) 0 p.manifests))
@@ -119,13 +124,13 @@ abbrev actors_of : PartsRecord → ℕ
 actors_of p = length p.manifests + length p.clients
 
 abbrev AllowedAmong : PartsRecord → ℕ → ℕ → Permitted → Type 0
-AllowedAmong p = Among (Allowed (services_of p))
+AllowedAmong p = Among (Allowed (services_without_index p))
 
 of_partitions : (p : PartsRecord) → self_dependencies p ≡ [] → Each (AllowedAmong p 0 (0 + length p.manifests)) (to_partitions p)
-of_partitions p rule = flat_each (NoneOwn p) (Allowed (services_of p)) (permitted_to_partition (services_in p)) (of_partition p) 0 p.manifests (none_own p rule)
+of_partitions p rule = flat_each (NoneOwn p) (Allowed (services_without_index p)) (permitted_to_partition (services_in p)) (of_partition p) 0 p.manifests (none_own p rule)
 
 of_clients : (p : PartsRecord) → Each (AllowedAmong p (length p.manifests) (actors_of p)) (to_clients p)
-of_clients p = flat_each (λ e. length p.manifests ≤ e.0) (Allowed (services_of p)) (permitted_to_client (services_in p)) (of_client p) (length p.manifests) p.clients (clients_behind p)
+of_clients p = flat_each (λ e. length p.manifests ≤ e.0) (Allowed (services_without_index p)) (permitted_to_client (services_in p)) (of_client p) (length p.manifests) p.clients (clients_behind p)
 
 all_allowed : (p : PartsRecord) → self_dependencies p ≡ [] → Each (AllowedAmong p 0 (actors_of p)) (permitted p)
 all_allowed p rule =
@@ -143,12 +148,12 @@ later_actor services i j a b l h k = inl (let s : a.client ≡ i = h.actor in le
 all_in_order : (p : PartsRecord) → self_dependencies p ≡ [] → Pairs ComesBefore (permitted p)
 all_in_order p rule =
     pairs_append ComesBefore (to_partitions p) (to_clients p)
-    (flat_pairs (NoneOwn p) (Allowed (services_of p)) ComesBefore (permitted_to_partition (services_in p)) (of_partition p)
-    (λ e h. permitted_in_order e.0 e.1.name (depends_on e.1) (services_in p)) (later_actor (services_of p)) 0 p.manifests (none_own p rule))
-    (flat_pairs (λ e. length p.manifests ≤ e.0) (Allowed (services_of p)) ComesBefore (permitted_to_client (services_in p)) (of_client p)
-    (λ e h. permitted_in_order e.0 e.1 (λ v. v.nonsecure) (services_in p)) (later_actor (services_of p)) (length p.manifests) p.clients (clients_behind p))
+    (flat_pairs (NoneOwn p) (Allowed (services_without_index p)) ComesBefore (permitted_to_partition (services_in p)) (of_partition p)
+    (λ e h. permitted_in_order e.0 e.1.name (depends_on e.1) (services_in p)) (later_actor (services_without_index p)) 0 p.manifests (none_own p rule))
+    (flat_pairs (λ e. length p.manifests ≤ e.0) (Allowed (services_without_index p)) ComesBefore (permitted_to_client (services_in p)) (of_client p)
+    (λ e h. permitted_in_order e.0 e.1 (λ v. v.nonsecure) (services_in p)) (later_actor (services_without_index p)) (length p.manifests) p.clients (clients_behind p))
     (across_from (AllowedAmong p 0 (0 + length p.manifests)) (AllowedAmong p (length p.manifests) (actors_of p)) ComesBefore
-    (λ a b h k. later_actor (services_of p) h.number k.number a b (let l : h.number < 0 + length p.manifests = h.below in let m : length p.manifests ≤ k.number = k.from in omega arith) h.holds k.holds)
+    (λ a b h k. later_actor (services_without_index p) h.number k.number a b (let l : h.number < 0 + length p.manifests = h.below in let m : length p.manifests ≤ k.number = k.from in omega arith) h.holds k.holds)
     (to_partitions p) (to_clients p) (of_partitions p rule) (of_clients p))
 
 -- ---- budgets
@@ -158,6 +163,18 @@ has_other services actors b = nat_lt b.client.0 actors && option_map_or (λ v. n
 
 abbrev budget_for : PartsRecord → Permitted → Budget
 budget_for p pair = record { client = record { 0 = pair.client }; service = pair.service; count = count_for p.connections pair }
+
+-- owners are the same without indices
+bare_other : (services : List Service) (actors : ℕ) (b : Budget) → has_other (map bare services) actors b ≡ has_other services actors b
+bare_other services actors b =
+    let other : Option Service → Bool = λ o. option_map_or (λ v. not (v.owner == b.client.0)) o false in
+    ap (λ t. nat_lt b.client.0 actors && t) (ap other (slice_get-map bare services b.service) ∙ mapped (slice_get services b.service)) where
+      mapped : (o : Option Service) → option_map_or (λ v. not (v.owner == b.client.0)) (option_map bare o) false ≡ option_map_or (λ v. not (v.owner == b.client.0)) o false
+      mapped None = refl
+      mapped (Some v) = refl
+
+plain_other : (p : PartsRecord) (b : Budget) → has_other (services_without_index p) (actors_of p) b ≡ has_other (services_of p) (actors_of p) b
+plain_other p b = ap (λ vs. has_other vs (actors_of p) b) (sym (services_are p)) ∙ bare_other (services_of p) (actors_of p) b
 
 allowed_fits : (services : List Service) (actors : ℕ) (a : Permitted) → Among (Allowed services) 0 actors a
     → (nat_lt a.client actors && option_map_or (λ v. not (v.owner == a.client)) (slice_get services a.service) false) ≡ true
@@ -173,12 +190,12 @@ in_order a b h =
 pub budgets_do_fit : (p : PartsRecord) (n : ℕ) → n ≡ length p.manifests → self_dependencies p ≡ [] → too_many_connections p ≡ [] → budgets_fit (n + length p.clients) (services_of p) (budgets_of p) ≡ true
 budgets_do_fit p n counted self_rule count_rule =
     rw counted (three _ _ _
-    (all_from (λ b. has_other (services_of p) (actors_of p) b ≡ true)
-    (has_other (services_of p) (actors_of p)) (λ b h. h) (budgets_of p)
-    (each_map (λ b. has_other (services_of p) (actors_of p) b ≡ true) (budget_for p) (permitted p)
+    (all_from (λ b. has_other (services_without_index p) (actors_of p) b ≡ true)
+    (has_other (services_of p) (actors_of p)) (λ b h. sym (plain_other p b) ∙ h) (budgets_of p)
+    (each_map (λ b. has_other (services_without_index p) (actors_of p) b ≡ true) (budget_for p) (permitted p)
     (each_weaker (AllowedAmong p 0 (actors_of p))
-    (λ a. has_other (services_of p) (actors_of p) (budget_for p a) ≡ true)
-    (allowed_fits (services_of p) (actors_of p)) (permitted p) (all_allowed p self_rule))))
+    (λ a. has_other (services_without_index p) (actors_of p) (budget_for p a) ≡ true)
+    (allowed_fits (services_without_index p) (actors_of p)) (permitted p) (all_allowed p self_rule))))
     (pairs_test (λ b c. budget_before b c ≡ true) budget_before (λ b c h. h) (budgets_of p)
     (pairs_map (λ b c. budget_before b c ≡ true) (budget_for p) (permitted p)
     (pairs_weaker ComesBefore (λ a b. (nat_lt a.client b.client || ((a.client == b.client) && nat_lt a.service b.service)) ≡ true) in_order (permitted p) (all_in_order p self_rule))))

@@ -1,5 +1,6 @@
 -- Where no rule is broken, the parts fit each other and make a system.
-use Rattle.std.proofs.Common.{ℕ, ◌≡◌, ◌*◌, ◌^◌, ◌≤◌, true, List, [], ◌∷◌, ◌++◌, length, Ok, Err, IsOkAnd, refl, ap, ap₂, sym, arith, nat_lt, le-leb, lt-ltb, ltb-false}
+use Rattle.std.proofs.Common.{ℕ, ◌≡◌, ◌*◌, ◌^◌, ◌≤◌, true, List, [], ◌∷◌, ◌++◌, ◌==◌, map, length, Ok, Err, IsOkAnd, refl, ap, ap₂, sym, arith, nat_lt, le-leb, lt-ltb, ltb-false}
+use Rattle.std.specs.List.{AllByRecursion as Each}
 use Rattle.ffm_model.specs.declared.place.Refusal.{Refusal}
 use Rattle.ffm_model.specs.declared.system.System.{System}
 use Rattle.ffm_model.specs.declared.system.Partition.{Partition}
@@ -12,16 +13,17 @@ use Rattle.ffm_model.specs.Parts.{SystemParts, are_numbered, do_fit, system_from
 use Rattle.ffm_model.specs.WellFormed.{is_well_formed}
 use Rattle.ffm_model.specs.Compiled.{system_parts, partitions_of, services_of, sources_of, compiled, compiled_by}
 use Rattle.ffm_model.specs.Layout.{regions_of}
-use Rattle.ffm_model.specs.Permissions.{budgets_of}
+use Rattle.ffm_model.specs.Permissions.{services_in, budgets_of}
 use Rattle.ffm_model.specs.Reading.{refused}
 use Rattle.ffm_model.proofs.PartsLemmas.{system_of_parts}
-use Rattle.ffm_model.specs.Rules.{broken, duplicate_partitions, duplicate_sids, unknown_dependencies, self_dependencies, dependency_cycle, too_many_signals, unknown_regions, overlapping_regions, too_many_partitions, too_many_connections, budgets_without_permission, duplicate_sources, memory_too_large}
-use Rattle.admitted_systems.proofs.Lists.{append_nil, only_if_nil, four, seven}
+use Rattle.ffm_model.specs.Rules.{broken, duplicate_partitions, duplicate_sids, unknown_dependencies, self_dependencies, dependency_cycle, too_many_signals, unknown_regions, overlapping_regions, too_many_partitions, too_many_connections, budgets_without_permission, duplicate_sources, memory_too_large, duplicate_indices, too_many_stateless}
+use Rattle.admitted_systems.proofs.Lists.{append_nil, only_if_nil, four, eight}
+use Rattle.admitted_systems.proofs.Models.{models_do_fit}
 use Rattle.admitted_systems.proofs.Stateless.{stateless_do_fit}
+use Rattle.admitted_systems.proofs.Enough.{all_have_indices}
 use Rattle.admitted_systems.proofs.Partitions.{length_partitions, partitions_do_fit}
 use Rattle.admitted_systems.proofs.Regions.{regions_do_fit}
-use Rattle.admitted_systems.proofs.Signals.{signals_do_fit}
-use Rattle.admitted_systems.proofs.Services.{sids_differ, few_services}
+use Rattle.admitted_systems.proofs.Services.{sids_differ, few_services, all_signals_fit}
 use Rattle.admitted_systems.proofs.Budgets.{budgets_do_fit}
 
 -- the rules on which the parts' fitting rests
@@ -33,6 +35,8 @@ record Kept (p : PartsRecord) : Type 0 where
   partitions : too_many_partitions p ≡ []
   connections : too_many_connections p ≡ []
   memory : memory_too_large p ≡ []
+  indices : duplicate_indices p ≡ []
+  stateless : too_many_stateless p ≡ []
 
 after : {A : Type 0} (xs ys : List A) → xs ++ ys ≡ [] → ys ≡ []
 after xs ys e = (append_nil xs ys e).1
@@ -53,6 +57,8 @@ kept p e =
     let from_connections = after (too_many_partitions p) _ from_partitions in
     let from_permissions = after (too_many_connections p) _ from_connections in
     let from_sources = after (budgets_without_permission p) _ from_permissions in
+    let from_memory = after (duplicate_sources p) _ from_sources in
+    let from_indices = after (memory_too_large p) _ from_memory in
     record {
       sids = before (duplicate_sids p) _ from_sids;
       others = before (self_dependencies p) _ from_self;
@@ -60,7 +66,9 @@ kept p e =
       apart = before (overlapping_regions p) _ from_overlaps;
       partitions = before (too_many_partitions p) _ from_partitions;
       connections = before (too_many_connections p) _ from_connections;
-      memory = after (duplicate_sources p) (memory_too_large p) from_sources;
+      memory = before (memory_too_large p) _ from_memory;
+      indices = before (duplicate_indices p) (too_many_stateless p) from_indices;
+      stateless = after (duplicate_indices p) (too_many_stateless p) from_indices;
     }
 
 few_partitions : (p : PartsRecord) → too_many_partitions p ≡ [] → length p.manifests ≤ 32
@@ -72,12 +80,13 @@ parts_fit p parts none =
     let rules : Kept p = kept p none in
     let few : length p.manifests ≤ 32 = few_partitions p rules.partitions in
     let counted : length (partitions_of p) ≡ length p.manifests = sym (length_partitions p) in
-    seven _ _ _ _ _ _ _
+    eight _ _ _ _ _ _ _ _
     (four _ _ _ _ (le-leb _ _ parts.level) (le-leb _ _ parts.level_end) (le-leb (length (partitions_of p)) 32 (omega arith)) (le-leb _ _ parts.client_count))
-    (stateless_do_fit p (budgets_of p))
+    (models_do_fit p parts)
+    (stateless_do_fit p parts rules.indices)
     (partitions_do_fit p parts rules.memory)
     (regions_do_fit p (length (partitions_of p)) counted parts few rules.apart rules.memory)
-    (signals_do_fit p (length (partitions_of p)) counted rules.signals)
+    (all_signals_fit p (length (partitions_of p)) counted rules.signals)
     (sids_differ p rules.sids)
     (budgets_do_fit p (length (partitions_of p)) counted rules.others rules.connections)
 
@@ -87,6 +96,10 @@ parts_are_numbered p parts none =
     let few : length p.manifests ≤ 32 = few_partitions p rules.partitions in
     let services : length (services_of p) ≤ 28 * length p.manifests = few_services p rules.signals in
     lt-ltb (length (services_of p)) (2 ^ 31) (omega arith)
+
+pub stateless_have_indices : (p : PartsRecord) → Each (λ x. x.value.connection_based ≡ true → x.value.stateless_handle ≡ 0) (services_in p) → broken p ≡ []
+    → map (λ v. v.stateless == 0) (services_of p) ≡ map (λ x. x.value.connection_based) (services_in p)
+stateless_have_indices p stated none = let rules : Kept p = kept p none in all_have_indices p stated rules.stateless
 
 -- the same of lists that are the parts' fields
 pub lists_fit : (p : PartsRecord) (level : ℕ) (partitions : List Partition) (services : List Service) (sources : List Source) (regions : List Region) (clients : List (List ℕ)) (budgets : List Budget)

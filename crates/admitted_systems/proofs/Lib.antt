@@ -6,5 +6,7 @@ pub mod Regions
 pub mod Partitions
 pub mod Services
 pub mod Budgets
-pub mod Fit
+pub mod Models
 pub mod Stateless
+pub mod Enough
+pub mod Fit

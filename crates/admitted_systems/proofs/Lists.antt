@@ -16,8 +16,8 @@ four a b c d h i j k = rw (h, i, j, k) refl
 pub five : (a b c d e : Bool) → a ≡ true → b ≡ true → c ≡ true → d ≡ true → e ≡ true → (a && b && c && d && e) ≡ true
 five a b c d e h i j k l = rw (h, i, j, k, l) refl
 
-pub seven : (a b c d e f g : Bool) → a ≡ true → b ≡ true → c ≡ true → d ≡ true → e ≡ true → f ≡ true → g ≡ true → (a && b && c && d && e && f && g) ≡ true
-seven a b c d e f g h i j k l m n = rw (h, i, j, k, l, m, n) refl
+pub eight : (a b c d e f g h : Bool) → a ≡ true → b ≡ true → c ≡ true → d ≡ true → e ≡ true → f ≡ true → g ≡ true → h ≡ true → (a && b && c && d && e && f && g && h) ≡ true
+eight a b c d e f g h i j k l m n o p = rw (i, j, k, l, m, n, o, p) refl
 
 -- ---- lists that are empty
 

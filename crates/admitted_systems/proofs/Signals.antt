@@ -1,13 +1,14 @@
 -- The signals of services and interrupt sources: one bit each, and different in one partition.
-use Rattle.std.proofs.Common.{ℕ, zero, suc, ◌≡◌, ◌+◌, ◌^◌, ◌<◌, ◌≤◌, Bool, true, false, not, ◌&&◌, ◌==◌, List, [], ◌∷◌, map, length, refl, sym, ◌∙◌, arith, nat_lt, add-zero, ltb-false, eq-eqb, eqb-true, lt-ltb, ⊎_elim}
+use Rattle.std.proofs.Common.{ℕ, zero, suc, ◌≡◌, ◌+◌, ◌^◌, ◌<◌, ◌≤◌, Bool, true, false, not, ◌&&◌, ◌==◌, List, [], ◌∷◌, map, flat_map, length, refl, sym, ◌∙◌, arith, nat_lt, add-zero, ltb-false, eq-eqb, eqb-true, lt-ltb, ⊎_elim}
 use Rattle.std.specs.List.{AllByRecursion as Each, enumerate_from, list_all, list_any, range_with_len}
 use Rattle.std.proofs.Math.Pow.{pow-lt}
 use Rattle.std.proofs.lemmas.Bool.{and_from, cases_order, false_from_ne_true, not_from_false, and_parts, or_left, or_right}
 use Rattle.ffm_model.specs.declared.constants.TheConstants.{MAX_SIGNALS}
-use Rattle.ffm_model.specs.ManifestItems.{ManifestRecord}
+use Rattle.ffm_model.specs.declared.system.Service.{Service}
+use Rattle.ffm_model.specs.ManifestItems.{ManifestRecord, ServiceRecord}
 use Rattle.ffm_model.specs.PartsItems.{PartsRecord}
 use Rattle.ffm_model.specs.WellFormed.{is_signal_bit, signal_fits, signals_fit}
-use Rattle.ffm_model.specs.Compiled.{signal_at, service_of, services_of_manifest, services_of, source_of, sources_of_manifest, sources_of}
+use Rattle.ffm_model.specs.Compiled.{signal_at, service_of, source_of, sources_of_manifest, sources_of}
 use Rattle.ffm_model.specs.Rules.{too_many_signals}
 use Rattle.admitted_systems.proofs.Lists.{five, each_weaker, map_nil, filter_nil, all_from, Pairs, pairs_test, across_from}
 use Rattle.admitted_systems.proofs.Numbered.{Among, flat_each, flat_pairs, flat_across}
@@ -65,6 +66,16 @@ module _ {A B : Type 0} (f : ℕ × A → B) (owner signal : B → ℕ) (k : ℕ
 
 -- ---- of all partitions
 
+-- a service with no index, by its partition and its place
+abbrev pub plain_service : ℕ → ℕ × ServiceRecord → Service
+plain_service owner e = service_of 0 (record { manifest = owner; item = e.0; value = e.1 })
+
+abbrev pub services_of_manifest : ℕ × ManifestRecord → List Service
+services_of_manifest e = map (plain_service e.0) (enumerate_from 0 e.1.services)
+
+abbrev plain_services : PartsRecord → List Service
+plain_services p = flat_map services_of_manifest (enumerate_from 0 p.manifests)
+
 -- services and interrupts are at most the signals
 abbrev pub Few : ℕ × ManifestRecord → Type 0
 Few e = length e.1.services + length e.1.irqs ≤ 28
@@ -73,10 +84,10 @@ within : (k low high owner signal : ℕ) → high ≤ 28 → Placed k low high o
 within k low high owner signal few p = record { place = p.place; owned = p.owned; from = omega arith; below = let l : p.place < high = p.below in omega arith; is = p.is }
 
 services_placed : (e : ℕ × ManifestRecord) → Each (λ v. Placed e.0 0 (0 + length e.1.services) v.owner v.signal) (services_of_manifest e)
-services_placed e = each_placed (service_of e.0) (λ v. v.owner) (λ v. v.signal) e.0 (λ x. refl) (λ x. refl) 0 e.1.services
+services_placed e = each_placed (plain_service e.0) (λ v. v.owner) (λ v. v.signal) e.0 (λ x. refl) (λ x. refl) 0 e.1.services
 
 sources_placed : (e : ℕ × ManifestRecord) → Each (λ v. Placed e.0 (length e.1.services) (length e.1.services + length e.1.irqs) v.owner v.signal) (sources_of_manifest e)
-sources_placed e = each_placed (source_of e.0) (λ v. v.owner) (λ v. v.signal) e.0 (λ x. refl) (λ x. refl) (length e.1.services) e.1.irqs
+sources_placed e = each_placed (source_of e.1.framework e.0) (λ v. v.owner) (λ v. v.signal) e.0 (λ x. refl) (λ x. refl) (length e.1.services) e.1.irqs
 
 services_at : (e : ℕ × ManifestRecord) → Few e → Each (λ v. Placed e.0 0 28 v.owner v.signal) (services_of_manifest e)
 services_at e few =
@@ -103,27 +114,27 @@ fits n k owner signal below p =
 no_clash : (a s b t : ℕ) → Different a s b t → not ((a == b) && (s == t)) ≡ true
 no_clash a s b t d = not_from_false _ (false_from_ne_true _ (λ e. let parts : ((a == b) ≡ true) × ((s == t) ≡ true) = and_parts _ _ e in d (eqb-true _ _ parts.0) (eqb-true _ _ parts.1)))
 
-pub signals_do_fit : (p : PartsRecord) (n : ℕ) → n ≡ length p.manifests → too_many_signals p ≡ [] → signals_fit n (services_of p) (sources_of p) ≡ true
+pub signals_do_fit : (p : PartsRecord) (n : ℕ) → n ≡ length p.manifests → too_many_signals p ≡ [] → signals_fit n (flat_map services_of_manifest (enumerate_from 0 p.manifests)) (sources_of p) ≡ true
 signals_do_fit p n counted rule =
     let few : Each (λ e. Few e) (enumerate_from 0 p.manifests) = few_signals p rule in
     five _ _ _ _ _ (all_from (Among (λ k v. Placed k 0 28 v.owner v.signal) 0 (0 + length p.manifests)) (λ v. signal_fits n v.owner v.signal)
-    (λ v a. fits n a.number v.owner v.signal (let l : a.number < 0 + length p.manifests = a.below in omega arith) a.holds) (services_of p)
+    (λ v a. fits n a.number v.owner v.signal (let l : a.number < 0 + length p.manifests = a.below in omega arith) a.holds) (plain_services p)
     (flat_each (λ e. Few e) (λ k v. Placed k 0 28 v.owner v.signal) services_of_manifest services_at 0 p.manifests few))
     (all_from (Among (λ k v. Placed k 0 28 v.owner v.signal) 0 (0 + length p.manifests)) (λ v. signal_fits n v.owner v.signal)
     (λ v a. fits n a.number v.owner v.signal (let l : a.number < 0 + length p.manifests = a.below in omega arith) a.holds) (sources_of p)
     (flat_each (λ e. Few e) (λ k v. Placed k 0 28 v.owner v.signal) sources_of_manifest sources_at 0 p.manifests few))
     (pairs_test (λ v w. Different v.owner v.signal w.owner w.signal) (λ v w. not ((v.owner == w.owner) && (v.signal == w.signal)))
-    (λ v w. no_clash v.owner v.signal w.owner w.signal) (services_of p)
+    (λ v w. no_clash v.owner v.signal w.owner w.signal) (plain_services p)
     (flat_pairs (λ e. Few e) (λ k v. Placed k 0 28 v.owner v.signal) (λ v w. Different v.owner v.signal w.owner w.signal) services_of_manifest services_at
-    (λ e few_here. pairs_different (service_of e.0) (λ v. v.owner) (λ v. v.signal) e.0 (λ x. refl) (λ x. refl) 0 e.1.services)
+    (λ e few_here. pairs_different (plain_service e.0) (λ v. v.owner) (λ v. v.signal) e.0 (λ x. refl) (λ x. refl) 0 e.1.services)
     (λ i j v w l. other_owners i j v.owner v.signal w.owner w.signal (λ s. omega arith)) 0 p.manifests few))
     (pairs_test (λ v w. Different v.owner v.signal w.owner w.signal) (λ v w. not ((v.owner == w.owner) && (v.signal == w.signal)))
     (λ v w. no_clash v.owner v.signal w.owner w.signal) (sources_of p)
     (flat_pairs (λ e. Few e) (λ k v. Placed k 0 28 v.owner v.signal) (λ v w. Different v.owner v.signal w.owner w.signal) sources_of_manifest sources_at
-    (λ e few_here. pairs_different (source_of e.0) (λ v. v.owner) (λ v. v.signal) e.0 (λ x. refl) (λ x. refl) (length e.1.services) e.1.irqs)
+    (λ e few_here. pairs_different (source_of e.1.framework e.0) (λ v. v.owner) (λ v. v.signal) e.0 (λ x. refl) (λ x. refl) (length e.1.services) e.1.irqs)
     (λ i j v w l. other_owners i j v.owner v.signal w.owner w.signal (λ s. omega arith)) 0 p.manifests few))
     (all_from (λ v. Each (λ w. Different v.owner v.signal w.owner w.signal) (sources_of p)) (λ v. list_all (λ w. not ((v.owner == w.owner) && (v.signal == w.signal))) (sources_of p))
-    (λ v. all_from (λ w. Different v.owner v.signal w.owner w.signal) (λ w. not ((v.owner == w.owner) && (v.signal == w.signal))) (λ w. no_clash v.owner v.signal w.owner w.signal) (sources_of p)) (services_of p)
+    (λ v. all_from (λ w. Different v.owner v.signal w.owner w.signal) (λ w. not ((v.owner == w.owner) && (v.signal == w.signal))) (λ w. no_clash v.owner v.signal w.owner w.signal) (sources_of p)) (plain_services p)
     (flat_across (λ e. Few e) (λ k v. Placed k 0 28 v.owner v.signal) (λ k v. Placed k 0 28 v.owner v.signal) (λ v w. Different v.owner v.signal w.owner w.signal) services_of_manifest sources_of_manifest services_at sources_at
     (λ e few_here. across_from (λ v. Placed e.0 0 (0 + length e.1.services) v.owner v.signal) (λ v. Placed e.0 (length e.1.services) (length e.1.services + length e.1.irqs) v.owner v.signal) (λ v w. Different v.owner v.signal w.owner w.signal)
     (λ v w p q. different_from e.0 0 (0 + length e.1.services) (length e.1.services) (length e.1.services + length e.1.irqs) v.owner v.signal w.owner w.signal p q (omega arith))

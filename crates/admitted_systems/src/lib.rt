@@ -2,11 +2,13 @@
 //! each says a law of what `ffm_model` defines, and its proof shows it.
 #![tactic(auto)]
 
-ghost use Rattle.std.specs.Prelude.{◌≡◌, true, List, [], ◌∷◌, Err, IsOkAnd};
+ghost use Rattle.std.specs.Prelude.{◌≡◌, ◌==◌, true, List, [], ◌∷◌, map, Err, IsOkAnd};
+ghost use Rattle.std.specs.List.{AllByRecursion};
 ghost use Rattle.ffm_model.specs.declared.place.Refusal.{Refusal};
-ghost use Rattle.ffm_model.specs.Compiled.{system_parts, compiled};
+ghost use Rattle.ffm_model.specs.Compiled.{services_of, system_parts, compiled};
 ghost use Rattle.ffm_model.specs.Parts.{are_numbered, do_fit, parts_of_system};
 ghost use Rattle.ffm_model.specs.PartsItems.{PartsRecord, IsParts};
+ghost use Rattle.ffm_model.specs.Permissions.{services_in};
 ghost use Rattle.ffm_model.specs.Reading.{refused};
 ghost use Rattle.ffm_model.specs.Rules.{broken};
 
@@ -16,6 +18,13 @@ ghost use Rattle.ffm_model.specs.Rules.{broken};
 pub fn admitted_parts_fit()
     ensures fit { (p : PartsRecord) → IsParts p → broken p ≡ [] → do_fit (system_parts p) ≡ true }
     ensures numbered { (p : PartsRecord) → IsParts p → broken p ≡ [] → are_numbered (system_parts p) ≡ true }
+{}
+
+/// Where no rule is broken, each service has an index but those that clients connect to. One that
+/// clients connect to states no index; files say none for it.
+#[tactic(auto, using(crate::proofs::Fit::stateless_have_indices))]
+pub fn stateless_services_have_indices()
+    ensures { (p : PartsRecord) → AllByRecursion (λ x. x.value.connection_based ≡ true → x.value.stateless_handle ≡ 0) (services_in p) → broken p ≡ [] → map (λ v. v.stateless == 0) (services_of p) ≡ map (λ x. x.value.connection_based) (services_in p) }
 {}
 
 /// A system file gives the system of its parts exactly where no rule is broken, and otherwise the

@@ -101,7 +101,7 @@ fn image_of(rt: &impl Abort, alloc: Global, system: &System) -> Result<Image, Fa
 #[test]
 fn versions(rt: HostRuntime) -> Result<(), Fail> {
     let system = system_of(rt.alloc(), SYSTEM)?;
-    assert_eq!(rt; framework_version(), 0x100);
+    assert_eq!(rt; framework_version(), 0x101);
     assert_eq!(rt; version(&system, CLIENT, Sid(0x40)), 2);
     assert_eq!(rt; version(&system, CLIENT, Sid(0x41)), 3);
     assert_eq!(rt; version(&system, CLIENT, Sid(0x42)), 0);

@@ -19,7 +19,8 @@ ghost use Rattle.spm_tables.specs.TablesView.{fresh_message, queued_as, shape_of
 
 use ffm_model::{
     ActorId, ActorPhase, Bytes, ConnPhase, Fault, Handle, List, Message, Outcome, PSA_BLOCK,
-    PSA_DOORBELL, PSA_IPC_CONNECT, PSA_IPC_DISCONNECT, Status, System, Vectors,
+    PSA_DOORBELL, PSA_IPC_CONNECT, PSA_IPC_DISCONNECT, PSA_POLL, PSA_WAIT_ANY, Status, System,
+    Vectors,
 };
 use memory_image::{Image, open_within, valid_buffer};
 use message_vectors::snapshot;
@@ -71,7 +72,7 @@ fn image_of(rt: &impl Abort, alloc: Global, system: &System) -> Result<Image, Fa
 fn load(rt: &impl Abort, system: &System, image: &Image, actor: ActorId, address: u32) -> u32
     requires { regions_of image.now ≡ ranges_of system.now.regions }
 {
-    assert!(rt; valid_buffer(system, actor, address, 4));
+    assert!(rt; valid_buffer(system, image, actor, address, 4));
     image.load(address, 4)
 }
 
@@ -410,7 +411,7 @@ fn replies_tell_lengths(rt: HostRuntime) -> Result<(), Fail> {
     let (input, output) = (0x2000_0000, 0x2000_0008);
     let given = snapshot(&system, &image, CLIENT, input, 1, output, 1);
     let mut vectors = given.ok_or("no vectors")?;
-    assert!(rt; valid_buffer(&system, VAULT, 0x3000_0000, 3));
+    assert!(rt; valid_buffer(&system, &image, VAULT, 0x3000_0000, 3));
     let written = message_vectors::write(&mut image, &mut vectors, 0, 0x3000_0000, 3);
     assert_eq!(rt; written, Ok(()));
     ask(
@@ -434,10 +435,10 @@ fn replies_tell_lengths(rt: HostRuntime) -> Result<(), Fail> {
 fn waits_for_signals(rt: HostRuntime) -> Result<(), Fail> {
     let system = system_of(rt.alloc(), SYSTEM)?;
     let mut tables = Tables::new(rt.alloc(), &system)?;
-    let poll = wait(&system, &mut tables, VAULT, u32::MAX, 0);
+    let poll = wait(&system, &mut tables, VAULT, PSA_WAIT_ANY, PSA_POLL);
     assert_eq!(rt; poll, Ok(Outcome::Signals(0)));
     tables.set_doorbell(VAULT, true);
-    let poll = wait(&system, &mut tables, VAULT, u32::MAX, 0x7fff_ffff);
+    let poll = wait(&system, &mut tables, VAULT, PSA_WAIT_ANY, 0x7fff_ffff);
     assert_eq!(rt; poll, Ok(Outcome::Signals(PSA_DOORBELL)));
     let wrong = wait(&system, &mut tables, VAULT, 0x20, PSA_BLOCK);
     assert_eq!(rt; wrong, Err(Fault));

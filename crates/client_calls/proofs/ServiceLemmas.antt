@@ -9,10 +9,10 @@ use Rattle.ffm_model.specs.declared.system.Budget.{Budget}
 use Rattle.ffm_model.specs.declared.system.Service.{Service}
 use Rattle.ffm_model.specs.declared.system.System.{System}
 use Rattle.ffm_model.specs.declared.objects.OpenConnection.{OpenConnection}
-use Rattle.ffm_model.specs.WellFormed.{is_well_formed, budgets_fit, budget_before, each_pair}
 use Rattle.ffm_model.specs.Actors.{is_stateless, version_fits}
 use Rattle.ffm_model.specs.ClientCalls.{takes_version}
 use Rattle.ffm_model.specs.State.{SpmState, in_use}
+use Rattle.ffm_model.proofs.WellFormedLemmas.{is_between_actors, budgets_between_actors}
 use Rattle.handle_table.proofs.SlotLemmas.{both}
 use Rattle.counting_law.specs.Objects.{ObjectsFit, allowed}
 use Rattle.counting_law.proofs.Counts.{bit, count-found, find-passes}
@@ -27,19 +27,7 @@ all-found p q (y ∷ ys) x a f =
     elim [ true ↦ λ g. let it : y ≡ x = cc in ap p (sym it) ∙ parts.0 | false ↦ λ g. all-found p q ys x parts.1 g ] in
     go (q y) f
 
-abbrev is_service_there : System → Budget → Bool
-is_service_there s b = nat_lt b.client.0 (length s.partitions + length s.clients) && option_map_or (λ v. not (v.owner == b.client.0)) (slice_get s.services b.service) false
-
-budgets-there : (s : System) → list_all (is_service_there s) s.budgets ≡ true
-unfolding is_well_formed
-budgets-there s =
-    let fits : budgets_fit (length s.partitions + length s.clients) s.services s.budgets ≡ true =
-    (both _ (budgets_fit (length s.partitions + length s.clients) s.services s.budgets) s.well_formed).1 in
-    let pairs : (list_all (is_service_there s) s.budgets && each_pair budget_before s.budgets) ≡ true =
-    (both (list_all (is_service_there s) s.budgets && each_pair budget_before s.budgets) _ fits).0 in
-    (both (list_all (is_service_there s) s.budgets) (each_pair budget_before s.budgets) pairs).0
-
-there : (s : System) (b : Budget) → is_service_there s b ≡ true → b.service < length s.services
+there : (s : System) (b : Budget) → is_between_actors s b ≡ true → b.service < length s.services
 there s b e =
     let parts = both (nat_lt b.client.0 (length s.partitions + length s.clients)) _ e in
     let go : (o : Option Service) → slice_get s.services b.service ≡ o → option_map_or (λ v. not (v.owner == b.client.0)) o false ≡ true → b.service < length s.services =
@@ -54,7 +42,7 @@ allowed-service s a v some =
       | None ↦ λ f g. absurd (omega arith)
       | Some b ↦ λ f g.
           let same : b.service ≡ v = equal b.service v (both (b.client.0 == a) (b.service == v) (find-passes test s.budgets b f)).1 in
-          omega (arith, there s b (all-found (is_service_there s) test s.budgets b (budgets-there s) f))
+          omega (arith, there s b (all-found (is_between_actors s) test s.budgets b (budgets_between_actors s) f))
     ] in
     go (find test s.budgets) refl some where
       equal : (k m : ℕ) → (k == m) ≡ true → k ≡ m

@@ -1,5 +1,5 @@
 -- The messages that the calls of clients make.
--- Source: FF-M 1.0, a message is of one connection; the slots are this manager's.
+-- Source: FF-M 1.0, a message is of one connection; FF-M 1.1 Extensions, or of none where a stateless handle sent it; the slots are this manager's.
 use Rattle.std.specs.Prelude.{ℕ, ℤ, false, Some, None}
 use Rattle.ffm_model.specs.declared.machine.ActorId.{ActorId}
 use Rattle.ffm_model.specs.declared.objects.OpenConnection.{OpenConnection}

@@ -1,9 +1,10 @@
 //! `psa_connect`.
-ghost use Rattle.std.specs.Prelude.{◌≡◌, ◌+◌, ◌≤◌};
+ghost use Rattle.std.specs.Prelude.{◌≡◌, ◌+◌, ◌≤◌, ℕ, All, List};
 ghost use Rattle.ffm_model.specs.Actors.{is_stateless};
 ghost use Rattle.ffm_model.specs.State.{phase_of};
 ghost use Rattle.ffm_model.specs.ClientCalls.{takes_version, is_service_panicked, psa_connect};
 ghost use Rattle.counting_law.specs.Objects.{ObjectsFit};
+ghost use Rattle.message_vectors.specs.Vectors.{AreWithin};
 ghost use Rattle.spm_tables.specs.TablesView.{MadeFor, shape_of, spm_of};
 ghost use Rattle.spm_tables.specs.Answers.{Answers};
 ghost use Rattle.slot_names.specs.Named.{KeepsNames};
@@ -69,6 +70,8 @@ pub fn connect(
     ensures answer { Answers (λ o. o) (psa_connect system.now (spm_of tables.old) actor.0 sid version) tables.old result tables.new }
     ensures shape { shape_of tables.new ≡ shape_of tables.old }
     ensures names { KeepsNames system.now tables.old tables.new }
+    ensures fits { ObjectsFit system.now (spm_of tables.new) }
+    ensures within { (ranges : List (ℕ × ℕ)) → All (λ m. AreWithin ranges m.vectors) (spm_of tables.old).messages → All (λ m. AreWithin ranges m.vectors) (spm_of tables.new).messages }
 {
     let Some(place) = system.service_at(sid) else {
         return Err(Fault);

@@ -1,11 +1,12 @@
 //! `psa_call`.
-ghost use Rattle.std.specs.Prelude.{◌≡◌, ◌+◌, ◌≤◌, List};
+ghost use Rattle.std.specs.Prelude.{◌≡◌, ◌+◌, ◌≤◌, All, List};
 ghost use Rattle.ffm_model.specs.declared.machine.Handle.{Handle as HandleSeen};
 ghost use Rattle.ffm_model.specs.State.{phase_of};
 ghost use Rattle.ffm_model.specs.ClientCalls.{connection_called, psa_call, refuses_requests, service_called};
 ghost use Rattle.ffm_model.specs.Panic.{is_dead};
 ghost use Rattle.counting_law.specs.Objects.{ObjectsFit};
 ghost use Rattle.memory_image.specs.Pieces.{byte_at, ranges_of, regions_of};
+ghost use Rattle.message_vectors.specs.Vectors.{AreWithin};
 ghost use Rattle.spm_tables.specs.TablesView.{MadeFor, shape_of, spm_of};
 ghost use Rattle.spm_tables.specs.Answers.{Answers, state_with};
 ghost use Rattle.slot_names.specs.Named.{KeepsNames};
@@ -144,6 +145,8 @@ pub fn invoke(
     ensures answer { (given : List HandleSeen) → Answers (λ o. o) (psa_call system.now (state_with tables.old given (byte_at image.now)) actor.0 handle kind in_vec in_len out_vec out_len) tables.old result tables.new }
     ensures shape { shape_of tables.new ≡ shape_of tables.old }
     ensures names { KeepsNames system.now tables.old tables.new }
+    ensures fits { ObjectsFit system.now (spm_of tables.new) }
+    ensures vectors { All (λ m. AreWithin (regions_of image.now) m.vectors) (spm_of tables.old).messages → All (λ m. AreWithin (regions_of image.now) m.vectors) (spm_of tables.new).messages }
 {
     match stateless_index(handle) {
         Some(index) => call_service(

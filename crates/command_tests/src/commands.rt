@@ -13,7 +13,7 @@ const ASKING: &str =
     r#"{"scripts":[{"actor":"NS","lines":["framework_version","version 0x40","version 0x99","version 0x41"]}],"schedule":["NS","NS","NS","NS"]}"#;
 
 const ASKED: &str =
-    "n1 framework_version -> number 256\nn1 version 0x00000040 -> number 1\nn1 version 0x00000099 -> number 0\nn1 version 0x00000041 -> number 0\np1 stop end -> done\nn1 stop end -> done\nquiet 6\n";
+    "n1 framework_version -> number 257\nn1 version 0x00000040 -> number 1\nn1 version 0x00000099 -> number 0\nn1 version 0x00000041 -> number 0\np1 stop end -> done\nn1 stop end -> done\nquiet 6\n";
 
 // A partition with an interrupt source.
 const TIMER: &str =
@@ -25,6 +25,10 @@ const DISABLING: &str =
 const DISABLED: &str =
     "p1 irq_disable 0x00000010 -> number 1\ndev raise 0 -> done\np1 irq_disable 0x00000010 -> number 0\ndev stop end -> done\np1 wait 0x00000010 0x00000000 -> signals 0x00000000\np1 irq_enable 0x00000010 -> done\np1 wait 0x00000010 0x00000000 -> signals 0x00000010\np1 reset_signal 0x00000010 -> panicked\nquiet 8\n";
 
+// A stateless service, whose handle is 0x40000001, and a client.
+const CLOCK: &str =
+    r#"{"isolation_level":3,"manifests":[{"psa_framework_version":1.1,"name":"CLOCK","type":"PSA-ROT","priority":"NORMAL","entry_point":"main","stack_size":"0x400","services":[{"name":"CLOCK","sid":"0x50","non_secure_clients":true,"connection_based":false}]}],"clients":["NS"]}"#;
+
 /// A system file and a scenario file, and what comes of them.
 struct Worked {
     system: &'static str,
@@ -33,7 +37,7 @@ struct Worked {
     text: &'static str,
 }
 
-static WORKED: [Worked; 18] = [
+static WORKED: [Worked; 24] = [
     Worked {
         system: ONE_CLIENT,
         scenario: ASKING,
@@ -142,10 +146,47 @@ static WORKED: [Worked; 18] = [
         status: 1,
         text: "refused 1 Json scenario\n",
     },
+    Worked {
+        system: r#"{"isolation_level":1,"manifests":[{"psa_framework_version":"1.1","name":"TIMER","type":"PSA-ROT","priority":"NORMAL","entry_point":"main","stack_size":0,"irqs":[{"source":5,"name":"TIMER","handling":"FLIH"}]}]}"#,
+        scenario: r#"{"interrupts":[{"source":5,"result":1},{"source":5,"result":0}],"scripts":[{"actor":"TIMER","lines":["irq_enable 0x10","wait 0x10 0","reset_signal 0x10","wait 0x10 0","eoi 0x10"]}]}"#,
+        status: 0,
+        text: "p1 irq_enable 0x00000010 -> done\ndev fire 0 1 -> done\np1 wait 0x00000010 0x00000000 -> signals 0x00000010\ndev fire 0 0 -> done\np1 reset_signal 0x00000010 -> done\ndev stop end -> done\np1 wait 0x00000010 0x00000000 -> signals 0x00000000\np1 eoi 0x00000010 -> panicked\nquiet 8\n",
+    },
+    Worked {
+        system: CLOCK,
+        scenario: r#"{"scripts":[{"actor":"CLOCK","lines":["wait 0xffffffff 0x80000000","get r0 0x30000000","reply r2 5"]},{"actor":"NS","lines":["call 0x40000001 0 0 0 0 0","close 0x40000001","connect 0x50 1"]}]}"#,
+        status: 0,
+        text: "p1 wait 0xffffffff 0x80000000 -> blocked\nn1 call 1073741825 0 0x00000000 0 0x00000000 0 -> blocked\np1 resume -> signals 0x00000010\np1 get 0x00000010 0x30000000 -> message 0 1536 -1 0x00000000 0 0 0 0 0 0 0 0\np1 reply 1536 5 -> done\nn1 resume -> value 5\np1 stop end -> done\nn1 close 1073741825 -> done\nn1 connect 0x00000050 1 -> value -130\nn1 stop end -> done\nquiet 10\n",
+    },
+    Worked {
+        system: CLOCK,
+        scenario: r#"{"scripts":[{"actor":"CLOCK","lines":["wait 0xffffffff 0x80000000","get r0 0x30000000","set_rhandle r2 1"]},{"actor":"NS","lines":["call 0x40000001 0 0 0 0 0","call 0x40000001 0 0 0 0 0"]}]}"#,
+        status: 0,
+        text: "p1 wait 0xffffffff 0x80000000 -> blocked\nn1 call 1073741825 0 0x00000000 0 0x00000000 0 -> blocked\np1 resume -> signals 0x00000010\np1 get 0x00000010 0x30000000 -> message 0 1536 -1 0x00000000 0 0 0 0 0 0 0 0\np1 set_rhandle 1536 0x00000001 -> panicked\nn1 resume -> value -145\nn1 call 1073741825 0 0x00000000 0 0x00000000 0 -> value -145\nn1 stop end -> done\nquiet 8\n",
+    },
+    // What is read and not carried out yet.
+    Worked {
+        system: r#"{"isolation_level":1,"manifests":[{"psa_framework_version":1.1,"name":"P","type":"PSA-ROT","priority":"LOW","entry_point":"main","stack_size":0,"services":[{"name":"R","sid":1,"non_secure_clients":false},{"name":"S","sid":1,"non_secure_clients":false,"mm_iovec":"enable"}]}]}"#,
+        scenario: "{}",
+        status: 1,
+        text: "refused 4 BadValue system /manifests/0/services/1/mm_iovec\n",
+    },
+    Worked {
+        system: ONE_CLIENT,
+        scenario: r#"{"scripts":[{"actor":"NS","lines":["wrong"]},{"actor":"VAULT","lines":[]},{"actor":"NS","lines":[]}]}"#,
+        status: 1,
+        text: "refused 4 BadValue scenario /scripts/2/actor\n",
+    },
+    Worked {
+        system: ONE_CLIENT,
+        scenario: r#"{"restarts":1}"#,
+        status: 1,
+        text: "refused 4 BadValue scenario /restarts\n",
+    },
 ];
 
 /// The words of a command line.
-fn words_of(alloc: Global, words: &[&str]) -> Result<Vec<String>, Fail> {
+pub(crate) fn words_of(alloc: Global, words: &[&str]) -> Result<Vec<String>, Fail> {
     let mut list = Vec::new(alloc);
     for word in words {
         list.push(String::from_str(alloc, word)?)?;
@@ -154,7 +195,7 @@ fn words_of(alloc: Global, words: &[&str]) -> Result<Vec<String>, Fail> {
 }
 
 /// The two files, and one that is a byte longer than may be.
-fn files_of(alloc: Global, system: &str, scenario: &str) -> Result<MemoryFiles, Fail> {
+pub(crate) fn files_of(alloc: Global, system: &str, scenario: &str) -> Result<MemoryFiles, Fail> {
     let mut files = MemoryFiles::new(alloc);
     files.add(alloc, "system", system.as_bytes())?;
     files.add(alloc, "scenario", scenario.as_bytes())?;
@@ -198,7 +239,7 @@ static OUTSIDE: [Outside; 9] = [
         failing_read: 0,
         failing_put: 3,
         status: 8,
-        text: "n1 framework_version -> number 256\nn1 version 0x00000040 -> number 1\n",
+        text: "n1 framework_version -> number 257\nn1 version 0x00000040 -> number 1\n",
     },
     Outside {
         words: RUN,

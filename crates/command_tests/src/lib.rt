@@ -7,3 +7,5 @@
 mod commands;
 #[cfg(test)]
 mod compile;
+#[cfg(test)]
+mod functions;

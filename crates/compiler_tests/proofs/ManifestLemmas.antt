@@ -1,5 +1,6 @@
 -- The manifest and the parts of the tests.
-use Rattle.std.proofs.Common.{◌≡◌, ◌≤◌, List, [], length, codes, refl, sym, subst, lit<, lit≤}
+use Rattle.std.proofs.Common.{◌≡◌, ◌≤◌, List, [], length, codes, false, inl, refl, sym, subst, ◌∙◌, lit<, lit≤}
+use Rattle.std.proofs.lemmas.Bool.{false≢true}
 use Rattle.std.specs.List.{AllByRecursion as Each}
 use Rattle.ffm_model.specs.ManifestItems.{IsName, IsMmio, IsService, IsIrq, ManifestRecord, IsManifest}
 use Rattle.ffm_model.specs.PartsItems.{IsRegion, IsConnection, PartsRecord, IsParts}
@@ -16,10 +17,13 @@ is_main = refl
 none : {A : Type 0} (P : A → Type 0) (xs : List A) → xs ≡ [] → Each P xs
 none P xs e = let Q : List _ → Type 0 = Each P in subst Q (sym e) tt
 
-pub is_manifest : (m : ManifestRecord) → m.name ≡ codes "VAULT" → m.entry_point ≡ codes "main" → m.mmio ≡ [] → m.services ≡ [] → m.dependencies ≡ [] → m.irqs ≡ [] → IsManifest m
-is_manifest m a b c d e f = record {
+pub is_manifest : (m : ManifestRecord) → m.framework ≡ 256 → m.name ≡ codes "VAULT" → m.sfn ≡ false → m.entry_point ≡ codes "main" → m.mmio ≡ [] → m.services ≡ [] → m.dependencies ≡ [] → m.irqs ≡ [] → IsManifest m
+is_manifest m first a plain b c d e f = record {
+  framework = inl first;
   name = subst IsName (sym a) is_vault;
-  entry_point = subst IsName (sym b) is_main;
+  entry_point = inl (subst IsName (sym b) is_main);
+  stack_size = λ functions. absurd (false≢true (sym plain ∙ functions));
+  has_service = λ functions. absurd (false≢true (sym plain ∙ functions));
   mmio = none IsMmio m.mmio c;
   services = none IsService m.services d;
   dependencies = none IsName m.dependencies e;

@@ -21,9 +21,11 @@ fn vault(alloc: Global) -> Result<Manifest, AllocError>
     ensures { IfOk result IsManifest }
 {
     Ok(Manifest {
+        framework: 256,
         name: name(alloc, "VAULT")?,
         rot: RotType::PsaRot,
         priority: Priority::Low,
+        sfn: false,
         entry_point: name(alloc, "main")?,
         stack_size: 1024,
         heap_size: 0,

@@ -227,9 +227,11 @@ fn add_manifest(
     let first = name(alloc, &mut "FLASH".split_whitespace())?;
     let entry = name(alloc, &mut "FLASH".split_whitespace())?;
     manifests.push(Manifest {
+        framework: 256,
         name: first,
         rot,
         priority: Priority::Normal,
+        sfn: false,
         entry_point: entry,
         stack_size,
         heap_size,

@@ -16,3 +16,5 @@ mod layouts;
 mod listings;
 #[cfg(test)]
 mod signals;
+#[cfg(test)]
+mod stateless;

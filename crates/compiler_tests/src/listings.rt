@@ -12,12 +12,16 @@ use system_listing::listing;
 const LISTED: &str = "isolation 2
 partition 1 SP_FLASH PSA-ROT HIGH domain 1 ram 0x30000000 0x00000680
 service FLASH sid 0x00000070 version 2 RELAXED nonsecure yes signal 0x00000010
-irq FLASH_IRQ FLASH_SIGNAL 0x00000020
+service CLOCK sid 0x00000071 version 2 RELAXED nonsecure yes signal 0x00000020 handle 0x40000020
+irq FLASH_IRQ FLASH_SIGNAL 0x00000040
+irq TIMER TIMER_SIGNAL 0x00000080 FLIH
+irq UART UART_SIGNAL 0x00000100 SLIH
 mmio 0x40000000 0x00001000 READ-WRITE
 nonsecure ram 0x20000000 0x00010000
 client -1 NS
 connections NS FLASH 3
-admitted 1 partitions 1 services 3 connections
+stateless NS CLOCK
+admitted 1 partitions 2 services 3 connections
 ";
 
 fn name(alloc: Global, text: &str) -> Result<Name, AllocError> {
@@ -31,31 +35,63 @@ fn partition(alloc: Global) -> Result<Partition, AllocError> {
         priority: Priority::High,
         domain: 1,
         ram: 0,
+        sfn: false,
+        heap: 0x100,
     })
 }
 
-fn service(alloc: Global) -> Result<Service, AllocError> {
+fn service(
+    alloc: Global,
+    text: &str,
+    sid: u32,
+    signal: u32,
+    stateless: u32,
+) -> Result<Service, AllocError> {
     Ok(Service {
-        name: name(alloc, "FLASH")?,
-        sid: Sid(0x70),
+        name: name(alloc, text)?,
+        sid: Sid(sid),
         owner: 0,
         nonsecure: true,
         version: 2,
         policy: Policy::Relaxed,
-        signal: 0x10,
-        stateless: 0,
+        signal,
+        stateless,
+        mm: false,
     })
 }
 
-fn source(alloc: Global) -> Result<Source, AllocError> {
+fn services(alloc: Global) -> Result<Vec<Service>, AllocError>
+    ensures { IfOk result (λ services. length services.items ≤ 2) }
+{
+    Ok(vec![in alloc;
+        service(alloc, "FLASH", 0x70, 0x10, 0)?,
+        service(alloc, "CLOCK", 0x71, 0x20, 32)?,
+    ]?)
+}
+
+fn source(
+    alloc: Global,
+    names: (&str, &str),
+    signal: u32,
+    flih: bool,
+    enabled: bool,
+) -> Result<Source, AllocError> {
     Ok(Source {
-        name: name(alloc, "FLASH_IRQ")?,
-        signal_name: name(alloc, "FLASH_SIGNAL")?,
+        name: name(alloc, names.0)?,
+        signal_name: name(alloc, names.1)?,
         owner: 0,
-        signal: 0x20,
-        flih: false,
-        enabled: true,
+        signal,
+        flih,
+        enabled,
     })
+}
+
+fn sources(alloc: Global) -> Result<Vec<Source>, AllocError> {
+    Ok(vec![in alloc;
+        source(alloc, ("FLASH_IRQ", "FLASH_SIGNAL"), 0x40, false, true)?,
+        source(alloc, ("TIMER", "TIMER_SIGNAL"), 0x80, true, false)?,
+        source(alloc, ("UART", "UART_SIGNAL"), 0x100, false, false)?,
+    ]?)
 }
 
 fn region(base: u32, size: u32, class: Class) -> Region {
@@ -76,20 +112,23 @@ fn regions(alloc: Global) -> Result<Vec<Region>, AllocError>
     ]?)
 }
 
-fn system(alloc: Global) -> Result<System, Fail> {
-    let budget = Budget {
+fn budget(service: u32, count: u32) -> Budget {
+    Budget {
         client: ActorId(1),
-        service: 0,
-        count: 3,
-    };
+        service,
+        count,
+    }
+}
+
+fn system(alloc: Global) -> Result<System, Fail> {
     let made = System::new(
         2,
         List::of(vec![in alloc; partition(alloc)?]?),
-        List::of(vec![in alloc; service(alloc)?]?),
-        List::of(vec![in alloc; source(alloc)?]?),
+        List::of(services(alloc)?),
+        List::of(sources(alloc)?),
         List::of(regions(alloc)?),
         List::of(vec![in alloc; name(alloc, "NS")?]?),
-        List::of(vec![in alloc; budget]?),
+        List::of(vec![in alloc; budget(0, 3), budget(1, 0)]?),
     );
     Ok(made.ok_or("the parts don't fit")?)
 }

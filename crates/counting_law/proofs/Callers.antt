@@ -12,7 +12,7 @@ use Rattle.ffm_model.specs.declared.objects.PendingMessage.{PendingMessage}
 use Rattle.ffm_model.specs.Actors.{is_stateless, permits}
 use Rattle.ffm_model.specs.State.{SpmState}
 use Rattle.ffm_model.specs.Names.{calls_stateless, message_capacity}
-use Rattle.ffm_model.specs.WellFormed.{is_well_formed, budget_before, budgets_fit, each_pair}
+use Rattle.ffm_model.proofs.WellFormedLemmas.{budgets_between_actors}
 use Rattle.counting_law.specs.Objects.{ObjectsFit, called_by, is_awaited, message_marked, wrongly_called}
 use Rattle.counting_law.proofs.Counts.{bit, count-cons, count-found, count-le, count-push, find-passes, some-found}
 use Rattle.counting_law.proofs.Parts.{equal_from, left_true, right_true, and_on}
@@ -28,13 +28,6 @@ all-at {X = X} p (y ∷ ys) q x all f =
     elim [ true ↦ λ g. let it : y ≡ x = cc in ap p (sym it) ∙ left_true (p y) (list_all p ys) all | false ↦ λ g. all-at p ys q x (right_true (p y) (list_all p ys) all) g ] in
     go (q y) f
 
-budgets-there : (s : System)
-    → list_all (λ (b : Budget). nat_lt b.client.0 (length s.partitions + length s.clients) && option_map_or (λ v. not (v.owner == b.client.0)) (slice_get s.services b.service) false) s.budgets ≡ true
-unfolding is_well_formed
-budgets-there s =
-    left_true _ (each_pair budget_before s.budgets) (left_true _ (nat_le (sum_by (λ b. b.count) s.budgets) 256)
-    (right_true _ (budgets_fit (length s.partitions + length s.clients) s.services s.budgets) s.well_formed))
-
 -- the budget of a permitted pair
 budget-there : (s : System) (a v : ℕ) → permits s a v ≡ true → (b : Budget) × (find (λ c. (c.client.0 == a) && (c.service == v)) s.budgets ≡ Some b)
 budget-there s a v e =
@@ -45,7 +38,7 @@ permitted-there : (s : System) (a v : ℕ) → permits s a v ≡ true → nat_lt
 permitted-there s a v e =
     let it = budget-there s a v e in
     let own : it.0.client.0 ≡ a = equal_from it.0.client.0 a (left_true _ _ (find-passes (λ c. (c.client.0 == a) && (c.service == v)) s.budgets it.0 it.1)) in
-    let low : nat_lt it.0.client.0 (length s.partitions + length s.clients) ≡ true = left_true _ _ (all-at _ s.budgets _ it.0 (budgets-there s) it.1) in
+    let low : nat_lt it.0.client.0 (length s.partitions + length s.clients) ≡ true = left_true _ _ (all-at _ s.budgets _ it.0 (budgets_between_actors s) it.1) in
     ap (λ k. nat_lt k (length s.partitions + length s.clients)) (sym own) ∙ low
 
 count-any : {X : Type 0} (p : X → Bool) (xs : List X) → 1 ≤ count_by p xs → list_any p xs ≡ true

@@ -28,7 +28,8 @@ use Rattle.ffm_model.specs.State.{SpmState, State, handle_eq, phase_of, with_pha
 use Rattle.ffm_model.specs.Signals.{enabled, can_go_on, may_resume, signals_of, has_signal_of, assigned_to}
 use Rattle.ffm_model.specs.Panic.{panic_effect}
 use Rattle.ffm_model.specs.ClientCalls.{Move, Effect, move, in_state, psa_connect, psa_call, psa_close, connect_to, connect_issued, connection_called, service_called, call_on, call_to, close_on, is_service_panicked, refuses_requests, is_busy, returned, takes_version}
-use Rattle.ffm_model.specs.ServiceCalls.{psa_wait, psa_get, psa_reply, psa_skip, psa_read, psa_write, psa_set_rhandle, request_held, message_size, get_of, reply_of, replied, owes_panic, skip_of, read_of, write_of, rest_of, output_at, service_of_signal, source_of_signal, is_connect_status}
+use Rattle.ffm_model.specs.ServiceCalls.{psa_wait, psa_get, psa_reply, psa_skip, psa_read, psa_write, psa_set_rhandle, request_held, message_size, get_of, reply_of, replied, owes_panic, skip_of, read_of, write_of, rest_of, output_at, service_of_signal, is_connect_status}
+use Rattle.ffm_model.specs.SignalCalls.{source_of_signal}
 use Rattle.ffm_model.specs.Calls.{call_case}
 use Rattle.ffm_model.specs.Step.{may_call, returns_when_due, gives_handle}
 use Rattle.counting_law.specs.Objects.{allowed}
@@ -98,7 +99,7 @@ connect-kind s b given a i d Q k running =
     go (is_service_panicked s b i) (in_use b a i == allowed s a i) refl
 
 -- a move of the state, where there is one
-abbrev IfMoved : (Outcome → SpmState → List Handle → Type 0) → List Handle → Option Move → Type 0
+abbrev pub IfMoved : (Outcome → SpmState → List Handle → Type 0) → List Handle → Option Move → Type 0
 IfMoved Q given None = Unit {0}
 IfMoved Q given (Some m) = Q m.outcome m.spm given
 
@@ -106,7 +107,7 @@ moved : (st : State) (Q : Outcome → SpmState → List Handle → Type 0) (o : 
 moved st Q None h = tt
 moved st Q (Some m) h = h
 
-connects : (s : System) (b : SpmState) (given : List Handle) (a : ℕ) (sid : Sid) (version : ℕ) (d : Call) (Q : Outcome → SpmState → List Handle → Type 0) → EachKind s b given a d Q → phase_of b a ≡ Running
+pub connects : (s : System) (b : SpmState) (given : List Handle) (a : ℕ) (sid : Sid) (version : ℕ) (d : Call) (Q : Outcome → SpmState → List Handle → Type 0) → EachKind s b given a d Q → phase_of b a ≡ Running
     → IfMoved Q given (psa_connect s b a sid version)
 connects s b given a sid version d Q k running =
     elim (service_at s sid) as (λ (o : Option ℕ). IfMoved Q given (option_and_then (λ i. if permits s a i && (not (is_stateless s i) && takes_version s i version) then Some (connect_to s b a i) else None) o)) [
@@ -190,7 +191,7 @@ by_index s st a index kind in_vec in_len out_vec out_len d Q k running =
     ] in
     go _ refl
 
-calls : (s : System) (st : State) (a : ℕ) (h : Handle) (kind : ℤ) (in_vec in_len out_vec out_len : ℕ) (d : Call) (Q : Outcome → SpmState → List Handle → Type 0) → EachKind s st.spm st.handles_given a d Q → phase_of st.spm a ≡ Running
+pub calls : (s : System) (st : State) (a : ℕ) (h : Handle) (kind : ℤ) (in_vec in_len out_vec out_len : ℕ) (d : Call) (Q : Outcome → SpmState → List Handle → Type 0) → EachKind s st.spm st.handles_given a d Q → phase_of st.spm a ≡ Running
     → IfMoved Q st.handles_given (psa_call s st a h kind in_vec in_len out_vec out_len)
 calls s st a h kind in_vec in_len out_vec out_len d Q k running =
     elim (stateless_index h) as (λ (o : Option ℕ). IfMoved Q st.handles_given (option_map_or (λ index. service_called s st a index kind in_vec in_len out_vec out_len) o (connection_called s st a h kind in_vec in_len out_vec out_len))) [
@@ -199,7 +200,7 @@ calls s st a h kind in_vec in_len out_vec out_len d Q k running =
     ]
 
 -- psa_close
-closes : (s : System) (b : SpmState) (given : List Handle) (a : ℕ) (h : Handle) (d : Call) (Q : Outcome → SpmState → List Handle → Type 0) → EachKind s b given a d Q → phase_of b a ≡ Running → IfMoved Q given (psa_close b a h)
+pub closes : (s : System) (b : SpmState) (given : List Handle) (a : ℕ) (h : Handle) (d : Call) (Q : Outcome → SpmState → List Handle → Type 0) → EachKind s b given a d Q → phase_of b a ≡ Running → IfMoved Q given (psa_close b a h)
 closes s b given a h d Q k running =
     let go : (x : Bool) (o : Option OpenConnection) → connection_held b a h ≡ o → IfMoved Q given (if x then Some (move outcome.Done b) else option_and_then (λ c. if is_busy c.phase then None else Some (close_on b a c)) o) =
     elim [

@@ -24,8 +24,8 @@ use Rattle.ffm_model.specs.State.{SpmState, State, fresh, handle_eq, handle_put,
 use Rattle.ffm_model.specs.ServiceCalls.{service_of_signal}
 use Rattle.ffm_model.specs.Calls.{programmer_error}
 use Rattle.ffm_model.specs.Step.{handle_shown, outcome_eq}
-use Rattle.ffm_model.specs.WellFormed.{is_well_formed}
 use Rattle.ffm_model.proofs.ActorLemmas.{few_partitions, few_clients}
+use Rattle.ffm_model.proofs.WellFormedLemmas.{few_connections}
 use Rattle.ffm_model.specs.Names.{NamedState, NamesSoFar, SlotName, calls_stateless, capacity, message_capacity, first_named, name_at_return, name_due, name_of, named_after, named_step, names_after, no_slot, shows_name, slots_kept, stays, with_connection, with_messages}
 use Rattle.counting_law.specs.Objects.{PhaseFits, RisesTo, is_joining, is_opening, accepted_as, awaited_by, asked_by}
 use Rattle.counting_law.specs.Takes.{TakesFew, last_generation}
@@ -49,10 +49,7 @@ use Rattle.counting_law.proofs.NameLemmas.{get-made, get-shows, names-still, res
 -- ---- at most 256 connections are declared, and at most 48 partitions and clients call
 
 pub capacity_le : (s : System) → capacity s ≤ 256
-unfolding is_well_formed
-capacity_le s =
-    let test : nat_le (capacity s) 256 ≡ true = right_true _ _ (right_true _ _ s.well_formed) in
-    grind (arith, nat_tests)
+capacity_le s = few_connections s
 
 pub message_capacity_le : (s : System) → message_capacity s ≤ 512
 message_capacity_le s =

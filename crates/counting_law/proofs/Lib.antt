@@ -16,6 +16,7 @@ pub mod Keeps
 pub mod Runs
 pub mod Pairs
 pub mod Rooms
+pub mod CallsFit
 pub mod Turns
 pub mod Returns
 pub mod Takes

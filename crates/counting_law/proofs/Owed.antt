@@ -17,7 +17,7 @@ use Rattle.ffm_model.specs.Panic.{panic_effect, clients_answered, callers_answer
 use Rattle.ffm_model.specs.ServiceCalls.{connect_answered, close_answered, with_request_phase, replied, owes_panic}
 use Rattle.counting_law.proofs.Reply.{settled, not_negative}
 
-set-twice : (xs : List ActorPhase) (i : ℕ) (x y : ActorPhase) → slice_set (slice_set xs i x) i y ≡ slice_set xs i y
+pub set-twice : (xs : List ActorPhase) (i : ℕ) (x y : ActorPhase) → slice_set (slice_set xs i x) i y ≡ slice_set xs i y
 set-twice [] i x y = refl
 set-twice (z ∷ zs) zero x y = refl
 set-twice (z ∷ zs) (suc i) x y = ap (λ (ws : List ActorPhase). z ∷ ws) (set-twice zs i x y)

@@ -1,6 +1,6 @@
 -- A worked state: one client opens a connection, and then another, in a system that declares two.
 -- Source: this simulator's; RAM of partitions lies from 0x30000000 on, non-secure RAM from 0x20000000 on.
-use Rattle.std.specs.Prelude.{ℕ, pos, ◌≡◌, true, List, [], ◌∷◌, ◌++◌, Option, refl, codes, replicate, map}
+use Rattle.std.specs.Prelude.{ℕ, pos, ◌≡◌, true, false, List, [], ◌∷◌, ◌++◌, Option, refl, codes, replicate, map}
 use Rattle.std.specs.Option.{option_map}
 use Rattle.ffm_model.specs.declared.constants.TheConstants.{PSA_IPC_CONNECT, PSA_SUCCESS}
 use Rattle.ffm_model.specs.declared.system.System.{System}
@@ -27,10 +27,10 @@ use Rattle.ffm_model.specs.ClientCalls.{connect_issued}
 use Rattle.ffm_model.specs.WellFormed.{is_well_formed}
 
 abbrev vault_partitions : List Partition
-vault_partitions = record { name = codes "VAULT"; rot = ApplicationRot; priority = Normal; domain = 1; ram = 0 } ∷ []
+vault_partitions = record { name = codes "VAULT"; rot = ApplicationRot; priority = Normal; domain = 1; ram = 0; sfn = false; heap = 0 } ∷ []
 
 abbrev vault_services : List Service
-vault_services = record { name = codes "VAULT"; sid = record { 0 = 0x40 }; owner = 0; nonsecure = true; version = 1; policy = Strict; signal = 0x10; stateless = 0 } ∷ []
+vault_services = record { name = codes "VAULT"; sid = record { 0 = 0x40 }; owner = 0; nonsecure = true; version = 1; policy = Strict; signal = 0x10; stateless = 0; mm = false } ∷ []
 
 abbrev vault_regions : List Region
 vault_regions = record { base = 0x30000000; size = 0x400; class = Ram 1 } ∷ record { base = 0x20000000; size = 0x10000; class = NonSecure } ∷ []

@@ -4,7 +4,7 @@ use Rattle.std.specs.Prelude.{slice_get}
 use Rattle.std.specs.Option.{option_map_or}
 use Rattle.ffm_model.specs.declared.system.System.{System}
 use Rattle.ffm_model.specs.declared.system.Source.{Source}
-use Rattle.ffm_model.specs.ServiceCalls.{has_flih}
+use Rattle.ffm_model.specs.SignalCalls.{has_flih}
 use Rattle.spm_tables.specs.declared.signals.OwnedSignal.{OwnedSignal}
 use Rattle.spm_tables.specs.TablesView.{TablesView, MadeFor, Shape, handling, source_signal}
 

@@ -1,3 +1,2 @@
 mod NameLemmas
-mod SourceLemmas
 pub mod HandlingLemmas

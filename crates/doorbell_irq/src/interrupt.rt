@@ -1,11 +1,13 @@
 //! The interrupt sources: what the device raises, and what a partition enables, disables and ends. A source's number is its place
 //! in the system's list, counted from 0, and a signal is the source's bit.
-ghost use Rattle.std.specs.Prelude.{◌≡◌, ◌≤◌, ◌<◌, ◌==◌, ◌&&◌, true, false, length, position, slice_set, Some, if◌then◌else◌};
+ghost use Rattle.std.specs.Prelude.{◌≡◌, ℕ, All, List, ◌≤◌, ◌<◌, ◌==◌, ◌&&◌, true, false, length, position, slice_set, Some, if◌then◌else◌};
 ghost use Rattle.ffm_model.specs.declared.machine.Outcome.TheVariants as outcome;
 ghost use Rattle.ffm_model.specs.declared.system.System.{System as SystemSeen};
 ghost use Rattle.ffm_model.specs.Accesses.{fire, interrupted, raise};
 ghost use Rattle.ffm_model.specs.ClientCalls.{move};
-ghost use Rattle.ffm_model.specs.ServiceCalls.{forwarded, has_flih, psa_eoi, psa_irq_disable, psa_irq_enable, psa_reset_signal, source_of_signal, with_forwarded};
+ghost use Rattle.ffm_model.specs.SignalCalls.{forwarded, has_flih, psa_eoi, psa_irq_disable, psa_irq_enable, psa_reset_signal, source_of_signal, with_forwarded};
+ghost use Rattle.counting_law.specs.Objects.{ObjectsFit};
+ghost use Rattle.message_vectors.specs.Vectors.{AreWithin};
 ghost use Rattle.slot_names.specs.Named.{KeepsNames};
 ghost use Rattle.spm_tables.specs.Answers.{Answers};
 ghost use Rattle.spm_tables.specs.TablesView.{MadeFor, handling, shape_of, spm_of};
@@ -63,6 +65,8 @@ fn put_forwarded(tables: &mut Tables, source: u32, flags: SourceFlags)
     ensures after { tables.new ≡ record tables.old { flags = slice_set tables.old.flags source (forwarded (handling tables.old source) flags) } }
     ensures shape { shape_of tables.new ≡ shape_of tables.old }
     ensures names { (s : SystemSeen) → MadeFor tables.old s → KeepsNames s tables.old tables.new }
+    ensures fits { (s : SystemSeen) → ObjectsFit s (spm_of tables.old) → ObjectsFit s (spm_of tables.new) }
+    ensures within { (ranges : List (ℕ × ℕ)) → All (λ m. AreWithin ranges m.vectors) (spm_of tables.old).messages → All (λ m. AreWithin ranges m.vectors) (spm_of tables.new).messages }
 {
     let flih = tables.has_flih(source);
     tables.set_source_flags(source, forwarded(flih, flags));
@@ -73,6 +77,8 @@ fn interrupt(tables: &mut Tables, source: u32)
     ensures answer { (s : SystemSeen) → MadeFor tables.old s → spm_of tables.new ≡ interrupted s (spm_of tables.old) source }
     ensures shape { shape_of tables.new ≡ shape_of tables.old }
     ensures names { (s : SystemSeen) → MadeFor tables.old s → KeepsNames s tables.old tables.new }
+    ensures fits { (s : SystemSeen) → ObjectsFit s (spm_of tables.old) → ObjectsFit s (spm_of tables.new) }
+    ensures within { (ranges : List (ℕ × ℕ)) → All (λ m. AreWithin ranges m.vectors) (spm_of tables.old).messages → All (λ m. AreWithin ranges m.vectors) (spm_of tables.new).messages }
 {
     let pending = SourceFlags {
         pending: true,
@@ -89,6 +95,8 @@ pub fn raise(tables: &mut Tables, source: u32)
     ensures answer { (s : SystemSeen) → MadeFor tables.old s → raise s (spm_of tables.old) source ≡ Some (move outcome.Done (spm_of tables.new)) }
     ensures shape { shape_of tables.new ≡ shape_of tables.old }
     ensures names { (s : SystemSeen) → MadeFor tables.old s → KeepsNames s tables.old tables.new }
+    ensures fits { (s : SystemSeen) → ObjectsFit s (spm_of tables.old) → ObjectsFit s (spm_of tables.new) }
+    ensures within { (ranges : List (ℕ × ℕ)) → All (λ m. AreWithin ranges m.vectors) (spm_of tables.old).messages → All (λ m. AreWithin ranges m.vectors) (spm_of tables.new).messages }
 {
     interrupt(tables, source);
 }
@@ -103,6 +111,8 @@ pub fn fire(tables: &mut Tables, source: u32, answer: u32)
     ensures answer { (s : SystemSeen) → MadeFor tables.old s → fire s (spm_of tables.old) source answer ≡ Some (move outcome.Done (spm_of tables.new)) }
     ensures shape { shape_of tables.new ≡ shape_of tables.old }
     ensures names { (s : SystemSeen) → MadeFor tables.old s → KeepsNames s tables.old tables.new }
+    ensures fits { (s : SystemSeen) → ObjectsFit s (spm_of tables.old) → ObjectsFit s (spm_of tables.new) }
+    ensures within { (ranges : List (ℕ × ℕ)) → All (λ m. AreWithin ranges m.vectors) (spm_of tables.old).messages → All (λ m. AreWithin ranges m.vectors) (spm_of tables.new).messages }
 {
     if answer == 1 {
         interrupt(tables, source);
@@ -117,6 +127,8 @@ pub fn eoi(system: &System, tables: &mut Tables, actor: ActorId, signal: u32) ->
     ensures answer { Answers (λ _. outcome.Done) (psa_eoi system.now (spm_of tables.old) actor.0 signal) tables.old result tables.new }
     ensures shape { shape_of tables.new ≡ shape_of tables.old }
     ensures names { (s : SystemSeen) → MadeFor tables.old s → KeepsNames s tables.old tables.new }
+    ensures fits { (s : SystemSeen) → ObjectsFit s (spm_of tables.old) → ObjectsFit s (spm_of tables.new) }
+    ensures within { (ranges : List (ℕ × ℕ)) → All (λ m. AreWithin ranges m.vectors) (spm_of tables.old).messages → All (λ m. AreWithin ranges m.vectors) (spm_of tables.new).messages }
 {
     let source = source_of_signal(system, actor, signal).ok_or(Fault)?;
     let flags = tables.source_flags(source);
@@ -139,6 +151,8 @@ pub fn reset(system: &System, tables: &mut Tables, actor: ActorId, signal: u32) 
     ensures answer { Answers (λ _. outcome.Done) (psa_reset_signal system.now (spm_of tables.old) actor.0 signal) tables.old result tables.new }
     ensures shape { shape_of tables.new ≡ shape_of tables.old }
     ensures names { (s : SystemSeen) → MadeFor tables.old s → KeepsNames s tables.old tables.new }
+    ensures fits { (s : SystemSeen) → ObjectsFit s (spm_of tables.old) → ObjectsFit s (spm_of tables.new) }
+    ensures within { (ranges : List (ℕ × ℕ)) → All (λ m. AreWithin ranges m.vectors) (spm_of tables.old).messages → All (λ m. AreWithin ranges m.vectors) (spm_of tables.new).messages }
 {
     let source = source_of_signal(system, actor, signal).ok_or(Fault)?;
     let flags = tables.source_flags(source);
@@ -166,6 +180,8 @@ pub fn enable(
     ensures answer { Answers (λ _. outcome.Done) (psa_irq_enable system.now (spm_of tables.old) actor.0 signal) tables.old result tables.new }
     ensures shape { shape_of tables.new ≡ shape_of tables.old }
     ensures names { (s : SystemSeen) → MadeFor tables.old s → KeepsNames s tables.old tables.new }
+    ensures fits { (s : SystemSeen) → ObjectsFit s (spm_of tables.old) → ObjectsFit s (spm_of tables.new) }
+    ensures within { (ranges : List (ℕ × ℕ)) → All (λ m. AreWithin ranges m.vectors) (spm_of tables.old).messages → All (λ m. AreWithin ranges m.vectors) (spm_of tables.new).messages }
 {
     let source = source_of_signal(system, actor, signal).ok_or(Fault)?;
     let enabled = SourceFlags {
@@ -189,6 +205,8 @@ pub fn disable(
     ensures answer { Answers (λ was. outcome.Number was) (psa_irq_disable system.now (spm_of tables.old) actor.0 signal) tables.old result tables.new }
     ensures shape { shape_of tables.new ≡ shape_of tables.old }
     ensures names { (s : SystemSeen) → MadeFor tables.old s → KeepsNames s tables.old tables.new }
+    ensures fits { (s : SystemSeen) → ObjectsFit s (spm_of tables.old) → ObjectsFit s (spm_of tables.new) }
+    ensures within { (ranges : List (ℕ × ℕ)) → All (λ m. AreWithin ranges m.vectors) (spm_of tables.old).messages → All (λ m. AreWithin ranges m.vectors) (spm_of tables.new).messages }
 {
     let source = source_of_signal(system, actor, signal).ok_or(Fault)?;
     let flags = tables.source_flags(source);

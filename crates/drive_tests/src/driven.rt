@@ -4,7 +4,7 @@ ghost use Rattle.drive_tests.specs.declared.alone.Alone.{Alone};
 ghost use Rattle.partition_sim.specs.Workers.{IsFresh};
 
 use crate::alone::{Alone, Book, Log};
-use ffm_model::{ActorId, ActorKind, Call, List, Name, Script, Sid};
+use ffm_model::{ActorId, ActorKind, Call, List, Name, PSA_BLOCK, Script, Sid};
 use partition_sim::{Runner, Worker, drive};
 use script_asm::assemble;
 use std::alloc::Global;
@@ -48,7 +48,7 @@ fn two_actors(rt: HostRuntime) -> Result<(), Fail> {
     assert_eq!(rt; book.digits(), 112112221314);
     let wait = Call::Wait {
         mask: 1,
-        timeout: 0x8000_0000,
+        timeout: PSA_BLOCK,
     };
     let first = [version(), wait, Call::Resume, STOP];
     let second = [version(), STOP];

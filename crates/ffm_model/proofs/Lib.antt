@@ -1,5 +1,9 @@
+pub mod WellFormedLemmas
 pub mod ActorLemmas
 pub mod PartsLemmas
 pub mod ReadingLemmas
 pub mod StepLemmas
 pub mod RunLemmas
+pub mod BudgetLemmas
+pub mod SourceLemmas
+pub mod PanicLemmas

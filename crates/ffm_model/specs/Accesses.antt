@@ -1,12 +1,12 @@
 -- What the simulator adds to the two headers: loads and stores of an actor, and the interrupts that the device raises.
--- Source: FF-M 1.0, isolation and interrupts of partitions. Nothing where it is a PROGRAMMER ERROR.
+-- Source: FF-M 1.0, which memory a partition may access, and interrupts; FF-M 1.1 Extensions, first-level handlers. The calls are this profile's. Nothing where it is a PROGRAMMER ERROR.
 use Rattle.std.specs.Prelude.{ℕ, ◌==◌, nat_lt, nat_le, Bool, true, not, ◌&&◌, ◌||◌, if◌then◌else◌, Some, None, Option, length}
 use Rattle.ffm_model.specs.declared.system.System.{System}
 use Rattle.ffm_model.specs.declared.machine.Outcome.TheVariants.{Number, Done}
 use Rattle.ffm_model.specs.Memory.{load_number, store_number, may_read, may_write}
 use Rattle.ffm_model.specs.State.{SpmState, State, flags_at}
 use Rattle.ffm_model.specs.ClientCalls.{Move, Effect, move, effect}
-use Rattle.ffm_model.specs.ServiceCalls.{has_flih, with_forwarded}
+use Rattle.ffm_model.specs.SignalCalls.{has_flih, with_forwarded}
 
 abbrev pub is_access_size : ℕ → Bool
 is_access_size n = (n == 1) || ((n == 2) || (n == 4))

@@ -1,5 +1,5 @@
 -- Who the actors of a system are, which services they may use, and which versions of a service are accepted.
--- Source: FF-M 1.0, client IDs and RoT Service access (`psa/client.h`, `psa_connect` and `psa_version`; the manifest's `dependencies`, `non_secure_clients`, `version_policy`).
+-- Source: FF-M 1.0, client IDs and RoT Service access (`psa/client.h`, `psa_connect` and `psa_version`; the manifest's `dependencies`, `non_secure_clients`, `version_policy`); FF-M 1.1 Extensions, stateless RoT Services, with handles of this profile. The device and the numbers of connections are this profile's.
 use Rattle.std.specs.Prelude.{ℕ, ℤ, pos, negsuc, ◌+◌, ◌-◌, ◌==◌, nat_lt, nat_le, int_lt, int_le, Bool, true, false, not, ◌&&◌, if◌then◌else◌, List, [], ◌∷◌, length, Option, Some, None, position, find, is_some, slice_get}
 use Rattle.std.specs.Option.{option_map, option_map_or}
 use Rattle.std.specs.Int.{w32, cast_unsigned}

@@ -1,8 +1,9 @@
 -- The language in which the files' tables are written: what a JSON tree stands for, attribute by attribute, or the first
 -- refusal with the place of what is wrong, counted from that tree.
 -- Source: the tables of this simulator's files.
-use Rattle.std.specs.Prelude.{ℕ, ◌+◌, ◌^◌, List, [], ◌∷◌, ◌++◌, Bool, Option, Some, None, option_and_then, Result, Ok, Err, nat_lt, nat_le, is_some, ⊤, if◌then◌else◌}
+use Rattle.std.specs.Prelude.{ℕ, ◌+◌, ◌^◌, ◌==◌, List, [], ◌∷◌, ◌++◌, Bool, ◌&&◌, Option, Some, None, option_and_then, Result, Ok, Err, nat_lt, nat_le, is_some, ⊤, if◌then◌else◌}
 use Rattle.serde_json.specs.Data.{Data, Items, no_items, item}
+use Rattle.serde_json.specs.Events.{items_len}
 use Rattle.serde_json.specs.Find.{get, as_bool, as_number, as_u64, as_str, as_array, as_object}
 use Rattle.ffm_model.specs.declared.codes.TheConstants.{MISSING_ATTRIBUTE, WRONG_TYPE, BAD_VALUE}
 use Rattle.ffm_model.specs.declared.key.Key.{Key}
@@ -70,6 +71,28 @@ list_after read d = do
 abbrev pub list_of : {A : Type 0} → (Data → Result A PartRefusal) → Data → Result (List A) PartRefusal
 list_of read = list_after (λ front. read)
 
+-- the items of a list of at most so many: a longer one is refused before any item is read
+abbrev pub items_up_to : ℕ → Data → Result Items PartRefusal
+items_up_to most d = do
+  ds ← or_refuse WRONG_TYPE (as_array d)
+  if nat_lt most (items_len ds) then refuse BAD_VALUE else Ok ds
+
+unfoldable pub list_up_to : {A : Type 0} → ℕ → (Data → Result A PartRefusal) → Data → Result (List A) PartRefusal
+list_up_to most read d = do
+  items ← items_up_to most d
+  list_of read d
+
+-- the items of a list that has one: an empty one is refused
+abbrev pub some_items : Data → Result Items PartRefusal
+some_items d = do
+  ds ← or_refuse WRONG_TYPE (as_array d)
+  if items_len ds == 0 then refuse BAD_VALUE else Ok ds
+
+unfoldable pub list_of_some : {A : Type 0} → (Data → Result A PartRefusal) → Data → Result (List A) PartRefusal
+list_of_some read d = do
+  items ← some_items d
+  list_of read d
+
 -- ---- values: one of another kind is of a wrong type, and one outside its range is a bad value
 
 abbrev pub text_as : {A : Type 0} → (List ℕ → Option A) → Data → Result A PartRefusal
@@ -95,6 +118,14 @@ number_from None None = refuse WRONG_TYPE
 -- a whole number below 2 ^ 32, or a text of `0x` and hexadecimal digits
 unfoldable pub number_of : Data → Result ℕ PartRefusal
 number_of d = number_from (whole d) (as_str d)
+
+abbrev pub whole_from : ℕ → ℕ → Option ℕ → Result ℕ PartRefusal
+whole_from least most (Some n) = if nat_le least n && nat_le n most then Ok n else refuse BAD_VALUE
+whole_from least most None = refuse WRONG_TYPE
+
+-- a whole number between two others, both allowed
+unfoldable pub whole_between : ℕ → ℕ → Data → Result ℕ PartRefusal
+whole_between least most d = whole_from least most (whole d)
 
 -- refused where it is no object
 unfoldable pub object_of : Data → Result ⊤ PartRefusal

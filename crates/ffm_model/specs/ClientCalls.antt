@@ -19,6 +19,7 @@ use Rattle.ffm_model.specs.Memory.{vectors_of, no_vectors}
 use Rattle.ffm_model.specs.State.{SpmState, State, phase_of, with_phase, connection_held, in_use, with_connection_phase, with_connection_handle, without_connection, with_message, with_request}
 use Rattle.ffm_model.specs.Signals.{signals_of, is_panicked}
 use Rattle.ffm_model.specs.Panic.{is_dead}
+use Rattle.ffm_model.specs.Binding.{◌>>=◌}
 
 -- an outcome, and the state behind it of all but memory and the handles of the past
 pub record Move : Type 0 where
@@ -73,7 +74,9 @@ connect_to s b a service =
 
 -- a PROGRAMMER ERROR where no service has the SID, it is stateless, the caller may not use it, or the version doesn't fit
 abbrev pub psa_connect : System → SpmState → ℕ → Sid → ℕ → Option Move
-psa_connect s b a sid asked = option_and_then (λ i. if permits s a i && (not (is_stateless s i) && takes_version s i asked) then Some (connect_to s b a i) else None) (service_at s sid)
+psa_connect s b a sid asked = do
+  service ← service_at s sid
+  if permits s a service && (not (is_stateless s service) && takes_version s service asked) then Some (connect_to s b a service) else None
 
 -- ---- psa_call()
 
@@ -91,9 +94,10 @@ call_on b a c kind v =
 
 -- a PROGRAMMER ERROR where the handle isn't the caller's, the connection can't take a request, the kind is negative or the vectors are wrong
 abbrev pub connection_called : System → State → ℕ → Handle → ℤ → ℕ → ℕ → ℕ → ℕ → Option Move
-connection_called s st a h kind in_vec in_len out_vec out_len =
-    option_and_then (λ c. option_and_then (λ v. if refuses_requests c.phase || int_lt kind (pos 0) then None else Some (call_on st.spm a c kind v))
-    (vectors_of s st.memory a in_vec in_len out_vec out_len)) (connection_held st.spm a h)
+connection_called s st a h kind in_vec in_len out_vec out_len = do
+  connection ← connection_held st.spm a h
+  vectors ← vectors_of s st.memory a in_vec in_len out_vec out_len
+  if refuses_requests connection.phase || int_lt kind (pos 0) then None else Some (call_on st.spm a connection kind vectors)
 
 abbrev pub call_to : System → SpmState → ℕ → ℕ → ℤ → Vectors → Move
 call_to s b a service kind v =
@@ -103,9 +107,10 @@ call_to s b a service kind v =
 
 -- a PROGRAMMER ERROR where no stateless service has the index, the caller may not use it, the kind is negative or the vectors are wrong
 abbrev pub service_called : System → State → ℕ → ℕ → ℤ → ℕ → ℕ → ℕ → ℕ → Option Move
-service_called s st a index kind in_vec in_len out_vec out_len =
-    option_and_then (λ i. option_and_then (λ v. if permits s a i && not (int_lt kind (pos 0)) then Some (call_to s st.spm a i kind v) else None)
-    (vectors_of s st.memory a in_vec in_len out_vec out_len)) (stateless_at s index)
+service_called s st a index kind in_vec in_len out_vec out_len = do
+  service ← stateless_at s index
+  vectors ← vectors_of s st.memory a in_vec in_len out_vec out_len
+  if permits s a service && not (int_lt kind (pos 0)) then Some (call_to s st.spm a service kind vectors) else None
 
 -- by a stateless handle, or on a connection
 abbrev pub psa_call : System → State → ℕ → Handle → ℤ → ℕ → ℕ → ℕ → ℕ → Option Move
@@ -129,7 +134,9 @@ abbrev pub psa_close : SpmState → ℕ → Handle → Option Move
 psa_close b a h =
     if int_eq h.0 PSA_NULL_HANDLE
     then Some (move Done b)
-    else option_and_then (λ c. if is_busy c.phase then None else Some (close_on b a c)) (connection_held b a h)
+    else (do
+      connection ← connection_held b a h
+      if is_busy connection.phase then None else Some (close_on b a connection))
 
 -- ---- the return of psa_connect(), psa_call(), psa_close() and psa_wait(); never a PROGRAMMER ERROR
 

@@ -1,3 +1,4 @@
+pub mod Signed
 pub mod Items
 pub mod Lending
 pub mod Keys
@@ -9,12 +10,15 @@ pub mod ScriptRuns
 pub mod WellFormed
 pub mod Parts
 pub mod Actors
+pub mod Groups
 pub mod Memory
 pub mod State
 pub mod Signals
 pub mod Panic
+pub mod Binding
 pub mod ClientCalls
 pub mod ServiceCalls
+pub mod SignalCalls
 pub mod Accesses
 pub mod Calls
 pub mod Step
@@ -42,3 +46,11 @@ pub mod Permissions
 pub mod Rules
 pub mod Compiled
 pub mod Listing
+pub mod SfnScripts
+pub mod Functions
+pub mod PartitionRam
+pub mod SfnRuns
+pub mod Held
+pub mod HeldPlans
+pub mod Contexts
+pub mod Restarts

@@ -1,9 +1,10 @@
 -- The text that lists a compiled system: its partitions with their services, interrupts and regions, its clients, and who may connect to what.
--- Source: this simulator's; the values are those of the manifests of FF-M 1.0.
-use Rattle.std.specs.Prelude.{ℕ, ◌+◌, ◌==◌, Bool, true, false, if◌then◌else◌, List, [], ◌∷◌, ◌++◌, length, map, filter, slice_get, codes}
+-- Source: this simulator's; the values are those of the manifests of FF-M 1.0 and 1.1.
+use Rattle.std.specs.Prelude.{ℕ, ◌+◌, ◌==◌, Bool, true, false, not, ◌&&◌, if◌then◌else◌, List, [], ◌∷◌, ◌++◌, length, map, filter, slice_get, codes}
 use Rattle.std.specs.Fmt.{decimal, signed_decimal}
 use Rattle.std.specs.List.{flat_map, enumerate_from}
 use Rattle.std.specs.Option.{option_map_or}
+use Rattle.ffm_model.specs.declared.constants.TheConstants.{STATELESS_BASE}
 use Rattle.ffm_model.specs.declared.system.System.{System}
 use Rattle.ffm_model.specs.declared.system.Partition.{Partition}
 use Rattle.ffm_model.specs.declared.system.Service.{Service}
@@ -18,7 +19,7 @@ use Rattle.ffm_model.specs.declared.system.Priority.{Priority}
 use Rattle.ffm_model.specs.declared.system.Priority.TheVariants.{Low, Normal, High}
 use Rattle.ffm_model.specs.declared.system.Policy.{Policy}
 use Rattle.ffm_model.specs.declared.system.Policy.TheVariants.{Strict, Relaxed}
-use Rattle.ffm_model.specs.Actors.{client_id_of}
+use Rattle.ffm_model.specs.Actors.{client_id_of, is_stateless}
 use Rattle.ffm_model.specs.Names.{capacity}
 use Rattle.ffm_model.specs.TraceText.{Word, hexadecimal_word, spaced, line}
 
@@ -68,15 +69,31 @@ partition_words k p = decimal (k + 1) ∷ p.name ∷ rot_word p.rot ∷ priority
 unfoldable pub partition_line : System → ℕ → Partition → List ℕ
 partition_line s k p = line_of (codes "partition") (partition_words k p ++ option_map_or range_words (slice_get s.regions p.ram) [])
 
--- `service NAME sid SID version V POLICY nonsecure yes|no signal S`
-unfoldable pub service_line : Service → List ℕ
-service_line v =
-    line_of (codes "service")
-    (v.name ∷ codes "sid" ∷ hexadecimal_word v.sid.0 ∷ codes "version" ∷ decimal v.version ∷ policy_word v.policy ∷ codes "nonsecure" ∷ yes_or_no v.nonsecure ∷ codes "signal" ∷ hexadecimal_word v.signal ∷ [])
+-- `NAME sid SID version V POLICY nonsecure yes|no signal S`
+unfoldable pub service_words : Service → List Word
+service_words v =
+    v.name ∷ codes "sid" ∷ hexadecimal_word v.sid.0 ∷ codes "version" ∷ decimal v.version ∷ policy_word v.policy ∷ codes "nonsecure" ∷ yes_or_no v.nonsecure ∷ codes "signal" ∷ hexadecimal_word v.signal ∷ []
 
--- `irq SOURCE SIGNALNAME S`
+-- `handle H`, for a stateless service
+abbrev pub handle_words : Service → List Word
+handle_words v = if v.stateless == 0 then [] else codes "handle" ∷ hexadecimal_word (STATELESS_BASE + v.stateless) ∷ []
+
+-- `service NAME sid SID version V POLICY nonsecure yes|no signal S`, and the handle of a stateless service
+unfoldable pub service_line : Service → List ℕ
+service_line v = line_of (codes "service") (service_words v ++ handle_words v)
+
+-- whether a source has a first-level handler
+abbrev pub handling_word : Bool → Word
+handling_word true = codes "FLIH"
+handling_word false = codes "SLIH"
+
+-- `FLIH` or `SLIH`, for a source that isn't of version 1.0: it has a first-level handler or starts disabled
+abbrev pub handling_words : Source → List Word
+handling_words v = if v.enabled && not v.flih then [] else handling_word v.flih ∷ []
+
+-- `irq SOURCE SIGNALNAME S`, and the handling of a source of version 1.1
 unfoldable pub source_line : Source → List ℕ
-source_line v = line_of (codes "irq") (v.name ∷ v.signal_name ∷ hexadecimal_word v.signal ∷ [])
+source_line v = line_of (codes "irq") ((v.name ∷ v.signal_name ∷ hexadecimal_word v.signal ∷ []) ++ handling_words v)
 
 -- `mmio BASE SIZE PERMISSION`, for a region of the k-th partition
 unfoldable pub mmio_line : ℕ → Region → Class → List ℕ
@@ -108,9 +125,12 @@ actor_name s a = option_map_or (λ n. n) (slice_get (map (λ p. p.name) s.partit
 abbrev pub service_name : System → ℕ → List ℕ
 service_name s service = option_map_or (λ v. v.name) (slice_get s.services service) []
 
--- `connections CLIENT SERVICE COUNT`
+-- `connections CLIENT SERVICE COUNT`, or `stateless CLIENT SERVICE`
 unfoldable pub budget_line : System → Budget → List ℕ
-budget_line s b = line_of (codes "connections") (actor_name s b.client.0 ∷ service_name s b.service ∷ decimal b.count ∷ [])
+budget_line s b =
+    if is_stateless s b.service
+    then line_of (codes "stateless") (actor_name s b.client.0 ∷ service_name s b.service ∷ [])
+    else line_of (codes "connections") (actor_name s b.client.0 ∷ service_name s b.service ∷ decimal b.count ∷ [])
 
 -- `admitted P partitions S services C connections`
 unfoldable pub admitted_line : ℕ → ℕ → ℕ → List ℕ

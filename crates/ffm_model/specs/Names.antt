@@ -74,7 +74,7 @@ is_same_connection _ _ = false
 abbrev pub is_same_message : PendingMessage → PendingMessage → Bool
 is_same_message m n = is_same_connection n.connection m.connection && ((n.client.0 == m.client.0) && int_eq n.kind m.kind)
 
--- whether the message is still there; a connection has at most one message at a time, and so has an actor without one
+-- whether the message is still there; a connection has at most one message at a time, and so has an actor without a connection
 abbrev pub stays : List PendingMessage → PendingMessage → Bool
 stays ms m = list_any (is_same_message m) ms
 

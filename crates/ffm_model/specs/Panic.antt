@@ -66,3 +66,31 @@ panic_effect s b p = record b {
   connections = filter_map (λ c. option_and_then (without_client p) (without_service s p c)) b.connections;
   messages = filter (λ m. not (is_service_of s p m.service)) b.messages ++ filter_map (λ c. option_and_then (disconnection p) (without_service s p c)) b.connections;
 }
+
+-- ---- the same, step by step
+
+-- 1: the partition is panicked, and stays so
+abbrev pub panicked_itself : ℕ → SpmState → SpmState
+panicked_itself p b = record b { phases = slice_set b.phases p Panicked }
+
+-- 2: the clients of connections to its services are answered, and these connections are dead or freed; so are the callers of requests without a connection
+abbrev pub clients_released : System → ℕ → SpmState → SpmState
+clients_released s p b = record b {
+  phases = callers_answered s p b.messages (clients_answered s p b.connections b.phases);
+  connections = filter_map (without_service s p) b.connections;
+}
+
+-- 3: all messages to its services are gone
+abbrev pub messages_dropped : System → ℕ → SpmState → SpmState
+messages_dropped s p b = record b { messages = filter (λ m. not (is_service_of s p m.service)) b.messages }
+
+-- 4: its own connections are freed where dead, and else closing, each with a message for which nobody waits
+abbrev pub connections_closed : ℕ → SpmState → SpmState
+connections_closed p b = record b {
+  connections = filter_map (without_client p) b.connections;
+  messages = b.messages ++ filter_map (disconnection p) b.connections;
+}
+
+-- the steps in their order; crate ffm_model proves that this is `panic_effect`
+abbrev pub panic_steps : System → SpmState → ℕ → SpmState
+panic_steps s b p = connections_closed p (messages_dropped s p (clients_released s p (panicked_itself p b)))

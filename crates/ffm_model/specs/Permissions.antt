@@ -1,5 +1,6 @@
 -- Which actors may use which services, and how many connections each may have.
--- Source: FF-M 1.0, a manifest's `dependencies` and `non_secure_clients`; the declared number of connections is this profile's.
+-- Source: FF-M 1.0, a manifest's `dependencies` and `non_secure_clients`, and FF-M 1.1, `connection_based`; the declared
+-- number of connections is this profile's.
 use Rattle.std.specs.Prelude.{ℕ, Bool, ◌&&◌, if◌then◌else◌, List, ◌++◌, length, Some, None, map, fold}
 use Rattle.std.specs.List.{list_any, filter_map, flat_map, enumerate_from}
 use Rattle.std.specs.Str.{bytes_eq}
@@ -12,17 +13,18 @@ use Rattle.ffm_model.specs.Layout.{Located, located_from}
 abbrev pub services_in : PartsRecord → List (Located ServiceRecord)
 services_in p = located_from (λ m. m.services) 0 p.manifests
 
--- an actor that may use a service, by their places and their names
+-- an actor that may use a service, by their places and their names, and whether it connects to it
 pub record Permitted : Type 0 where
   pub client : ℕ
   pub client_name : List ℕ
   pub service : ℕ
   pub service_name : List ℕ
+  pub connects : Bool
 
 -- the services that an actor may use, in order
 abbrev pub permitted_to : ℕ → List ℕ → (ServiceRecord → Bool) → List (Located ServiceRecord) → List Permitted
 permitted_to client name may_use services =
-    filter_map (λ e. if may_use e.1.value then Some (record { client = client; client_name = name; service = e.0; service_name = e.1.value.name }) else None)
+    filter_map (λ e. if may_use e.1.value then Some (record { client = client; client_name = name; service = e.0; service_name = e.1.value.name; connects = e.1.value.connection_based }) else None)
     (enumerate_from 0 services)
 
 -- the partition lists the service among its dependencies
@@ -47,9 +49,9 @@ permitted p =
 abbrev pub is_for : Permitted → ConnectionRecord → Bool
 is_for pair c = bytes_eq c.client pair.client_name && bytes_eq c.service pair.service_name
 
--- one connection, unless `connections` says otherwise; of several items the last one counts
+-- one connection, unless `connections` says otherwise; of several items the last one counts; none to a stateless service
 abbrev pub count_for : List ConnectionRecord → Permitted → ℕ
-count_for connections pair = fold (λ count c. if is_for pair c then c.count else count) 1 connections
+count_for connections pair = if pair.connects then fold (λ count c. if is_for pair c then c.count else count) 1 connections else 0
 
 -- how many connections each permitted pair may have
 abbrev pub budgets_of : PartsRecord → List Budget

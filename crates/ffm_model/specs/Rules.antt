@@ -1,10 +1,10 @@
 -- The rules that manifests and a system file keep together, and the refusal for each place where one is broken.
--- Source: FF-M 1.0, the rules on manifests; codes, places and limits are this simulator's.
-use Rattle.std.specs.Prelude.{ℕ, ◌+◌, ◌==◌, nat_lt, Bool, not, ◌&&◌, List, [], ◌∷◌, ◌++◌, length, Option, Some, None, map, filter, sum_by}
+-- Source: FF-M 1.0 and 1.1, the rules on manifests; codes, places and limits are this simulator's.
+use Rattle.std.specs.Prelude.{ℕ, ◌+◌, ◌==◌, nat_lt, Bool, not, ◌&&◌, List, [], ◌∷◌, ◌++◌, length, Option, Some, None, map, filter, sum_by, count_by}
 use Rattle.std.specs.List.{list_any, enumerate_from}
 use Rattle.std.specs.Str.{bytes_eq}
-use Rattle.ffm_model.specs.declared.codes.TheConstants.{DUPLICATE_PARTITION, DUPLICATE_SERVICE, DUPLICATE_SID, UNKNOWN_DEPENDENCY, SELF_DEPENDENCY, DEPENDENCY_CYCLE, TOO_MANY_SIGNALS, REGION_UNKNOWN, REGION_OVERLAP, TOO_MANY_PARTITIONS, TOO_MANY_CONNECTIONS, BUDGET_WITHOUT_PERMISSION, DUPLICATE_IRQ_SOURCE, MEMORY_TOO_LARGE}
-use Rattle.ffm_model.specs.declared.constants.TheConstants.{MAX_PARTITIONS, MAX_SIGNALS, MAX_CONNECTIONS}
+use Rattle.ffm_model.specs.declared.codes.TheConstants.{DUPLICATE_PARTITION, DUPLICATE_SERVICE, DUPLICATE_SID, UNKNOWN_DEPENDENCY, SELF_DEPENDENCY, DEPENDENCY_CYCLE, TOO_MANY_SIGNALS, REGION_UNKNOWN, REGION_OVERLAP, TOO_MANY_PARTITIONS, TOO_MANY_CONNECTIONS, BUDGET_WITHOUT_PERMISSION, DUPLICATE_IRQ_SOURCE, MEMORY_TOO_LARGE, DUPLICATE_STATELESS_INDEX, TOO_MANY_STATELESS}
+use Rattle.ffm_model.specs.declared.constants.TheConstants.{MAX_PARTITIONS, MAX_SIGNALS, MAX_CONNECTIONS, MAX_STATELESS}
 use Rattle.ffm_model.specs.declared.key.Key.{Key}
 use Rattle.ffm_model.specs.declared.key.Key.TheVariants as key
 use Rattle.ffm_model.specs.declared.place.PathStep.{PathStep}
@@ -138,11 +138,11 @@ too_many_partitions p = only_if (nat_lt MAX_PARTITIONS (length p.manifests)) (re
 abbrev pub too_many_connections : PartsRecord → List Refusal
 too_many_connections p = only_if (nat_lt MAX_CONNECTIONS (sum_by (λ b. b.count) (budgets_of p))) (refusal TOO_MANY_CONNECTIONS (step.Key key.Connections ∷ []))
 
--- an item of `connections` is for no permitted pair
+-- an item of `connections` is for no permitted pair, or for one of a stateless service
 abbrev pub budgets_without_permission : PartsRecord → List Refusal
 budgets_without_permission p =
     map (λ e. refusal BUDGET_WITHOUT_PERMISSION (step.Key key.Connections ∷ step.Index e.0 ∷ []))
-    (filter (λ e. not (list_any (λ pair. is_for pair e.1) (permitted p))) (enumerate_from 0 p.connections))
+    (filter (λ e. not (list_any (λ pair. pair.connects && is_for pair e.1) (permitted p))) (enumerate_from 0 p.connections))
 
 -- ---- memory
 
@@ -165,6 +165,18 @@ place_of_large all_regions = step.Key key.Manifests ∷ []
 abbrev pub memory_too_large : PartsRecord → List Refusal
 memory_too_large p = map (λ x. refusal MEMORY_TOO_LARGE (place_of_large x)) (too_large p)
 
+-- ---- stateless services
+
+-- a service states an index that an earlier one states
+abbrev pub duplicate_indices : PartsRecord → List Refusal
+duplicate_indices p =
+    map (λ x. refusal DUPLICATE_STATELESS_INDEX (at_part key.Services key.StatelessHandle x.manifest x.item))
+    (repeated (λ x y. not (y.value.stateless_handle == 0) && (x.value.stateless_handle == y.value.stateless_handle)) (services_in p))
+
+-- more services without connections than there are indices
+abbrev pub too_many_stateless : PartsRecord → List Refusal
+too_many_stateless p = only_if (nat_lt MAX_STATELESS (count_by (λ x. not x.value.connection_based) (services_in p))) (refusal TOO_MANY_STATELESS (step.Key key.Manifests ∷ []))
+
 -- ---- all rules
 
 -- the refusals for all that is broken: by code, then by manifest, then by item, and clients last
@@ -174,4 +186,5 @@ broken p =
     ++ (unknown_dependencies p ++ (self_dependencies p ++ (dependency_cycle p
     ++ (too_many_signals p ++ (unknown_regions p ++ (overlapping_regions p
     ++ (too_many_partitions p ++ (too_many_connections p ++ (budgets_without_permission p
-    ++ (duplicate_sources p ++ memory_too_large p))))))))))))
+    ++ (duplicate_sources p ++ (memory_too_large p
+    ++ (duplicate_indices p ++ too_many_stateless p))))))))))))))

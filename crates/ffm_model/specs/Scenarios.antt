@@ -1,15 +1,14 @@
 -- A scenario file as a table, over the system that it is for: one line for each attribute, in the order in which they are
 -- read. The first refusal counts. Unknown attributes pass unread.
 -- Source: this simulator's scenario file.
-use Rattle.std.specs.Prelude.{◌≡◌, ◌<◌, ◌≤◌, IsTrue, ℕ, ◌+◌, ◌*◌, List, [], ◌∷◌, ◌++◌, length, map, fold, replicate, position, slice_set, Bool, ◌&&◌, ◌==◌, Option, Some, None, option_and_then, Result, Ok, codes, if◌then◌else◌}
+use Rattle.std.specs.Prelude.{◌≡◌, ◌<◌, ◌≤◌, IsTrue, ℕ, ◌+◌, ◌*◌, List, [], ◌∷◌, ◌++◌, length, map, filter, count_by, position, get_or, slice_get, nat_lt, Bool, false, ◌&&◌, ◌==◌, Option, Some, None, is_some, IfSome, option_and_then, Result, Ok, codes, if◌then◌else◌}
 use Rattle.std.specs.Char.{digit_value, is_digit}
-use Rattle.std.specs.List.{list_any, AllByRecursion}
-use Rattle.std.specs.Option.{option_map}
+use Rattle.std.specs.List.{list_any, range_with_len, AllByRecursion}
+use Rattle.std.specs.Option.{option_map, option_map_or}
 use Rattle.std.specs.Str.{bytes_eq}
 use Rattle.serde_json.specs.Data.{Data}
-use Rattle.serde_json.specs.Find.{as_str}
+use Rattle.serde_json.specs.Find.{as_str, as_object}
 use Rattle.ffm_model.specs.declared.codes.TheConstants.{JSON, WRONG_TYPE, BAD_VALUE, UNKNOWN_ACTOR}
-use Rattle.ffm_model.specs.declared.constants.TheConstants.{MAX_SCRIPT_LINES}
 use Rattle.ffm_model.specs.declared.key.Key.TheVariants as key
 use Rattle.ffm_model.specs.declared.machine.ActorId.{ActorId}
 use Rattle.ffm_model.specs.declared.script_item.ScriptItem.{ScriptItem}
@@ -18,15 +17,15 @@ use Rattle.ffm_model.specs.declared.place.PathStep.TheVariants as step
 use Rattle.ffm_model.specs.declared.place.Refusal.{Refusal}
 use Rattle.ffm_model.specs.declared.place.Root.TheVariants as root
 use Rattle.ffm_model.specs.declared.scenario.Bytes.{Bytes}
+use Rattle.ffm_model.specs.declared.scenario.RaiseItem.{RaiseItem}
 use Rattle.ffm_model.specs.declared.scenario.Scenario.{Scenario}
 use Rattle.ffm_model.specs.declared.system.Region.{Region}
 use Rattle.ffm_model.specs.declared.system.Source.{Source}
 use Rattle.ffm_model.specs.declared.system.System.{System}
-use Rattle.ffm_model.specs.Actors.{actor_count}
+use Rattle.ffm_model.specs.Actors.{actor_count, kind_of, is_client}
 use Rattle.ffm_model.specs.Manifests.{source_of}
 use Rattle.ffm_model.specs.Memory.{lies_in}
-use Rattle.ffm_model.specs.Attributes.{◌>>=◌, refuse, or_refuse, within, placed, required, optional, list_of, list_after, text_as, name_of, number_of, object_of}
-use Rattle.ffm_model.specs.SystemAttributes.{whole_between, list_up_to}
+use Rattle.ffm_model.specs.Attributes.{◌>>=◌, refuse, or_refuse, within, placed, required, optional, list_of, list_after, list_up_to, whole_between, text_as, name_of, number_of, object_of}
 use Rattle.ffm_model.specs.Trees.{tree_of}
 
 -- ---- actors
@@ -48,26 +47,40 @@ actor_named s text = option_map (λ place. record { 0 = place }) (position (byte
 unfoldable pub line_of : Data → Result (List ℕ) PartRefusal
 line_of d = or_refuse WRONG_TYPE (as_str d)
 
-abbrev pub has_script : ActorId → List ScriptItem → Bool
-has_script actor scripts = list_any (λ script. script.actor.0 == actor.0) scripts
+-- a non-secure client may have a script for each of eight threads, any other actor one
+abbrev pub most_scripts : System → ℕ → ℕ
+most_scripts s a = if is_client (kind_of s a) then 8 else 1
 
--- an actor, by its name, that has no script yet
+-- the actor has fewer scripts among these than it may have
+abbrev pub may_have_another : System → List ScriptItem → ActorId → Bool
+may_have_another s scripts actor = nat_lt (count_by (λ script. script.actor.0 == actor.0) scripts) (most_scripts s actor.0)
+
+-- an actor, by its name, that may have another script
 unfoldable pub new_actor_of : System → List ScriptItem → Data → Result ActorId PartRefusal
 new_actor_of s scripts d = do
   name ← name_of d
   actor ← or_refuse UNKNOWN_ACTOR (actor_named s name)
-  if has_script actor scripts then refuse BAD_VALUE else Ok actor
+  if may_have_another s scripts actor then Ok actor else refuse BAD_VALUE
 
 unfoldable pub script_of : System → List ScriptItem → Data → Result ScriptItem PartRefusal
 script_of s scripts d = do
   object ← object_of d
   actor ← required (new_actor_of s scripts) key.Actor d
-  lines ← required (list_up_to MAX_SCRIPT_LINES line_of) key.Lines d
+  lines ← required (list_up_to 4096 line_of) key.Lines d
   Ok (record { actor = actor; lines = lines })
 
--- each script's lines at its actor's place; an actor without a script has none
-abbrev pub lines_by_actor : ℕ → List ScriptItem → List (List (List ℕ))
-lines_by_actor count scripts = fold (λ lines script. slice_set lines script.actor.0 script.lines) (replicate count []) scripts
+-- the lines of the scripts that the file gives an actor, in the file's order
+abbrev pub lines_for : List ScriptItem → ℕ → List (List (List ℕ))
+lines_for scripts a = map (λ script. script.lines) (filter (λ script. script.actor.0 == a) scripts)
+
+-- an actor that the file gives no script has an empty one
+abbrev pub or_empty_script : List (List (List ℕ)) → List (List (List ℕ))
+or_empty_script [] = [] ∷ []
+or_empty_script (script ∷ scripts) = script ∷ scripts
+
+-- the scripts of each actor, by actor
+abbrev pub lines_by_actor : ℕ → List ScriptItem → List (List (List (List ℕ)))
+lines_by_actor count scripts = map (λ a. or_empty_script (lines_for scripts a)) (range_with_len 0 count)
 
 -- ---- turns and interrupts
 
@@ -81,11 +94,32 @@ turn_of s d = do
 abbrev pub source_named : System → List ℕ → Option ℕ
 source_named s text = position (λ x. bytes_eq text x.name) s.sources
 
--- an interrupt, by the name of its source
-unfoldable pub raise_of : System → Data → Result ℕ PartRefusal
-raise_of s d = do
+-- a source, by its name
+unfoldable pub raised_source_of : System → Data → Result ℕ PartRefusal
+raised_source_of s d = do
   name ← source_of d
   or_refuse UNKNOWN_ACTOR (source_named s name)
+
+-- the source has a first-level handler
+abbrev pub is_flih : System → ℕ → Bool
+is_flih s source = option_map_or (λ x. x.flih) (slice_get s.sources source) false
+
+-- an interrupt by its source alone; a first-level handler then answers 1
+unfoldable pub plain_raise_of : System → Data → Result RaiseItem PartRefusal
+plain_raise_of s d = do
+  source ← raised_source_of s d
+  Ok (record { source = source; result = if is_flih s source then Some 1 else None })
+
+-- an interrupt with the answer of its first-level handler, which the source has to have
+unfoldable pub answered_raise_of : System → Data → Result RaiseItem PartRefusal
+answered_raise_of s d = do
+  source ← required (raised_source_of s) key.Source d
+  answer ← required (whole_between 0 1) key.RaiseResult d
+  if is_flih s source then Ok (record { source = source; result = Some answer }) else within (step.Key key.RaiseResult) (refuse BAD_VALUE)
+
+-- an interrupt
+abbrev pub raise_of : System → Data → Result RaiseItem PartRefusal
+raise_of s d = if is_some (as_object d) then answered_raise_of s d else plain_raise_of s d
 
 -- ---- the memory at the beginning
 
@@ -108,26 +142,39 @@ bytes_of regions d = do
 
 -- ---- the file
 
--- what a scenario keeps, for its system: the limits, few enough lines for each actor, at most one script for each and none for others, sources of the system, and memory in regions
+-- a source of the system, and an answer, 0 or 1, exactly where it has a first-level handler
+pub record IsRaise (s : System) (x : RaiseItem) : Type 0 where
+  pub source : x.source < length s.sources
+  pub handled : is_some x.result ≡ is_flih s x.source
+  pub answer : IfSome x.result (λ answer. answer ≤ 1)
+
+-- an actor's scripts: one at least, and no more than it may have
+abbrev pub AreScriptsOf : System → ℕ → List (List (List ℕ)) → Type 0
+AreScriptsOf s a scripts = (0 < length scripts) × (length scripts ≤ most_scripts s a)
+
+-- what a scenario keeps, for its system: the limits, few enough scripts for each actor and few enough lines for each script, none for others, sources of the system, memory in regions, and the resets
 pub record IsScenarioOf (s : System) (c : Scenario) : Type 0 where
   pub limit : 0 < c.limit
   pub limit_end : c.limit ≤ 262144
   pub lines : length c.lines ≡ actor_count s
-  pub short : AllByRecursion (λ lines. length lines ≤ MAX_SCRIPT_LINES) c.lines
+  pub short : AllByRecursion (AllByRecursion (λ lines. length lines ≤ 4096)) c.lines
+  pub scripts : (a : ℕ) → a < actor_count s → AreScriptsOf s a (get_or c.lines a [])
   pub order : AllByRecursion (λ actor. actor.0 < actor_count s) c.order
-  pub few : length c.order ≤ actor_count s
+  pub few : length c.order ≤ 8 * actor_count s
   pub schedule : AllByRecursion (λ actor. actor.0 < actor_count s) c.schedule
-  pub raises : AllByRecursion (λ source. source < length s.sources) c.raises
+  pub raises : AllByRecursion (IsRaise s) c.raises
   pub memory : AllByRecursion (λ bytes. IsTrue (list_any (lies_in bytes.address (length bytes.content)) s.regions)) c.memory
+  pub restarts : c.restarts ≤ 15
 
-abbrev pub scenario_with : System → ℕ → List ScriptItem → List ActorId → List ℕ → List Bytes → Scenario
-scenario_with s limit scripts schedule raises memory = record {
+abbrev pub scenario_with : System → ℕ → List ScriptItem → List ActorId → List RaiseItem → List Bytes → ℕ → Scenario
+scenario_with s limit scripts schedule raises memory restarts = record {
   limit = limit;
   lines = lines_by_actor (actor_count s) scripts;
   order = map (λ script. script.actor) scripts;
   schedule = schedule;
   raises = raises;
   memory = memory;
+  restarts = restarts;
 }
 
 -- a scenario file's tree
@@ -139,7 +186,8 @@ scenario_of s d = do
   schedule ← optional (list_of (turn_of s)) [] key.Schedule d
   raises ← optional (list_of (raise_of s)) [] key.Interrupts d
   memory ← optional (list_of (bytes_of s.regions)) [] key.Memory d
-  Ok (scenario_with s limit scripts schedule raises memory)
+  restarts ← optional (whole_between 0 15) 0 key.Restarts d
+  Ok (scenario_with s limit scripts schedule raises memory restarts)
 
 abbrev pub scenario_from : System → Option Data → Result Scenario PartRefusal
 scenario_from s None = refuse JSON

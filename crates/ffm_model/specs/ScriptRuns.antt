@@ -1,4 +1,4 @@
--- What a script calls next, after the outcomes so far, and so what each actor of a system calls next.
+-- What a script calls next, after the outcomes so far.
 -- Source: this simulator's script language.
 use Rattle.std.specs.Prelude.{ℕ, zero, suc, ◌+◌, ◌-◌, ◌%◌, ◌^◌, List, [], ◌∷◌, length, Bool, not, ◌==◌, true, false, nat_lt, Option, Some, None, option_and_then, if◌then◌else◌, replicate, get_or, slice_get, slice_set, bit_and, bit_or, bit_xor}
 use Rattle.std.specs.Option.{option_map_or}
@@ -19,11 +19,7 @@ use Rattle.ffm_model.specs.declared.script.Comparison.TheVariants.{Equal, Differ
 use Rattle.ffm_model.specs.declared.script.CallName.{CallName}
 use Rattle.ffm_model.specs.declared.script.CallName.TheVariants as name
 use Rattle.ffm_model.specs.declared.script.Instruction.{Instruction}
-use Rattle.ffm_model.specs.declared.script.Instruction.TheVariants.{Change, Jump, JumpIf, Make}
-use Rattle.ffm_model.specs.declared.system.ActorKind.{ActorKind}
-use Rattle.ffm_model.specs.declared.system.ActorKind.TheVariants.{Partition, Client, Device}
-use Rattle.ffm_model.specs.declared.system.System.{System}
-use Rattle.ffm_model.specs.Actors.{kind_of}
+use Rattle.ffm_model.specs.declared.script.Instruction.TheVariants.{Change, Jump, JumpIf, Make, Map}
 use Rattle.ffm_model.specs.Plans.{Plan, PlanRun, Engine, plan_of, engine_after}
 
 -- ---- points
@@ -60,13 +56,14 @@ meets Equal x v = x == v
 meets Different x v = not (x == v)
 meets Less x v = nat_lt x v
 
--- where a local line leads; nothing at a call line
+-- where a local line leads; nothing at a call line, nor at one that maps, which needs the messages of its partition
 abbrev pub line_effect : Point → Instruction → Option Point
 line_effect p (Change o r v) = Some (point (slice_set p.registers r (changed o (get_or p.registers r 0) (value_of p.registers v))) (p.place + 1))
 line_effect p (Jump target) = Some (point p.registers target)
 line_effect p (JumpIf c r v target) =
     Some (point p.registers (if meets c (get_or p.registers r 0) (value_of p.registers v) then target else p.place + 1))
 line_effect p (Make n operands) = None
+line_effect p (Map n operands) = None
 
 -- one local line further, where a local line is next
 unfoldable pub local_step : List Instruction → Point → Option Point
@@ -118,12 +115,13 @@ call_of name.Raise v = call.Raise (v 0)
 call_of name.Fire v = call.Fire (v 0) (v 1)
 call_of name.Stop v = call.Stop false
 
--- the call of a line; a local line that may not run any more ends the script
+-- the call of a line; a local line that may not run any more ends the script, and so does one that maps, where no messages are held
 abbrev pub line_call : List ℕ → Instruction → Call
 line_call registers (Make n operands) = call_of n (λ i. value_of registers (get_or operands i (Number 0)))
 line_call registers (Change o r v) = call.Stop true
 line_call registers (Jump target) = call.Stop true
 line_call registers (JumpIf c r v target) = call.Stop true
+line_call registers (Map n operands) = call.Stop false
 
 -- the call that is made at a point; behind the last line the script ends
 unfoldable pub call_at : List Instruction → Point → Call
@@ -174,19 +172,7 @@ point_after script os = engine_after (script_engine script) start os
 abbrev pub ScriptRun : List Instruction → List Entry → Type 0
 ScriptRun script es = PlanRun (script_plan script) es
 
--- ---- actors
-
 -- the instructions of a script of one part
 abbrev pub only_part : List (List Instruction) → List Instruction
 only_part [] = []
 only_part (p ∷ ps) = p
-
--- what an actor of a kind calls next, where its scripts are these: each kind of actor runs one script
-abbrev pub kind_plan : ActorKind → List (List Instruction) → Plan
-kind_plan Partition parts = script_plan (only_part parts)
-kind_plan Client parts = script_plan (only_part parts)
-kind_plan Device parts = script_plan (only_part parts)
-
--- what an actor of a system calls next
-abbrev pub plan_at : System → List (List (List Instruction)) → ℕ → Plan
-plan_at s scripts a = kind_plan (kind_of s a) (get_or scripts a [])

@@ -1,6 +1,6 @@
--- What a script keeps: registers below 16, and targets inside its part. It names no `Script`.
+-- What a script keeps: few parts, registers below 16, and targets inside the part. It names no `Script`.
 -- Source: this simulator's script language.
-use Rattle.std.specs.Prelude.{ℕ, ◌<◌, ◌≤◌, ◌≡◌, List, length}
+use Rattle.std.specs.Prelude.{ℕ, ◌<◌, ◌≤◌, ◌≡◌, Bool, true, false, List, length}
 use Rattle.std.specs.List.{AllByRecursion}
 use Rattle.ffm_model.specs.declared.script.Operand.{Operand}
 use Rattle.ffm_model.specs.declared.script.Operand.TheVariants.{Register, Number}
@@ -17,10 +17,21 @@ FitsIn count (line.Change operation register operand) = (register < 16) × IsOpe
 FitsIn count (line.Jump target) = target ≤ count
 FitsIn count (line.JumpIf comparison register operand target) = (register < 16) × IsOperand operand × (target ≤ count)
 FitsIn count (line.Make name operands) = AllByRecursion IsOperand operands
+FitsIn count (line.Map name operands) = AllByRecursion IsOperand operands
 
 abbrev pub IsPart : List Instruction → Type 0
 IsPart instructions = AllByRecursion (FitsIn (length instructions)) instructions
 
+-- no line maps or unmaps a vector
+abbrev pub maps : Instruction → Bool
+maps (line.Map name operands) = true
+maps _ = false
+
+abbrev pub MapsNothing : List Instruction → Type 0
+MapsNothing instructions = AllByRecursion (λ i. maps i ≡ false) instructions
+
+-- an actor has one context, or up to eight
 pub record IsScript (parts : List (List Instruction)) : Type 0 where
-  pub count : length parts ≡ 1
+  pub some : 0 < length parts
+  pub few : length parts ≤ 8
   pub each : AllByRecursion IsPart parts

@@ -14,12 +14,12 @@ use Rattle.ffm_model.specs.declared.objects.ConnPhase.{ConnPhase}
 use Rattle.ffm_model.specs.declared.objects.ConnPhase.TheVariants.{Idle, Error}
 use Rattle.ffm_model.specs.declared.objects.ActorPhase.TheVariants as phase
 use Rattle.ffm_model.specs.declared.objects.PendingMessage.{PendingMessage}
-use Rattle.ffm_model.specs.declared.objects.SourceFlags.{SourceFlags}
 use Rattle.ffm_model.specs.Actors.{kind_of, is_partition, client_id_of}
 use Rattle.ffm_model.specs.Memory.{copy_bytes, valid_buffer, no_span, lengths_written, words_stored}
-use Rattle.ffm_model.specs.State.{SpmState, State, phase_of, with_phase, message_held, connection_by_serial, with_connection_phase, without_connection, without_message, with_vectors, with_rhandle, delivered, is_undelivered, flags_at}
+use Rattle.ffm_model.specs.State.{SpmState, State, phase_of, with_phase, message_held, connection_by_serial, with_connection_phase, without_connection, without_message, with_vectors, with_rhandle, delivered, is_undelivered}
 use Rattle.ffm_model.specs.Signals.{signals_of, assigned_to, has_signal_of, is_blocked}
 use Rattle.ffm_model.specs.Panic.{panic_effect}
+use Rattle.ffm_model.specs.Binding.{◌>>=◌}
 use Rattle.ffm_model.specs.ClientCalls.{Move, Effect, move, effect}
 
 -- ---- psa_wait()
@@ -71,8 +71,10 @@ get_of s st service msg h m =
 -- the oldest undelivered message of the service that has the signal, under the fresh handle h;
 -- a PROGRAMMER ERROR where it isn't one service's signal, no message waits, or the message has no room at msg
 abbrev pub psa_get : System → State → ℕ → ℕ → ℕ → Handle → Option Effect
-psa_get s st a signal msg h =
-    option_and_then (λ i. option_and_then (λ m. if valid_buffer s a msg message_size then Some (get_of s st i msg h m) else None) (find (is_undelivered i) st.spm.messages)) (service_of_signal s a signal)
+psa_get s st a signal msg h = do
+  service ← service_of_signal s a signal
+  message ← find (is_undelivered service) st.spm.messages
+  if valid_buffer s a msg message_size then Some (get_of s st service msg h message) else None
 
 -- ---- psa_set_rhandle(): it belongs to the connection, not to one message; a PROGRAMMER ERROR where the message has none
 
@@ -83,7 +85,9 @@ psa_set_rhandle s b a h rhandle = option_map (λ n. move Done (with_rhandle b n 
 
 -- the request that has the handle, where the index is a vector's; else a PROGRAMMER ERROR
 abbrev pub request_held : System → SpmState → ℕ → Handle → ℕ → Option PendingMessage
-request_held s b a h index = option_and_then (λ m. if int_le PSA_IPC_CALL m.kind && nat_lt index PSA_MAX_IOVEC then Some m else None) (message_held s b a h)
+request_held s b a h index = do
+  message ← message_held s b a h
+  if int_le PSA_IPC_CALL message.kind && nat_lt index PSA_MAX_IOVEC then Some message else None
 
 abbrev pub rest_of : Span → ℕ
 rest_of v = v.len - v.moved
@@ -119,7 +123,9 @@ read_of st h index buffer len m =
     effect (Number n) (record st { spm = with_vectors st.spm h (input_moved m index n); memory = copy_bytes st.memory (v.base + v.moved) buffer n })
 
 abbrev pub psa_read : System → State → ℕ → Handle → ℕ → ℕ → ℕ → Option Effect
-psa_read s st a h index buffer len = option_and_then (λ m. if valid_buffer s a buffer len then Some (read_of st h index buffer len m) else None) (request_held s st.spm a h index)
+psa_read s st a h index buffer len = do
+  request ← request_held s st.spm a h index
+  if valid_buffer s a buffer len then Some (read_of st h index buffer len request) else None
 
 -- the bytes go behind those that were written
 abbrev pub write_of : State → Handle → ℕ → ℕ → ℕ → PendingMessage → Effect
@@ -129,9 +135,9 @@ write_of st h index buffer len m =
 
 -- a PROGRAMMER ERROR where the bytes are more than the rest of the output vector
 abbrev pub psa_write : System → State → ℕ → Handle → ℕ → ℕ → ℕ → Option Effect
-psa_write s st a h index buffer len =
-    option_and_then (λ m. if valid_buffer s a buffer len && nat_le len (rest_of (output_at m index)) then Some (write_of st h index buffer len m) else None)
-    (request_held s st.spm a h index)
+psa_write s st a h index buffer len = do
+  request ← request_held s st.spm a h index
+  if valid_buffer s a buffer len && nat_le len (rest_of (output_at request index)) then Some (write_of st h index buffer len request) else None
 
 -- ---- psa_reply()
 
@@ -197,77 +203,9 @@ reply_of s st h status m =
 
 -- the message that may be answered so: a PROGRAMMER ERROR where the handle is no message's of the partition, or the status is none for psa_connect
 abbrev pub reply_to : System → SpmState → ℕ → Handle → ℤ → Option PendingMessage
-reply_to s b a h status = option_and_then (λ m. if int_eq m.kind PSA_IPC_CONNECT && not (is_connect_status status) then None else Some m) (message_held s b a h)
+reply_to s b a h status = do
+  message ← message_held s b a h
+  if int_eq message.kind PSA_IPC_CONNECT && not (is_connect_status status) then None else Some message
 
 abbrev pub psa_reply : System → State → ℕ → Handle → ℤ → Option Effect
 psa_reply s st a h status = option_map (reply_of s st h status) (reply_to s st.spm a h status)
-
--- what a reply leaves before any panic, and the partition that then has to panic
-pub record Answered : Type 0 where
-  pub spm : SpmState
-  pub owing : Option ℕ
-
-abbrev pub reply_on : System → SpmState → ℕ → Handle → ℤ → Option Answered
-reply_on s b a h status =
-    option_map (λ m. record { spm = replied s b h status m; owing = if owes_panic s m status then Some m.client.0 else None }) (reply_to s b a h status)
-
--- ---- psa_notify() and psa_clear()
-
--- the place of the partition with an ID
-abbrev pub place_of_id : ℤ → ℕ
-place_of_id (pos n) = n - 1
-place_of_id (negsuc n) = 0
-
-abbrev pub with_doorbell : SpmState → ℕ → Bool → SpmState
-with_doorbell b p set = record b { doorbells = slice_set b.doorbells p set }
-
--- a PROGRAMMER ERROR where no partition has the ID
-abbrev pub psa_notify : System → SpmState → ℤ → Option Move
-psa_notify s b id = if int_le (pos 1) id && int_le id (pos (length s.partitions)) then Some (move Done (with_doorbell b (place_of_id id) true)) else None
-
--- a PROGRAMMER ERROR where the doorbell isn't asserted
-abbrev pub psa_clear : SpmState → ℕ → Option Move
-psa_clear b a = if get_or b.doorbells a false then Some (move Done (with_doorbell b a false)) else None
-
--- ---- psa_eoi(), and the interrupts that it ends
-
--- the interrupt source of the partition that has the signal
-abbrev pub source_of_signal : System → ℕ → ℕ → Option ℕ
-source_of_signal s a signal = position (λ v. (v.owner == a) && (v.signal == signal)) s.sources
-
--- its handling: a first-level handler (FLIH) takes each interrupt at once, a second-level one (SLIH) one after the other
-abbrev pub has_flih : System → ℕ → Bool
-has_flih s i = option_map_or (λ x. x.flih) (slice_get s.sources i) false
-
--- an enabled source that is pending asserts its signal: with SLIH as soon as that is clear, with FLIH in any case
-abbrev pub forwarded : Bool → SourceFlags → SourceFlags
-forwarded flih f = if f.enabled && (f.pending && (flih || not f.asserted)) then record f { pending = false; asserted = true } else f
-
-abbrev pub with_flags : SpmState → ℕ → SourceFlags → SpmState
-with_flags b i f = record b { sources = slice_set b.sources i f }
-
--- the flags of a source are set, and then its interrupts forwarded
-abbrev pub with_forwarded : System → SpmState → ℕ → SourceFlags → SpmState
-with_forwarded s b i f = with_flags b i (forwarded (has_flih s i) f)
-
--- a PROGRAMMER ERROR where it isn't the asserted signal of one of the partition's sources with SLIH
-abbrev pub psa_eoi : System → SpmState → ℕ → ℕ → Option Move
-psa_eoi s b a signal =
-    option_and_then (λ i. if (flags_at b i).asserted && not (has_flih s i) then Some (move Done (with_forwarded s b i (record (flags_at b i) { asserted = false }))) else None) (source_of_signal s a signal)
-
--- ---- psa_reset_signal(), for a source with FLIH
-
-abbrev pub psa_reset_signal : System → SpmState → ℕ → ℕ → Option Move
-psa_reset_signal s b a signal =
-    option_and_then (λ i. if (flags_at b i).asserted && has_flih s i then Some (move Done (with_flags b i (record (flags_at b i) { asserted = false }))) else None) (source_of_signal s a signal)
-
--- ---- psa_irq_enable() and psa_irq_disable()
-
--- what came while it was disabled is forwarded
-abbrev pub psa_irq_enable : System → SpmState → ℕ → ℕ → Option Move
-psa_irq_enable s b a signal = option_map (λ i. move Done (with_forwarded s b i (record (flags_at b i) { enabled = true }))) (source_of_signal s a signal)
-
--- an asserted signal stays; it answers whether the source was enabled
-abbrev pub psa_irq_disable : System → SpmState → ℕ → ℕ → Option Move
-psa_irq_disable s b a signal =
-    option_map (λ i. move (Number (if (flags_at b i).enabled then 1 else 0)) (with_flags b i (record (flags_at b i) { enabled = false }))) (source_of_signal s a signal)

@@ -1,11 +1,9 @@
 -- A system file's attributes beside the manifests as tables: one line for each attribute, in the order in which they are
 -- read. The first refusal counts. Unknown attributes pass unread.
 -- Source: this simulator's system file.
-use Rattle.std.specs.Prelude.{ℕ, ◌+◌, ◌^◌, List, [], ◌&&◌, nat_lt, nat_le, Option, Some, None, Result, Ok, if◌then◌else◌}
+use Rattle.std.specs.Prelude.{ℕ, ◌+◌, ◌^◌, List, [], ◌&&◌, nat_lt, nat_le, Result, Ok, if◌then◌else◌}
 use Rattle.serde_json.specs.Data.{Data, Items}
-use Rattle.serde_json.specs.Events.{items_len}
-use Rattle.serde_json.specs.Find.{as_array}
-use Rattle.ffm_model.specs.declared.codes.TheConstants.{JSON, WRONG_TYPE, BAD_VALUE}
+use Rattle.ffm_model.specs.declared.codes.TheConstants.{JSON, BAD_VALUE}
 use Rattle.ffm_model.specs.declared.key.Key.TheVariants as key
 use Rattle.ffm_model.specs.declared.manifest.Manifest.{Manifest}
 use Rattle.ffm_model.specs.declared.parts.RegionItem.{RegionItem}
@@ -13,30 +11,9 @@ use Rattle.ffm_model.specs.declared.parts.ConnectionItem.{ConnectionItem}
 use Rattle.ffm_model.specs.declared.parts.Parts.{Parts}
 use Rattle.ffm_model.specs.declared.place.PartRefusal.{PartRefusal}
 use Rattle.ffm_model.specs.declared.place.PathStep.TheVariants as step
-use Rattle.ffm_model.specs.Attributes.{◌>>=◌, refuse, or_refuse, within, required, optional, list_of, whole, name_of, number_of, object_of}
+use Rattle.ffm_model.specs.Attributes.{◌>>=◌, refuse, or_refuse, within, required, optional, list_of, items_up_to, list_up_to, whole_between, name_of, number_of, object_of}
 use Rattle.ffm_model.specs.Manifests.{manifest_of}
 use Rattle.ffm_model.specs.Trees.{tree_of}
-
--- ---- values
-
-abbrev pub whole_from : ℕ → ℕ → Option ℕ → Result ℕ PartRefusal
-whole_from least most (Some n) = if nat_le least n && nat_le n most then Ok n else refuse BAD_VALUE
-whole_from least most None = refuse WRONG_TYPE
-
--- a whole number between two others, both allowed
-unfoldable pub whole_between : ℕ → ℕ → Data → Result ℕ PartRefusal
-whole_between least most d = whole_from least most (whole d)
-
--- the items of a list of at most so many: a longer one is refused before any item is read
-abbrev pub items_up_to : ℕ → Data → Result Items PartRefusal
-items_up_to most d = do
-  ds ← or_refuse WRONG_TYPE (as_array d)
-  if nat_lt most (items_len ds) then refuse BAD_VALUE else Ok ds
-
-unfoldable pub list_up_to : {A : Type 0} → ℕ → (Data → Result A PartRefusal) → Data → Result (List A) PartRefusal
-list_up_to most read d = do
-  items ← items_up_to most d
-  list_of read d
 
 -- ---- regions and connections
 

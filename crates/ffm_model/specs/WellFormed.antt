@@ -1,5 +1,5 @@
 -- When the parts of a system fit each other. It names no `System`, which keeps this fact.
--- Source: FF-M 1.0, manifests and isolation levels; the limits are this profile's.
+-- Source: FF-M 1.0 and 1.1, manifests and isolation levels; the limits are this profile's.
 use Rattle.std.specs.Prelude.{ℕ, ◌+◌, ◌^◌, ◌==◌, nat_lt, nat_le, Bool, true, false, not, ◌&&◌, ◌||◌, List, [], ◌∷◌, length, count_by, sum_by, slice_get}
 use Rattle.std.specs.List.{list_any, list_all, enumerate_from, range_with_len}
 use Rattle.std.specs.Option.{option_map_or}
@@ -84,11 +84,25 @@ budgets_fit actors services budgets =
     && each_pair budget_before budgets
     && nat_le (sum_by (λ b. b.count) budgets) 256
 
+-- the bytes of a partition's RAM
+abbrev pub ram_bytes : List Region → Partition → ℕ
+ram_bytes regions p = option_map_or (λ r. r.size) (slice_get regions p.ram) 0
+
+-- a partition whose services are functions has a service, and 48 bytes of RAM for its messages
+abbrev pub functions_fit : List Service → List Region → ℕ × Partition → Bool
+functions_fit services regions e = not e.1.sfn || (list_any (λ v. v.owner == e.0) services && nat_le 48 (ram_bytes regions e.1))
+
+-- functions have what they need, and each heap lies in its partition's RAM
+abbrev pub models_fit : List Partition → List Service → List Region → Bool
+models_fit partitions services regions =
+    list_all (functions_fit services regions) (enumerate_from 0 partitions)
+    && list_all (λ p. nat_le p.heap (ram_bytes regions p)) partitions
+
 -- a pair of a stateless service has no connection
 abbrev pub budget_is_fitting : List Service → Budget → Bool
 budget_is_fitting services b = option_map_or (λ v. (v.stateless == 0) || (b.count == 0)) (slice_get services b.service) true
 
--- an index is at most 32, no two services have one, and no connection is declared to a service that has one
+-- an index is at most 32, no two services share one, and no connection is declared to a service that has one
 abbrev pub stateless_fit : List Service → List Budget → Bool
 stateless_fit services budgets =
     list_all (λ v. nat_le v.stateless MAX_STATELESS) services
@@ -99,6 +113,7 @@ stateless_fit services budgets =
 unfoldable pub is_well_formed : ℕ → List Partition → List Service → List Source → List Region → List (List ℕ) → List Budget → Bool
 is_well_formed level partitions services sources regions clients budgets =
     (nat_le 1 level && nat_le level 3 && nat_le (length partitions) 32 && nat_le (length clients) 16)
+    && models_fit partitions services regions
     && stateless_fit services budgets
     && partitions_fit partitions regions
     && regions_fit (length partitions) regions

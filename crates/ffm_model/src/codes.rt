@@ -45,7 +45,7 @@ pub const TOO_MANY_PARTITIONS: u8 = 14;
 /// The budgets of all permitted pairs add to more than 256.
 pub const TOO_MANY_CONNECTIONS: u8 = 15;
 
-/// A budget is given to a pair that isn't permitted.
+/// A budget is given to a pair that isn't permitted, or to one of a stateless service.
 pub const BUDGET_WITHOUT_PERMISSION: u8 = 16;
 
 /// An interrupt source has an earlier one's name.
@@ -59,6 +59,12 @@ pub const SCRIPT_SYNTAX: u8 = 19;
 
 /// The scenario names an actor or a source that the system doesn't have.
 pub const UNKNOWN_ACTOR: u8 = 20;
+
+/// A service states the index of an earlier one's stateless handle.
+pub const DUPLICATE_STATELESS_INDEX: u8 = 21;
+
+/// There are more than 32 stateless services.
+pub const TOO_MANY_STATELESS: u8 = 22;
 
 /// A file is longer than its limit.
 pub const FILE_TOO_LONG: u8 = 23;

@@ -1,7 +1,7 @@
 //! The constants of the standard's headers, and the limits of this profile.
 
-/// The version of the framework that `psa_framework_version` answers: 1.0.
-pub const PSA_FRAMEWORK_VERSION: u32 = 0x0100;
+/// The version of the framework that `psa_framework_version` answers: 1.1.
+pub const PSA_FRAMEWORK_VERSION: u32 = 0x0101;
 
 /// What `psa_version` answers where there is no such service for the caller.
 pub const PSA_VERSION_NONE: u32 = 0;
@@ -33,11 +33,20 @@ pub const PSA_ERROR_CONNECTION_REFUSED: i32 = -130;
 /// The service or the manager has no room for another connection.
 pub const PSA_ERROR_CONNECTION_BUSY: i32 = -131;
 
+/// No such item exists. Nothing is answered with it in this profile, whose machine has no call that finds items by name.
+pub const PSA_ERROR_DOES_NOT_EXIST: i32 = -140;
+
 /// The service of a connection is gone.
 pub const PSA_ERROR_COMMUNICATION_FAILURE: i32 = -145;
 
+/// The mask of each signal that a partition may have, for `psa_wait`.
+pub const PSA_WAIT_ANY: u32 = 0xffff_ffff;
+
 /// The bit of a time-out that makes `psa_wait` wait.
 pub const PSA_BLOCK: u32 = 0x8000_0000;
+
+/// The time-out at which `psa_wait` answers at once, perhaps with no signal.
+pub const PSA_POLL: u32 = 0;
 
 /// The signal that `psa_notify` asserts.
 pub const PSA_DOORBELL: u32 = 0x0000_0008;
@@ -71,6 +80,15 @@ pub const MAX_REGION_BYTES: u32 = 1_048_576;
 
 /// The most bytes of all regions of a system together: 16 MiB.
 pub const MAX_IMAGE_BYTES: u32 = 16_777_216;
+
+/// The least stack of a partition whose services are functions: its messages are read there.
+pub const MIN_FUNCTION_STACK: u32 = 48;
+
+/// The most scripts of one non-secure client, one for each thread of its operating system.
+pub const MAX_CONTEXTS: u32 = 8;
+
+/// The most resets of one scenario.
+pub const MAX_RESTARTS: u32 = 15;
 
 /// The most bytes of a file that isn't a trace: 1 MiB.
 pub const MAX_FILE_BYTES: u32 = 1_048_576;

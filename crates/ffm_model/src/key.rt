@@ -2,7 +2,7 @@
 ghost use Rattle.std.specs.Prelude.{◌≡◌};
 ghost use Rattle.ffm_model.specs.Keys.{key_text};
 
-/// The name of an attribute, of this version and of the parts of 1.1 that come later.
+/// The name of an attribute.
 #[derive(Clone, Copy, Debug, PartialEq, Eq)]
 pub enum Key {
     PsaFrameworkVersion,

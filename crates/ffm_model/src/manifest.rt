@@ -38,6 +38,12 @@ pub struct ServiceItem {
     pub nonsecure: bool,
     pub version: u32,
     pub policy: Policy,
+    /// Whether clients connect to it; else they call it by a stateless handle.
+    pub connection_based: bool,
+    /// The index that it states for its stateless handle, 1 to 32, or 0 for "auto".
+    pub stateless_handle: u32,
+    /// Whether its vectors may be mapped.
+    pub mm: bool,
 }
 
 impl Model for ServiceItem {
@@ -45,9 +51,9 @@ impl Model for ServiceItem {
 
     ghost Value = { ServiceRecord };
 
-    ghost view = { λ s. record { name = s.name; sid = s.sid; nonsecure = s.nonsecure; version = s.version; policy = s.policy } };
+    ghost view = { λ s. record { name = s.name; sid = s.sid; nonsecure = s.nonsecure; version = s.version; policy = s.policy; connection_based = s.connection_based; stateless_handle = s.stateless_handle; mm = s.mm } };
 
-    ghost invariant = { λ s. IsService (record { name = s.name; sid = s.sid; nonsecure = s.nonsecure; version = s.version; policy = s.policy }) };
+    ghost invariant = { λ s. IsService (record { name = s.name; sid = s.sid; nonsecure = s.nonsecure; version = s.version; policy = s.policy; connection_based = s.connection_based; stateless_handle = s.stateless_handle; mm = s.mm }) };
 }
 
 /// An interrupt of a partition. Its source is a name, or the decimal text of a number.
@@ -55,6 +61,8 @@ impl Model for ServiceItem {
 pub struct IrqItem {
     pub source: Name,
     pub signal: Name,
+    /// Whether it has a first-level handler.
+    pub flih: bool,
 }
 
 impl Model for IrqItem {
@@ -62,18 +70,24 @@ impl Model for IrqItem {
 
     ghost Value = { IrqRecord };
 
-    ghost view = { λ i. record { source = i.source; signal = i.signal } };
+    ghost view = { λ i. record { source = i.source; signal = i.signal; flih = i.flih } };
 
-    ghost invariant = { λ i. IsIrq (record { source = i.source; signal = i.signal }) };
+    ghost invariant = { λ i. IsIrq (record { source = i.source; signal = i.signal; flih = i.flih }) };
 }
 
 /// A partition's manifest, with its defaults filled in. Each list has every item of the file, in
 /// the file's order.
 #[derive(Debug, Drop)]
 pub struct Manifest {
+    /// The version of the framework that it is written for: 256 for 1.0, 257 for 1.1.
+    pub framework: u32,
     pub name: Name,
     pub rot: RotType,
     pub priority: Priority,
+    /// Whether each of its services is a function, from the message to a status. Then it has a
+    /// service, no interrupts, and a stack of at least 48 bytes.
+    pub sfn: bool,
+    /// Empty where a manifest with functions names none.
     pub entry_point: Name,
     pub stack_size: u32,
     pub heap_size: u32,
@@ -88,7 +102,7 @@ impl Model for Manifest {
 
     ghost Value = { ManifestRecord };
 
-    ghost view = { λ m. record { name = m.name; rot = m.rot; priority = m.priority; entry_point = m.entry_point; stack_size = m.stack_size; heap_size = m.heap_size; mmio = m.mmio; services = m.services; dependencies = m.dependencies; irqs = m.irqs } };
+    ghost view = { λ m. record { framework = m.framework; name = m.name; rot = m.rot; priority = m.priority; sfn = m.sfn; entry_point = m.entry_point; stack_size = m.stack_size; heap_size = m.heap_size; mmio = m.mmio; services = m.services; dependencies = m.dependencies; irqs = m.irqs } };
 
-    ghost invariant = { λ m. IsManifest (record { name = m.name; rot = m.rot; priority = m.priority; entry_point = m.entry_point; stack_size = m.stack_size; heap_size = m.heap_size; mmio = m.mmio; services = m.services; dependencies = m.dependencies; irqs = m.irqs }) };
+    ghost invariant = { λ m. IsManifest (record { framework = m.framework; name = m.name; rot = m.rot; priority = m.priority; sfn = m.sfn; entry_point = m.entry_point; stack_size = m.stack_size; heap_size = m.heap_size; mmio = m.mmio; services = m.services; dependencies = m.dependencies; irqs = m.irqs }) };
 }

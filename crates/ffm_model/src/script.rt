@@ -60,6 +60,15 @@ pub enum CallName {
     Stop,
 }
 
+/// What a line does with a vector of a message that its partition got and hasn't answered.
+#[derive(Clone, Copy, Debug, PartialEq, Eq)]
+pub enum MapName {
+    MapIn,
+    UnmapIn,
+    MapOut,
+    UnmapOut,
+}
+
 /// One instruction. A target is the place of an instruction of the same part, or their number.
 #[derive(Clone, Copy, Debug, PartialEq, Eq)]
 pub enum Instruction {
@@ -82,6 +91,12 @@ pub enum Instruction {
         name: CallName,
         operands: [Operand; 6],
     },
+    /// Operands are the message's handle, the vector's index, and for `UnmapOut` a length; an unused
+    /// one is 0.
+    Map {
+        name: MapName,
+        operands: [Operand; 3],
+    },
 }
 
 /// The instructions of one context. Contracts see it as the list of them.
@@ -99,8 +114,8 @@ impl Model for Part {
     ghost view = { λ p. p.instructions };
 }
 
-/// A script of one part, whose registers are below 16 and whose targets are places in it or its
-/// end. Contracts see it as the list of its parts.
+/// A script of 1 to 8 parts, one for each context of its actor. Registers are below 16, and targets
+/// are places in their part or its end. Contracts see it as the list of its parts.
 #[derive(Drop)]
 pub struct Script {
     pub parts: List<Part>,
@@ -137,7 +152,7 @@ impl Script {
         })
     }
 
-    /// The instructions of its part, lent.
+    /// The instructions of its first part, lent. A script of one context has no other.
     pub fn instructions(&self) -> &[Instruction]
         ensures part { result.now ≡ only_part self.now }
         ensures fits { IsPart result.now }
@@ -146,4 +161,40 @@ impl Script {
         let part = &parts[0];
         part.instructions.as_slice()
     }
+}
+
+/// A line of a function: an instruction, or the return of a value to the function's caller.
+#[derive(Clone, Copy, Debug, PartialEq, Eq)]
+pub enum SfnInstruction {
+    Plain(Instruction),
+    Return { operand: Operand },
+}
+
+/// The function of a service, by the service's place in the system. A target is the place of an
+/// instruction of the same function, or their number.
+#[derive(Drop)]
+pub struct SfnFunction {
+    pub service: u32,
+    pub instructions: List<SfnInstruction>,
+}
+
+/// The functions of a partition, in the order of their heads, of which no two have one service. A
+/// function has at most 4,096 instructions. Its registers are below 14, its targets are places in it
+/// or its end, and it makes no call that belongs to the loop of its partition. Contracts see a
+/// script as the list of its functions.
+#[derive(Drop)]
+pub struct SfnScript {
+    pub functions: List<SfnFunction>,
+}
+
+impl Model for SfnScript {
+    ghost use Rattle.std.specs.Prelude.{List};
+    ghost use Rattle.ffm_model.specs.declared.script.SfnFunction.{SfnFunction};
+    ghost use Rattle.ffm_model.specs.SfnScripts.{IsSfnScript};
+
+    ghost Value = { List SfnFunction };
+
+    ghost view = { λ s. s.functions };
+
+    ghost invariant = { λ s. IsSfnScript s.functions };
 }

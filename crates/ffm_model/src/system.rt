@@ -1,12 +1,15 @@
 //! A system.
-ghost use Rattle.std.specs.Prelude.{IsTrue, length, nat_lt, ◌^◌, ◌≡◌, ◌==◌, position};
-ghost use Rattle.ffm_model.specs.WellFormed.{is_well_formed};
+ghost use Rattle.std.specs.Prelude.{IsTrue, length, nat_lt, ◌^◌, ◌≡◌, ◌==◌, ◌&&◌, true, position, find};
+ghost use Rattle.std.specs.Option.{option_map};
+ghost use Rattle.std.specs.Ordering.{nat_cmp, ordering_then};
+ghost use Rattle.ffm_model.specs.WellFormed.{is_well_formed, each_pair, budget_before};
 
 use crate::list::List;
 use crate::machine::{ActorId, Sid};
 use crate::name::Name;
 use crate::trace::Counts;
 use crate::well_formed::do_parts_fit;
+use std::cmp::Ordering;
 
 /// What an actor is.
 #[derive(Clone, Copy, Debug, PartialEq, Eq)]
@@ -63,6 +66,10 @@ pub struct Partition {
     pub priority: Priority,
     pub domain: u32,
     pub ram: u32,
+    /// Whether each of its services is a function, from the message to a status.
+    pub sfn: bool,
+    /// The bytes of its RAM that the manifest asks for as heap.
+    pub heap: u32,
 }
 
 /// An RoT Service. `owner` is its partition's place, and `signal` its bit in that partition's signals.
@@ -77,6 +84,8 @@ pub struct Service {
     pub signal: u32,
     /// The index of its stateless handle, 1 to 32, or 0 for a service that clients connect to.
     pub stateless: u32,
+    /// Whether its vectors may be mapped.
+    pub mm: bool,
 }
 
 /// An interrupt source. `owner` is its partition's place, and `signal` its bit in that partition's
@@ -130,6 +139,26 @@ fn place_of_index(services: &[Service], index: u32) -> Option<usize>
     ensures { result ≡ position (λ v. v.stateless == index) services.now }
 {
     services.iter().position(|v| v.stateless == index)
+}
+
+// How a budget stands to the client's for the service: budgets come in the order of clients, and then of
+// services.
+fn compare(budget: &Budget, client: ActorId, service: u32) -> Ordering
+    ensures { result ≡ ordering_then (nat_cmp budget.now.client.0 client.0) (nat_cmp budget.now.service service) }
+{
+    let by_client = budget.client.0.cmp(&client.0);
+    by_client.then(budget.service.cmp(&service))
+}
+
+// The count of the client's budget for the service, among budgets in order.
+fn count_for(budgets: &[Budget], client: ActorId, service: u32) -> Option<u32>
+    requires { each_pair budget_before budgets.now ≡ true }
+    ensures { result ≡ option_map (λ b. b.count) (find (λ b. (b.client.0 == client.0) && (b.service == service)) budgets.now) }
+{
+    match budgets.binary_search_by(|b| compare(b, client, service)) {
+        Ok(place) => Some(budgets[place].count),
+        Err(_) => None,
+    }
 }
 
 impl System {
@@ -261,13 +290,10 @@ impl System {
 
     /// How many connections an actor may have to a service. None exactly where it may not use the
     /// service.
+    #[tactic(auto, using(crate::proofs::WellFormedLemmas::budgets_in_order))]
     pub fn budget(&self, actor: ActorId, service: u32) -> Option<u32>
         ensures { result ≡ budget_of self.now actor.0 service }
     {
-        self.budgets
-            .as_slice()
-            .iter()
-            .find(|b| b.client == actor && b.service == service)
-            .map(|b| b.count)
+        count_for(self.budgets.as_slice(), actor, service)
     }
 }

@@ -2,7 +2,7 @@
 ghost use Rattle.std.specs.Prelude.{◌≡◌, ℕ, ◌+◌, ◌<◌, ◌≤◌, ◌==◌, ◌^◌, ◌&&◌, ◌||◌, not, true, false, length, slice_get, sum_by, count_by, nat_lt, nat_le};
 ghost use Rattle.std.specs.List.{list_all, list_any, enumerate_from};
 ghost use Rattle.std.specs.Option.{option_map_or};
-ghost use Rattle.ffm_model.specs.WellFormed.{each_pair, apart, is_ram_in, is_ram, is_nonsecure, owner_below, regions_fit, is_signal_bit, signal_fits, signals_fit, is_well_formed, partitions_fit, budgets_fit, budget_before, budget_is_fitting, stateless_fit};
+ghost use Rattle.ffm_model.specs.WellFormed.{each_pair, apart, is_ram_in, is_ram, is_nonsecure, owner_below, regions_fit, is_signal_bit, signal_fits, signals_fit, is_well_formed, partitions_fit, budgets_fit, budget_before, budget_is_fitting, stateless_fit, ram_bytes, functions_fit, models_fit};
 ghost use Rattle.ffm_model.specs.declared.constants.TheConstants.{MAX_STATELESS};
 
 use crate::constants::MAX_STATELESS;
@@ -237,6 +237,58 @@ pub(crate) fn do_partitions_fit(partitions: &[Partition], regions: &[Region]) ->
         && is_each_ram_owned(regions, partitions)
 }
 
+fn ram_bytes(partition: &Partition, regions: &[Region]) -> u32
+    ensures { result ≡ ram_bytes regions.now partition.now }
+{
+    match regions.get(partition.ram as usize) {
+        Some(region) => region.size,
+        None => 0,
+    }
+}
+
+fn has_service(services: &[Service], place: usize) -> bool
+    ensures { result ≡ list_any (λ v. v.owner == place) services.now }
+{
+    services.iter().any(|v| v.owner as usize == place)
+}
+
+fn do_functions_fit(
+    partition: &Partition,
+    place: usize,
+    services: &[Service],
+    regions: &[Region],
+) -> bool
+    ensures { result ≡ functions_fit services.now regions.now (place, partition.now) }
+{
+    !partition.sfn || (has_service(services, place) && 48 <= ram_bytes(partition, regions))
+}
+
+fn do_all_functions_fit(partitions: &[Partition], services: &[Service], regions: &[Region]) -> bool
+    ensures { result ≡ list_all (functions_fit services.now regions.now) (enumerate_from 0 partitions.now) }
+{
+    partitions
+        .iter()
+        .enumerate()
+        .all(|(i, p)| do_functions_fit(p, i, services, regions))
+}
+
+fn do_heaps_fit(partitions: &[Partition], regions: &[Region]) -> bool
+    ensures { result ≡ list_all (λ p. nat_le p.heap (ram_bytes regions.now p)) partitions.now }
+{
+    partitions.iter().all(|p| p.heap <= ram_bytes(p, regions))
+}
+
+/// Whether partitions with functions have what these need, and each heap lies in its RAM.
+pub(crate) fn do_models_fit(
+    partitions: &[Partition],
+    services: &[Service],
+    regions: &[Region],
+) -> bool
+    ensures { result ≡ models_fit partitions.now services.now regions.now }
+{
+    do_all_functions_fit(partitions, services, regions) && do_heaps_fit(partitions, regions)
+}
+
 fn has_own_sid(service: &Service, rest: &[Service]) -> bool
     ensures { result ≡ list_all (λ w. not (service.now.sid.0 == w.sid.0)) rest.now }
 {
@@ -362,6 +414,7 @@ pub(crate) fn do_parts_fit(
         && level <= 3
         && partitions.len() <= 32
         && clients.len() <= 16
+        && do_models_fit(partitions, services, regions)
         && do_stateless_fit(services, budgets)
         && do_partitions_fit(partitions, regions)
         && do_regions_fit(partitions.len(), regions)

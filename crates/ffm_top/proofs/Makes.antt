@@ -12,17 +12,19 @@ use Rattle.ffm_model.specs.Scenarios.{scenario_in}
 use Rattle.ffm_model.specs.Systems.{stopped}
 use Rattle.generated_system.specs.Texts.{system_text, scenario_text}
 use Rattle.ffm_top.specs.Makes.{IsGenerated, IsMade, MadeDue, moved_by, bytes_moved, summary_line}
-use Rattle.ffm_top.specs.Runs.{RanBy}
-use Rattle.ffm_top.specs.Work.{Parts, system_in, scripts_of}
+use Rattle.actor_programs.specs.declared.program.Program.{Program}
+use Rattle.actor_programs.specs.Programs.{programs_of}
+use Rattle.scenario_runs.specs.Runs.{RanBy}
+use Rattle.work_orders.specs.Work.{system_in}
 use Rattle.ffm_top.proofs.Reports.{not_empty}
 use Rattle.ffm_top.proofs.Traces.{at_place}
 
-pub is_generated : (rounds : ℕ) (s : System) (c : Scenario) (scripts : List Parts) (held : Contents) → ((name : List ℕ) → held name ≡ None) → (system_in held system_text).gives ≡ Ok s
-    → stopped (scenario_in s (scenario_text rounds)) ≡ Ok c → scripts_of s c ≡ Ok scripts → IsGenerated rounds s c scripts
-is_generated rounds s c scripts held empty one two three = record { held = held; empty = empty; system = one; scenario = two; assembled = three }
+pub is_generated : (rounds : ℕ) (s : System) (c : Scenario) (programs : List Program) (held : Contents) → ((name : List ℕ) → held name ≡ None) → (system_in held system_text).gives ≡ Ok s
+    → stopped (scenario_in s (scenario_text rounds)) ≡ Ok c → programs_of s c ≡ Ok programs → IsGenerated rounds s c programs
+is_generated rounds s c programs held empty one two three = record { held = held; empty = empty; system = one; scenario = two; assembled = three }
 
-pub is_made : (rounds : ℕ) (s : System) (c : Scenario) (scripts : List Parts) (es : List Entry) (v : Verdict) → IsGenerated rounds s c scripts → RanBy s (opening_memory c.memory) c scripts false es v → IsMade rounds es v
-is_made rounds s c scripts es v generated ran = record { system = s; scenario = c; scripts = scripts; generated = generated; ran = ran }
+pub is_made : (rounds : ℕ) (s : System) (c : Scenario) (programs : List Program) (es : List Entry) (v : Verdict) → IsGenerated rounds s c programs → RanBy s (opening_memory c.memory) c programs false es v → IsMade rounds es v
+is_made rounds s c programs es v generated ran = record { system = s; scenario = c; programs = programs; generated = generated; ran = ran }
 
 pub made_due : (rounds : ℕ) (es : List Entry) (v : Verdict) (text : List ℕ) → IsMade rounds es v → text ≡ summary_line rounds (length es) (bytes_moved es) v → MadeDue rounds text 0
 made_due rounds es v text made e = record { entries = es; ended = v; made = made; text_is = e; status_is = refl }

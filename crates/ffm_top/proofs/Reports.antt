@@ -12,16 +12,17 @@ use Rattle.ffm_model.specs.Listing.{listing}
 use Rattle.ffm_model.specs.Memory.{opening_memory}
 use Rattle.ffm_model.specs.TraceText.{entry_text, line, trace_text, verdict_text}
 use Rattle.ffm_top.specs.declared.report.Report.TheVariants as report
-use Rattle.ffm_top.specs.declared.run.Ran.{Ran}
-use Rattle.ffm_top.specs.Runs.{RanBy, RunDue, verdict_status}
+use Rattle.scenario_runs.specs.declared.scheduled.Ran.{Ran}
+use Rattle.actor_programs.specs.declared.program.Program.{Program}
+use Rattle.scenario_runs.specs.Runs.{RanBy}
+use Rattle.ffm_top.specs.Runs.{RunDue, verdict_status}
 use Rattle.ffm_top.specs.Lines.{refusal_line, usage_line}
 use Rattle.ffm_top.specs.Report.{text_of}
-use Rattle.ffm_top.specs.Work.{Parts}
 
-pub run_due : (s : System) (c : Scenario) (scripts : List Parts) (threads : Bool) (ran : Ran) → ran.spm.opening.system ≡ s → RanBy s (opening_memory c.memory) c scripts threads ran.spm.history ran.verdict
-    → RunDue s c scripts threads (text_of (report.Ran ran)) (verdict_status ran.verdict)
+pub run_due : (s : System) (c : Scenario) (programs : List Program) (threads : Bool) (ran : Ran) → ran.spm.opening.system ≡ s → RanBy s (opening_memory c.memory) c programs threads ran.spm.history ran.verdict
+    → RunDue s c programs threads (text_of (report.Ran ran)) (verdict_status ran.verdict)
 unfolding text_of
-run_due s c scripts threads ran system_is by = record {
+run_due s c programs threads ran system_is by = record {
   entries = ran.spm.history;
   ended = ran.verdict;
   ran = by;

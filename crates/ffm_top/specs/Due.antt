@@ -8,8 +8,8 @@ use Rattle.ffm_top.specs.Lines.{usage_line, refusal_line}
 use Rattle.ffm_top.specs.Makes.{MadeDue}
 use Rattle.ffm_top.specs.Replays.{ReplayDue, IsTraceText}
 use Rattle.ffm_top.specs.Runs.{RunDue}
-use Rattle.ffm_top.specs.Words.{Order, order_of}
-use Rattle.ffm_top.specs.Work.{Work, listing_of, run_of, replay_of, make_of, work_of}
+use Rattle.work_orders.specs.Words.{Order, order_of}
+use Rattle.work_orders.specs.Work.{Work, listing_of, run_of, replay_of, make_of, work_of}
 
 -- a system's text is its listing
 abbrev pub ListingDue : System → List ℕ → ℕ → Type 0
@@ -17,7 +17,7 @@ ListingDue s text status = (text ≡ listing s) × (status ≡ 0)
 
 abbrev pub WorkDue : Work → List ℕ → ℕ → Type 0
 WorkDue (listing_of s) text status = ListingDue s text status
-WorkDue (run_of threads s c scripts) text status = RunDue s c scripts threads text status
+WorkDue (run_of threads s c programs) text status = RunDue s c programs threads text status
 WorkDue (replay_of s c bytes) text status = ReplayDue s c bytes text status
 WorkDue (make_of rounds) text status = MadeDue rounds text status
 
@@ -45,7 +45,7 @@ asked words of = names_asked (order_of words) of
 -- no file is refused for what is asked for; a trace file is refused where it is no trace's text
 abbrev pub IsValidWork : Work → Type 0
 IsValidWork (listing_of s) = Unit {0}
-IsValidWork (run_of threads s c scripts) = Unit {0}
+IsValidWork (run_of threads s c programs) = Unit {0}
 IsValidWork (replay_of s c bytes) = IsTraceText s bytes
 IsValidWork (make_of rounds) = Unit {0}
 

@@ -1,11 +1,7 @@
-pub mod Words
 pub mod Lines
-pub mod Work
 pub mod Runs
-pub mod Threads
 pub mod Replays
 pub mod Makes
 pub mod Due
 pub mod Answers
 pub mod Report
-pub mod View

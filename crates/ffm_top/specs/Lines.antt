@@ -3,7 +3,7 @@
 use Rattle.std.specs.Prelude.{ℕ, ◌==◌, List, [], ◌∷◌, ◌++◌, codes, if◌then◌else◌}
 use Rattle.std.specs.List.{flat_map}
 use Rattle.std.specs.Fmt.{decimal}
-use Rattle.ffm_model.specs.declared.codes.TheConstants.{JSON, MISSING_ATTRIBUTE, WRONG_TYPE, BAD_VALUE, DUPLICATE_PARTITION, DUPLICATE_SERVICE, DUPLICATE_SID, UNKNOWN_DEPENDENCY, SELF_DEPENDENCY, DEPENDENCY_CYCLE, TOO_MANY_SIGNALS, REGION_UNKNOWN, REGION_OVERLAP, TOO_MANY_PARTITIONS, TOO_MANY_CONNECTIONS, BUDGET_WITHOUT_PERMISSION, DUPLICATE_IRQ_SOURCE, MEMORY_TOO_LARGE, SCRIPT_SYNTAX, UNKNOWN_ACTOR, FILE_TOO_LONG, TRACE_SYNTAX}
+use Rattle.ffm_model.specs.declared.codes.TheConstants.{JSON, MISSING_ATTRIBUTE, WRONG_TYPE, BAD_VALUE, DUPLICATE_PARTITION, DUPLICATE_SERVICE, DUPLICATE_SID, UNKNOWN_DEPENDENCY, SELF_DEPENDENCY, DEPENDENCY_CYCLE, TOO_MANY_SIGNALS, REGION_UNKNOWN, REGION_OVERLAP, TOO_MANY_PARTITIONS, TOO_MANY_CONNECTIONS, BUDGET_WITHOUT_PERMISSION, DUPLICATE_IRQ_SOURCE, MEMORY_TOO_LARGE, SCRIPT_SYNTAX, UNKNOWN_ACTOR, DUPLICATE_STATELESS_INDEX, TOO_MANY_STATELESS, FILE_TOO_LONG, TRACE_SYNTAX}
 use Rattle.ffm_model.specs.declared.place.Refusal.{Refusal}
 use Rattle.ffm_model.specs.declared.place.PathStep.{PathStep}
 use Rattle.ffm_model.specs.declared.place.PathStep.TheVariants as step
@@ -27,6 +27,7 @@ code_names =
     ∷ (TOO_MANY_PARTITIONS, codes "TooManyPartitions") ∷ (TOO_MANY_CONNECTIONS, codes "TooManyConnections")
     ∷ (BUDGET_WITHOUT_PERMISSION, codes "BudgetWithoutPermission") ∷ (DUPLICATE_IRQ_SOURCE, codes "DuplicateIrqSource")
     ∷ (MEMORY_TOO_LARGE, codes "MemoryTooLarge") ∷ (SCRIPT_SYNTAX, codes "ScriptSyntax") ∷ (UNKNOWN_ACTOR, codes "UnknownActor")
+    ∷ (DUPLICATE_STATELESS_INDEX, codes "DuplicateStatelessIndex") ∷ (TOO_MANY_STATELESS, codes "TooManyStateless")
     ∷ (FILE_TOO_LONG, codes "FileTooLong") ∷ (TRACE_SYNTAX, codes "TraceSyntax") ∷ []
 
 -- the name of a code in a table

@@ -15,17 +15,19 @@ use Rattle.ffm_model.specs.Reading.{Contents}
 use Rattle.ffm_model.specs.Scenarios.{scenario_in}
 use Rattle.ffm_model.specs.Systems.{stopped}
 use Rattle.ffm_model.specs.TraceText.{verdict_word}
-use Rattle.ffm_top.specs.Runs.{RanBy}
-use Rattle.ffm_top.specs.Work.{Parts, system_in, scripts_of}
+use Rattle.actor_programs.specs.declared.program.Program.{Program}
+use Rattle.actor_programs.specs.Programs.{programs_of}
+use Rattle.scenario_runs.specs.Runs.{RanBy}
+use Rattle.work_orders.specs.Work.{system_in}
 use Rattle.generated_system.specs.Texts.{system_text, scenario_text}
 
 -- what the generated texts stand for, with no file at hand
-pub record IsGenerated (rounds : ℕ) (s : System) (c : Scenario) (scripts : List Parts) : Type 0 where
+pub record IsGenerated (rounds : ℕ) (s : System) (c : Scenario) (programs : List Program) : Type 0 where
   pub held : Contents
   pub empty : (name : List ℕ) → held name ≡ None
   pub system : (system_in held system_text).gives ≡ Ok s
   pub scenario : stopped (scenario_in s (scenario_text rounds)) ≡ Ok c
-  pub assembled : scripts_of s c ≡ Ok scripts
+  pub assembled : programs_of s c ≡ Ok programs
 
 -- the bytes that a call moved: those that were read, or those of an answered write
 abbrev pub moved_by : Call → Outcome → ℕ
@@ -45,9 +47,9 @@ summary_line rounds count moved verdict =
 pub record IsMade (rounds : ℕ) (es : List Entry) (v : Verdict) : Type 0 where
   pub system : System
   pub scenario : Scenario
-  pub scripts : List Parts
-  pub generated : IsGenerated rounds system scenario scripts
-  pub ran : RanBy system (opening_memory scenario.memory) scenario scripts false es v
+  pub programs : List Program
+  pub generated : IsGenerated rounds system scenario programs
+  pub ran : RanBy system (opening_memory scenario.memory) scenario programs false es v
 
 -- the text sums up such a run
 pub record MadeDue (rounds : ℕ) (text : List ℕ) (status : ℕ) : Type 0 where

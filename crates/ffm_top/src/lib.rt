@@ -1,16 +1,11 @@
 //! The top call: what the words of the command line ask for, done over any files and any sink.
 #![tactic(auto)]
 
-mod command_line;
-mod limits;
 mod lines;
 mod make;
 mod replay;
 mod report;
 mod run;
-mod threads;
 mod top;
-mod words;
-mod work;
 
 pub use top::{asks_threads, ffm, ffm_alone};

@@ -7,10 +7,11 @@ ghost use Rattle.ffm_top.specs.Lines.{usage_line, name_in, code_name, root_text,
 
 use ffm_model::{
     BAD_VALUE, BUDGET_WITHOUT_PERMISSION, DEPENDENCY_CYCLE, DUPLICATE_IRQ_SOURCE,
-    DUPLICATE_PARTITION, DUPLICATE_SERVICE, DUPLICATE_SID, FILE_TOO_LONG, JSON, MEMORY_TOO_LARGE,
-    MISSING_ATTRIBUTE, PathStep, REGION_OVERLAP, REGION_UNKNOWN, Refusal, Root, SCRIPT_SYNTAX,
-    SELF_DEPENDENCY, TOO_MANY_CONNECTIONS, TOO_MANY_PARTITIONS, TOO_MANY_SIGNALS, TRACE_SYNTAX,
-    UNKNOWN_ACTOR, UNKNOWN_DEPENDENCY, WRONG_TYPE,
+    DUPLICATE_PARTITION, DUPLICATE_SERVICE, DUPLICATE_SID, DUPLICATE_STATELESS_INDEX,
+    FILE_TOO_LONG, JSON, MEMORY_TOO_LARGE, MISSING_ATTRIBUTE, PathStep, REGION_OVERLAP,
+    REGION_UNKNOWN, Refusal, Root, SCRIPT_SYNTAX, SELF_DEPENDENCY, TOO_MANY_CONNECTIONS,
+    TOO_MANY_PARTITIONS, TOO_MANY_SIGNALS, TOO_MANY_STATELESS, TRACE_SYNTAX, UNKNOWN_ACTOR,
+    UNKNOWN_DEPENDENCY, WRONG_TYPE,
 };
 use itoa::Buffer;
 use std::alloc::{AllocError, Global};
@@ -22,7 +23,7 @@ struct NamedCode {
     name: &'static str,
 }
 
-const CODE_NAMES: [NamedCode; 22] = [
+const CODE_NAMES: [NamedCode; 24] = [
     NamedCode {
         code: JSON,
         name: "Json",
@@ -102,6 +103,14 @@ const CODE_NAMES: [NamedCode; 22] = [
     NamedCode {
         code: UNKNOWN_ACTOR,
         name: "UnknownActor",
+    },
+    NamedCode {
+        code: DUPLICATE_STATELESS_INDEX,
+        name: "DuplicateStatelessIndex",
+    },
+    NamedCode {
+        code: TOO_MANY_STATELESS,
+        name: "TooManyStateless",
     },
     NamedCode {
         code: FILE_TOO_LONG,

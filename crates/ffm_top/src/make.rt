@@ -7,21 +7,22 @@ ghost use Rattle.generated_system.specs.Texts.{system_text, scenario_text};
 ghost use Rattle.outside_io.specs.MemoryFiles.{held_by};
 ghost use Rattle.ffm_top.specs.Makes.{IsGenerated, IsMade, moved_by, bytes_moved, summary_line, MadeDue};
 ghost use Rattle.ffm_top.specs.Report.{text_of, status_of};
-ghost use Rattle.ffm_top.specs.View.{IsRun};
-ghost use Rattle.ffm_top.specs.Work.{system_in};
+ghost use Rattle.work_orders.specs.View.{IsRun};
+ghost use Rattle.work_orders.specs.Work.{system_in};
 ghost use Rattle.ffm_model.specs.TraceText.{verdict_word};
 
 use crate::lines::{append, append_number};
 use crate::report::Report;
-use crate::run::{Ran, run};
-use crate::work::{RunWork, scripts_of, system_in};
+use actor_programs::programs_of;
 use ffm_model::{Call, Entry, Memory, Outcome, PartsError, Scenario, System, Verdict};
 use generated_system::{scenario_text, system_text};
 use itoa::Buffer;
 use outside_io::MemoryFiles;
+use scenario_runs::{Ran, run_in_turns};
 use spm_core::Spm;
 use std::alloc::{AllocError, Global};
 use system_json::read_scenario;
+use work_orders::{RunWork, system_in};
 
 // The generated system, of which no file is read.
 fn system_of(alloc: Global, nothing: &mut MemoryFiles) -> Result<System, PartsError>
@@ -43,18 +44,18 @@ fn scenario_of(alloc: Global, rounds: u32, system: &System) -> Result<Scenario, 
 // What the generated texts stand for, with so many requests of each client.
 #[tactic(auto, using(crate::proofs::Makes::is_generated))]
 fn generated(alloc: Global, rounds: u32) -> Result<RunWork, PartsError>
-    ensures generated { IfOk result (λ work. IsGenerated rounds work.system work.scenario work.scripts) }
+    ensures generated { IfOk result (λ work. IsGenerated rounds work.system work.scenario work.programs) }
     ensures kept { IfOk result IsRun }
 {
     let mut nothing = MemoryFiles::new(alloc);
     let system = system_of(alloc, &mut nothing)?;
     let scenario = scenario_of(alloc, rounds, &system)?;
-    let scripts = scripts_of(alloc, &system, &scenario)?;
+    let programs = programs_of(alloc, &system, &scenario)?;
     Ok(RunWork {
         threads: false,
         system,
         scenario,
-        scripts,
+        programs,
     })
 }
 
@@ -131,10 +132,10 @@ fn made(alloc: Global, rounds: u32) -> Result<Ran, PartsError>
     let RunWork {
         system,
         scenario,
-        scripts,
+        programs,
         ..
     } = generated(alloc, rounds)?;
-    Ok(run(alloc, system, &scenario, &scripts)?)
+    Ok(run_in_turns(alloc, system, &scenario, programs)?)
 }
 
 // The report of a run of the generated system.

@@ -7,16 +7,16 @@ ghost use Rattle.ffm_top.specs.Answers.{IsDoneStatus};
 ghost use Rattle.ffm_top.specs.Lines.{refusal_line};
 ghost use Rattle.ffm_top.specs.Replays.{IsTextOf, IsTraceText, judgement_line, judgement_of, wrong_line, JudgedDue, ReplayDue};
 ghost use Rattle.ffm_top.specs.Report.{text_of, status_of};
-ghost use Rattle.ffm_top.specs.View.{IsReplay};
+ghost use Rattle.work_orders.specs.View.{IsReplay};
 
 use crate::lines::{append, append_number, refusal_line};
 use crate::report::Report;
-use crate::run::opening_image;
-use crate::work::ReplayWork;
 use ffm_model::{List, Memory, PathStep, Place, Refusal, Root, TRACE_SYNTAX, Trace};
 use machine_check::{Checked, check};
+use scenario_runs::opening_image;
 use std::alloc::{AllocError, Global};
 use trace_print::{TraceError, read_trace};
+use work_orders::ReplayWork;
 
 fn line_of(alloc: Global, word: &str, number: u32) -> Result<Vec<u8>, AllocError>
     ensures { IfOk result (λ line. line.items ≡ word.now ++ (decimal number ++ 10 ∷ [])) }

@@ -11,10 +11,10 @@ ghost use Rattle.ffm_top.specs.Runs.{verdict_status};
 ghost use Rattle.ffm_top.specs.Report.{text_of, status_of};
 
 use crate::lines::usage_line;
-use crate::run::Ran;
 use ffm_model::Verdict;
 use machine_check::Checked;
 use outside_io::{Failed, Sink, put_all};
+use scenario_runs::Ran;
 use spm_core::Spm;
 use trace_print::{Line, print_into, print_verdict};
 

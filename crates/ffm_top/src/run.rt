@@ -1,82 +1,56 @@
-//! Runs the scripts of a scenario over a system.
+//! The run that work asks for.
 
-ghost use Rattle.std.specs.Prelude.{◌≡◌, IfOk, false, length};
-ghost use Rattle.std.specs.List.{All};
-ghost use Rattle.ffm_model.specs.Actors.{actor_count};
-ghost use Rattle.ffm_model.specs.Scenarios.{IsScenarioOf};
+ghost use Rattle.std.specs.Prelude.{◌≡◌, IfOk, false};
 ghost use Rattle.ffm_model.specs.Memory.{opening_memory};
-ghost use Rattle.memory_image.specs.Pieces.{byte_at, regions_of, ranges_of};
-ghost use Rattle.ffm_top.specs.Runs.{RanBy};
-ghost use Rattle.ffm_top.specs.View.{IsRun};
+ghost use Rattle.scenario_runs.specs.Runs.{RanBy};
+ghost use Rattle.work_orders.specs.View.{IsRun};
 
-use crate::work::RunWork;
-use ffm_model::{List, Memory, Scenario, Script, System, Verdict};
-use memory_image::Image;
-use partition_sim::drive_scheduled;
-use spm_core::Spm;
+use ffm_model::{Gate, Memory};
+use scenario_runs::{Ran, run_in_threads, run_in_turns};
 use std::alloc::Global;
+use std::sync::Wait;
+use std::thread::Threads;
+use work_orders::RunWork;
 
-/// A run that ended.
-#[derive(Drop)]
-pub struct Ran {
-    pub spm: Spm,
-    pub verdict: Verdict,
-}
-
-// The regions are fewer than 2^31 where there is memory for so many.
-const MAX_REGIONS: usize = 0x7fff_ffff;
-
-/// The memory that a run begins with.
-#[tactic(auto, using(memory_image::proofs::Systems::system_fits))]
-pub fn opening_image(alloc: Global, system: &System, scenario: &Scenario) -> Result<Image, Memory>
-    requires { IsScenarioOf system.now scenario.now }
-    ensures regions { IfOk result (λ image. regions_of image ≡ ranges_of system.now.regions) }
-    ensures bytes { IfOk result (λ image. byte_at image ≡ opening_memory scenario.now.memory) }
-{
-    if system.regions.len() > MAX_REGIONS {
-        return Err(Memory);
-    }
-    Image::new(alloc, &system.regions, &scenario.memory)
-}
-
-/// The run of a scenario's scripts, one for each actor, over a system, in the turns of its schedule.
-/// Memory where no memory was found.
-pub fn run(
-    alloc: Global,
-    system: System,
-    scenario: &Scenario,
-    scripts: &List<Script>,
-) -> Result<Ran, Memory>
-    requires scenario { IsScenarioOf system scenario.now }
-    requires scripts { length scripts.now ≡ actor_count system }
-    ensures system { IfOk result (λ ran. ran.spm.opening.system ≡ system) }
-    ensures ran { IfOk result (λ ran. RanBy system (opening_memory scenario.now.memory) scenario.now scripts.now false ran.spm.history ran.verdict) }
-{
-    let image = opening_image(alloc, &system, scenario)?;
-    let mut spm = Spm::new(alloc, system, image, scenario.limit)?;
-    drive_scheduled(alloc, &mut spm, scripts, &scenario.schedule)?;
-    let _length = spm.length();
-    match spm.verdict() {
-        Some(verdict) => Ok(Ran { spm, verdict }),
-        None => unreachable!(),
-    }
-}
-
-/// The run that work without threads asks for.
-pub fn run_in_turns(alloc: Global, work: RunWork) -> Result<Ran, Memory>
+/// The run that work without threads asks for. Memory where no memory was found.
+pub fn run_alone(alloc: Global, work: RunWork) -> Result<Ran, Memory>
     requires work { IsRun work }
     requires threads { work.threads ≡ false }
     ensures system { IfOk result (λ ran. ran.spm.opening.system ≡ work.system) }
-    ensures ran { IfOk result (λ ran. RanBy work.system (opening_memory work.scenario.memory) work.scenario work.scripts work.threads ran.spm.history ran.verdict) }
+    ensures ran { IfOk result (λ ran. RanBy work.system (opening_memory work.scenario.memory) work.scenario work.programs work.threads ran.spm.history ran.verdict) }
 {
     let RunWork {
         threads,
         system,
         scenario,
-        scripts,
+        programs,
     } = work;
     if threads {
         unreachable!()
     }
-    run(alloc, system, &scenario, &scripts)
+    run_in_turns(alloc, system, &scenario, programs)
+}
+
+/// The run that work asks for, with threads or without. Memory where no memory was found.
+pub fn run_as_asked<R: Threads + Wait + Sync, G: Gate + Sync>(
+    rt: &R,
+    alloc: Global,
+    gate: &G,
+    work: RunWork,
+) -> Result<Ran, Memory>
+    requires work { IsRun work }
+    ensures system { IfOk result (λ ran. ran.spm.opening.system ≡ work.system) }
+    ensures ran { IfOk result (λ ran. RanBy work.system (opening_memory work.scenario.memory) work.scenario work.programs work.threads ran.spm.history ran.verdict) }
+{
+    let RunWork {
+        threads,
+        system,
+        scenario,
+        programs,
+    } = work;
+    if threads {
+        run_in_threads(rt, alloc, gate, system, &scenario, programs)
+    } else {
+        run_in_turns(alloc, system, &scenario, programs)
+    }
 }

@@ -11,25 +11,22 @@ ghost use Rattle.ffm_top.specs.Replays.{ReplayDue, IsTraceText};
 ghost use Rattle.ffm_top.specs.Runs.{RunDue};
 ghost use Rattle.ffm_top.specs.Lines.{refusal_line, usage_line};
 ghost use Rattle.ffm_top.specs.Report.{text_of, status_of};
-ghost use Rattle.ffm_top.specs.View.{work as work_seen, IsReplay, IsRun, IsWork, threads_of};
-ghost use Rattle.ffm_top.specs.Words.{asks_threads, has_threads, order, order_of};
-ghost use Rattle.ffm_top.specs.Work.{work_of};
+ghost use Rattle.work_orders.specs.View.{work as work_seen, IsReplay, IsRun, IsWork, threads_of};
+ghost use Rattle.work_orders.specs.Words.{asks_threads, has_threads, order, order_of};
+ghost use Rattle.work_orders.specs.Work.{work_of};
 
-use crate::command_line::{Unread, confirmed};
 use crate::lines::refusal_line;
 use crate::make::make;
 use crate::replay::replay;
 use crate::report::{Report, write_report};
-use crate::run::run_in_turns;
-use crate::threads::run_as_asked;
-use crate::words::{Command, command_of};
-use crate::work::{ReplayWork, RunWork, Work, work_of};
+use crate::run::{run_alone, run_as_asked};
 use ffm_model::{Gate, PartsError, Refusal, System};
 use outside_io::{Failed, Files, Sink};
 use std::alloc::Global;
 use std::sync::Wait;
 use std::thread::Threads;
 use system_listing::listing;
+use work_orders::{Command, ReplayWork, RunWork, Unread, Work, command_of, confirmed, work_of};
 
 /// Why there is nothing to write.
 #[derive(Clone, Copy, Debug, PartialEq, Eq)]
@@ -81,12 +78,12 @@ fn listed(alloc: Global, system: &System) -> Result<Report, Halt>
 fn ran(alloc: Global, work: RunWork) -> Result<Report, Halt>
     requires work { IsRun work }
     requires threads { work.threads ≡ false }
-    ensures due { IfOk result (λ report. RunDue work.system work.scenario work.scripts work.threads (text_of report) (status_of report)) }
+    ensures due { IfOk result (λ report. RunDue work.system work.scenario work.programs work.threads (text_of report) (status_of report)) }
     ensures some { IfOk result (λ report. 0 < length (text_of report)) }
     ensures status { IfOk result (λ report. IsDoneStatus (status_of report)) }
     ensures memory { IsErrOf result Halt.Files → ⊥ }
 {
-    match run_in_turns(alloc, work) {
+    match run_alone(alloc, work) {
         Ok(ran) => Ok(Report::Ran(ran)),
         Err(_) => Err(Halt::Memory),
     }
@@ -200,7 +197,7 @@ fn ran_as_asked<R: Threads + Wait + Sync, G: Gate + Sync>(
     work: RunWork,
 ) -> Result<Report, Halt>
     requires work { IsRun work }
-    ensures due { IfOk result (λ report. RunDue work.system work.scenario work.scripts work.threads (text_of report) (status_of report)) }
+    ensures due { IfOk result (λ report. RunDue work.system work.scenario work.programs work.threads (text_of report) (status_of report)) }
     ensures some { IfOk result (λ report. 0 < length (text_of report)) }
     ensures status { IfOk result (λ report. IsDoneStatus (status_of report)) }
     ensures memory { IsErrOf result Halt.Files → ⊥ }

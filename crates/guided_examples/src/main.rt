@@ -7,7 +7,7 @@ use outside_io::{HostFiles, StdoutSink};
 use std::alloc::{AllocError, Global};
 use std::io;
 
-const EXAMPLES: [&str; 18] = [
+const EXAMPLES: [&str; 22] = [
     "two_requests",
     "rhandle",
     "version_policies",
@@ -26,6 +26,10 @@ const EXAMPLES: [&str; 18] = [
     "serial_driver",
     "hostile_clients",
     "firmware",
+    "interrupt_handlers",
+    "stateless_service",
+    "firmware_1_1",
+    "key_store",
 ];
 
 // The words of a command over an example's files.

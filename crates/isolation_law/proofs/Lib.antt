@@ -5,3 +5,4 @@ pub mod Steps
 pub mod Changed
 pub mod Told
 pub mod Within
+pub mod CallsWithin

@@ -35,7 +35,8 @@ use Rattle.ffm_model.specs.State.{State, SpmState, phase_of, has_handle, with_rh
 use Rattle.ffm_model.specs.Signals.{is_blocked, signals_of, assigned_to, has_signal_of}
 use Rattle.ffm_model.specs.Panic.{is_dead, without_service, disconnection, panic_effect}
 use Rattle.ffm_model.specs.ClientCalls.{Move, Effect, move, in_state, psa_connect, psa_call, psa_close, connection_called, service_called, call_to, connect_to, connect_issued, call_on, close_on, is_service_panicked, refuses_requests, is_busy, takes_version, returned}
-use Rattle.ffm_model.specs.ServiceCalls.{psa_wait, psa_get, psa_set_rhandle, psa_skip, psa_read, psa_write, psa_reply, request_held, service_of_signal, source_of_signal, message_size, get_of, skip_of, read_of, write_of, reply_of, rest_of, input_at, output_at, input_moved, connect_answered, close_answered, request_failed, request_answered, answered, with_request_phase, replied, owes_panic, reply_to}
+use Rattle.ffm_model.specs.ServiceCalls.{psa_wait, psa_get, psa_set_rhandle, psa_skip, psa_read, psa_write, psa_reply, request_held, service_of_signal, message_size, get_of, skip_of, read_of, write_of, reply_of, rest_of, input_at, output_at, input_moved, connect_answered, close_answered, request_failed, request_answered, answered, with_request_phase, replied, owes_panic, reply_to}
+use Rattle.ffm_model.specs.SignalCalls.{source_of_signal}
 use Rattle.ffm_model.specs.Calls.{call_case, error_effect, effect_of}
 use Rattle.ffm_model.specs.Step.{step, after}
 use Rattle.memory_image.specs.Pieces.{is_inside, ranges_of}
@@ -85,7 +86,7 @@ with_vectors-meet W b h v own all =
 -- ---- calls of clients
 
 -- where a move is made, its messages' vectors meet the rule
-abbrev MovedMeets : (Vectors → Type 0) → Option Move → Type 0
+abbrev pub MovedMeets : (Vectors → Type 0) → Option Move → Type 0
 MovedMeets W o = IfSome o (λ m. AllMeet W m.spm)
 
 abbrev EffectMeets : (Vectors → Type 0) → Option Effect → Type 0
@@ -102,7 +103,7 @@ connect_to-meets W s b a service none all =
     elim [ true ↦ λ y. all | false ↦ elim [ true ↦ all | false ↦ All-push (λ (p : PendingMessage). W p.vectors) b.messages _ all none ] ] in
     go (is_service_panicked s b service) (in_use b a service == unwrap_or (budget_of s a service) 0)
 
-connects : (W : Vectors → Type 0) (s : System) (b : SpmState) (a : ℕ) (sid : Sid) (version : ℕ) → W no_vectors → AllMeet W b → MovedMeets W (psa_connect s b a sid version)
+pub connects : (W : Vectors → Type 0) (s : System) (b : SpmState) (a : ℕ) (sid : Sid) (version : ℕ) → W no_vectors → AllMeet W b → MovedMeets W (psa_connect s b a sid version)
 connects W s b a sid version none all =
     elim (service_at s sid) as (λ (o : Option ℕ). MovedMeets W (option_and_then (λ i. if permits s a i && (not (is_stateless s i) && takes_version s i version) then Some (connect_to s b a i) else None) o)) [
       | None ↦ tt
@@ -156,7 +157,7 @@ by_index W s st a index kind in_vec in_len out_vec out_len own all =
       | Some i ↦ on i (vectors_of s st.memory a in_vec in_len out_vec out_len) refl
     ]
 
-calls : (W : Vectors → Type 0) (s : System) (st : State) (a : ℕ) (h : Handle) (kind : ℤ) (in_vec in_len out_vec out_len : ℕ)
+pub calls : (W : Vectors → Type 0) (s : System) (st : State) (a : ℕ) (h : Handle) (kind : ℤ) (in_vec in_len out_vec out_len : ℕ)
     → ((v : Vectors) → vectors_of s st.memory a in_vec in_len out_vec out_len ≡ Some v → W v) → AllMeet W st.spm → MovedMeets W (psa_call s st a h kind in_vec in_len out_vec out_len)
 calls W s st a h kind in_vec in_len out_vec out_len own all =
     elim (stateless_index h) as (λ (o : Option ℕ). MovedMeets W (option_map_or (λ index. service_called s st a index kind in_vec in_len out_vec out_len) o (connection_called s st a h kind in_vec in_len out_vec out_len))) [
@@ -171,7 +172,7 @@ close_on-meets W b a c none all =
       | false ↦ pushed W (with_connection_phase b c.serial Closing) c PSA_IPC_DISCONNECT no_vectors none all
     ]
 
-closes : (W : Vectors → Type 0) (b : SpmState) (a : ℕ) (h : Handle) → W no_vectors → AllMeet W b → MovedMeets W (psa_close b a h)
+pub closes : (W : Vectors → Type 0) (b : SpmState) (a : ℕ) (h : Handle) → W no_vectors → AllMeet W b → MovedMeets W (psa_close b a h)
 closes W b a h none all =
     let on : (o : Option OpenConnection) → MovedMeets W (option_and_then (λ c. if is_busy c.phase then None else Some (close_on b a c)) o) =
     elim [
@@ -265,7 +266,7 @@ disconnections-meet : (W : Vectors → Type 0) (p : ℕ) (o : Option OpenConnect
 disconnections-meet W p None none = tt
 disconnections-meet W p (Some c) none = if_passes (λ (m : PendingMessage). W m.vectors) ((c.client.0 == p) && not (is_dead c.phase)) _ (λ own. none)
 
-panics : (W : Vectors → Type 0) (s : System) (b : SpmState) (p : ℕ) → W no_vectors → AllMeet W b → AllMeet W (panic_effect s b p)
+pub panics : (W : Vectors → Type 0) (s : System) (b : SpmState) (p : ℕ) → W no_vectors → AllMeet W b → AllMeet W (panic_effect s b p)
 panics W s b p none all =
     All-append (λ (m : PendingMessage). W m.vectors) _ _ (All-filter (λ (m : PendingMessage). not (is_service_of s p m.service)) (λ m. W m.vectors) b.messages all)
     (filter_map-all (λ (m : PendingMessage). W m.vectors) (λ (c : OpenConnection). option_and_then (disconnection p) (without_service s p c)) (λ c. disconnections-meet W p (without_service s p c) none) b.connections)
@@ -403,11 +404,11 @@ run-four s m es st h = run-meets AreFour s m es st (four-kept s) h
 
 -- ---- the condition on vectors
 
-none-within : (s : System) → AreWithin (ranges_of s.regions) no_vectors
-none-within s = record {
+pub none-within : (ranges : List (ℕ × ℕ)) → AreWithin ranges no_vectors
+none-within ranges = record {
   few = omega arith;
-  inputs = All-replicate (λ (v : Span). is_inside v.base v.len (ranges_of s.regions) ≡ true) 4 no_span refl;
-  outputs = All-replicate (λ (v : Span). is_inside v.base v.len (ranges_of s.regions) ≡ true) 4 no_span refl;
+  inputs = All-replicate (λ (v : Span). is_inside v.base v.len ranges ≡ true) 4 no_span refl;
+  outputs = All-replicate (λ (v : Span). is_inside v.base v.len ranges ≡ true) 4 no_span refl;
   moved = record { inputs = All-replicate (λ (v : Span). v.moved ≤ v.len) 4 no_span (omega arith); outputs = All-replicate (λ (v : Span). v.moved ≤ v.len) 4 no_span (omega arith) };
   descriptors = λ k below. absurd (omega arith);
 }
@@ -427,9 +428,9 @@ output-kept s v index n fits within =
       | inr past ↦ subst (λ (vs : List Span). AreWithin (ranges_of s.regions) (record v { output = vs })) (sym (set_past v.output index _ past)) within
     ]
 
-within-kept : (s : System) → IsKept s (AreWithin (ranges_of s.regions))
+pub within-kept : (s : System) → IsKept s (AreWithin (ranges_of s.regions))
 within-kept s = record {
-  none = none-within s;
+  none = none-within (ranges_of s.regions);
   read = λ m a in_vec in_len out_vec out_len v given. vectors-from s m a in_vec in_len out_vec out_len v (AreWithin (ranges_of s.regions)) given
       (λ few descriptors inputs outputs. read_within s m a in_vec in_len out_vec out_len _ _ (let fits : in_len + out_len ≤ 4 = grind (arith, nat_tests) in omega arith) descriptors refl refl inputs outputs);
   input = input-kept s;

@@ -1,4 +1,5 @@
 -- The passes of a system with three actors.
+-- Source: this simulator's.
 use Rattle.std.specs.Prelude.{◌≡◌, ℕ}
 use Rattle.spm_lock.specs.Histories.{actors}
 use Rattle.spm_lock.specs.Passes.{SharedView, PassView, IsOwn}

@@ -1,79 +1,22 @@
-//! A partition with a service and two clients of it, over one shared manager.
-ghost use Rattle.std.specs.Prelude.{◌≡◌, ◌≤◌, false, [], IfOk, IfSome};
-ghost use Rattle.ffm_model.specs.declared.constants.TheConstants.{MAX_ENTRIES};
+//! What the actors are answered, by threads of their own and by one.
+ghost use Rattle.std.specs.Prelude.{◌≡◌, false};
 ghost use Rattle.ffm_model.specs.Records.{ends_blocked, outcomes_of};
-ghost use Rattle.spm_lock.specs.Passes.{IsOwn, ArePasses};
-ghost use Rattle.lock_tests.specs.Threes.{AreThree, IsPassOf};
+ghost use Rattle.spm_lock.specs.Passes.{IsOwn};
+ghost use Rattle.lock_tests.specs.Threes.{IsPassOf};
 
-use ffm_model::{ActorId, Answer, Api, Call, List, Outcome, Sid, Trace, Verdict};
-use machine_check::{Checked, check};
-use memory_image::Image;
-use sample_systems::system_of;
+use crate::setup::{judged, manager, put_together, taken_apart};
+use ffm_model::{ActorId, Answer, Api, Call, Outcome, Sid, Verdict};
+use machine_check::Checked;
 use spm_core::Spm;
 use spm_lock::{Pass, Shared};
-use std::alloc::{AllocError, Global};
+use std::alloc::Global;
 use std::process::Abort;
 use std::sync::Wait;
 use std::test::Fail;
 use std::thread;
 use std::thread::Threads;
 
-const SYSTEM: &str = r#"{"isolation_level":3,"manifests":[
-{"psa_framework_version":1.0,"name":"VAULT","type":"APPLICATION-ROT",
-"priority":"NORMAL","entry_point":"main","stack_size":"0x400",
-"services":[{"name":"KEYS","sid":"0x40","non_secure_clients":true},
-{"name":"ADMIN","sid":"0x41","non_secure_clients":false,"version":2}]}],
-"non_secure_ram":"0x1000","clients":["NS","OTHER"]}"#;
-
 type Answers = [Option<Answer>; 3];
-
-#[tactic(auto, using(memory_image::proofs::Systems::system_fits))]
-fn manager(alloc: Global, limit: u32) -> Result<Spm, Fail>
-    requires positive { 1 ≤ limit }
-    requires limited { limit ≤ MAX_ENTRIES }
-    ensures { IfOk result (λ m. m.history ≡ []) }
-{
-    let system = system_of(alloc, SYSTEM)?;
-    if system.regions.len() >= 2147483648 {
-        return Err(Fail::from("too many regions"));
-    }
-    let image = Image::new(alloc, &system.regions, &List::of(Vec::new(alloc)))?;
-    Ok(Spm::new(alloc, system, image, limit)?)
-}
-
-// The passes of the partition and of the two clients, where there are no others.
-fn taken_apart(shared: &Shared, passes: List<Pass>) -> Option<(Pass, Pass, Pass)>
-    requires { ArePasses shared.now passes }
-    ensures { IfSome result (λ r. AreThree shared.now r.0 r.1 r.2) }
-{
-    let mut passes = passes.into_vec();
-    let third = passes.pop()?;
-    let second = passes.pop()?;
-    let first = passes.pop()?;
-    if !passes.is_empty() {
-        return None;
-    }
-    let _ = shared;
-    Some((first, second, third))
-}
-
-fn put_together(
-    alloc: Global,
-    shared: &Shared,
-    first: Pass,
-    second: Pass,
-    third: Pass,
-) -> Result<List<Pass>, AllocError>
-    requires { AreThree shared.now first second third }
-    ensures { IfOk result (λ ps. ArePasses shared.now ps) }
-{
-    let mut passes = Vec::with_capacity(alloc, 3)?;
-    passes.push_reserved(first);
-    passes.push_reserved(second);
-    passes.push_reserved(third);
-    let _ = shared;
-    Ok(List::of(passes))
-}
 
 // Asks for the service's version three times, and gives the answers.
 fn three_versions<R: Wait>(rt: &R, shared: &Shared, mut pass: Pass) -> (Pass, Answers)
@@ -127,21 +70,6 @@ fn run_of_two<R: Threads + Wait + Sync>(
     Ok((shared.finish(passes), first, second))
 }
 
-// The judge's word on a history that is full.
-fn judged(rt: &impl Abort, alloc: Global, spm: &Spm) -> Result<Checked, Fail> {
-    let mut entries = Vec::new(alloc);
-    for place in 1..=spm.length() {
-        entries.push(spm.entry(place))?;
-    }
-    assert!(rt; entries.len() < 100);
-    let trace = Trace {
-        entries: List::of(entries),
-        verdict: Verdict::Full,
-    };
-    let opening = manager(alloc, 6)?;
-    Ok(check(alloc, opening.system(), opening.image(), 6, &trace)?)
-}
-
 #[test]
 fn two_threads_make_three_calls_each(rt: HostRuntime) -> Result<(), Fail> {
     let alloc = rt.alloc();
@@ -159,7 +87,7 @@ fn two_threads_make_three_calls_each(rt: HostRuntime) -> Result<(), Fail> {
             assert_eq!(rt; entry.outcome, Outcome::Number(1));
         }
     }
-    assert_eq!(rt; judged(&rt, alloc, &spm)?, Checked::Legal);
+    assert_eq!(rt; judged(&rt, alloc, &spm, 6, Verdict::Full)?, Checked::Legal);
     Ok(())
 }
 

@@ -55,12 +55,13 @@ fn are_few(in_len: u32, out_len: u32) -> bool
     in_len <= PSA_MAX_IOVEC && out_len <= PSA_MAX_IOVEC - in_len
 }
 
-fn are_valid(system: &System, actor: ActorId, spans: &[Span]) -> bool
+fn are_valid(system: &System, memory: &Image, actor: ActorId, spans: &[Span]) -> bool
+    requires { regions_of memory.now ≡ ranges_of system.now.regions }
     ensures { result ≡ list_all (λ v. valid_buffer system.now actor.0 v.base v.len) spans.now }
 {
     spans
         .iter()
-        .all(|v| valid_buffer(system, actor, v.base, v.len))
+        .all(|v| valid_buffer(system, memory, actor, v.base, v.len))
 }
 
 /// The vectors that an actor hands to `psa_call`, with their descriptors read from memory. None exactly where there are more
@@ -81,15 +82,15 @@ pub fn vectors_of(
     if !are_few(in_len, out_len) {
         return None;
     }
-    if !valid_buffer(system, actor, in_vec, 8 * in_len) {
+    if !valid_buffer(system, memory, actor, in_vec, 8 * in_len) {
         return None;
     }
-    if !valid_buffer(system, actor, out_vec, 8 * out_len) {
+    if !valid_buffer(system, memory, actor, out_vec, 8 * out_len) {
         return None;
     }
     let input = vectors_read(memory, in_vec, in_len);
     let output = vectors_read(memory, out_vec, out_len);
-    if are_valid(system, actor, &input) && are_valid(system, actor, &output) {
+    if are_valid(system, memory, actor, &input) && are_valid(system, memory, actor, &output) {
         Some(Vectors {
             input,
             output,

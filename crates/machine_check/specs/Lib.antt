@@ -1,4 +1,3 @@
-pub mod Groups
 pub mod Performed
 pub mod Answers
 pub mod Checking

@@ -4,7 +4,6 @@
 //! Nothing of the manager is used.
 #![tactic(auto)]
 
-mod groups;
 mod judging;
 mod step;
 

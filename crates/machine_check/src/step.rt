@@ -2,20 +2,19 @@
 ghost use Rattle.std.specs.Prelude.{◌≡◌, ◌+◌, ◌<◌, ◌≤◌, ◌^◌, ◌&&◌, ◌||◌, ℤ, pos, int_le, List, true, not, IfOk, Ok, Some};
 ghost use Rattle.std.specs.BTreeSet.{contains};
 ghost use Rattle.std.specs.Ordering.{int_cmp, int_eq};
+ghost use Rattle.ffm_model.specs.declared.groups.Group.TheVariants as group;
 ghost use Rattle.ffm_model.specs.declared.machine.Call.TheVariants as call;
 ghost use Rattle.ffm_model.specs.declared.machine.Handle.{Handle as HandleSeen};
 ghost use Rattle.ffm_model.specs.Actors.{actor_count};
+ghost use Rattle.ffm_model.specs.Groups.{group_of};
 ghost use Rattle.ffm_model.specs.Signals.{may_resume};
 ghost use Rattle.ffm_model.specs.Step.{handle_shown, may_call, outcome_eq, returns_when_due};
-ghost use Rattle.machine_check.specs.declared.groups.Group.TheVariants as group;
-ghost use Rattle.machine_check.specs.Groups.{group_of};
 ghost use Rattle.machine_calls.specs.Machine.{spm_of, IsMachineOf};
 ghost use Rattle.machine_check.specs.Performed.{gave_handle, Attempts, Knows, Performs, Refuses, Steps};
 
-use crate::groups::{Group, group_of};
 use ffm_model::{
-    ActorId, ActorKind, ActorPhase, Call, Entry, Handle, Memory, Outcome,
-    PSA_ERROR_PROGRAMMER_ERROR, PSA_FRAMEWORK_VERSION, System, has_call, refusal_of,
+    ActorId, ActorKind, ActorPhase, Call, Entry, Group, Handle, Memory, Outcome,
+    PSA_ERROR_PROGRAMMER_ERROR, PSA_FRAMEWORK_VERSION, System, group_of, has_call, refusal_of,
 };
 use machine_calls::{Machine, Objects, version};
 use std::collections::BTreeSet;

@@ -1,10 +1,11 @@
 -- Runs about the control of interrupts.
 -- Source: FF-M 1.1 Extensions, psa_irq_enable, psa_irq_disable and psa_reset_signal; the numbers are this simulator's.
 use Rattle.std.specs.Prelude.{◌∷◌, false, List, []}
+use Rattle.ffm_model.specs.declared.constants.TheConstants.{PSA_POLL}
 use Rattle.ffm_model.specs.declared.machine.Call.TheVariants.{Wait, Eoi, IrqEnable, IrqDisable, ResetSignal, Raise, Fire, Stop}
 use Rattle.ffm_model.specs.declared.machine.Entry.{Entry}
 use Rattle.ffm_model.specs.declared.machine.Outcome.TheVariants.{Number, Signals, Done, Panicked}
-use Rattle.machine_examples.specs.Writing.{entry, poll}
+use Rattle.machine_examples.specs.Writing.{entry}
 use Rattle.machine_examples.specs.Systems.{ticker, device}
 
 -- An interrupt that comes while its source is disabled waits until it is enabled. A signal with a second-level handler isn't reset.
@@ -14,9 +15,9 @@ interrupt_while_disabled =
     ∷ entry device (Raise 0) Done
     ∷ entry ticker (IrqDisable 0x10) (Number 0)
     ∷ entry device (Stop false) Done
-    ∷ entry ticker (Wait 0x10 poll) (Signals 0)
+    ∷ entry ticker (Wait 0x10 PSA_POLL) (Signals 0)
     ∷ entry ticker (IrqEnable 0x10) Done
-    ∷ entry ticker (Wait 0x10 poll) (Signals 0x10)
+    ∷ entry ticker (Wait 0x10 PSA_POLL) (Signals 0x10)
     ∷ entry ticker (ResetSignal 0x10) Panicked
     ∷ []
 
@@ -25,11 +26,11 @@ abbrev pub handled_at_first_level : List Entry
 handled_at_first_level =
     entry ticker (IrqEnable 0x10) Done
     ∷ entry device (Fire 0 1) Done
-    ∷ entry ticker (Wait 0x10 poll) (Signals 0x10)
+    ∷ entry ticker (Wait 0x10 PSA_POLL) (Signals 0x10)
     ∷ entry device (Fire 0 0) Done
     ∷ entry ticker (ResetSignal 0x10) Done
     ∷ entry device (Stop false) Done
-    ∷ entry ticker (Wait 0x10 poll) (Signals 0)
+    ∷ entry ticker (Wait 0x10 PSA_POLL) (Signals 0)
     ∷ entry ticker (Eoi 0x10) Panicked
     ∷ []
 
@@ -41,6 +42,6 @@ fired_twice =
     ∷ entry device (Fire 0 1) Done
     ∷ entry device (Stop false) Done
     ∷ entry ticker (ResetSignal 0x10) Done
-    ∷ entry ticker (Wait 0x10 poll) (Signals 0)
+    ∷ entry ticker (Wait 0x10 PSA_POLL) (Signals 0)
     ∷ entry ticker (Stop false) Done
     ∷ []

@@ -7,3 +7,8 @@ pub mod Asserted
 pub mod Isolation
 pub mod Handling
 pub mod Stateless
+pub mod ScriptLines
+pub mod Functions
+pub mod Mapping
+pub mod Contexts
+pub mod Restarts

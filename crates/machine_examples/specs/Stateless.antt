@@ -1,12 +1,13 @@
 -- Runs about stateless services, which are called by a handle that no event gives.
 -- Source: FF-M 1.1 Extensions, stateless RoT Services; the values of the handles are this profile's.
 use Rattle.std.specs.Prelude.{ℕ, ◌∷◌, ◌++◌, pos, false, List, []}
-use Rattle.ffm_model.specs.declared.constants.TheConstants.{PSA_BLOCK, PSA_ERROR_PROGRAMMER_ERROR, PSA_ERROR_CONNECTION_REFUSED, PSA_ERROR_COMMUNICATION_FAILURE}
+use Rattle.ffm_model.specs.declared.constants.TheConstants.{PSA_BLOCK, PSA_ERROR_COMMUNICATION_FAILURE, PSA_ERROR_CONNECTION_REFUSED, PSA_ERROR_PROGRAMMER_ERROR, PSA_WAIT_ANY}
 use Rattle.ffm_model.specs.declared.machine.Call.{Call}
 use Rattle.ffm_model.specs.declared.machine.Call.TheVariants.{Connect, Invoke, Close, Wait, Get, SetRhandle, Reply, Resume, Stop}
 use Rattle.ffm_model.specs.declared.machine.Entry.{Entry}
 use Rattle.ffm_model.specs.declared.machine.Outcome.TheVariants.{Value, Signals, Got, Blocked, Done, Panicked}
-use Rattle.machine_examples.specs.Writing.{entry, handle, message, minus, sid, status, wait_any}
+use Rattle.ffm_model.specs.Signed.{minus}
+use Rattle.machine_examples.specs.Writing.{entry, handle, message, sid, status}
 use Rattle.machine_examples.specs.Systems.{vault, client, server, dependent}
 
 -- a request without vectors by the stateless handle with an index
@@ -15,7 +16,7 @@ call_by h = Invoke (handle h) (pos 0) 0 0 0 0
 
 abbrev first_request : List Entry
 first_request =
-    entry vault (Wait wait_any PSA_BLOCK) Blocked
+    entry vault (Wait PSA_WAIT_ANY PSA_BLOCK) Blocked
     ∷ entry client (call_by 0x40000001) Blocked
     ∷ entry vault Resume (Signals 0x10)
     ∷ entry vault (Get 0x10 0x30000000) (Got (message (pos 0) 1536 (minus 1) 0 [] []))

@@ -12,15 +12,15 @@ use Rattle.ffm_model.specs.declared.system.Policy.TheVariants.{Strict, Relaxed}
 use Rattle.ffm_model.specs.declared.system.RotType.{RotType}
 use Rattle.ffm_model.specs.declared.system.RotType.TheVariants.{ApplicationRot, PsaRot}
 use Rattle.ffm_model.specs.declared.system.Priority.TheVariants.{Normal}
-use Rattle.ffm_model.specs.declared.system.Class.TheVariants.{Ram, NonSecure}
+use Rattle.ffm_model.specs.declared.system.Class.TheVariants.{Ram, NonSecure, Mmio}
 use Rattle.ffm_model.specs.WellFormed.{is_well_formed}
 
 abbrev partition : List ℕ → RotType → ℕ → ℕ → Partition
-partition name rot domain ram = record { name = name; rot = rot; priority = Normal; domain = domain; ram = ram }
+partition name rot domain ram = record { name = name; rot = rot; priority = Normal; domain = domain; ram = ram; sfn = false; heap = 0 }
 
 -- a service of the first partition for non-secure clients
 abbrev service : List ℕ → ℕ → ℕ → Policy → ℕ → Service
-service name sid version policy signal = record { name = name; sid = record { 0 = sid }; owner = 0; nonsecure = true; version = version; policy = policy; signal = signal; stateless = 0 }
+service name sid version policy signal = record { name = name; sid = record { 0 = sid }; owner = 0; nonsecure = true; version = version; policy = policy; signal = signal; stateless = 0; mm = false }
 
 abbrev ram : ℕ → ℕ → ℕ → Region
 ram base size domain = record { base = base; size = size; class = Ram domain }
@@ -214,7 +214,7 @@ pub clock_fits : is_well_formed 3 clock_partitions clock_services [] vault_regio
 unfolding is_well_formed
 clock_fits = refl
 
--- a budget for a stateless service isn't well formed
+-- a budget above 0 for a stateless service isn't well formed
 pub clock_budget_misfits : is_well_formed 3 clock_partitions clock_services [] vault_regions (codes "NS" ∷ []) (connections 1 0 1 ∷ []) ≡ false
 unfolding is_well_formed
 clock_budget_misfits = refl
@@ -312,3 +312,86 @@ level_3_types_fits = refl
 -- at level 3 with types that differ
 abbrev pub level_3_types_system : System
 level_3_types_system = spied_system 3 1 PsaRot 2 level_3_types_fits
+
+-- ---- a partition whose service is a function, and a client
+
+abbrev adder_partitions : List Partition
+adder_partitions = record (partition (codes "ADDER") ApplicationRot 1 0) { sfn = true } ∷ []
+
+abbrev adder_services : List Service
+adder_services = record (service (codes "ADDER") 0x60 1 Strict 0x10) { stateless = 1 } ∷ []
+
+pub adder_fits : is_well_formed 3 adder_partitions adder_services [] vault_regions (codes "NS" ∷ []) (connections 1 0 0 ∷ []) ≡ true
+unfolding is_well_formed
+adder_fits = refl
+
+-- clients call the service without a connection
+abbrev pub adder_system : System
+adder_system = record vault_system { partitions = adder_partitions; services = adder_services; budgets = connections 1 0 0 ∷ []; services_counted = refl; well_formed = adder_fits }
+
+abbrev connected_services : List Service
+connected_services = service (codes "ADDER") 0x60 1 Strict 0x10 ∷ []
+
+pub connected_fits : is_well_formed 3 adder_partitions connected_services [] vault_regions (codes "NS" ∷ []) (connections 1 0 1 ∷ []) ≡ true
+unfolding is_well_formed
+connected_fits = refl
+
+-- clients connect to the service
+abbrev pub connected_system : System
+connected_system = record adder_system { services = connected_services; budgets = connections 1 0 1 ∷ []; services_counted = refl; well_formed = connected_fits }
+
+-- ---- a partition whose service may map vectors, with windows of 16 bytes, and a client
+
+abbrev mapper_partitions : List Partition
+mapper_partitions = record (partition (codes "MAPPER") ApplicationRot 1 0) { heap = 0x80 } ∷ []
+
+abbrev mapper_services : List Service
+mapper_services = record (service (codes "MAPPER") 0x60 1 Strict 0x10) { stateless = 1; mm = true } ∷ []
+
+abbrev mapper_regions : List Region
+mapper_regions = ram 0x30000000 0x480 1 ∷ nonsecure_ram ∷ []
+
+pub mapper_fits : is_well_formed 3 mapper_partitions mapper_services [] mapper_regions (codes "NS" ∷ []) (connections 1 0 0 ∷ []) ≡ true
+unfolding is_well_formed
+mapper_fits = refl
+
+abbrev pub mapper_system : System
+mapper_system = record vault_system {
+  partitions = mapper_partitions;
+  services = mapper_services;
+  regions = mapper_regions;
+  budgets = connections 1 0 0 ∷ [];
+  services_counted = refl;
+  well_formed = mapper_fits;
+}
+
+-- ---- a partition with an MMIO region alone
+
+abbrev pub log : ℕ
+log = 0
+
+abbrev log_partitions : List Partition
+log_partitions = partition (codes "LOG") ApplicationRot 1 0 ∷ []
+
+abbrev flash : Region
+flash = record { base = 0x40000000; size = 0x100; class = Mmio 0 true }
+
+abbrev log_regions : List Region
+log_regions = ram 0x30000000 0x400 1 ∷ nonsecure_ram ∷ flash ∷ []
+
+pub log_fits : is_well_formed 3 log_partitions [] [] log_regions [] [] ≡ true
+unfolding is_well_formed
+log_fits = refl
+
+abbrev pub log_system : System
+log_system = record {
+  level = 3;
+  partitions = log_partitions;
+  services = [];
+  sources = [];
+  regions = log_regions;
+  clients = [];
+  budgets = [];
+  services_counted = refl;
+  well_formed = log_fits;
+}

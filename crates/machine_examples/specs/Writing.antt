@@ -14,11 +14,6 @@ use Rattle.ffm_model.specs.Memory.{ByteMap}
 use Rattle.ffm_model.specs.Reach.{read_reach, write_reach}
 use Rattle.ffm_model.specs.Step.{after}
 
--- a number below 0
-abbrev pub minus : ℕ → ℤ
-minus zero = pos 0
-minus (suc n) = negsuc n
-
 -- an actor's call, and what the machine answers
 abbrev pub entry : ℕ → Call → Outcome → Entry
 entry actor c o = record { actor = record { 0 = actor }; call = c; outcome = o }
@@ -31,14 +26,6 @@ sid n = record { 0 = n }
 
 abbrev pub status : ℤ → Status
 status z = record { 0 = z }
-
--- psa_wait for any signal
-abbrev pub wait_any : ℕ
-wait_any = 0xffffffff
-
--- a timeout for which psa_wait answers at once
-abbrev pub poll : ℕ
-poll = 0
 
 -- four sizes, of which these are given
 abbrev pub four : List ℕ → List ℕ

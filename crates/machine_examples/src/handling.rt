@@ -1,11 +1,12 @@
 //! The control of interrupts.
 ghost use Rattle.std.specs.Prelude.{◌≡◌, true, Some, take};
+ghost use Rattle.ffm_model.specs.declared.constants.TheConstants.{PSA_POLL};
 ghost use Rattle.ffm_model.specs.declared.machine.Call.TheVariants.{Eoi, Wait, Raise};
 ghost use Rattle.ffm_model.specs.declared.machine.Outcome.TheVariants.{Signals, Done};
 ghost use Rattle.ffm_model.specs.declared.machine.Verdict.TheVariants.{Quiet};
 ghost use Rattle.ffm_model.specs.Verdicts.{verdict_of};
 ghost use Rattle.ffm_model.specs.Names.{names};
-ghost use Rattle.machine_examples.specs.Writing.{entry, poll, refuses_next, zeros};
+ghost use Rattle.machine_examples.specs.Writing.{entry, refuses_next, zeros};
 ghost use Rattle.machine_examples.specs.Systems.{ticker, device, ticker_system, timer_system};
 ghost use Rattle.machine_examples.specs.Handling.{interrupt_while_disabled, handled_at_first_level, fired_twice};
 
@@ -13,7 +14,7 @@ ghost use Rattle.machine_examples.specs.Handling.{interrupt_while_disabled, hand
 pub fn interrupt_while_disabled()
     ensures run { verdict_of ticker_system zeros 4096 interrupt_while_disabled ≡ Some Quiet }
     ensures named { names ticker_system zeros interrupt_while_disabled ≡ true }
-    ensures not_yet { refuses_next ticker_system zeros (take 4 interrupt_while_disabled) (entry ticker (Wait 0x10 poll) (Signals 0x10)) ≡ true }
+    ensures not_yet { refuses_next ticker_system zeros (take 4 interrupt_while_disabled) (entry ticker (Wait 0x10 PSA_POLL) (Signals 0x10)) ≡ true }
 {}
 
 /// The first-level handler's answer decides whether the signal is asserted; it is reset, and not ended.

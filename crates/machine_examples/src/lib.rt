@@ -4,12 +4,15 @@
 #![tactic(auto)]
 
 mod connections;
-mod constants;
+mod contexts;
+mod functions;
 mod handling;
 mod isolation;
 mod judgements;
+mod mapping;
 mod panics;
 mod requests;
+mod restarts;
 mod signals;
 mod stateless;
 
@@ -17,10 +20,12 @@ pub use connections::{
     budget_of_two_connections, closed_handle_of_a_partition, closed_handle_used_again,
     handle_of_another_client, turned_away_by_the_service, version_policies, versions_of_services,
 };
-pub use constants::values_of_the_headers;
+pub use contexts::{blocked_thread_keeps_the_turn, threads_take_turns};
+pub use functions::{answered_by_a_function, connection_answered_by_a_function};
 pub use handling::{handled_at_first_level, interrupt_while_disabled};
 pub use isolation::isolation_levels;
 pub use judgements::{first_wrong_entry, runs_without_end};
+pub use mapping::{mapped_vector_read, vectors_mapped};
 pub use panics::{
     clients_of_a_panicked_service, disconnections_in_order,
     programmer_error_answered_to_a_partition,
@@ -30,5 +35,6 @@ pub use requests::{
     reach_of_a_partition, request_answered_with_programmer_error, rhandle_of_a_connection,
     vectors_of_a_request, written_past_the_end,
 };
+pub use restarts::runs_again_after_a_panic;
 pub use signals::{doorbell_rung_twice, interrupt_raised_while_asserted, two_messages_one_signal};
 pub use stateless::{called_without_connection, caller_panics, panicked_without_connection};

@@ -6,7 +6,8 @@ ghost use Rattle.ffm_model.specs.declared.machine.Outcome.TheVariants.{Value, Nu
 ghost use Rattle.ffm_model.specs.declared.machine.Verdict.TheVariants.{Quiet};
 ghost use Rattle.ffm_model.specs.Verdicts.{verdict_of};
 ghost use Rattle.ffm_model.specs.Names.{names};
-ghost use Rattle.machine_examples.specs.Writing.{clients_left, entry, may_read_after, may_write_after, handle, message, minus, refuses_next, sid, status, takes_next, with_entry, zeros};
+ghost use Rattle.ffm_model.specs.Signed.{minus};
+ghost use Rattle.machine_examples.specs.Writing.{clients_left, entry, may_read_after, may_write_after, handle, message, refuses_next, sid, status, takes_next, with_entry, zeros};
 ghost use Rattle.machine_examples.specs.Systems.{vault, client, vault_system, two_clients_system};
 ghost use Rattle.machine_examples.specs.Requests.{request_memory, one_descriptor, one_request, rhandle_set, write_past_the_end, moved_in_pieces, request_failed, descriptor_changed};
 

@@ -26,9 +26,9 @@ fn system(alloc: Global) -> Result<System, Fail> {
     Ok(made.ok_or("the parts don't fit")?)
 }
 
-const VERSION: (Call, Outcome) = (Call::FrameworkVersion, Outcome::Number(256));
+const VERSION: (Call, Outcome) = (Call::FrameworkVersion, Outcome::Number(257));
 
-const WRONG_VERSION: (Call, Outcome) = (Call::FrameworkVersion, Outcome::Number(257));
+const WRONG_VERSION: (Call, Outcome) = (Call::FrameworkVersion, Outcome::Number(256));
 
 const STOP: (Call, Outcome) = (Call::Stop { spent: false }, Outcome::Done);
 

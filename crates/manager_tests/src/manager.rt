@@ -51,7 +51,7 @@ const STOP: Call = Call::Stop { spent: false };
 fn versions_and_stops(rt: HostRuntime) -> Result<(), Fail> {
     let mut spm = manager(rt.alloc(), 10)?;
     let expected = [
-        (CLIENT, Call::FrameworkVersion, Outcome::Number(256)),
+        (CLIENT, Call::FrameworkVersion, Outcome::Number(257)),
         (CLIENT, Call::Version { sid: Sid(0x40) }, Outcome::Number(1)),
         (CLIENT, Call::Version { sid: Sid(0x99) }, Outcome::Number(0)),
         (CLIENT, Call::Version { sid: Sid(0x41) }, Outcome::Number(0)),

@@ -134,7 +134,7 @@ fn scheduled_run(rt: HostRuntime) -> Result<(), Fail> {
     let spm = whole_run(&rt, rt.alloc())?;
     let stop = Call::Stop { spent: false };
     let expected = [
-        (1, Call::FrameworkVersion, Outcome::Number(256)),
+        (1, Call::FrameworkVersion, Outcome::Number(257)),
         (1, version(0x40), Outcome::Number(1)),
         (1, version(0x99), Outcome::Number(0)),
         (1, version(0x41), Outcome::Number(0)),

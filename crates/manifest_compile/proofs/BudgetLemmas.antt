@@ -16,7 +16,7 @@ use Rattle.std.specs.List.{list_any}
 use Rattle.ffm_model.specs.declared.system.Budget.{Budget}
 use Rattle.ffm_model.specs.PartsItems.{PartsRecord, ConnectionRecord}
 use Rattle.ffm_model.specs.Permissions.{Permitted, permitted, is_for, count_for, budgets_of}
-use Rattle.manifest_compile.specs.Budgets.{names_cmp, has_pair, HasPairs, TellsCounts, budget_by}
+use Rattle.manifest_compile.specs.Budgets.{names_cmp, named_pair, has_pair, HasPairs, TellsCounts, budget_by}
 use Rattle.manifest_compile.proofs.OwnerLemmas.{fold_more}
 
 -- ---- keys of two names
@@ -55,8 +55,8 @@ counted pair o (c ∷ cs) =
     counted pair (newer_count pair o c) cs
     ∙ ap (λ m. fold (λ n d. if is_for pair d then d.count else n) m cs) (chosen (is_for pair c) c.count 1 o)
 
-pub last_count-counts : (pair : Permitted) (connections : List ConnectionRecord) → unwrap_or (last_count pair connections) 1 ≡ count_for connections pair
-last_count-counts pair connections = counted pair None connections
+pub last_count-counts : (client service : List ℕ) (connections : List ConnectionRecord) → unwrap_or (last_count (named_pair client service) connections) 1 ≡ count_for connections (named_pair client service)
+last_count-counts client service connections = counted (named_pair client service) None connections
 
 -- one item more
 pub counts_more : (pair : Permitted) (xs : List ConnectionRecord) (i : ℕ) (d : ConnectionRecord) (old new : Option ℕ) → i < length xs
@@ -68,9 +68,9 @@ counts_more pair xs i d old new below step so_far =
 pub budgets_by : (counts : BTreeMap (Bor (List ℕ) × Bor (List ℕ)) ℕ) (p : PartsRecord) → TellsCounts counts p.connections → map (budget_by counts) (permitted p) ≡ budgets_of p
 budgets_by counts p tells =
     ap (λ (f : Permitted → Budget). map f (permitted p))
-    (λ i pair. record { client = record { 0 = pair.client }; service = pair.service; count = tells pair.client_name pair.service_name i })
+    (λ i pair. record { client = record { 0 = pair.client }; service = pair.service; count = if pair.connects then tells pair.client_name pair.service_name i else 0 })
 
--- the set tells which items are for a permitted pair
+-- the set tells which items are for a permitted pair that connects
 pub permitted_by : (names : BTreeSet (Bor (List ℕ) × Bor (List ℕ))) (p : PartsRecord) (pairs : List Permitted) → HasPairs names pairs → pairs ≡ permitted p
-    → (c : ConnectionRecord) → has_pair names c.client c.service ≡ list_any (λ pair. is_for pair c) (permitted p)
-permitted_by names p pairs has e c = has c.client c.service ∙ ap (list_any (λ pair. is_for pair c)) e
+    → (c : ConnectionRecord) → has_pair names c.client c.service ≡ list_any (λ pair. pair.connects && is_for pair c) (permitted p)
+permitted_by names p pairs has e c = has c.client c.service ∙ ap (list_any (λ pair. pair.connects && is_for pair c)) e

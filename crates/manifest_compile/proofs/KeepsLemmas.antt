@@ -9,7 +9,7 @@ use Rattle.ffm_model.specs.Compiled.{compiled}
 use Rattle.ffm_model.specs.PartsItems.{PartsRecord}
 use Rattle.ffm_model.specs.Reading.{Reads}
 use Rattle.ffm_model.specs.Repeats.{first}
-use Rattle.ffm_model.specs.Rules.{broken, duplicate_partitions, duplicate_services, duplicate_sids, unknown_dependencies, self_dependencies, dependency_cycle, too_many_signals, unknown_regions, overlapping_regions, too_many_partitions, too_many_connections, budgets_without_permission, duplicate_sources, memory_too_large}
+use Rattle.ffm_model.specs.Rules.{broken, duplicate_partitions, duplicate_services, duplicate_sids, unknown_dependencies, self_dependencies, dependency_cycle, too_many_signals, unknown_regions, overlapping_regions, too_many_partitions, too_many_connections, budgets_without_permission, duplicate_sources, memory_too_large, duplicate_indices, too_many_stateless}
 use Rattle.manifest_compile.specs.Keeps.{Keeps}
 use Rattle.manifest_compile.proofs.SystemLemmas.{refused_first}
 
@@ -40,7 +40,7 @@ first_more Memory rules more k = tt
 
 -- the rules from that on the number of partitions on
 abbrev since_partitions : PartsRecord → List Refusal
-since_partitions p = too_many_partitions p ++ (too_many_connections p ++ (budgets_without_permission p ++ (duplicate_sources p ++ memory_too_large p)))
+since_partitions p = too_many_partitions p ++ (too_many_connections p ++ (budgets_without_permission p ++ (duplicate_sources p ++ (memory_too_large p ++ (duplicate_indices p ++ too_many_stateless p)))))
 
 since_regions : (p : PartsRecord)
     → duplicate_partitions p ≡ [] → duplicate_services p ≡ [] → duplicate_sids p ≡ [] → unknown_dependencies p ≡ [] → self_dependencies p ≡ [] → dependency_cycle p ≡ [] → too_many_signals p ≡ []
@@ -64,7 +64,7 @@ pub partitions_refused : {A B : Type 0} (p : PartsRecord) (asked : Result A Read
     → Keeps r (broken p)
 partitions_refused p asked r s was same k a b c d e f g h =
     let P : List Refusal → Type 0 = IsFirst s in
-    let rest = too_many_connections p ++ (budgets_without_permission p ++ (duplicate_sources p ++ memory_too_large p)) in
+    let rest = too_many_connections p ++ (budgets_without_permission p ++ (duplicate_sources p ++ (memory_too_large p ++ (duplicate_indices p ++ too_many_stateless p)))) in
     keeps_first r s (broken p) same
     (subst P (ap (λ rules. rules ++ since_partitions p) (sym h) ∙ since_regions p a b c d e f g)
     (first_more s (too_many_partitions p) rest (first_by asked s (too_many_partitions p) was k)))

@@ -18,6 +18,11 @@ image_past f xs i past = rw (length-map xs f) past
 pub short_image : {A B : Type 0} (f : A → B) (xs : List A) (ys : List B) (n : ℕ) → map f xs ≡ ys → length ys ≤ n → length xs ≤ n
 short_image f xs ys n e short = rw (← length-map xs f, e) short
 
+-- the images from a place on
+pub images_from : {A B : Type 0} (f : A → B) (xs : List A) (i : ℕ) (x : A) → i < length xs → x ≡ get_or xs i x → map f (drop i xs) ≡ f x ∷ map f (drop (i + 1) xs)
+images_from f xs i x below is =
+    ap (map f) (drop-cons xs i x below) ∙ ap (λ k. f (get_or xs i x) ∷ map f (drop k xs)) (sym (add-one i)) ∙ ap (λ y. f y ∷ map f (drop (i + 1) xs)) (sym is)
+
 -- ---- the first of numbered items that passes
 
 behind : {A : Type 0} (xs : List A) (i : ℕ) (d : A) → i < length xs → enumerate_from i (drop i xs) ≡ (i, get_or xs i d) ∷ enumerate_from (i + 1) (drop (i + 1) xs)

@@ -1,38 +1,25 @@
 -- Permitted pairs of one actor, service by service.
-use Rattle.std.proofs.Common.{ℕ, ◌≡◌, ◌+◌, ◌*◌, ◌≤◌, Bool, List, [], ◌∷◌, ◌++◌, length, length-append, Option, Some, None, suc, refl, ap, ◌∙◌, arith, ltb-false}
+use Rattle.std.proofs.Common.{ℕ, ◌≡◌, ◌*◌, ◌≤◌, Bool, List, [], ◌++◌, length, Option, Some, None, refl, ◌∙◌, arith, ltb-false}
 use Rattle.std.specs.Prelude.{if◌then◌else◌}
-use Rattle.std.specs.List.{AllByRecursion as Each, enumerate_from, flat_map}
-use Rattle.ffm_model.specs.Layout.{Located, located_in, located_from}
+use Rattle.std.specs.List.{enumerate_from, flat_map}
+use Rattle.ffm_model.specs.Layout.{Located}
 use Rattle.ffm_model.specs.ManifestItems.{ManifestRecord, ServiceRecord}
 use Rattle.ffm_model.specs.PartsItems.{PartsRecord}
 use Rattle.ffm_model.specs.Permissions.{Permitted, services_in, permitted, permitted_to_partition, permitted_to_client}
 use Rattle.ffm_model.specs.Rules.{too_many_signals, too_many_partitions}
 use Rattle.admitted_systems.proofs.Lists.{only_if_nil}
-use Rattle.admitted_systems.proofs.Signals.{Few, few_signals}
+use Rattle.admitted_systems.proofs.Services.{few_items}
 
 -- the pair of an actor and a service, where the actor may use it
 abbrev pub pair_for : ℕ → List ℕ → (ServiceRecord → Bool) → ℕ × Located ServiceRecord → Option Permitted
-pair_for client name may_use e = if may_use e.1.value then Some (record { client = client; client_name = name; service = e.0; service_name = e.1.value.name }) else None
+pair_for client name may_use e = if may_use e.1.value then Some (record { client = client; client_name = name; service = e.0; service_name = e.1.value.name; connects = e.1.value.connection_based }) else None
 
 -- ---- how many services there are
-
-length-located_in : {A : Type 0} (k i : ℕ) (xs : List A) → length (located_in k i xs) ≡ length xs
-length-located_in k i [] = refl
-length-located_in k i (x ∷ xs) = ap suc (length-located_in k (i + 1) xs)
-
-few_located : (k : ℕ) (ms : List ManifestRecord) → Each (λ e. Few e) (enumerate_from k ms) → length (located_from (λ m. m.services) k ms) ≤ 28 * length ms
-few_located k [] few = omega arith
-few_located k (m ∷ ms) few =
-    let fit : length m.services + length m.irqs ≤ 28 = few.0 in
-    let same : length (located_in k 0 m.services) ≡ length m.services = length-located_in k 0 m.services in
-    let here : length (located_in k 0 m.services) ≤ 28 = omega (arith, same, fit) in
-    let rest : length (located_from (λ m. m.services) (k + 1) ms) ≤ 28 * length ms = few_located (k + 1) ms few.1 in
-    rw (length-append (located_in k 0 m.services) (located_from (λ m. m.services) (k + 1) ms)) (omega (arith, here, rest))
 
 pub services_few : (p : PartsRecord) → too_many_signals p ≡ [] → too_many_partitions p ≡ [] → length (services_in p) ≤ 896
 services_few p signals partitions =
     let few : length p.manifests ≤ 32 = ltb-false _ _ (only_if_nil _ _ partitions) in
-    let all : length (services_in p) ≤ 28 * length p.manifests = few_located 0 p.manifests (few_signals p signals) in
+    let all : length (services_in p) ≤ 28 * length p.manifests = few_items p signals in
     omega arith
 
 -- ---- all pairs

@@ -6,7 +6,7 @@ use Rattle.ffm_model.specs.declared.system.Partition.{Partition}
 use Rattle.ffm_model.specs.declared.system.Region.{Region}
 use Rattle.ffm_model.specs.declared.system.Service.{Service}
 use Rattle.ffm_model.specs.declared.system.Source.{Source}
-use Rattle.ffm_model.specs.Compiled.{partition_of, partitions_of, services_of, services_of_manifest, sources_of, sources_of_manifest, system_parts, compiled, compiled_by}
+use Rattle.ffm_model.specs.Compiled.{partition_of, partitions_of, services_of, sources_of, sources_of_manifest, system_parts, compiled, compiled_by}
 use Rattle.ffm_model.specs.Layout.{regions_of}
 use Rattle.ffm_model.specs.ManifestItems.{ManifestRecord}
 use Rattle.ffm_model.specs.Parts.{SystemParts, system_from}
@@ -40,10 +40,6 @@ signals_fit p ms none e =
 pub partitions_are : (p : PartsRecord) (level : ℕ) (ms : List ManifestRecord) (partitions : List Partition) → level ≡ p.level → ms ≡ p.manifests
     → partitions ≡ map (partition_of level) (enumerate_from 0 ms) → partitions ≡ partitions_of p
 partitions_are p level ms partitions l m e = e ∙ (λ i. map (partition_of (l i)) (enumerate_from 0 (m i)))
-
-pub services_are : (p : PartsRecord) (ms : List ManifestRecord) (services : List Service) → ms ≡ p.manifests
-    → services ≡ flat_map services_of_manifest (enumerate_from 0 ms) → services ≡ services_of p
-services_are p ms services m e = e ∙ ap (λ ms. flat_map services_of_manifest (enumerate_from 0 ms)) m
 
 pub sources_are : (p : PartsRecord) (ms : List ManifestRecord) (sources : List Source) → ms ≡ p.manifests
     → sources ≡ flat_map sources_of_manifest (enumerate_from 0 ms) → sources ≡ sources_of p

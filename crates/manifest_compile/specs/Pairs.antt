@@ -13,7 +13,7 @@ use Rattle.manifest_compile.specs.declared.pairs.Pair.{Pair}
 
 -- the pair, as the definitions speak of it
 abbrev pub pair_seen : Pair → Permitted
-pair_seen pair = record { client = pair.client; client_name = pair.client_name.now; service = pair.service; service_name = pair.service_name.now }
+pair_seen pair = record { client = pair.client; client_name = pair.client_name.now; service = pair.service; service_name = pair.service_name.now; connects = pair.connects }
 
 -- the set has these names and no others
 abbrev pub HasNames : BTreeSet (Bor (List ℕ)) → List (List ℕ) → Type 0

@@ -48,10 +48,15 @@ fn budget_of<'a>(counts: &BTreeMap<(&'a str, &'a str), u32>, pair: &Pair<'a>) ->
     ensures { result ≡ budget_by counts.now (pair_seen pair.now) }
 {
     let names = (pair.client_name, pair.service_name);
+    let count = if pair.connects {
+        counts.get(&names).copied().unwrap_or(1)
+    } else {
+        0
+    };
     Budget {
         client: ActorId(pair.client),
         service: pair.service,
-        count: counts.get(&names).copied().unwrap_or(1),
+        count,
     }
 }
 
@@ -109,6 +114,7 @@ fn number(index: usize) -> Result<u32, AllocError>
     u32::try_from(index).map_err(|_| AllocError)
 }
 
+// The names of the pairs that connect.
 fn names_of_pairs<'a>(
     alloc: Global,
     pairs: &[Pair<'a>],
@@ -117,7 +123,9 @@ fn names_of_pairs<'a>(
 {
     let mut names = BTreeSet::new(alloc);
     for pair in pairs {
-        names.insert((pair.client_name, pair.service_name))?;
+        if pair.connects {
+            names.insert((pair.client_name, pair.service_name))?;
+        }
     }
     Ok(names)
 }
@@ -129,11 +137,12 @@ fn is_permitted<'a>(names: &BTreeSet<(&'a str, &'a str)>, connection: &'a Connec
     names.contains(&key)
 }
 
-// The place of the first item of `connections` that is for no permitted pair.
+// The place of the first item of `connections` that is for no permitted pair, or for one of a
+// stateless service.
 fn first_without_permission(alloc: Global, parts: &Parts) -> Result<Option<u32>, AllocError>
     requires signals { too_many_signals parts.now ≡ [] }
     requires partitions { too_many_partitions parts.now ≡ [] }
-    ensures { IfOk result (λ found. found ≡ option_map (λ e. e.0) (first (filter (λ e. not (list_any (λ pair. is_for pair e.1) (permitted parts.now))) (enumerate_from 0 parts.now.connections)))) }
+    ensures { IfOk result (λ found. found ≡ option_map (λ e. e.0) (first (filter (λ e. not (list_any (λ pair. pair.connects && is_for pair e.1) (permitted parts.now))) (enumerate_from 0 parts.now.connections)))) }
 {
     let pairs = pairs(alloc, parts)?;
     let names = names_of_pairs(alloc, pairs.as_slice())?;
@@ -145,8 +154,8 @@ fn first_without_permission(alloc: Global, parts: &Parts) -> Result<Option<u32>,
     Ok(None)
 }
 
-/// Refuses the first item of `connections` that is for no permitted pair. No partition may have too
-/// many signals, and there may not be too many partitions.
+/// Refuses the first item of `connections` that is for no permitted pair, or for one of a stateless
+/// service. No partition may have too many signals, and there may not be too many partitions.
 pub fn budgets_are_permitted(alloc: Global, parts: &Parts) -> Result<(), ReadError>
     requires signals { too_many_signals parts.now ≡ [] }
     requires partitions { too_many_partitions parts.now ≡ [] }

@@ -11,12 +11,12 @@ use crate::budgets::{budgets, budgets_are_permitted};
 use crate::dependencies::{
     dependencies_are_known, dependencies_are_others, dependencies_end, owners,
 };
+use crate::indices::{indices_differ, stateless_are_few};
 use crate::limits::{partitions_are_few, signals_are_few};
 use crate::names::{partitions_differ, services_differ, sids_differ, sources_differ};
-use crate::refusals::refused;
-use crate::regions::regions;
+use crate::regions::{regions, small_regions};
 use crate::systems::system_of;
-use ffm_model::{Budget, List, MEMORY_TOO_LARGE, Parts, ReadError, Region, System};
+use ffm_model::{Budget, List, Parts, ReadError, Region, System};
 use std::alloc::Global;
 
 // The regions and the budgets of the system. Refused where a rule is broken, for the first one.
@@ -38,10 +38,10 @@ fn keep_rules(alloc: Global, parts: &Parts) -> Result<(List<Region>, List<Budget
     let budgets = budgets(alloc, parts)?;
     budgets_are_permitted(alloc, parts)?;
     sources_differ(alloc, parts)?;
-    match regions {
-        Ok(regions) => Ok((regions, List::of(budgets))),
-        Err(steps) => refused(alloc, MEMORY_TOO_LARGE, steps.as_slice()),
-    }
+    let regions = small_regions(alloc, regions)?;
+    indices_differ(alloc, parts)?;
+    stateless_are_few(alloc, parts)?;
+    Ok((regions, List::of(budgets)))
 }
 
 /// The system that the parts of a system file make.

@@ -4,6 +4,7 @@
 mod budgets;
 mod compiler;
 mod dependencies;
+mod indices;
 mod limits;
 mod names;
 mod pairs;

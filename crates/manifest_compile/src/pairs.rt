@@ -18,6 +18,8 @@ pub struct Pair<'a> {
     pub client_name: &'a str,
     pub service: u32,
     pub service_name: &'a str,
+    /// Whether it connects to the service; else it calls it by a stateless handle.
+    pub connects: bool,
 }
 
 fn set_of<'a>(alloc: Global, names: &'a [Name]) -> Result<BTreeSet<&'a str>, AllocError>
@@ -34,6 +36,12 @@ fn is_for_clients(service: &ServiceItem) -> bool
     ensures { result ≡ service.now.nonsecure }
 {
     service.nonsecure
+}
+
+fn is_connection_based(service: &ServiceItem) -> bool
+    ensures { result ≡ service.now.connection_based }
+{
+    service.connection_based
 }
 
 // Adds the services that a partition depends on.
@@ -57,6 +65,7 @@ fn add_dependencies<'a>(
                 client_name,
                 service: place as u32,
                 service_name,
+                connects: is_connection_based(at.value),
             })?;
         }
     }
@@ -81,6 +90,7 @@ fn add_non_secure<'a>(
                 client_name,
                 service: place as u32,
                 service_name: at.value.name(),
+                connects: is_connection_based(at.value),
             })?;
         }
     }

@@ -1,11 +1,15 @@
 //! The regions of a system, or why it has none.
 ghost use Rattle.std.specs.Prelude.{◌≡◌, ◌++◌, IfOk};
-ghost use Rattle.ffm_model.specs.Rules.{unknown_regions, overlapping_regions};
+ghost use Rattle.ffm_model.specs.Layout.{regions_of};
+ghost use Rattle.ffm_model.specs.PartsItems.{PartsRecord};
+ghost use Rattle.ffm_model.specs.Rules.{unknown_regions, overlapping_regions, memory_too_large};
 ghost use Rattle.manifest_compile.specs.Keeps.{Keeps};
 ghost use Rattle.manifest_compile.specs.Sizes.{HasSizes, large_steps};
 
 use crate::refusals::{at_item, refused};
-use ffm_model::{Key, List, Parts, PathStep, REGION_OVERLAP, REGION_UNKNOWN, ReadError, Region};
+use ffm_model::{
+    Key, List, MEMORY_TOO_LARGE, Parts, PathStep, REGION_OVERLAP, REGION_UNKNOWN, ReadError, Region,
+};
 use region_map::{LayoutError, lay_out};
 use std::alloc::{AllocError, Global};
 
@@ -63,5 +67,19 @@ pub fn regions(
             },
         ) => Ok(Err(steps_of_large(alloc, manifest, item, total)?)),
         Err(LayoutError::Memory) => Err(ReadError::Memory),
+    }
+}
+
+/// The regions of the system, or the refusal of the first one that is too large.
+pub fn small_regions(
+    alloc: Global,
+    regions: Result<List<Region>, List<PathStep>>,
+) -> Result<List<Region>, ReadError>
+    ensures keeps { (p : PartsRecord) → HasSizes p regions → Keeps result (memory_too_large p) }
+    ensures regions { (p : PartsRecord) → HasSizes p regions → IfOk result (λ made. made ≡ regions_of p) }
+{
+    match regions {
+        Ok(regions) => Ok(regions),
+        Err(steps) => refused(alloc, MEMORY_TOO_LARGE, steps.as_slice()),
     }
 }

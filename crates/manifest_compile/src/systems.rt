@@ -1,18 +1,25 @@
 //! A system out of what a system file says.
 ghost use Rattle.std.specs.Prelude.{◌≡◌, ℕ, ◌+◌, ◌++◌, ◌<◌, ◌≤◌, [], length, map, All, IfOk, OnOk};
 ghost use Rattle.std.specs.List.{flat_map, enumerate_from};
-ghost use Rattle.ffm_model.specs.Compiled.{partition_of, service_of, services_of_manifest, source_of, sources_of_manifest, system_parts};
-ghost use Rattle.ffm_model.specs.Layout.{domain_at, regions_of};
+ghost use Rattle.ffm_model.specs.Compiled.{partition_of, service_of, services_from, services_of, source_of, sources_of_manifest, system_parts};
+ghost use Rattle.ffm_model.specs.Layout.{domain_at, located_from, regions_of};
 ghost use Rattle.ffm_model.specs.Parts.{parts_of_system};
+ghost use Rattle.ffm_model.specs.PartsItems.{PartsRecord};
 ghost use Rattle.ffm_model.specs.Permissions.{budgets_of};
 ghost use Rattle.ffm_model.specs.Rules.{broken};
+ghost use Rattle.manifest_items.specs.Seen.{seen};
 
+use crate::indices::{index_for, stated_indices};
 use ffm_model::{
     Budget, IrqItem, List, Manifest, Name, Partition, Parts, Region, RotType, Service, ServiceItem,
     Source, System,
 };
+use manifest_items::{At, Services, located};
 use signal_alloc::{SignalMap, signal_of};
 use std::alloc::{AllocError, Global};
+
+/// The version of manifests whose interrupts start enabled: 1.0.
+const FIRST_FRAMEWORK: u32 = 0x0100;
 
 fn domain_at(level: u32, rot: RotType, id: u32) -> u32
     ensures { result ≡ domain_at level rot id }
@@ -39,6 +46,8 @@ fn partition_of(level: u32, place: u32, manifest: &Manifest) -> Result<Partition
         priority: manifest.priority,
         domain: domain_at(level, manifest.rot, place + 1),
         ram: place,
+        sfn: manifest.sfn,
+        heap: manifest.heap_size,
     })
 }
 
@@ -69,63 +78,69 @@ fn signals_of(manifest: &Manifest) -> SignalMap
 }
 
 fn service_of(
-    owner: u32,
+    index: u32,
     signals: SignalMap,
-    place: u32,
-    item: &ServiceItem,
+    at: &At<'_, ServiceItem>,
 ) -> Result<Service, AllocError>
-    requires { place < signals.services + signals.irqs }
-    ensures { IfOk result (λ v. v ≡ service_of owner (place, item.now)) }
+    requires { at.now.item < signals.services + signals.irqs }
+    ensures { IfOk result (λ v. v ≡ service_of index (seen at.now)) }
 {
+    let item = at.value;
     let name = item.name.clone()?;
     Ok(Service {
         name,
         sid: item.sid,
-        owner,
+        owner: at.manifest,
         nonsecure: item.nonsecure,
         version: item.version,
         policy: item.policy,
-        signal: signal_of(signals, place),
-        stateless: 0,
+        signal: signal_of(signals, at.item),
+        stateless: index,
+        mm: item.mm,
     })
 }
 
-// Adds the services of one partition.
-fn add_services(
-    services: &mut Vec<Service>,
-    owner: u32,
-    manifest: &Manifest,
-) -> Result<(), AllocError>
-    requires { length manifest.now.services + length manifest.now.irqs ≤ 28 }
-    ensures { OnOk result (services.new.items ≡ services.old.items ++ services_of_manifest (owner, manifest.now)) }
-{
-    let signals = signals_of(manifest);
-    for (place, item) in manifest.services.as_slice().iter().enumerate() {
-        services.push(service_of(owner, signals, place as u32, item)?)?;
-    }
-    Ok(())
-}
-
-fn services_of(alloc: Global, manifests: &[Manifest]) -> Result<List<Service>, AllocError>
-    requires few { length manifests.now ≤ 256 }
+// The services of these items, where these indices are taken.
+fn services_from(
+    alloc: Global,
+    manifests: &[Manifest],
+    taken: Vec<u32>,
+    items: &[At<'_, ServiceItem>],
+) -> Result<List<Service>, AllocError>
     requires signals { All (λ m. length m.services + length m.irqs ≤ 28) manifests.now }
-    ensures { IfOk result (λ services. services ≡ flat_map services_of_manifest (enumerate_from 0 manifests.now)) }
+    requires items { map seen items.now ≡ located_from (λ m. m.services) 0 manifests.now }
+    ensures { IfOk result (λ services. services ≡ services_from taken.items (map seen items.now)) }
 {
+    let mut taken = taken;
     let mut services = Vec::new(alloc);
-    for (k, manifest) in manifests.iter().enumerate() {
-        add_services(&mut services, k as u32, manifest)?;
+    for at in items {
+        let index = index_for(taken.as_slice(), at.value);
+        let signals = signals_of(&manifests[at.manifest as usize]);
+        services.push(service_of(index, signals, at)?)?;
+        taken.push(index)?;
     }
     Ok(List::of(services))
 }
 
+// The services of all partitions. The indices that some state are taken from the start.
+fn services_of(alloc: Global, manifests: &[Manifest]) -> Result<List<Service>, AllocError>
+    requires { All (λ m. length m.services + length m.irqs ≤ 28) manifests.now }
+    ensures { IfOk result (λ services. (p : PartsRecord) → p.manifests ≡ manifests.now → services ≡ services_of p) }
+{
+    let items = located::<Services>(alloc, manifests)?;
+    let taken = stated_indices(alloc, items.as_slice())?;
+    services_from(alloc, manifests, taken, items.as_slice())
+}
+
 fn source_of(
+    framework: u32,
     owner: u32,
     signals: SignalMap,
     place: u32,
     item: &IrqItem,
 ) -> Result<Source, AllocError>
     requires { place < signals.services + signals.irqs }
-    ensures { IfOk result (λ s. s ≡ source_of owner (place, item.now)) }
+    ensures { IfOk result (λ s. s ≡ source_of framework owner (place, item.now)) }
 {
     let name = item.source.clone()?;
     let signal_name = item.signal.clone()?;
@@ -134,8 +149,8 @@ fn source_of(
         signal_name,
         owner,
         signal: signal_of(signals, place),
-        flih: false,
-        enabled: true,
+        flih: item.flih,
+        enabled: framework == FIRST_FRAMEWORK,
     })
 }
 
@@ -147,7 +162,7 @@ fn add_sources(sources: &mut Vec<Source>, owner: u32, manifest: &Manifest) -> Re
     let signals = signals_of(manifest);
     for (place, item) in manifest.irqs.as_slice().iter().enumerate() {
         let place = signals.services + place as u32;
-        sources.push(source_of(owner, signals, place, item)?)?;
+        sources.push(source_of(manifest.framework, owner, signals, place, item)?)?;
     }
     Ok(())
 }

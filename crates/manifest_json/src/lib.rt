@@ -2,13 +2,17 @@
 #![tactic(auto)]
 
 mod error;
+mod items;
+mod lengths;
 mod manifest;
 mod quote;
 mod reader;
 mod trees;
 mod values;
+mod words;
 
 pub use error::{PartError, placed, refused, refused_at, under};
+pub use lengths::{ListUpTo, SomeOf};
 pub use manifest::{ManifestReader, read_manifest};
 pub use quote::quote_decimals;
 pub use reader::{
@@ -16,5 +20,6 @@ pub use reader::{
 };
 pub use trees::read_tree;
 pub use values::{
-    BooleanReader, NameReader, NumberReader, SourceReader, hex_number, is_name, object, whole,
+    BooleanReader, NameReader, NumberReader, SourceReader, WholeReader, hex_number, is_name,
+    object, whole,
 };

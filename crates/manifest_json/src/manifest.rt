@@ -1,238 +1,127 @@
-//! Manifests and their items out of JSON trees.
-ghost use Rattle.std.specs.Prelude.{IfOk};
-ghost use Rattle.ffm_model.specs.ManifestItems.{IsManifest, IsMmio, IsLocation, IsService, IsIrq};
-ghost use Rattle.ffm_model.specs.Manifests.{manifest_at, manifest_of, mmio_of, location_of, named_of, numbered_of, range_of, service_of, version_of, irq_of, framework_text, rot_text, priority_text, policy_text, permission_text};
+//! Manifests out of JSON trees.
+ghost use Rattle.std.specs.Prelude.{◌<◌, length, true, IfOk};
+ghost use Rattle.std.specs.List.{AllByRecursion};
+ghost use Rattle.ffm_model.specs.ManifestItems.{IsManifest, IsEntryPoint, IsStack, HasService, IsService, IsIrq};
+ghost use Rattle.ffm_model.specs.Manifests.{manifest_at, manifest_of, entry_point_of, stack_of, services_of, irqs_of};
+ghost use Rattle.ffm_model.specs.Attributes.{name_of};
 ghost use Rattle.serde_json.specs.View.{view};
 ghost use Rattle.manifest_json.specs.Gives.{Gives, GivesRead};
 
-use crate::error::{PartError, placed, refused, refused_at};
-use crate::reader::{Reader, Text, Word, optional, optional_list, required};
-use crate::values::{BooleanReader, NameReader, NumberReader, SourceReader, object};
+use crate::error::{PartError, placed, refused, under};
+use crate::items::{IrqReader, MmioReader, ServiceReader, since_1_1};
+use crate::lengths::{ListUpTo, SomeOf};
+use crate::reader::{ListOf, Reader, Text, optional, optional_list, required};
+use crate::values::{NameReader, NumberReader, object};
+use crate::words::{FrameworkWord, ModelWord, PriorityWord, RotTypeWord};
 use ffm_model::{
-    BAD_VALUE, IrqItem, Key, List, Location, Manifest, MmioItem, PathStep, Policy, Priority,
-    ReadError, Root, RotType, ServiceItem, Sid,
+    BAD_VALUE, IrqItem, Key, List, MIN_FUNCTION_STACK, Manifest, Name, PathStep, ReadError, Root,
+    ServiceItem,
 };
 use serde_json::Value;
 use std::alloc::Global;
 
-/// The one version of the framework that a manifest may be written for.
+/// The name of an entry point. Where services are functions, the empty name stands for none.
 #[derive(Clone, Copy)]
-struct FrameworkVersion;
+struct EntryPointReader {
+    sfn: bool,
+}
 
-impl Word for FrameworkVersion {
-    type Meaning = ();
+impl Reader for EntryPointReader {
+    type Out = Name;
 
-    ghost meaning = { λ _. framework_text };
+    ghost gives = { λ _. name_of };
 
-    fn meaning(&self, text: &str) -> Option<()> {
-        match text {
-            "1.0" => Some(()),
-            _ => None,
-        }
+    ghost keeps = { λ r. IsEntryPoint r.sfn };
+
+    fn read(&self, alloc: Global, tree: &Value) -> Result<Name, PartError> {
+        NameReader.read(alloc, tree)
     }
 }
 
-#[derive(Clone, Copy)]
-struct RotTypeWord;
-
-impl Word for RotTypeWord {
-    type Meaning = RotType;
-
-    ghost meaning = { λ _. rot_text };
-
-    fn meaning(&self, text: &str) -> Option<RotType> {
-        match text {
-            "PSA-ROT" => Some(RotType::PsaRot),
-            "APPLICATION-ROT" => Some(RotType::ApplicationRot),
-            _ => None,
-        }
-    }
-}
-
-#[derive(Clone, Copy)]
-struct PriorityWord;
-
-impl Word for PriorityWord {
-    type Meaning = Priority;
-
-    ghost meaning = { λ _. priority_text };
-
-    fn meaning(&self, text: &str) -> Option<Priority> {
-        match text {
-            "LOW" => Some(Priority::Low),
-            "NORMAL" => Some(Priority::Normal),
-            "HIGH" => Some(Priority::High),
-            _ => None,
-        }
-    }
-}
-
-#[derive(Clone, Copy)]
-struct PolicyWord;
-
-impl Word for PolicyWord {
-    type Meaning = Policy;
-
-    ghost meaning = { λ _. policy_text };
-
-    fn meaning(&self, text: &str) -> Option<Policy> {
-        match text {
-            "STRICT" => Some(Policy::Strict),
-            "RELAXED" => Some(Policy::Relaxed),
-            _ => None,
-        }
-    }
-}
-
-/// Whether a region may be written.
-#[derive(Clone, Copy)]
-struct PermissionWord;
-
-impl Word for PermissionWord {
-    type Meaning = bool;
-
-    ghost meaning = { λ _. permission_text };
-
-    fn meaning(&self, text: &str) -> Option<bool> {
-        match text {
-            "READ-ONLY" => Some(false),
-            "READ-WRITE" => Some(true),
-            _ => None,
-        }
-    }
-}
-
-/// A range of at least one byte that ends by 2^32. Another one is refused at its size.
-fn range(alloc: Global, base: u32, size: u32) -> Result<Location, PartError>
-    ensures given { Gives result (range_of base size) }
-    ensures kept { IfOk result IsLocation }
+/// The entry point of a partition. Where services are functions, none has to be named.
+fn entry_point(alloc: Global, sfn: bool, tree: &Value) -> Result<Name, PartError>
+    ensures given { Gives result (entry_point_of sfn (view tree.now)) }
+    ensures kept { IfOk result (IsEntryPoint sfn) }
 {
-    if size == 0 {
-        return Err(refused_at(alloc, PathStep::Key(Key::Size), BAD_VALUE));
-    }
-    if u64::from(base) + u64::from(size) > 1 << 32 {
-        return Err(refused_at(alloc, PathStep::Key(Key::Size), BAD_VALUE));
-    }
-    Ok(Location::Numbered { base, size })
-}
-
-#[tactic(auto, unfolding(ffm_model::specs::Manifests::numbered_of))]
-fn numbered(alloc: Global, tree: &Value) -> Result<Location, PartError>
-    ensures given { Gives result (numbered_of (view tree.now)) }
-    ensures kept { IfOk result IsLocation }
-{
-    let base = required(alloc, &NumberReader, tree, Key::Base)?;
-    let size = required(alloc, &NumberReader, tree, Key::Size)?;
-    range(alloc, base, size)
-}
-
-#[tactic(auto, unfolding(ffm_model::specs::Manifests::named_of))]
-fn named(alloc: Global, tree: &Value) -> Result<Location, PartError>
-    ensures given { Gives result (named_of (view tree.now)) }
-    ensures kept { IfOk result IsLocation }
-{
-    Ok(Location::Named(required(alloc, &NameReader, tree, Key::Name)?))
-}
-
-#[tactic(auto, unfolding(ffm_model::specs::Manifests::location_of))]
-fn location(alloc: Global, tree: &Value) -> Result<Location, PartError>
-    ensures given { Gives result (location_of (view tree.now)) }
-    ensures kept { IfOk result IsLocation }
-{
-    if tree.get(Key::Name.text()).is_some() {
-        named(alloc, tree)
+    let reader = EntryPointReader { sfn };
+    if sfn {
+        let none = Name::of(String::new(alloc));
+        optional(alloc, &reader, none, tree, Key::EntryPoint)
     } else {
-        numbered(alloc, tree)
+        required(alloc, &reader, tree, Key::EntryPoint)
     }
 }
 
+/// The bytes of a stack. Where services are functions, their messages are read there.
 #[derive(Clone, Copy)]
-struct MmioReader;
-
-impl Reader for MmioReader {
-    type Out = MmioItem;
-
-    ghost gives = { λ _. mmio_of };
-
-    ghost keeps = { λ _. IsMmio };
-
-    #[tactic(auto, unfolding(ffm_model::specs::Manifests::mmio_of))]
-    fn read(&self, alloc: Global, tree: &Value) -> Result<MmioItem, PartError> {
-        object(alloc, tree)?;
-        let location = location(alloc, tree)?;
-        let writable = required(alloc, &Text(PermissionWord), tree, Key::Permission)?;
-        Ok(MmioItem { location, writable })
-    }
+struct StackReader {
+    sfn: bool,
 }
 
-/// The version of a service: a number, and not 0.
-#[derive(Clone, Copy)]
-struct VersionReader;
-
-impl Reader for VersionReader {
+impl Reader for StackReader {
     type Out = u32;
 
-    ghost use Rattle.std.specs.Prelude.{◌<◌};
+    ghost gives = { λ r. stack_of r.sfn };
 
-    ghost gives = { λ _. version_of };
+    ghost keeps = { λ r. IsStack r.sfn };
 
-    ghost keeps = { λ _ version. 0 < version };
-
-    #[tactic(auto, unfolding(ffm_model::specs::Manifests::version_of))]
+    #[tactic(auto, unfolding(ffm_model::specs::Manifests::stack_of))]
     fn read(&self, alloc: Global, tree: &Value) -> Result<u32, PartError> {
-        let version = NumberReader.read(alloc, tree)?;
-        if version == 0 {
+        let size = NumberReader.read(alloc, tree)?;
+        if self.sfn && size < MIN_FUNCTION_STACK {
             return Err(refused(alloc, BAD_VALUE));
         }
-        Ok(version)
+        Ok(size)
     }
 }
 
-#[derive(Clone, Copy)]
-struct ServiceReader;
+/// The services of a partition whose services are functions: one at least.
+fn functions(alloc: Global, framework: u32, tree: &Value) -> Result<List<ServiceItem>, PartError>
+    ensures given { Gives result (services_of true framework (view tree.now)) }
+    ensures kept { IfOk result (AllByRecursion IsService) }
+    ensures some { IfOk result (λ services. 0 < length services) }
+{
+    let reader = SomeOf(ListOf(ServiceReader { framework }));
+    let read = match tree.get(Key::Services.text()) {
+        Some(part) => reader.read(alloc, part),
+        None => Err(refused(alloc, BAD_VALUE)),
+    };
+    under(PathStep::Key(Key::Services), read)
+}
 
-impl Reader for ServiceReader {
-    type Out = ServiceItem;
-
-    ghost gives = { λ _. service_of };
-
-    ghost keeps = { λ _. IsService };
-
-    #[tactic(auto, unfolding(ffm_model::specs::Manifests::service_of))]
-    fn read(&self, alloc: Global, tree: &Value) -> Result<ServiceItem, PartError> {
-        object(alloc, tree)?;
-        let name = required(alloc, &NameReader, tree, Key::Name)?;
-        let sid = required(alloc, &NumberReader, tree, Key::Sid)?;
-        let nonsecure = required(alloc, &BooleanReader, tree, Key::NonSecureClients)?;
-        let version = optional(alloc, &VersionReader, 1, tree, Key::Version)?;
-        let policy = Text(PolicyWord);
-        let policy = optional(alloc, &policy, Policy::Strict, tree, Key::VersionPolicy)?;
-        Ok(ServiceItem {
-            name,
-            sid: Sid(sid),
-            nonsecure,
-            version,
-            policy,
-        })
+/// The services of a partition.
+fn services(
+    alloc: Global,
+    sfn: bool,
+    framework: u32,
+    tree: &Value,
+) -> Result<List<ServiceItem>, PartError>
+    ensures given { Gives result (services_of sfn framework (view tree.now)) }
+    ensures kept { IfOk result (AllByRecursion IsService) }
+    ensures some { IfOk result (HasService sfn) }
+{
+    if sfn {
+        functions(alloc, framework, tree)
+    } else {
+        optional_list(alloc, ServiceReader { framework }, tree, Key::Services)
     }
 }
 
-#[derive(Clone, Copy)]
-struct IrqReader;
-
-impl Reader for IrqReader {
-    type Out = IrqItem;
-
-    ghost gives = { λ _. irq_of };
-
-    ghost keeps = { λ _. IsIrq };
-
-    #[tactic(auto, unfolding(ffm_model::specs::Manifests::irq_of))]
-    fn read(&self, alloc: Global, tree: &Value) -> Result<IrqItem, PartError> {
-        object(alloc, tree)?;
-        let source = required(alloc, &SourceReader, tree, Key::Source)?;
-        let signal = required(alloc, &NameReader, tree, Key::Signal)?;
-        Ok(IrqItem { source, signal })
+/// The interrupts of a partition: none where its services are functions.
+fn irqs(alloc: Global, sfn: bool, framework: u32, tree: &Value) -> Result<List<IrqItem>, PartError>
+    ensures given { Gives result (irqs_of sfn framework (view tree.now)) }
+    ensures kept { IfOk result (AllByRecursion IsIrq) }
+{
+    let reader = IrqReader { framework };
+    if sfn {
+        let none = List::of(Vec::new(alloc));
+        let reader = ListUpTo {
+            reader: ListOf(reader),
+            most: 0,
+        };
+        optional(alloc, &reader, none, tree, Key::Irqs)
+    } else {
+        optional_list(alloc, reader, tree, Key::Irqs)
     }
 }
 
@@ -250,26 +139,24 @@ impl Reader for ManifestReader {
     #[tactic(auto, unfolding(ffm_model::specs::Manifests::manifest_of))]
     fn read(&self, alloc: Global, tree: &Value) -> Result<Manifest, PartError> {
         object(alloc, tree)?;
-        required(
-            alloc,
-            &Text(FrameworkVersion),
-            tree,
-            Key::PsaFrameworkVersion,
-        )?;
+        let framework = required(alloc, &Text(FrameworkWord), tree, Key::PsaFrameworkVersion)?;
         let name = required(alloc, &NameReader, tree, Key::Name)?;
         let rot = required(alloc, &Text(RotTypeWord), tree, Key::RotKind)?;
         let priority = required(alloc, &Text(PriorityWord), tree, Key::Priority)?;
-        let entry_point = required(alloc, &NameReader, tree, Key::EntryPoint)?;
-        let stack_size = required(alloc, &NumberReader, tree, Key::StackSize)?;
+        let sfn = since_1_1(alloc, framework, &Text(ModelWord), false, tree, Key::Model)?;
+        let entry_point = entry_point(alloc, sfn, tree)?;
+        let stack_size = required(alloc, &StackReader { sfn }, tree, Key::StackSize)?;
         let heap_size = optional(alloc, &NumberReader, 0, tree, Key::HeapSize)?;
         let mmio = optional_list(alloc, MmioReader, tree, Key::MmioRegions)?;
-        let services = optional_list(alloc, ServiceReader, tree, Key::Services)?;
+        let services = services(alloc, sfn, framework, tree)?;
         let dependencies = optional_list(alloc, NameReader, tree, Key::Dependencies)?;
-        let irqs = optional_list(alloc, IrqReader, tree, Key::Irqs)?;
+        let irqs = irqs(alloc, sfn, framework, tree)?;
         Ok(Manifest {
+            framework,
             name,
             rot,
             priority,
+            sfn,
             entry_point,
             stack_size,
             heap_size,
@@ -284,7 +171,8 @@ impl Reader for ManifestReader {
 /// The manifest that a tree stands for, the `number`th of its system file, counted from 0.
 ///
 /// A tree that isn't a manifest is refused with its first missing attribute, value of a wrong
-/// type or bad value, in the order of the attributes, and with its place in the system file.
+/// type or bad value, in the order of the attributes, and with its place in the system file. What
+/// version 1.1 of the framework adds is read of a manifest that is written for it.
 pub fn read_manifest(alloc: Global, tree: &Value, number: u32) -> Result<Manifest, ReadError>
     ensures { GivesRead result (manifest_at number (view tree.now)) }
 {

@@ -1,5 +1,5 @@
 //! Readers: how a kind of value is read from a JSON tree.
-ghost use Rattle.std.specs.Prelude.{◌≡◌, [], List, ℕ, Option, Result, MatchResult, IfOk};
+ghost use Rattle.std.specs.Prelude.{◌≡◌, [], List, ℕ, Option, Result, MatchResult, IfOk, IfSome};
 ghost use Rattle.std.specs.List.{AllByRecursion};
 ghost use Rattle.ffm_model.specs.declared.place.PartRefusal.{PartRefusal};
 ghost use Rattle.ffm_model.specs.Attributes.{required, optional, list_of, list_after, items_after, text_as};
@@ -201,9 +201,13 @@ pub trait Word {
     /// What a text of these bytes stands for.
     ghost meaning: { Self → List ℕ → Option Self.Meaning };
 
+    /// The range that each meaning keeps.
+    ghost keeps: { Self → Self.Meaning → Type 0 } = { λ _ _. Unit {0} };
+
     /// None where the text stands for nothing.
     fn meaning(&self, text: &str) -> Option<Self::Meaning>
-        ensures { result ≡ meaning self.now text.now };
+        ensures told { result ≡ meaning self.now text.now }
+        ensures kept { IfSome result (keeps self.now) };
 }
 
 /// A text that stands for something. Another text is a bad value.
@@ -214,6 +218,8 @@ impl<W: Word> Reader for Text<W> {
     type Out = W::Meaning;
 
     ghost gives = { λ r. text_as (W.meaning r.0) };
+
+    ghost keeps = { λ r. W.keeps r.0 };
 
     fn read(&self, alloc: Global, tree: &Value) -> Result<W::Meaning, PartError> {
         let Some(text) = tree.as_str() else {

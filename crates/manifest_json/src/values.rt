@@ -1,10 +1,10 @@
 //! Readers of single values.
-ghost use Rattle.std.specs.Prelude.{◌≡◌};
+ghost use Rattle.std.specs.Prelude.{◌≡◌, ◌≤◌};
 ghost use Rattle.std.specs.List.{list_all};
 ghost use Rattle.ffm_model.specs.Texts.{is_word_byte, is_name, hex_number};
-ghost use Rattle.ffm_model.specs.Attributes.{name_of, number_of, boolean_of, object_of, whole};
+ghost use Rattle.ffm_model.specs.Attributes.{name_of, number_of, boolean_of, object_of, whole, whole_between, text_as};
 ghost use Rattle.ffm_model.specs.ManifestItems.{IsName, IsSource};
-ghost use Rattle.ffm_model.specs.Manifests.{source_of};
+ghost use Rattle.ffm_model.specs.Manifests.{signal_text, source_of};
 ghost use Rattle.serde_json.specs.View.{view};
 ghost use Rattle.manifest_json.specs.Gives.{Gives};
 
@@ -16,6 +16,9 @@ use std::alloc::Global;
 
 /// The largest number that a file may write without quotation marks: nineteen nines.
 const LARGEST_WHOLE: u64 = 9_999_999_999_999_999_999;
+
+/// The most characters of the name of an interrupt: `_SIGNAL` behind it leaves a name.
+const LONGEST_INTERRUPT_NAME: usize = 57;
 
 /// Whether a text is a name: 1 to 64 letters, digits and `_`, no digit first, and not `device`.
 #[tactic(auto, unfolding(ffm_model::specs::Texts::is_name))]
@@ -126,6 +129,32 @@ impl Reader for NumberReader {
     }
 }
 
+/// A whole number from `least` to `most`.
+#[derive(Clone, Copy)]
+pub struct WholeReader {
+    pub least: u32,
+    pub most: u32,
+}
+
+impl Reader for WholeReader {
+    type Out = u32;
+
+    ghost gives = { λ r. whole_between r.least r.most };
+
+    ghost keeps = { λ r n. (r.least ≤ n) × (n ≤ r.most) };
+
+    #[tactic(auto, unfolding(ffm_model::specs::Attributes::whole_between))]
+    fn read(&self, alloc: Global, tree: &Value) -> Result<u32, PartError> {
+        let Some(number) = whole(tree) else {
+            return Err(refused(alloc, WRONG_TYPE));
+        };
+        if number < u64::from(self.least) || u64::from(self.most) < number {
+            return Err(refused(alloc, BAD_VALUE));
+        }
+        Ok(number as u32)
+    }
+}
+
 /// True or false.
 #[derive(Clone, Copy)]
 pub struct BooleanReader;
@@ -161,5 +190,28 @@ impl Reader for SourceReader {
             Some(_) => Err(refused(alloc, BAD_VALUE)),
             None => NameReader.read(alloc, tree),
         }
+    }
+}
+
+/// The signal of an interrupt, which is named after it: the name is a text of at most 57 characters.
+#[derive(Clone, Copy)]
+pub(crate) struct SignalReader;
+
+impl Reader for SignalReader {
+    type Out = Name;
+
+    ghost gives = { λ _. text_as signal_text };
+
+    ghost keeps = { λ _. IsName };
+
+    #[tactic(auto, using(crate::proofs::Signals::is_signal_name))]
+    fn read(&self, alloc: Global, tree: &Value) -> Result<Name, PartError> {
+        let Some(text) = tree.as_str() else {
+            return Err(refused(alloc, WRONG_TYPE));
+        };
+        if !is_name(text) || LONGEST_INTERRUPT_NAME < text.len() {
+            return Err(refused(alloc, BAD_VALUE));
+        }
+        Ok(Name::of(format!(in alloc; "{text}_SIGNAL")?))
     }
 }

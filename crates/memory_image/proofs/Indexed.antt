@@ -1,6 +1,6 @@
 -- The index of an image finds the piece that has a range.
-use Rattle.std.proofs.Common.{ℕ, zero, suc, ◌≡◌, ◌<◌, ◌≤◌, ◌+◌, ◌-◌, Bool, true, false, List, [], ◌∷◌, length, get_or, arith, ◌∙◌, ap, sym, refl, ◌⊎◌, inl, inr, slice_index_or}
-use Rattle.std.specs.Prelude.{◌==◌, nat_le, if◌then◌else◌, map, All, Contains}
+use Rattle.std.proofs.Common.{ℕ, zero, suc, ◌≡◌, ◌<◌, ◌≤◌, ◌+◌, ◌-◌, Bool, true, false, List, [], ◌∷◌, length, get_or, arith, ◌∙◌, ap, sym, refl, subst, ◌⊎◌, inl, inr, slice_index_or}
+use Rattle.std.specs.Prelude.{◌==◌, nat_le, if◌then◌else◌, map, All, Contains, Some, None}
 use Rattle.std.specs.List.{list_any}
 use Rattle.std.specs.List.Sorted.{IsPartitionPoint}
 use Rattle.std.proofs.lemmas.Bool.{cases_lt}
@@ -13,8 +13,8 @@ use Rattle.ffm_model.specs.declared.system.Region.{Region}
 use Rattle.ffm_model.specs.WellFormed.{each_pair}
 use Rattle.memory_image.specs.declared.index.Start.{Start}
 use Rattle.memory_image.specs.Pieces.{range_of, has_range, share_no_byte, regions_of, ranges_of, zero_piece, fit_an_image, no_piece, HasRangeAt}
-use Rattle.memory_image.specs.Index.{address_of, starts_from, IsIndexOf, IsImage}
-use Rattle.memory_image.proofs.Places.{and_left, and_right, holds_at, any-map}
+use Rattle.memory_image.specs.Index.{address_of, starts_from, IsIndexOf, IsOnlyPlace, IsImage}
+use Rattle.memory_image.proofs.Places.{and_left, and_right, holds_at}
 use Rattle.memory_image.proofs.Opened.{regions_of-zero}
 
 -- the start is that of a region with a byte, where the first region's place is k
@@ -126,47 +126,65 @@ none_has rs at len none =
       at_one k below true is = absurd (none k below is)
       at_one k below false is = is
 
--- the place of a start is that of a piece
-pub start_below : (ps : List Bytes) (starts : List Start) (k : ℕ) (d : Start) → IsIndexOf starts (regions_of ps) → k < length starts → (slice_index_or starts k d).place < length ps
-start_below ps starts k d index below =
-    let start : IsStartOf 0 (regions_of ps) (slice_index_or starts k d) = All-permutation (IsStartOf 0 (regions_of ps)) _ _ index.same (starts_are 0 (regions_of ps)) k d below in
-    let many : length (regions_of ps) ≡ length ps = length-map ps range_of in
+-- the place of a start is that of a region
+start_below : (rs : List (ℕ × ℕ)) (starts : List Start) (k : ℕ) (d : Start) → IsIndexOf starts rs → k < length starts → (slice_index_or starts k d).place < length rs
+start_below rs starts k d index below =
+    let start : IsStartOf 0 rs (slice_index_or starts k d) = All-permutation (IsStartOf 0 rs) _ _ index.same (starts_are 0 rs) k d below in
     omega (arith, start.place, start.below)
 
 -- where no start comes up to the address, no region has the range
-pub none_before : (ps : List Bytes) (starts : List Start) (count at len : ℕ) → IsIndexOf starts (regions_of ps) → each_pair share_no_byte (regions_of ps) ≡ true → count ≤ length starts
-    → IsPartitionPoint (λ s. nat_le s.address at ≡ true) (λ s. nat_le s.address at ≡ false) starts count → count ≡ 0 → 0 < len
-    → list_any (has_range at len) (regions_of ps) ≡ false
-none_before ps starts count at len index apart bound point no_start some =
-    none_has (regions_of ps) at len (λ i below has.
-    let last : IsLastStart starts count i = last_start (regions_of ps) starts count at len i index apart bound point some below has in
-    omega (arith, last.some))
+pub none_before : (rs : List (ℕ × ℕ)) (starts : List Start) (count at : ℕ) → IsIndexOf starts rs → each_pair share_no_byte rs ≡ true → count ≤ length starts
+    → IsPartitionPoint (λ s. nat_le s.address at ≡ true) (λ s. nat_le s.address at ≡ false) starts count → count ≡ 0 → IsOnlyPlace rs at None
+none_before rs starts count at index apart bound point no_start = record {
+  below = tt;
+  only = λ len some.
+      none_has rs at len (λ i below has.
+      let last : IsLastStart starts count i = last_start rs starts count at len i index apart bound point some below has in
+      omega (arith, last.some));
+}
 
 -- where the region of the last start up to the address doesn't have the range, none has it
-pub none_but : (ps : List Bytes) (starts : List Start) (count at len : ℕ) (d : Start) → IsIndexOf starts (regions_of ps) → each_pair share_no_byte (regions_of ps) ≡ true → count ≤ length starts
+none_but : (rs : List (ℕ × ℕ)) (starts : List Start) (count at len : ℕ) (d : Start) → IsIndexOf starts rs → each_pair share_no_byte rs ≡ true → count ≤ length starts
     → IsPartitionPoint (λ s. nat_le s.address at ≡ true) (λ s. nat_le s.address at ≡ false) starts count
-    → has_range at len (range_of (get_or ps (slice_index_or starts (count - 1) d).place no_piece)) ≡ false → 0 < len → list_any (has_range at len) (regions_of ps) ≡ false
-none_but ps starts count at len d index apart bound point lacks some =
-    none_has (regions_of ps) at len (λ i below has.
-    let last : IsLastStart starts count i = last_start (regions_of ps) starts count at len i index apart bound point some below has in
-    let many : length (regions_of ps) ≡ length ps = length-map ps range_of in
-    let own : get_or (regions_of ps) i (0, 0) ≡ range_of (get_or ps i no_piece) = get_or-map range_of ps i no_piece (0, 0) (omega arith) in
-    let here : has_range at len (range_of (get_or ps i no_piece)) ≡ true = ap (has_range at len) (sym own) ∙ has in
-    let there : has_range at len (range_of (get_or ps (slice_index_or starts (count - 1) d).place no_piece)) ≡ true = ap (λ j. has_range at len (range_of (get_or ps j no_piece))) (last.is d) ∙ here in
+    → has_range at len (get_or rs (slice_index_or starts (count - 1) d).place (0, 0)) ≡ false → 0 < len → list_any (has_range at len) rs ≡ false
+none_but rs starts count at len d index apart bound point lacks some =
+    none_has rs at len (λ i below has.
+    let last : IsLastStart starts count i = last_start rs starts count at len i index apart bound point some below has in
+    let there : has_range at len (get_or rs (slice_index_or starts (count - 1) d).place (0, 0)) ≡ true = ap (λ j. has_range at len (get_or rs j (0, 0))) (last.is d) ∙ has in
     cc)
+
+-- else the region of the last start up to the address is the only one that may have it
+pub only_last : (rs : List (ℕ × ℕ)) (starts : List Start) (count at : ℕ) (d : Start) → IsIndexOf starts rs → each_pair share_no_byte rs ≡ true → count ≤ length starts
+    → IsPartitionPoint (λ s. nat_le s.address at ≡ true) (λ s. nat_le s.address at ≡ false) starts count → 0 < count → IsOnlyPlace rs at (Some (slice_index_or starts (count - 1) d).place)
+only_last rs starts count at d index apart bound point some_start = record { below = below; only = λ len some. by len some (has_range at len (get_or rs place (0, 0))) refl } where
+  place : ℕ
+  place = (slice_index_or starts (count - 1) d).place
+
+  below : place < length rs
+  below = start_below rs starts (count - 1) d index (omega arith)
+
+  by : (len : ℕ) → 0 < len → (b : Bool) → has_range at len (get_or rs place (0, 0)) ≡ b → list_any (has_range at len) rs ≡ has_range at len (get_or rs place (0, 0))
+  by len some true has = list_any_at (has_range at len) rs place (0, 0) below has ∙ sym has
+  by len some false lacks = none_but rs starts count at len d index apart bound point lacks some ∙ sym lacks
 
 -- the piece at a place has the range
 pub found_there : (ps : List Bytes) (i at len : ℕ) (p : Bytes) → i < length ps → p ≡ get_or ps i p → has_range at len (range_of p) ≡ true → HasRangeAt ps i at len
 found_there ps i at len p below is has =
     record { exists = below; inside = ap (λ q. has_range at len (range_of q)) (get_or_default ps i no_piece p below ∙ sym is) ∙ has }
 
-pub any_has : (ps : List Bytes) (i at len : ℕ) → HasRangeAt ps i at len → list_any (has_range at len) (regions_of ps) ≡ true
-any_has ps i at len found = sym (any-map range_of (has_range at len) ps) ∙ list_any_at (λ (p : Bytes). has_range at len (range_of p)) ps i no_piece found.exists found.inside
+-- the range of a piece at a place
+pub piece_range : (ps : List Bytes) (i at len : ℕ) (p : Bytes) → i < length ps → p ≡ get_or ps i p → has_range at len (get_or (regions_of ps) i (0, 0)) ≡ has_range at len (range_of p)
+piece_range ps i at len p below is =
+    let here : get_or (regions_of ps) i (0, 0) ≡ range_of (get_or ps i no_piece) = get_or-map range_of ps i no_piece (0, 0) below in
+    ap (has_range at len) (here ∙ ap range_of (get_or_default ps i no_piece p below ∙ sym is))
 
--- pieces of zeros with their index are an image
+pub piece_below : (ps : List Bytes) (i : ℕ) → i < length (regions_of ps) → i < length ps
+piece_below ps i below = let many : length (regions_of ps) ≡ length ps = length-map ps range_of in omega arith
+
+-- pieces of zeros with the index of the regions are an image
 pub zeros_are_image : (rs : List Region) (ps : List Bytes) (starts : List Start) → ps ≡ map zero_piece rs → fit_an_image (ranges_of rs) ≡ true → length rs < 2147483648
-    → IsIndexOf starts (regions_of ps) → IsImage ps starts
+    → IsIndexOf starts (ranges_of rs) → IsImage ps starts
 zeros_are_image rs ps starts is fit few index =
     let same : regions_of ps ≡ ranges_of rs = ap regions_of is ∙ regions_of-zero rs in
     let many : length ps ≡ length rs = ap length is ∙ length-map rs zero_piece in
-    record { fit = ap fit_an_image same ∙ fit; few = omega arith; index = index }
+    record { fit = ap fit_an_image same ∙ fit; few = omega arith; index = subst (IsIndexOf starts) (sym same) index }

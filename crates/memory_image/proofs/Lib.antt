@@ -6,3 +6,4 @@ pub mod Copied
 pub mod Numbers
 pub mod Words
 pub mod Indexed
+pub mod Located

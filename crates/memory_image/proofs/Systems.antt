@@ -8,7 +8,8 @@ use Rattle.ffm_model.specs.declared.scenario.Bytes.{Bytes}
 use Rattle.ffm_model.specs.declared.system.System.{System}
 use Rattle.ffm_model.specs.declared.system.Region.{Region}
 use Rattle.ffm_model.specs.Memory.{lies_in, is_ram_of, is_mmio_of, is_writable_mmio_of, valid_buffer, may_read, may_write}
-use Rattle.ffm_model.specs.WellFormed.{each_pair, apart, owner_below, regions_fit, is_well_formed}
+use Rattle.ffm_model.specs.WellFormed.{each_pair, apart, owner_below, regions_fit}
+use Rattle.ffm_model.proofs.WellFormedLemmas.{regions_hold}
 use Rattle.memory_image.specs.Pieces.{range_of, regions_of, ranges_of, share_no_byte, fit_an_image, is_inside}
 use Rattle.memory_image.proofs.Places.{and_left, and_right}
 use Rattle.memory_image.proofs.Opened.{is_inside-lies}
@@ -42,8 +43,11 @@ regions_fit-image n rs h =
 
 -- a system's regions fit an image
 pub system_fits : (s : System) → fit_an_image (ranges_of s.regions) ≡ true
-unfolding is_well_formed
-system_fits s = regions_fit-image (length s.partitions) s.regions (and_right _ _ (and_left _ _ (and_left _ _ (and_left _ _ s.well_formed))))
+system_fits s = regions_fit-image (length s.partitions) s.regions (regions_hold s)
+
+-- and share no byte
+pub regions_apart : (s : System) → each_pair share_no_byte (ranges_of s.regions) ≡ true
+regions_apart s = apart-ranges s.regions (and_right _ _ (regions_hold s))
 
 either : (a b c d : Bool) → ((a && b) || c) ≡ true → (c ≡ true → d ≡ true) → (b || d) ≡ true
 either true true c d h rest = refl

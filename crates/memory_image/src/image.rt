@@ -1,8 +1,9 @@
 //! The bytes of a system's regions.
 ghost use Rattle.std.specs.Prelude.{◌≡◌, ◌<◌, ◌≤◌, ◌*◌, ◌^◌, ℕ, length, true, is_some, IfOk, IfSome, map};
+ghost use Rattle.std.specs.List.{list_any};
 ghost use Rattle.ffm_model.specs.Accesses.{is_access_size};
 ghost use Rattle.ffm_model.specs.Memory.{bytes_at, write_bytes, copy_bytes, number_of, load_number, store_number, words_stored, opening_memory};
-ghost use Rattle.memory_image.specs.Pieces.{byte_at, regions_of, ranges_of, is_inside, fit_an_image, open_within, zero_piece, IsPlaceOf};
+ghost use Rattle.memory_image.specs.Pieces.{byte_at, regions_of, ranges_of, has_range, is_inside, fit_an_image, open_within, zero_piece, HasRangeAt, IsPlaceOf};
 
 use crate::index::{Start, index_of, piece_with};
 use crate::pieces::{
@@ -64,7 +65,7 @@ impl Image {
         ensures { IfOk result (λ image. image ≡ map zero_piece regions.now) }
     {
         let pieces = zero_pieces(alloc, regions)?;
-        let starts = index_of(alloc, pieces.as_slice())?;
+        let starts = index_of(alloc, regions)?;
         Ok(Image { pieces, starts })
     }
 
@@ -103,6 +104,16 @@ impl Image {
         ensures { fit_an_image (regions_of self.now) ≡ true }
     {
         let _pieces = &self.pieces;
+    }
+
+    /// The place of the region that has the whole range. None where no region has it, and only there
+    /// where the range isn't empty.
+    #[tactic(auto, using(crate::proofs::Stored::stay_apart))]
+    pub(crate) fn place_with(&self, address: u32, len: usize) -> Option<usize>
+        ensures exact { 0 < len → is_some result ≡ list_any (has_range address len) (regions_of self.now) }
+        ensures found { IfSome result (λ place. HasRangeAt self.now place address len) }
+    {
+        piece_with(self.pieces.as_slice(), self.starts.as_slice(), address, len)
     }
 
     /// The number of the region that has an address, and the address's offset in it. None where
@@ -147,12 +158,7 @@ impl Image {
         ensures regions { regions_of self.new ≡ regions_of self.old }
     {
         self.keeps_its_limits();
-        let place = piece_with(
-            self.pieces.as_slice(),
-            self.starts.as_slice(),
-            address,
-            4 * words.len(),
-        );
+        let place = self.place_with(address, 4 * words.len());
         // Only an empty range lies in no piece.
         if let Some(place) = place {
             store_words_among(self.pieces.as_mut_slice(), place, address, words);
@@ -169,8 +175,8 @@ impl Image {
         ensures regions { regions_of self.new ≡ regions_of self.old }
     {
         let len = len as usize;
-        let source = piece_with(self.pieces.as_slice(), self.starts.as_slice(), from, len);
-        let target = piece_with(self.pieces.as_slice(), self.starts.as_slice(), to, len);
+        let source = self.place_with(from, len);
+        let target = self.place_with(to, len);
         // Only an empty range lies in no piece.
         if let (Some(source), Some(target)) = (source, target) {
             copy_among(self.pieces.as_mut_slice(), source, target, from, to, len);
@@ -183,7 +189,7 @@ impl Image {
         requires { is_inside address len (regions_of self.now) ≡ true }
         ensures { result.now ≡ bytes_at (byte_at self.now) address len }
     {
-        match piece_with(self.pieces.as_slice(), self.starts.as_slice(), address, len) {
+        match self.place_with(address, len) {
             Some(place) => bytes_among(self.pieces.as_slice(), place, address, len),
             // Only an empty range lies in no piece.
             None => &[],
@@ -197,12 +203,7 @@ impl Image {
         ensures stored { byte_at self.new ≡ write_bytes (byte_at self.old) address bytes.now }
         ensures regions { regions_of self.new ≡ regions_of self.old }
     {
-        let place = piece_with(
-            self.pieces.as_slice(),
-            self.starts.as_slice(),
-            address,
-            bytes.len(),
-        );
+        let place = self.place_with(address, bytes.len());
         // Only an empty range lies in no piece.
         if let Some(place) = place {
             store_among(self.pieces.as_mut_slice(), place, address, bytes);

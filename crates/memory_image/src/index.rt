@@ -1,31 +1,31 @@
-//! Where the pieces of an image begin, by address.
-ghost use Rattle.std.specs.Prelude.{◌≡◌, ◌<◌, ◌≤◌, nat_le, true, false, length, is_some, IfOk, IfSome};
+//! Where regions begin, by address.
+ghost use Rattle.std.specs.Prelude.{◌≡◌, ◌<◌, ◌≤◌, ℕ, nat_le, true, false, List, length, is_some, IfOk, IfSome};
 ghost use Rattle.std.specs.List.{list_any};
 ghost use Rattle.std.specs.List.Sorted.{IsPermutation, IsNonDecreasingBy, IsPartitionPoint};
 ghost use Rattle.ffm_model.specs.WellFormed.{each_pair};
-ghost use Rattle.memory_image.specs.Pieces.{has_range, share_no_byte, HasRangeAt, regions_of};
-ghost use Rattle.memory_image.specs.Index.{address_of, starts_of, IsIndexOf};
+ghost use Rattle.memory_image.specs.Pieces.{has_range, share_no_byte, HasRangeAt, ranges_of, regions_of};
+ghost use Rattle.memory_image.specs.Index.{address_of, starts_of, IsIndexOf, IsOnlyPlace};
 
 use crate::pieces::has_range;
-use ffm_model::{Bytes, Memory};
-use std::alloc::Global;
+use ffm_model::{Bytes, Region};
+use std::alloc::{AllocError, Global};
 
-/// The address that a piece begins at, and the piece's place.
+/// The address that a region begins at, and the region's place.
 #[derive(Clone, Copy)]
 pub struct Start {
     pub address: u32,
     pub place: usize,
 }
 
-// The pieces that have a byte, in the pieces' order.
-fn starts_of(alloc: Global, pieces: &[Bytes]) -> Result<Vec<Start>, Memory>
-    ensures { IfOk result (λ starts. starts.items ≡ starts_of (regions_of pieces.now)) }
+// The regions that have a byte, in the regions' order.
+fn starts_of(alloc: Global, regions: &[Region]) -> Result<Vec<Start>, AllocError>
+    ensures { IfOk result (λ starts. starts.items ≡ starts_of (ranges_of regions.now)) }
 {
     let mut starts = Vec::new(alloc);
-    for (place, piece) in pieces.iter().enumerate() {
-        if !piece.content.is_empty() {
+    for (place, region) in regions.iter().enumerate() {
+        if region.size != 0 {
             starts.push(Start {
-                address: piece.address,
+                address: region.base,
                 place,
             })?;
         }
@@ -40,22 +40,34 @@ fn sort(starts: &mut Vec<Start>)
     starts.sort_unstable_by_key(|s| s.address);
 }
 
-/// The pieces that have a byte, by address.
-pub fn index_of(alloc: Global, pieces: &[Bytes]) -> Result<Vec<Start>, Memory>
-    ensures { IfOk result (λ starts. IsIndexOf starts.items (regions_of pieces.now)) }
+/// The regions that have a byte, by address.
+pub fn index_of(alloc: Global, regions: &[Region]) -> Result<Vec<Start>, AllocError>
+    ensures { IfOk result (λ starts. IsIndexOf starts.items (ranges_of regions.now)) }
 {
-    let mut starts = starts_of(alloc, pieces)?;
+    let mut starts = starts_of(alloc, regions)?;
     sort(&mut starts);
     Ok(starts)
 }
 
-// How many pieces begin at an address or before it.
+// How many regions begin at an address or before it.
 fn count_up_to(starts: &[Start], address: u32) -> usize
     requires { IsNonDecreasingBy address_of starts.now }
     ensures bound { result ≤ length starts.now }
     ensures point { IsPartitionPoint (λ s. nat_le s.address address ≡ true) (λ s. nat_le s.address address ≡ false) starts.now result }
 {
     starts.partition_point(|s| s.address <= address)
+}
+
+/// The place of the last region that begins at an address or before it. No other has a range there.
+pub fn last_up_to(starts: &[Start], address: u32) -> Option<usize>
+    requires { IsNonDecreasingBy address_of starts.now }
+    ensures { (rs : List (ℕ × ℕ)) → IsIndexOf starts.now rs → each_pair share_no_byte rs ≡ true → IsOnlyPlace rs address result }
+{
+    let count = count_up_to(starts, address);
+    if count == 0 {
+        return None;
+    }
+    Some(starts[count - 1].place)
 }
 
 /// The place of the piece that has the whole range. None where no piece has it, and only there
@@ -66,14 +78,14 @@ pub fn piece_with(pieces: &[Bytes], starts: &[Start], address: u32, len: usize) 
     ensures exact { 0 < len → is_some result ≡ list_any (has_range address len) (regions_of pieces.now) }
     ensures found { IfSome result (λ place. HasRangeAt pieces.now place address len) }
 {
-    let count = count_up_to(starts, address);
-    if count == 0 {
-        return None;
-    }
-    let place = starts[count - 1].place;
-    if has_range(&pieces[place], address, len) {
-        Some(place)
-    } else {
-        None
+    match last_up_to(starts, address) {
+        Some(place) => {
+            if has_range(&pieces[place], address, len) {
+                Some(place)
+            } else {
+                None
+            }
+        }
+        None => None,
     }
 }

@@ -5,6 +5,8 @@ mod image;
 mod index;
 mod pieces;
 mod ranges;
+mod region_index;
 
 pub use image::Image;
 pub use ranges::{may_read, may_write, open_within, valid_buffer};
+pub use region_index::RegionIndex;

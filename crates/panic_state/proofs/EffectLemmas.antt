@@ -16,9 +16,10 @@ use Rattle.ffm_model.specs.declared.machine.Outcome.TheVariants.{Value, Done}
 use Rattle.ffm_model.specs.declared.constants.TheConstants.{PSA_ERROR_CONNECTION_REFUSED, PSA_ERROR_COMMUNICATION_FAILURE}
 use Rattle.ffm_model.specs.Signals.{is_blocked}
 use Rattle.ffm_model.specs.Actors.{is_service_of}
-use Rattle.ffm_model.specs.State.{with_phase, phase_of}
+use Rattle.ffm_model.specs.State.{SpmState, with_phase, phase_of}
 use Rattle.ffm_model.specs.Names.{SlotName, message_capacity}
 use Rattle.ffm_model.specs.Panic.{panic_effect, callers_answered, client_answered, clients_answered, is_lost_request, without_service, without_client, disconnection, lost}
+use Rattle.ffm_model.proofs.WellFormedLemmas.{few_connections}
 use Rattle.object_pools.specs.declared.slot.Held.{Held}
 use Rattle.object_pools.specs.Pool.{Places}
 use Rattle.handle_table.specs.Table.{connections}
@@ -27,7 +28,6 @@ use Rattle.counting_law.proofs.Parts.{phase_same}
 use Rattle.counting_law.proofs.Bounds.{few-connections}
 use Rattle.counting_law.proofs.Rooms.{panic-room}
 use Rattle.spm_tables.specs.TablesView.{TablesView, Shape, MadeFor, spm_of, shape_of, held_message, service_signal}
-use Rattle.spm_tables.proofs.SystemLemmas.{few_connections}
 use Rattle.slot_names.specs.Named.{KeepsNames}
 use Rattle.slot_names.specs.Changes.{PairsOff, KeepsConnectionNames, TakesOn, names_of}
 use Rattle.slot_names.proofs.Moves.{relinks-some}
@@ -37,6 +37,11 @@ use Rattle.panic_state.specs.Losses.{left_by, in_slot, held_without_service, hel
 use Rattle.panic_state.proofs.Lists.{map-left, left-twice, map-kept, All-left}
 use Rattle.panic_state.proofs.ServiceLemmas.{services-known}
 use Rattle.panic_state.proofs.Walks.{items}
+use Rattle.counting_law.proofs.Owed.{set-twice}
+use Rattle.counting_law.proofs.Rooms.{panic-fits}
+use Rattle.ffm_model.specs.declared.objects.ActorPhase.{ActorPhase}
+use Rattle.ffm_model.specs.declared.objects.ActorPhase.TheVariants.{Panicked}
+use Rattle.ffm_model.specs.Panic.{callers_answered, clients_answered}
 
 seen-left : (h : Held OpenConnection) (o : Option OpenConnection) → option_map (λ (x : Held OpenConnection). x.item) (in_slot h o) ≡ o
 seen-left h None = refl
@@ -188,3 +193,12 @@ names-are s p d mid new made fit before effect more =
       same_serial x y true None f = cc
       same_serial x y true (Some ph) f = let it : record x { item = record x.item { phase = ph } } ≡ y = cc in ap (λ (h : Held OpenConnection). h.item.serial) (sym it)
       same_serial x y false l f = let it : x ≡ y = cc in ap (λ (h : Held OpenConnection). h.item.serial) (sym it)
+
+-- ---- the objects
+
+pub panicked-fits : (s : System) (p : ℕ) (d : TablesView) → MadeFor d s → p < length s.partitions → ObjectsFit s (with_phase (spm_of d) p Running) → ObjectsFit s (panic_effect s (spm_of d) p)
+panicked-fits s p d made inside fits =
+    let there : p < length d.phases = omega (arith, ap (λ (x : Shape). x.actors) made) in
+    let running : phase_of (with_phase (spm_of d) p Running) p ≡ Running = phase_same d.phases p Running there in
+    let on : List ActorPhase → SpmState = λ phases. record (panic_effect s (spm_of d) p) { phases = callers_answered s p (spm_of d).messages (clients_answered s p (spm_of d).connections phases) } in
+    subst (λ (phases : List ActorPhase). ObjectsFit s (on phases)) (set-twice d.phases p Running Panicked) (panic-fits s (with_phase (spm_of d) p Running) p fits running)

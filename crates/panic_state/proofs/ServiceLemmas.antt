@@ -8,7 +8,7 @@ use Rattle.ffm_model.specs.declared.system.System.{System}
 use Rattle.ffm_model.specs.declared.system.Service.{Service}
 use Rattle.ffm_model.specs.declared.system.Budget.{Budget}
 use Rattle.ffm_model.specs.declared.objects.OpenConnection.{OpenConnection}
-use Rattle.ffm_model.specs.WellFormed.{is_well_formed, budget_before, budgets_fit, each_pair}
+use Rattle.ffm_model.proofs.WellFormedLemmas.{is_between_actors, budgets_between_actors}
 use Rattle.ffm_model.specs.State.{SpmState, in_use}
 use Rattle.handle_table.proofs.SlotLemmas.{both}
 use Rattle.counting_law.specs.Objects.{allowed}
@@ -16,36 +16,24 @@ use Rattle.counting_law.proofs.Counts.{bit}
 use Rattle.counting_law.proofs.Parts.{equal_from}
 use Rattle.counting_law.proofs.Pairs.{member-counts}
 
-abbrev budget_fits : ℕ → List Service → Budget → Bool
-budget_fits actors services b = nat_lt b.client.0 actors && option_map_or (λ v. not (v.owner == b.client.0)) (slice_get services b.service) false
-
-fits : (s : System) → budgets_fit (length s.partitions + length s.clients) s.services s.budgets ≡ true
-unfolding is_well_formed
-fits s = (both _ (budgets_fit (length s.partitions + length s.clients) s.services s.budgets) s.well_formed).1
-
-budgets-fit : (s : System) → list_all (budget_fits (length s.partitions + length s.clients) s.services) s.budgets ≡ true
-budgets-fit s =
-    (both (list_all (budget_fits (length s.partitions + length s.clients) s.services) s.budgets) (each_pair budget_before s.budgets)
-    (both _ (nat_le (sum_by (λ b. b.count) s.budgets) 256) (fits s)).0).0
-
 found-service : (services : List Service) (v owner : ℕ) → option_map_or (λ (x : Service). not (x.owner == owner)) (slice_get services v) false ≡ true → v < length services
 found-service services v owner e =
     let go : (o : Option Service) → slice_get services v ≡ o → option_map_or (λ (x : Service). not (x.owner == owner)) o false ≡ true → v < length services =
     elim [ None ↦ λ f g. cc | Some x ↦ λ f g. slice_get_within services v x f ] in
     go (slice_get services v) refl e
 
-budget-service : (actors : ℕ) (services : List Service) (a v : ℕ) (bs : List Budget) → list_all (budget_fits actors services) bs ≡ true
-    → 1 ≤ unwrap_or (option_map (λ b. b.count) (find (λ b. (b.client.0 == a) && (b.service == v)) bs)) 0 → v < length services
-budget-service actors services a v [] fit some = absurd (omega arith)
-budget-service actors services a v (b ∷ bs) fit some =
-    let parts = both (budget_fits actors services b) (list_all (budget_fits actors services) bs) fit in
+budget-service : (s : System) (a v : ℕ) (bs : List Budget) → list_all (is_between_actors s) bs ≡ true
+    → 1 ≤ unwrap_or (option_map (λ b. b.count) (find (λ b. (b.client.0 == a) && (b.service == v)) bs)) 0 → v < length s.services
+budget-service s a v [] fit some = absurd (omega arith)
+budget-service s a v (b ∷ bs) fit some =
+    let parts = both (is_between_actors s b) (list_all (is_between_actors s) bs) fit in
     let go : (t : Bool) → ((b.client.0 == a) && (b.service == v)) ≡ t
-    → 1 ≤ unwrap_or (option_map (λ (x : Budget). x.count) (cond t (Some b) (find (λ x. (x.client.0 == a) && (x.service == v)) bs))) 0 → v < length services =
+    → 1 ≤ unwrap_or (option_map (λ (x : Budget). x.count) (cond t (Some b) (find (λ x. (x.client.0 == a) && (x.service == v)) bs))) 0 → v < length s.services =
     elim [
       | true ↦ λ e k.
           let same : b.service ≡ v = equal_from b.service v (both (b.client.0 == a) (b.service == v) e).1 in
-          omega (arith, found-service services b.service b.client.0 (both (nat_lt b.client.0 actors) (option_map_or (λ (x : Service). not (x.owner == b.client.0)) (slice_get services b.service) false) parts.0).1)
-      | false ↦ λ e k. budget-service actors services a v bs parts.1 k
+          omega (arith, found-service s.services b.service b.client.0 (both (nat_lt b.client.0 (length s.partitions + length s.clients)) _ parts.0).1)
+      | false ↦ λ e k. budget-service s a v bs parts.1 k
     ] in
     go ((b.client.0 == a) && (b.service == v)) refl some
 
@@ -54,7 +42,7 @@ pub services-known : (s : System) (b : SpmState) → ((a v : ℕ) → in_use b a
 services-known s b within = λ k d lt.
     let c : OpenConnection = get_or b.connections k d in
     let own : bit ((c.client.0 == c.client.0) && (c.service == c.service)) ≡ 1 = itself c.client.0 c.service in
-    budget-service (length s.partitions + length s.clients) s.services c.client.0 c.service s.budgets (budgets-fit s)
+    budget-service s c.client.0 c.service s.budgets (budgets_between_actors s)
     (omega (arith, own, member-counts (λ x. (x.client.0 == c.client.0) && (x.service == c.service)) b.connections k d lt, within c.client.0 c.service)) where
       itself : (a v : ℕ) → bit ((a == a) && (v == v)) ≡ 1
       itself a v = grind arith

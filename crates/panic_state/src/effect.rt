@@ -1,10 +1,11 @@
 //! The panic of a partition.
 
-ghost use Rattle.std.specs.Prelude.{◌≡◌, ◌<◌, ◌≤◌, ◌+◌, length};
+ghost use Rattle.std.specs.Prelude.{◌≡◌, ◌<◌, ◌≤◌, ◌+◌, ℕ, All, List, length};
 ghost use Rattle.ffm_model.specs.declared.objects.ActorPhase.TheVariants as phase;
 ghost use Rattle.ffm_model.specs.State.{with_phase};
 ghost use Rattle.ffm_model.specs.Panic.{panic_effect};
 ghost use Rattle.counting_law.specs.Objects.{ObjectsFit};
+ghost use Rattle.message_vectors.specs.Vectors.{AreWithin};
 ghost use Rattle.spm_tables.specs.TablesView.{spm_of, shape_of, MadeFor};
 ghost use Rattle.slot_names.specs.Named.{KeepsNames};
 ghost use Rattle.panic_state.specs.Losses.{as_client};
@@ -39,6 +40,8 @@ pub fn panic(system: &System, tables: &mut Tables, partition: ActorId)
     requires few { tables.old.waiting.takes + 256 ≤ 1048575 }
     ensures state { spm_of tables.new ≡ panic_effect system.now (spm_of tables.old) partition.0 }
     ensures names { KeepsNames system.now tables.old tables.new }
+    ensures fits { ObjectsFit system.now (spm_of tables.new) }
+    ensures within { (ranges : List (ℕ × ℕ)) → All (λ m. AreWithin ranges m.vectors) (spm_of tables.old).messages → All (λ m. AreWithin ranges m.vectors) (spm_of tables.new).messages }
     ensures shape { shape_of tables.new ≡ shape_of tables.old }
     ensures message_takes { tables.new.waiting.takes ≤ tables.old.waiting.takes + 256 }
     ensures connection_takes { tables.new.linked.takes ≡ tables.old.linked.takes }

@@ -43,6 +43,7 @@ line_call-resume rs (line.Change o r v) = refl
 line_call-resume rs (line.Jump t) = refl
 line_call-resume rs (line.JumpIf c r v t) = refl
 line_call-resume rs (line.Make n operands) = call_of-resume n _
+line_call-resume rs (line.Map n operands) = refl
 
 some-call-resume : (rs : List ℕ) (o : Option Instruction) → is_resume (option_map_or (line_call rs) o (call.Stop false)) ≡ false
 some-call-resume rs None = refl

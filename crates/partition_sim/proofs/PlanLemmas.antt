@@ -12,8 +12,9 @@ use Rattle.ffm_model.specs.declared.system.System.{System}
 use Rattle.ffm_model.specs.Actors.{kind_of}
 use Rattle.ffm_model.specs.Plans.{Plan, RunFrom, Engine, plan_of, engine_after}
 use Rattle.ffm_model.specs.Records.{ends_blocked, outcomes_of}
-use Rattle.ffm_model.specs.ScriptRuns.{script_engine, script_plan, start, arrived, only_part, kind_plan, plan_at}
+use Rattle.ffm_model.specs.ScriptRuns.{script_engine, script_plan, start, arrived, only_part}
 use Rattle.spm_core.specs.Manager.{is_resume}
+use Rattle.partition_sim.specs.ActorPlans.{kind_plan, plan_at}
 use Rattle.partition_sim.specs.Driving.{instructions_at}
 use Rattle.partition_sim.proofs.CallLemmas.{call_at-resume}
 
@@ -39,7 +40,7 @@ script_plan-resume script os = plan_of-resume (script_engine script) start os (�
 
 -- ---- the plan of an actor
 
-kind_plan-script : (k : ActorKind) (parts : List (List Instruction)) → kind_plan k parts ≡ script_plan (only_part parts)
+pub kind_plan-script : (k : ActorKind) (parts : List (List Instruction)) → kind_plan k parts ≡ script_plan (only_part parts)
 kind_plan-script kind.Partition parts = refl
 kind_plan-script kind.Client parts = refl
 kind_plan-script kind.Device parts = refl

@@ -21,8 +21,9 @@ use Rattle.ffm_model.specs.Records.{entries_of, outcomes_of}
 use Rattle.ffm_model.specs.Schedule.{enabled_in}
 use Rattle.ffm_model.specs.declared.script.Instruction.{Instruction}
 use Rattle.ffm_model.specs.Plans.{Plan, PlanRun}
-use Rattle.ffm_model.specs.ScriptRuns.{only_part, plan_at, script_plan}
+use Rattle.ffm_model.specs.ScriptRuns.{only_part, script_plan}
 use Rattle.spm_core.specs.Manager.{Opening, IsMade, IsRefused, refusal_at, is_gone, is_resume, state_after, CallDue}
+use Rattle.partition_sim.specs.ActorPlans.{plan_at}
 use Rattle.partition_sim.specs.Standing.{Standing, Follows, Asked}
 use Rattle.partition_sim.specs.Driving.{Driving, MadeOne, PassedOne, IsOver, runner_at, instructions_at, outcomes_at, first_standing}
 use Rattle.partition_sim.proofs.StepLemmas.{asked-follows}

@@ -9,12 +9,13 @@ use Rattle.ffm_model.specs.Actors.{actor_count}
 use Rattle.ffm_model.specs.Records.{entries_of, outcomes_of}
 use Rattle.ffm_model.specs.Schedule.{Scheduled, Turns, enabled_in, turn_at}
 use Rattle.ffm_model.specs.Plans.{PlanRun}
-use Rattle.ffm_model.specs.ScriptRuns.{only_part, plan_at, start}
+use Rattle.ffm_model.specs.ScriptRuns.{only_part, start}
 use Rattle.ffm_model.specs.State.{opening}
 use Rattle.ffm_model.specs.Verdicts.{verdict_of}
 use Rattle.memory_image.specs.Pieces.{byte_at}
 use Rattle.spm_core.specs.Manager.{Opening, Managed, state_after}
 use Rattle.partition_sim.specs.declared.scheduled.Over.{Over}
+use Rattle.partition_sim.specs.ActorPlans.{plan_at}
 use Rattle.partition_sim.specs.Standing.{Standing, Follows}
 
 abbrev pub first_standing : Standing

@@ -1,3 +1,4 @@
+pub mod ActorPlans
 pub mod Standing
 pub mod Driving
 pub mod Workers

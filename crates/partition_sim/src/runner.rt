@@ -71,7 +71,7 @@ fn line_effect(registers: &mut [u32; 16], place: usize, line: &Instruction) -> O
                 Some(place + 1)
             }
         }
-        Instruction::Make { .. } => None,
+        Instruction::Make { .. } | Instruction::Map { .. } => None,
     }
 }
 
@@ -135,6 +135,7 @@ fn call_at(script: &[Instruction], registers: &[u32; 16], place: usize) -> Call
 {
     match script.get(place) {
         Some(Instruction::Make { name, operands }) => call_of(*name, registers, operands),
+        Some(Instruction::Map { .. }) => Call::Stop { spent: false },
         Some(_) => Call::Stop { spent: true },
         None => Call::Stop { spent: false },
     }

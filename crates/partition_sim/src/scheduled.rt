@@ -5,9 +5,9 @@ ghost use Rattle.ffm_model.specs.Actors.{actor_count};
 ghost use Rattle.ffm_model.specs.Plans.{PlanRun};
 ghost use Rattle.ffm_model.specs.Records.{entries_of};
 ghost use Rattle.ffm_model.specs.Schedule.{Scheduled};
-ghost use Rattle.ffm_model.specs.ScriptRuns.{plan_at};
 ghost use Rattle.ffm_model.specs.Verdicts.{verdict_of};
 ghost use Rattle.memory_image.specs.Pieces.{byte_at};
+ghost use Rattle.partition_sim.specs.ActorPlans.{plan_at};
 ghost use Rattle.partition_sim.specs.Driving.{AreNew, Driving, IsDriven, Turned, Underway};
 
 use crate::runner::Runner;

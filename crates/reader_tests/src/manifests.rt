@@ -74,7 +74,7 @@ fn shown(alloc: Global, refusal: &Refusal) -> Result<String, AllocError> {
 }
 
 /// An attribute, the value that is written for it, the code, and the place below the manifest.
-static ROWS: [(&str, &str, u8, &str); 84] = [
+static ROWS: [(&str, &str, u8, &str); 82] = [
     ("", "", 0, ""),
     (
         "psa_framework_version",
@@ -112,18 +112,6 @@ static ROWS: [(&str, &str, u8, &str); 84] = [
     (
         "psa_framework_version",
         "1.",
-        BAD_VALUE,
-        "/psa_framework_version",
-    ),
-    (
-        "psa_framework_version",
-        "1.1",
-        BAD_VALUE,
-        "/psa_framework_version",
-    ),
-    (
-        "psa_framework_version",
-        r#""1.1""#,
         BAD_VALUE,
         "/psa_framework_version",
     ),
@@ -369,6 +357,181 @@ fn a_manifest(rt: HostRuntime) -> Result<(), Fail> {
         return Err(Fail::from("one interrupt"));
     };
     assert_eq!(rt; irq.source.as_str(), "5");
+    Ok(())
+}
+
+/// The attributes of manifests in which those of a row stand besides. Where a name stands twice, the
+/// later value counts.
+static FRONTS: [(&str, &str); 4] = [
+    (
+        "1.0",
+        r#""psa_framework_version":"1.0","name":"V","type":"PSA-ROT","priority":"LOW","entry_point":"v","stack_size":64"#,
+    ),
+    (
+        "1.1",
+        r#""psa_framework_version":"1.1","name":"V","type":"PSA-ROT","priority":"LOW","entry_point":"v","stack_size":64"#,
+    ),
+    (
+        "SFN",
+        r#""psa_framework_version":"1.1","name":"V","type":"PSA-ROT","priority":"LOW","model":"SFN","stack_size":48,"services":[{"name":"V","sid":1,"non_secure_clients":true}]"#,
+    ),
+    (
+        "bare",
+        r#""psa_framework_version":"1.1","name":"V","type":"PSA-ROT","priority":"LOW""#,
+    ),
+];
+
+/// By line: what comes of a manifest, the attributes in front, and those of the row. A manifest that
+/// is read is shown as `shown_manifest` does, and a refusal by its code and its place below the
+/// manifest.
+const VERSIONS: &str = r#"256 ipc v 64|1.0|"unknown":7
+257 ipc v 64|1.1|"unknown":7
+257 ipc v 64|1.0|"psa_framework_version":1.1
+4 /psa_framework_version|1.0|"psa_framework_version":"1.2"
+4 /psa_framework_version|1.0|"psa_framework_version":"1.10"
+4 /psa_framework_version|1.0|"psa_framework_version":2.0
+3 /psa_framework_version|1.0|"psa_framework_version":2
+257 ipc v 64|1.1|"model":"IPC"
+4 /model|1.1|"model":"sfn"
+4 /model|1.1|"model":""
+3 /model|1.1|"model":7
+3 /model|1.1|"model":null
+256 ipc v 64|1.0|"model":"SFN"
+256 ipc v 64|1.0|"model":7
+3 /priority|1.1|"model":7,"priority":7
+3 /model|1.1|"model":7,"entry_point":7
+257 sfn - 48 V/true/0/false|SFN|"unknown":7
+257 sfn v 48 V/true/0/false|SFN|"entry_point":"v"
+4 /entry_point|SFN|"entry_point":""
+3 /entry_point|SFN|"entry_point":null
+2 /entry_point|bare|"stack_size":64
+2 /entry_point|bare|"model":"IPC","stack_size":64
+2 /stack_size|bare|"model":"SFN"
+257 sfn - 49 V/true/0/false|SFN|"stack_size":"0x31"
+4 /stack_size|SFN|"stack_size":47
+4 /stack_size|SFN|"stack_size":0
+4 /stack_size|SFN|"stack_size":4294967296
+3 /stack_size|SFN|"stack_size":true
+257 ipc v 0|1.1|"stack_size":0
+256 ipc v 47|1.0|"stack_size":47,"model":"SFN"
+4 /services|bare|"model":"SFN","stack_size":48
+4 /services|SFN|"services":[]
+3 /services|SFN|"services":{}
+3 /services|SFN|"services":null
+3 /services/0|SFN|"services":[7]
+257 ipc v 64|1.1|"services":[]
+257 sfn - 48 V/true/0/false|SFN|"irqs":[]
+4 /irqs|SFN|"irqs":[7]
+4 /irqs|SFN|"irqs":[{"source":5,"name":"T","handling":"FLIH"}]
+3 /irqs|SFN|"irqs":null
+3 /dependencies|SFN|"irqs":[7],"dependencies":7
+3 /mmio_regions|SFN|"services":[],"mmio_regions":7
+257 ipc v 64 V/true/0/false|1.1|"services":[{"name":"V","sid":1,"non_secure_clients":true,"connection_based":true}]
+257 ipc v 64 V/false/0/false|1.1|"services":[{"name":"V","sid":1,"non_secure_clients":true,"connection_based":false}]
+257 sfn - 48 V/false/2/false|SFN|"services":[{"name":"V","sid":1,"non_secure_clients":true,"connection_based":false,"stateless_handle":2}]
+3 /services/0/connection_based|1.1|"services":[{"name":"V","sid":1,"non_secure_clients":true,"connection_based":"false"}]
+3 /services/0/connection_based|1.1|"services":[{"name":"V","sid":1,"non_secure_clients":true,"connection_based":0}]
+3 /services/0/connection_based|1.1|"services":[{"name":"V","sid":1,"non_secure_clients":true,"connection_based":null}]
+256 ipc v 64 V/true/0/false|1.0|"services":[{"name":"V","sid":1,"non_secure_clients":true,"connection_based":false,"stateless_handle":99,"mm_iovec":7}]
+4 /services/0/version_policy|1.1|"services":[{"name":"V","sid":1,"non_secure_clients":true,"connection_based":7,"version_policy":"LOOSE"}]
+257 ipc v 64 V/false/0/false|1.1|"services":[{"name":"V","sid":1,"non_secure_clients":true,"connection_based":false,"stateless_handle":"auto"}]
+257 ipc v 64 V/false/1/false|1.1|"services":[{"name":"V","sid":1,"non_secure_clients":true,"connection_based":false,"stateless_handle":1}]
+257 ipc v 64 V/false/32/false|1.1|"services":[{"name":"V","sid":1,"non_secure_clients":true,"connection_based":false,"stateless_handle":32}]
+4 /services/0/stateless_handle|1.1|"services":[{"name":"V","sid":1,"non_secure_clients":true,"connection_based":false,"stateless_handle":0}]
+4 /services/0/stateless_handle|1.1|"services":[{"name":"V","sid":1,"non_secure_clients":true,"connection_based":false,"stateless_handle":33}]
+4 /services/0/stateless_handle|1.1|"services":[{"name":"V","sid":1,"non_secure_clients":true,"connection_based":false,"stateless_handle":"Auto"}]
+4 /services/0/stateless_handle|1.1|"services":[{"name":"V","sid":1,"non_secure_clients":true,"connection_based":false,"stateless_handle":"0x1"}]
+4 /services/0/stateless_handle|1.1|"services":[{"name":"V","sid":1,"non_secure_clients":true,"connection_based":false,"stateless_handle":1.0}]
+4 /services/0/stateless_handle|1.1|"services":[{"name":"V","sid":1,"non_secure_clients":true,"connection_based":false,"stateless_handle":10000000000000000000}]
+3 /services/0/stateless_handle|1.1|"services":[{"name":"V","sid":1,"non_secure_clients":true,"connection_based":false,"stateless_handle":-1}]
+3 /services/0/stateless_handle|1.1|"services":[{"name":"V","sid":1,"non_secure_clients":true,"connection_based":false,"stateless_handle":null}]
+257 ipc v 64 V/true/0/false|1.1|"services":[{"name":"V","sid":1,"non_secure_clients":true,"connection_based":true,"stateless_handle":33}]
+257 ipc v 64 V/true/0/false|1.1|"services":[{"name":"V","sid":1,"non_secure_clients":true,"stateless_handle":null}]
+257 ipc v 64 V/true/0/true|1.1|"services":[{"name":"V","sid":1,"non_secure_clients":true,"mm_iovec":"enable"}]
+257 ipc v 64 V/false/7/false|1.1|"services":[{"name":"V","sid":1,"non_secure_clients":true,"connection_based":false,"stateless_handle":7,"mm_iovec":"disable"}]
+4 /services/0/mm_iovec|1.1|"services":[{"name":"V","sid":1,"non_secure_clients":true,"mm_iovec":"ENABLE"}]
+3 /services/0/mm_iovec|1.1|"services":[{"name":"V","sid":1,"non_secure_clients":true,"mm_iovec":true}]
+3 /services/0/mm_iovec|1.1|"services":[{"name":"V","sid":1,"non_secure_clients":true,"mm_iovec":null}]
+4 /services/0/stateless_handle|1.1|"services":[{"name":"V","sid":1,"non_secure_clients":true,"mm_iovec":7,"stateless_handle":0,"connection_based":false}]
+3 /services/0/connection_based|1.1|"services":[{"name":"V","sid":1,"non_secure_clients":true,"stateless_handle":0,"connection_based":7}]
+257 ipc v 64 5/TIMER_SIGNAL/true|1.1|"irqs":[{"source":5,"name":"TIMER","handling":"FLIH"}]
+257 ipc v 64 UART/U_SIGNAL/false|1.1|"irqs":[{"source":"UART","name":"U","handling":"SLIH"}]
+2 /irqs/0/name|1.1|"irqs":[{"source":5,"signal":"T","handling":"FLIH"}]
+2 /irqs/0/handling|1.1|"irqs":[{"source":5,"name":"T"}]
+2 /irqs/0/source|1.1|"irqs":[{"name":"T","handling":"FLIH"}]
+4 /irqs/0/source|1.1|"irqs":[{"source":"5","name":7,"handling":7}]
+257 ipc v 64 5/NNNNNNNNNNNNNNNNNNNNNNNNNNNNNNNNNNNNNNNNNNNNNNNNNNNNNNNNN_SIGNAL/false|1.1|"irqs":[{"source":5,"name":"NNNNNNNNNNNNNNNNNNNNNNNNNNNNNNNNNNNNNNNNNNNNNNNNNNNNNNNNN","handling":"SLIH"}]
+4 /irqs/0/name|1.1|"irqs":[{"source":5,"name":"NNNNNNNNNNNNNNNNNNNNNNNNNNNNNNNNNNNNNNNNNNNNNNNNNNNNNNNNNN","handling":"SLIH"}]
+4 /irqs/0/name|1.1|"irqs":[{"source":5,"name":"","handling":"SLIH"}]
+4 /irqs/0/name|1.1|"irqs":[{"source":5,"name":"device","handling":"SLIH"}]
+4 /irqs/0/name|1.1|"irqs":[{"source":5,"name":"1A","handling":7}]
+3 /irqs/0/name|1.1|"irqs":[{"source":5,"name":7,"handling":7}]
+4 /irqs/0/handling|1.1|"irqs":[{"source":5,"name":"T","handling":"flih"}]
+3 /irqs/0/handling|1.1|"irqs":[{"source":5,"name":"T","handling":true}]
+3 /irqs/0/handling|1.1|"irqs":[{"source":5,"name":"T","handling":null}]
+257 ipc v 64 5/T_SIGNAL/false|1.1|"irqs":[{"source":5,"name":"T","handling":"SLIH","signal":7}]
+2 /irqs/0/signal|1.0|"irqs":[{"source":5,"name":"T","handling":"FLIH"}]
+256 ipc v 64 5/T/false|1.0|"irqs":[{"source":5,"signal":"T","name":7,"handling":"FLIH"}]
+"#;
+
+/// What a manifest says of its version, in short: the entry point, or `-` for none, and the stack;
+/// by service its name, whether clients connect to it, its index and whether its vectors are mapped;
+/// by interrupt its source, its signal and whether it has a first-level handler.
+fn shown_manifest(alloc: Global, manifest: &Manifest) -> Result<String, AllocError> {
+    let model = if manifest.sfn { "sfn" } else { "ipc" };
+    let mut text = format!(in alloc; "{} {model} ", manifest.framework)?;
+    text.push_str(match manifest.entry_point.as_str() {
+        "" => "-",
+        name => name,
+    })?;
+    write!(text, " {}", manifest.stack_size)?;
+    for service in manifest.services.as_slice() {
+        write!(text, " {}/", service.name.as_str())?;
+        write!(text, "{}/", service.connection_based)?;
+        write!(text, "{}/{}", service.stateless_handle, service.mm)?;
+    }
+    for irq in manifest.irqs.as_slice() {
+        write!(text, " {}/", irq.source.as_str())?;
+        write!(text, "{}/{}", irq.signal.as_str(), irq.flih)?;
+    }
+    Ok(text)
+}
+
+/// What comes of a manifest.
+fn answer_of_manifest(alloc: Global, text: &str) -> Result<String, Fail> {
+    let place = Place {
+        root: Root::System,
+        steps: List::of(Vec::new(alloc)),
+    };
+    let tree = read_tree(alloc, text.as_bytes(), place)?;
+    match read_manifest(alloc, &tree, 7) {
+        Ok(manifest) => Ok(shown_manifest(alloc, &manifest)?),
+        Err(ReadError::Refused(refusal)) => {
+            let path = shown(alloc, &refusal)?;
+            let below = path.strip_prefix("/manifests/7").ok_or("another manifest")?;
+            Ok(format!(in alloc; "{} {below}", refusal.code)?)
+        }
+        Err(ReadError::Memory) => Err(Fail::from("no memory")),
+    }
+}
+
+/// The attributes in front with a name.
+fn front_named(name: &str) -> Option<&'static str> {
+    let (_, front) = FRONTS.iter().find(|(known, _)| *known == name)?;
+    Some(*front)
+}
+
+#[test]
+fn versions_of_manifests(rt: HostRuntime) -> Result<(), Fail> {
+    let alloc = rt.alloc();
+    for line in VERSIONS.lines() {
+        let (answer, row) = line.split_once("|").ok_or("a row without an answer")?;
+        let (front, members) = row.split_once("|").ok_or("a row without a front")?;
+        let front = front_named(front).ok_or("an unknown front")?;
+        let text = format!(in alloc; "{{{front},{members}}}")?;
+        let found = answer_of_manifest(alloc, text.as_str())?;
+        assert_eq!(rt; found.as_str(), answer, "{row}");
+    }
     Ok(())
 }
 

@@ -3,7 +3,7 @@
 
 use ffm_model::{
     ActorKind, CallName, Comparison, Instruction, Key, Lines, List, Memory, Name, Operand,
-    Operation, PathStep, ReadError, Root, SCRIPT_SYNTAX,
+    Operation, PathStep, RaiseItem, ReadError, Root, SCRIPT_SYNTAX,
 };
 use script_asm::{assemble, device_script};
 use std::alloc::Global;
@@ -192,13 +192,36 @@ fn instructions_of_a_script(rt: HostRuntime) -> Result<(), Fail> {
     Ok(())
 }
 
+fn item(source: u32, answer: Option<u32>) -> RaiseItem {
+    RaiseItem {
+        source,
+        result: answer,
+    }
+}
+
+fn fire(source: u32, answer: u32) -> Instruction {
+    let mut operands = [Operand::Number(0); 6];
+    operands[0] = Operand::Number(source);
+    operands[1] = Operand::Number(answer);
+    Instruction::Make {
+        name: CallName::Fire,
+        operands,
+    }
+}
+
 #[test]
 fn raises_of_a_device(rt: HostRuntime) -> Result<(), Fail> {
-    let raises = List::of(vec![in rt.alloc(); 0, 3, 0]?);
-    let script = device_script(rt.alloc(), &raises)?;
+    let items = vec![in rt.alloc();
+        item(0, None),
+        item(3, Some(1)),
+        item(3, Some(0)),
+        item(0, None),
+    ]?;
+    let script = device_script(rt.alloc(), &List::of(items))?;
     let expected = [
         make_one(CallName::Raise, 0),
-        make_one(CallName::Raise, 3),
+        fire(3, 1),
+        fire(3, 0),
         make_one(CallName::Raise, 0),
     ];
     assert_eq!(rt; script.instructions(), expected.as_slice());

@@ -1,8 +1,8 @@
 //! Worked system and scenario files: what no clause says is that these answers are the ones wanted.
 
 use ffm_model::{
-    Class, List, Name, Partition, PartsError, PathStep, Priority, ReadError, Refusal, Region,
-    RotType, Scenario, Source, System,
+    Class, Lines, List, Name, Partition, PartsError, PathStep, Priority, ReadError, Refusal,
+    Region, RotType, Scenario, Source, System,
 };
 use outside_io::MemoryFiles;
 use std::alloc::{AllocError, Global};
@@ -155,6 +155,8 @@ fn partition(alloc: Global, text: &str, ram: u32) -> Result<Partition, AllocErro
         priority: Priority::Normal,
         domain: 1,
         ram,
+        sfn: false,
+        heap: 0,
     })
 }
 
@@ -166,26 +168,32 @@ fn region(base: u32, class: Class) -> Region {
     }
 }
 
-fn source(alloc: Global, text: &str, signal_text: &str, signal: u32) -> Result<Source, AllocError> {
+fn source(
+    alloc: Global,
+    text: &str,
+    signal_text: &str,
+    signal: u32,
+    flih: bool,
+) -> Result<Source, AllocError> {
     Ok(Source {
         name: name(alloc, text)?,
         signal_name: name(alloc, signal_text)?,
         owner: 0,
         signal,
-        flih: false,
-        enabled: true,
+        flih,
+        enabled: !flih,
     })
 }
 
 /// Partitions VAULT and SPY, client NS, and where there is a device the sources TICK and 17. The
-/// signal of 17 is named as the other source is.
+/// signal of 17 is named as the other source is, and 17 alone has a first-level handler.
 fn system(alloc: Global, with_device: bool) -> Result<System, Fail> {
     let vault = partition(alloc, "VAULT", 0)?;
     let partitions = vec![in alloc; vault, partition(alloc, "SPY", 1)?]?;
     let mut sources = Vec::new(alloc);
     if with_device {
-        sources.push(source(alloc, "TICK", "TOCK", 16)?)?;
-        sources.push(source(alloc, "17", "TICK", 32)?)?;
+        sources.push(source(alloc, "TICK", "TOCK", 16, false)?)?;
+        sources.push(source(alloc, "17", "TICK", 32, true)?)?;
     }
     let regions = vec![in alloc;
         region(0x3000_0000, Class::Ram { domain: 1 }),
@@ -236,7 +244,9 @@ ok|{"event_limit":262144}
 3 /scripts/0/lines|{"scripts":[{"actor":"NS","lines":"end"}]}
 3 /scripts/0/lines/1|{"scripts":[{"actor":"NS","lines":["end",7]}]}
 ok|{"scripts":[{"actor":"NS","lines":["","?"]},{"actor":"SPY","lines":[]}]}
-4 /scripts/1/actor|{"scripts":[{"actor":"NS","lines":[]},{"actor":"NS","lines":7}]}
+ok|{"scripts":[{"actor":"NS","lines":[]},{"actor":"SPY","lines":[]},{"actor":"NS","lines":["end"]}]}
+3 /scripts/1/lines|{"scripts":[{"actor":"NS","lines":[]},{"actor":"NS","lines":7}]}
+4 /scripts/1/actor|{"scripts":[{"actor":"SPY","lines":[]},{"actor":"SPY","lines":7}]}
 3 /schedule|{"schedule":"NS"}
 3 /schedule/1|{"schedule":["NS",7]}
 20 /schedule/1|{"schedule":["NS","a b"]}
@@ -256,6 +266,24 @@ ok|{"interrupts":[17,"TICK",17]}
 4 /interrupts/0|{"interrupts":["17"]}
 4 /interrupts/0|{"interrupts":["9a"]}
 4 /interrupts/0|{"interrupts":["device"]}
+ok|{"interrupts":[{"source":17,"result":0},{"source":17,"result":1,"x":7},17]}
+2 /interrupts/0/source|{"interrupts":[{}]}
+2 /interrupts/0/source|{"interrupts":[{"result":7}]}
+3 /interrupts/0/source|{"interrupts":[{"source":true,"result":7}]}
+4 /interrupts/0/source|{"interrupts":[{"source":"17","result":7}]}
+20 /interrupts/0/source|{"interrupts":[{"source":18,"result":7}]}
+20 /interrupts/1/source|{"interrupts":["TICK",{"source":"TOCK"}]}
+2 /interrupts/0/result|{"interrupts":[{"source":17}]}
+3 /interrupts/0/result|{"interrupts":[{"source":17,"result":"1"}]}
+3 /interrupts/0/result|{"interrupts":[{"source":17,"result":null}]}
+3 /interrupts/0/result|{"interrupts":[{"source":17,"result":1.0}]}
+4 /interrupts/0/result|{"interrupts":[{"source":17,"result":2}]}
+2 /interrupts/0/result|{"interrupts":[{"source":"TICK"}]}
+3 /interrupts/0/result|{"interrupts":[{"source":"TICK","result":true}]}
+4 /interrupts/0/result|{"interrupts":[{"source":"TICK","result":2}]}
+4 /interrupts/0/result|{"interrupts":[{"source":"TICK","result":1}]}
+4 /interrupts/1/result|{"interrupts":[17,{"source":"TICK","result":0},7]}
+3 /interrupts/0|{"interrupts":[[]]}
 3 /memory|{"memory":7}
 3 /memory/0|{"memory":["00"]}
 2 /memory/0/address|{"memory":[{"bytes":"00"}]}
@@ -279,7 +307,14 @@ ok|{"memory":[{"address":0,"bytes":""}]}
 3 /scripts|{"schedule":7,"scripts":7}
 3 /event_limit|{"scripts":7,"event_limit":true}
 3 /event_limit|{"event_limit":null}
-ok|{"restarts":7,"limit":0}
+ok|{"restarts":0,"limit":0}
+ok|{"restarts":15}
+4 /restarts|{"restarts":16}
+3 /restarts|{"restarts":"1"}
+3 /restarts|{"restarts":1.0}
+3 /restarts|{"restarts":-1}
+3 /restarts|{"restarts":null}
+3 /memory|{"restarts":16,"memory":7}
 20 /schedule/0|{"schedule":[1.5]}
 "#;
 
@@ -350,14 +385,32 @@ fn lengths_of_lists(rt: HostRuntime) -> Result<(), Fail> {
         assert_eq!(rt; found.as_str(), answer, "{front} {count}");
     }
     let lines = "{\"scripts\":[{\"actor\":\"NS\",\"lines\":[";
+    let scripts = "{\"scripts\":[";
+    let client = "{\"actor\":\"NS\",\"lines\":[]}";
+    let partition = "{\"actor\":\"SPY\",\"lines\":[]}";
     let scenarios = [
         (lines, "\"end\"", 4096, "]}]}", "ok"),
         (lines, "7", 4097, "]}]}", "4 /scripts/0/lines"),
+        (scripts, client, 8, "]}", "ok"),
+        (scripts, client, 9, "]}", "4 /scripts/8/actor"),
+        (scripts, partition, 1, "]}", "ok"),
+        (scripts, partition, 2, "]}", "4 /scripts/1/actor"),
     ];
     for (front, item, count, back, answer) in scenarios {
         let text = repeated(alloc, front, item, count, back)?;
         let found = answer_of_scenario(alloc, &system(alloc, true)?, text.as_str())?;
-        assert_eq!(rt; found.as_str(), answer, "{count} lines");
+        assert_eq!(rt; found.as_str(), answer, "{front} {count}");
+    }
+    Ok(())
+}
+
+/// How many lines each script has, with `+` between.
+fn put_lengths(text: &mut String, scripts: &[Lines]) -> Result<(), AllocError> {
+    for (i, lines) in scripts.iter().enumerate() {
+        if i > 0 {
+            text.push_str("+")?;
+        }
+        write!(text, "{}", lines.len())?;
     }
     Ok(())
 }
@@ -365,8 +418,9 @@ fn lengths_of_lists(rt: HostRuntime) -> Result<(), Fail> {
 /// What a scenario says, in short.
 fn shown_scenario(alloc: Global, scenario: &Scenario) -> Result<String, AllocError> {
     let mut text = format!(in alloc; "limit {} lines", scenario.limit)?;
-    for lines in scenario.lines.as_slice() {
-        write!(text, " {}", lines.len())?;
+    for scripts in scenario.lines.as_slice() {
+        text.push_str(" ")?;
+        put_lengths(&mut text, scripts.as_slice())?;
     }
     text.push_str(" order")?;
     for actor in scenario.order.as_slice() {
@@ -377,13 +431,17 @@ fn shown_scenario(alloc: Global, scenario: &Scenario) -> Result<String, AllocErr
         write!(text, " {}", actor.0)?;
     }
     text.push_str(" raises")?;
-    for source in scenario.raises.as_slice() {
-        write!(text, " {source}")?;
+    for raise in scenario.raises.as_slice() {
+        write!(text, " {}", raise.source)?;
+        if let Some(answer) = raise.result {
+            write!(text, ":{answer}")?;
+        }
     }
     text.push_str(" memory")?;
     for bytes in scenario.memory.as_slice() {
         write!(text, " {:x}={:?}", bytes.address, bytes.content.as_slice())?;
     }
+    write!(text, " restarts {}", scenario.restarts)?;
     Ok(text)
 }
 
@@ -394,11 +452,11 @@ fn a_scenario(rt: HostRuntime) -> Result<(), Fail> {
     let rows = [
         (
             "{}",
-            "limit 4096 lines 0 0 0 0 order schedule raises memory",
+            "limit 4096 lines 0 0 0 0 order schedule raises memory restarts 0",
         ),
         (
-            r#"{"event_limit":8,"scripts":[{"actor":"NS","lines":["a","b"]},{"actor":"VAULT","lines":["c"]}],"schedule":["device","SPY","NS","VAULT"],"interrupts":[17,"TICK",17],"memory":[{"address":"0x20000004","bytes":"0aFf"}]}"#,
-            "limit 8 lines 1 0 2 0 order 2 0 schedule 3 1 2 0 raises 1 0 1 memory 20000004=[10, 255]",
+            r#"{"event_limit":8,"scripts":[{"actor":"NS","lines":["a","b"]},{"actor":"VAULT","lines":["c"]},{"actor":"NS","lines":[]},{"actor":"NS","lines":["d"]}],"schedule":["device","SPY","NS","VAULT"],"interrupts":[17,"TICK",{"source":17,"result":0}],"memory":[{"address":"0x20000004","bytes":"0aFf"}],"restarts":3}"#,
+            "limit 8 lines 1 0 2+0+1 0 order 2 0 2 2 schedule 3 1 2 0 raises 1:1 0 1:0 memory 20000004=[10, 255] restarts 3",
         ),
     ];
     for (text, answer) in rows {

@@ -15,7 +15,7 @@ fn turns(rt: HostRuntime) -> Result<(), Fail> {
             // The client is blocked.
             (
                 &[
-                    (3, 0, "n1 framework_version -> number 256\n"),
+                    (3, 0, "n1 framework_version -> number 257\n"),
                     (26, 1, "quiet 26\n"),
                 ],
                 "illegal 3",
@@ -27,7 +27,7 @@ fn turns(rt: HostRuntime) -> Result<(), Fail> {
             // The client was answered, and only a return may come.
             (
                 &[
-                    (6, 0, "n1 framework_version -> number 256\n"),
+                    (6, 0, "n1 framework_version -> number 257\n"),
                     (26, 1, "quiet 26\n"),
                 ],
                 "illegal 6",

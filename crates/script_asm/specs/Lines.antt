@@ -166,19 +166,19 @@ made_of kind all i passed = Some []
 made_of kind all i (label n) = if is_some (place_of n (take i all)) then None else Some []
 made_of kind all i (order ws) = option_map (λ x. x ∷ []) (instruction_of kind all ws)
 
--- the instructions of a line before those of the lines behind it; a wrong line counts before them
-abbrev pub line_then : Option (List Instruction) → ℕ → Result (List Instruction) ℕ → Result (List Instruction) ℕ
+-- what a line makes before what the lines behind it make; a wrong line counts before them
+abbrev pub line_then : {A : Type 0} → Option (List A) → ℕ → Result (List A) ℕ → Result (List A) ℕ
 line_then None i rest = Err i
 line_then (Some xs) i (Ok ys) = Ok (xs ++ ys)
 line_then (Some xs) i (Err e) = Err e
 
--- the instructions of the lines from place i on, or the first wrong one of them
-unfoldable pub made_from : ActorKind → List Line → ℕ → List Line → Result (List Instruction) ℕ
-made_from kind all i [] = Ok []
-made_from kind all i (l ∷ ls) = line_then (made_of kind all i l) i (made_from kind all (i + 1) ls)
+-- what the lines from place i on make, where `make` gives it by the place and the line; or the first wrong one of them
+unfoldable pub made_from : {A : Type 0} → (ℕ → Line → Option (List A)) → ℕ → List Line → Result (List A) ℕ
+made_from make i [] = Ok []
+made_from make i (l ∷ ls) = line_then (make i l) i (made_from make (i + 1) ls)
 
 unfoldable pub assembled_lines : ActorKind → List Line → Result (List Instruction) ℕ
-assembled_lines kind all = made_from kind all 0 all
+assembled_lines kind all = made_from (made_of kind all) 0 all
 
 -- the instructions of a script, or the place of its first wrong line
 unfoldable pub assembled : ActorKind → List (List ℕ) → Result (List Instruction) ℕ

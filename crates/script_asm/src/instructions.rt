@@ -45,14 +45,16 @@ fn has_line(kind: ActorKind, name: CallName) -> bool
     }
 }
 
-fn one_word<'a>(words: &[&'a [u8]]) -> Option<&'a [u8]>
+/// The word of a list of just one.
+pub fn one_word<'a>(words: &[&'a [u8]]) -> Option<&'a [u8]>
     ensures { option_map (λ w. w.now) result ≡ one_word (map (λ w. w.now) words.now) }
 {
     let (word, rest) = words.split_first()?;
     if rest.is_empty() { Some(*word) } else { None }
 }
 
-fn two_words<'a>(words: &[&'a [u8]]) -> Option<(&'a [u8], &'a [u8])>
+/// The words of a list of just two.
+pub fn two_words<'a>(words: &[&'a [u8]]) -> Option<(&'a [u8], &'a [u8])>
     ensures { option_map (λ w. (w.0.now, w.1.now)) result ≡ two_words (map (λ w. w.now) words.now) }
 {
     let (word, rest) = words.split_first()?;

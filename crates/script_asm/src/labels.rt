@@ -20,7 +20,7 @@ pub struct FirstLabel {
     place: u32,
 }
 
-/// The lines of a script, with the first label of each name.
+/// The lines of a script or of a function, with the first label of each name.
 #[derive(Drop)]
 pub struct LabelledLines<'a> {
     pub lines: Vec<Line<'a>>,

@@ -11,4 +11,8 @@ mod scripts;
 mod words;
 
 pub use device::device_script;
-pub use scripts::assemble;
+pub use instructions::{instruction_of, one_word, two_words};
+pub use labels::{LabelledLines, labelled_lines};
+pub use lines::{Line, lines_of};
+pub use scripts::{LineError, assemble, line_refusal};
+pub use words::operand_of;

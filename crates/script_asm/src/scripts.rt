@@ -16,11 +16,12 @@ use ffm_model::{
 };
 use std::alloc::{AllocError, AllocFailed, Global};
 
-// Why lines make no instructions.
+/// Why lines make no instructions.
 #[derive(Drop)]
-enum LineError {
-    // The place of the first wrong line.
+pub enum LineError {
+    /// The place of the first wrong line.
     Wrong(u32),
+    /// No memory was found.
     Memory,
 }
 
@@ -109,7 +110,9 @@ fn assembled(alloc: Global, kind: ActorKind, texts: &[Name]) -> Result<Vec<Instr
     instructions_of(alloc, kind, &lines)
 }
 
-fn refusal(alloc: Global, number: u32, line: u32) -> Result<Refusal, AllocError>
+/// The refusal of a line of the script with this number, both counted from 0: its place is
+/// `/scripts/NUMBER/lines/LINE`, and its code SCRIPT_SYNTAX. Err where no memory was found.
+pub fn line_refusal(alloc: Global, number: u32, line: u32) -> Result<Refusal, AllocError>
     ensures { IfOk result (λ r. r ≡ record { code = SCRIPT_SYNTAX; place = line_place number line; cycle = [] }) }
 {
     let steps = vec![in alloc;
@@ -146,7 +149,7 @@ pub fn assemble(
 {
     match assembled(alloc, kind, lines.as_slice()) {
         Ok(instructions) => Ok(Script::plain(alloc, instructions)?),
-        Err(LineError::Wrong(line)) => Err(ReadError::Refused(refusal(alloc, number, line)?)),
+        Err(LineError::Wrong(line)) => Err(ReadError::Refused(line_refusal(alloc, number, line)?)),
         Err(LineError::Memory) => Err(ReadError::Memory),
     }
 }

@@ -31,6 +31,8 @@ use Rattle.spm_tables.specs.TablesView.{TablesView, held_message, message_at, me
 use Rattle.spm_tables.proofs.MessageLemmas.{find-map, live-put}
 use Rattle.service_calls.proofs.Held.{holds-at}
 use Rattle.service_calls.proofs.Kept.{all-put}
+use Rattle.counting_law.proofs.Counts.{find-passes}
+use Rattle.spm_tables.specs.TablesView.{shown_handle}
 
 -- a message was delivered: m before, n since
 pub record IsDelivered (d new : TablesView) (service : ℕ) (t : Slot) (n : QueuedMessage) : Type 0 where
@@ -141,3 +143,10 @@ pub delivered-within : (regions : List (ℕ × ℕ)) (d new : TablesView) (servi
 delivered-within regions d new service t n it all =
     let own : AreWithin regions it.item.vectors = holds-at (λ m. AreWithin regions m.vectors) d t it.item all it.live in
     all-put (AreWithin regions) d new t n (ap (λ (e : TablesView). e.waiting) it.after) (subst (λ (m : QueuedMessage). AreWithin regions m.vectors) (sym it.since) own) all
+
+pub was-undelivered : (d new : TablesView) (service : ℕ) (t : Slot) (n : QueuedMessage) → (it : IsDelivered d new service t n) → it.item.delivered ≡ false
+was-undelivered d new service t n it =
+    let waits : is_undelivered service (message_of t it.item) ≡ true = find-passes (is_undelivered service) (spm_of d).messages (message_of t it.item) it.first in
+    let none : is_none (shown_handle it.item.delivered t) ≡ true = (both (is_none (shown_handle it.item.delivered t)) (it.item.service == service) waits).0 in
+    let go : (b : Bool) → is_none (shown_handle b t) ≡ true → b ≡ false = elim [ true ↦ λ e. cc | false ↦ λ e. refl ] in
+    go it.item.delivered none

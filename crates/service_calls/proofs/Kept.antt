@@ -7,7 +7,10 @@ use Rattle.ffm_model.specs.declared.objects.ActorPhase.{ActorPhase}
 use Rattle.ffm_model.specs.declared.objects.PendingMessage.{PendingMessage}
 use Rattle.ffm_model.specs.declared.objects.Vectors.{Vectors}
 use Rattle.ffm_model.specs.declared.system.System.{System}
+use Rattle.ffm_model.specs.State.{SpmState, with_rhandle}
 use Rattle.counting_law.specs.Objects.{ObjectsFit}
+use Rattle.counting_law.proofs.CallsFit.{rhandle-fits}
+use Rattle.message_vectors.specs.Vectors.{AreWithin}
 use Rattle.object_pools.specs.declared.slot.Slot.{Slot}
 use Rattle.object_pools.specs.declared.slot.Held.{Held}
 use Rattle.object_pools.specs.Pool.{Places, IsKept, has_slot, item_at, item_put, with_item, without}
@@ -102,3 +105,14 @@ reply-names s d mid new t link fit kept dropped changes same =
     ] in
     let go : (o : Option Slot) → ChangesWhere o d.linked new.linked → KeepsNames s d new = elim [ None ↦ λ e. names-replied s d new t one e waiting | Some u ↦ at u ] in
     go link (subst (λ (e : TablesView). ChangesWhere link e.linked new.linked) dropped changes)
+
+-- ---- the rhandle of a connection changes
+
+pub rhandle-fit : (s : System) (b new : SpmState) (r : ℕ) (o : Option OpenConnection) → IsSome o → IfSome o (λ c. new ≡ with_rhandle b c.serial r) → ObjectsFit s b → ObjectsFit s new
+rhandle-fit s b new r (Some c) live state fit = subst (ObjectsFit s) (sym state) (rhandle-fits s b c.serial r fit)
+rhandle-fit s b new r None live state fit = cc
+
+pub rhandle-within : (ranges : List (ℕ × ℕ)) (b new : SpmState) (r : ℕ) (o : Option OpenConnection) → IsSome o → IfSome o (λ c. new ≡ with_rhandle b c.serial r) → All (λ m. AreWithin ranges m.vectors) b.messages
+    → All (λ m. AreWithin ranges m.vectors) new.messages
+rhandle-within ranges b new r (Some c) live state all = subst (λ (x : SpmState). All (λ m. AreWithin ranges m.vectors) x.messages) (sym state) all
+rhandle-within ranges b new r None live state all = cc

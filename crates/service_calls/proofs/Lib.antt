@@ -4,3 +4,4 @@ pub mod Kept
 pub mod TransferLemmas
 pub mod DeliveryLemmas
 pub mod ReplyLemmas
+mod FreshHandle

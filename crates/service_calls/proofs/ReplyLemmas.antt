@@ -18,7 +18,8 @@ use Rattle.ffm_model.specs.ClientCalls.{Effect, effect}
 use Rattle.ffm_model.specs.Memory.{lengths_written}
 use Rattle.ffm_model.specs.Panic.{panic_effect}
 use Rattle.ffm_model.specs.State.{SpmState, message_held, phase_of, with_phase, without_message}
-use Rattle.ffm_model.specs.ServiceCalls.{Answered, answered, close_answered, connect_answered, is_connect_status, owes_panic, psa_reply, replied, reply_of, reply_on, reply_to, request_answered, with_request_phase}
+use Rattle.ffm_model.specs.ServiceCalls.{answered, close_answered, connect_answered, is_connect_status, owes_panic, psa_reply, replied, reply_of, reply_to, request_answered, with_request_phase}
+use Rattle.slot_names.specs.Replies.{Answered, reply_on}
 use Rattle.counting_law.specs.Objects.{ObjectsFit, accepted_as, is_joining}
 use Rattle.counting_law.proofs.Balance.{Balanced, balanced-fit, fit-balanced, one}
 use Rattle.counting_law.proofs.Keeps.{ready-quiet, request-ready}
@@ -35,6 +36,7 @@ use Rattle.spm_tables.specs.Answers.{state_with}
 use Rattle.spm_tables.specs.TablesView.{TablesView, fresh_message, message_of, spm_of}
 use Rattle.service_calls.specs.Answers.{once_panicked}
 use Rattle.service_calls.proofs.Held.{IsTold, held-told}
+use Rattle.counting_law.proofs.Rooms.{reply-fits}
 
 -- ---- the message that may be answered
 
@@ -170,3 +172,14 @@ owing-fits s d new a k status t m owing fit it =
       ]
     ] in
     go owing (owes_panic s n status) refl it.owes
+
+pub settled-fits : (s : System) (d new : TablesView) (a : ℕ) (k : Handle) (status : ℤ) (t : Slot) (m : QueuedMessage) (owing : Option ActorId) → ObjectsFit s (spm_of d) → IsReplied s d new a k status t m owing
+    → owing ≡ None → ObjectsFit s (spm_of new)
+settled-fits s d new a k status t m owing fit it none =
+    let n : PendingMessage = message_of t m in
+    let held : message_held s (spm_of d) a k ≡ Some n = reply-held s (spm_of d) a k status n it.found in
+    let go : (x : Bool) → owes_panic s n status ≡ x → None ≡ (if x then Some m.client.0 else None) → ObjectsFit s (spm_of new) = elim [
+      | true ↦ λ e f. cc
+      | false ↦ λ e f. subst (λ (b : SpmState). ObjectsFit s b) (sym it.state) (reply-fits s (spm_of d) a k status n fit held e)
+    ] in
+    go (owes_panic s n status) refl (ap (option_map (λ (p : ActorId). p.0)) (sym none) ∙ it.owes)

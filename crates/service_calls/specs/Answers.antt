@@ -11,7 +11,8 @@ use Rattle.ffm_model.specs.declared.machine.Message.{Message}
 use Rattle.ffm_model.specs.declared.machine.Outcome.{Outcome}
 use Rattle.ffm_model.specs.declared.machine.Outcome.TheVariants.{Got}
 use Rattle.ffm_model.specs.ClientCalls.{Effect, effect}
-use Rattle.ffm_model.specs.ServiceCalls.{psa_get, Answered}
+use Rattle.ffm_model.specs.ServiceCalls.{psa_get}
+use Rattle.slot_names.specs.Replies.{Answered}
 use Rattle.ffm_model.specs.Panic.{panic_effect}
 use Rattle.ffm_model.specs.State.{SpmState}
 use Rattle.memory_image.specs.Pieces.{byte_at}

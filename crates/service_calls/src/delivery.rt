@@ -1,6 +1,6 @@
 //! The delivery of messages.
 
-ghost use Rattle.std.specs.Prelude.{◌≡◌, ◌<◌, ◌==◌, ◌&&◌, ◌++◌, ℕ, length, List, All, IfOk, IfSome, IsSome, Some, map, option_and_then, position, if◌then◌else◌};
+ghost use Rattle.std.specs.Prelude.{◌≡◌, true, ◌<◌, ◌==◌, ◌&&◌, ◌++◌, ℕ, length, List, All, IfOk, IfSome, IsSome, Some, map, option_and_then, position, if◌then◌else◌};
 ghost use Rattle.std.specs.Option.{option_map_or};
 ghost use Rattle.std.specs.Ordering.{int_eq};
 ghost use Rattle.counting_law.specs.Objects.{ObjectsFit};
@@ -9,7 +9,7 @@ ghost use Rattle.ffm_model.specs.Actors.{actor_count};
 ghost use Rattle.ffm_model.specs.declared.machine.Call.TheVariants.{Get};
 ghost use Rattle.ffm_model.specs.Names.{NamesSoFar, name_due};
 ghost use Rattle.ffm_model.specs.ServiceCalls.{message_words, service_of_signal, shown_message, sizes_of};
-ghost use Rattle.ffm_model.specs.State.{connection_by_serial};
+ghost use Rattle.ffm_model.specs.State.{State as StateSeen, connection_by_serial, fresh};
 ghost use Rattle.handle_table.specs.declared.handles.Family.TheVariants as family;
 ghost use Rattle.handle_table.specs.Handles.{handle_at};
 ghost use Rattle.memory_image.specs.Pieces.{byte_at, ranges_of, regions_of};
@@ -17,6 +17,7 @@ ghost use Rattle.message_vectors.specs.Vectors.{AreWithin};
 ghost use Rattle.object_pools.specs.Pool.{item_at};
 ghost use Rattle.service_calls.specs.Answers.{IsGot};
 ghost use Rattle.slot_names.specs.Named.{KeepsNames, NamesAre};
+ghost use Rattle.slot_names.specs.Stands.{Stands};
 ghost use Rattle.spm_tables.specs.Answers.{state_with};
 ghost use Rattle.spm_tables.specs.TablesView.{MadeFor, message_of, shape_of, spm_of};
 
@@ -119,7 +120,7 @@ fn shown(system: &System, tables: &Tables, slot: Slot, message: QueuedMessage) -
 /// `psa_get`: the oldest message that waits for the service with the signal is delivered, and its 48 bytes are stored at `msg`. They
 /// show the rhandle 0 for `psa_connect` and for a request of no connection, and else that of the message's connection.
 /// `Fault` exactly where the signal isn't one service's of the partition, no message waits for that service, or the 48 bytes at `msg`
-/// aren't a valid buffer of the partition; then nothing changed.
+/// aren't a valid buffer of the partition; then nothing changed. The handle is one that no event has shown.
 pub fn get(
     system: &System,
     tables: &mut Tables,
@@ -132,7 +133,9 @@ pub fn get(
     requires fits { ObjectsFit system.now (spm_of tables.old) }
     requires regions { regions_of image.old ≡ ranges_of system.now.regions }
     ensures answer { (given : List HandleSeen) → IsGot system.now tables.old given image.old actor.0 signal msg result tables.new image.new }
+    ensures fresh { IfOk result (λ m. (st : StateSeen) → Stands tables.old image.old st → fresh st m.handle ≡ true) }
     ensures name { IfOk result (λ m. (k : NamesSoFar) → NamesAre tables.old k → (given : List HandleSeen) → name_due system.now (state_with tables.old given (byte_at image.old)) actor.0 (Get signal msg) k ≡ Some m.handle) }
+    ensures fits { ObjectsFit system.now (spm_of tables.new) }
     ensures within { (ranges : List (ℕ × ℕ)) → All (λ m. AreWithin ranges m.vectors) (spm_of tables.old).messages → All (λ m. AreWithin ranges m.vectors) (spm_of tables.new).messages }
     ensures shape { shape_of tables.new ≡ shape_of tables.old }
     ensures regions { regions_of image.new ≡ regions_of image.old }
@@ -142,7 +145,7 @@ pub fn get(
     let Some(service) = service_of_signal(system, actor, signal) else {
         return Err(Fault);
     };
-    if !valid_buffer(system, actor, msg, MESSAGE_SIZE) {
+    if !valid_buffer(system, image, actor, msg, MESSAGE_SIZE) {
         return Err(Fault);
     }
     let Some(slot) = tables.dequeue(service) else {

@@ -1,6 +1,6 @@
 //! Replies to messages, and the rhandles of their connections.
 
-ghost use Rattle.std.specs.Prelude.{◌≡◌, ◌<◌, ◌&&◌, length, All, IsSome, IfSome, IfOk, List, Some, None, option_and_then, if◌then◌else◌, int_lt, take};
+ghost use Rattle.std.specs.Prelude.{◌≡◌, ℕ, ◌<◌, ◌&&◌, length, All, IsSome, IfSome, IfOk, List, Some, None, option_and_then, if◌then◌else◌, int_lt, take};
 ghost use Rattle.std.specs.Option.{option_map, option_map_or};
 ghost use Rattle.std.specs.Ordering.{int_eq};
 ghost use Rattle.counting_law.specs.Objects.{ObjectsFit};
@@ -10,7 +10,8 @@ ghost use Rattle.ffm_model.specs.declared.system.System.{System as SystemSeen};
 ghost use Rattle.ffm_model.specs.Actors.{is_partition, kind_of};
 ghost use Rattle.ffm_model.specs.ClientCalls.{effect};
 ghost use Rattle.ffm_model.specs.Memory.{lengths_written};
-ghost use Rattle.ffm_model.specs.ServiceCalls.{answered, close_answered, connect_answered, is_connect_status, owes_panic, psa_reply, psa_set_rhandle, reply_on, reply_to, request_answered, with_request_phase};
+ghost use Rattle.ffm_model.specs.ServiceCalls.{answered, close_answered, connect_answered, is_connect_status, owes_panic, psa_reply, psa_set_rhandle, reply_to, request_answered, with_request_phase};
+ghost use Rattle.slot_names.specs.Replies.{reply_on};
 ghost use Rattle.ffm_model.specs.State.{with_phase};
 ghost use Rattle.memory_image.specs.Pieces.{byte_at, ranges_of, regions_of};
 ghost use Rattle.message_vectors.specs.Vectors.{AreWithin};
@@ -44,6 +45,8 @@ pub fn set_rhandle(
     ensures answer { (s : SystemSeen) → MadeFor tables.old s → Answers (λ u. Done) (psa_set_rhandle s (spm_of tables.old) actor.0 handle rhandle) tables.old result tables.new }
     ensures shape { shape_of tables.new ≡ shape_of tables.old }
     ensures names { (s : SystemSeen) → MadeFor tables.old s → KeepsNames s tables.old tables.new }
+    ensures fits { (s : SystemSeen) → ObjectsFit s (spm_of tables.old) → ObjectsFit s (spm_of tables.new) }
+    ensures within { (ranges : List (ℕ × ℕ)) → All (λ m. AreWithin ranges m.vectors) (spm_of tables.old).messages → All (λ m. AreWithin ranges m.vectors) (spm_of tables.new).messages }
 {
     tables.law();
     let Some(slot) = tables.find_message(actor, handle) else {
@@ -221,6 +224,7 @@ pub fn reply(
     ensures left { LeavesReply (reply_on system.now (spm_of tables.old) actor.0 handle status.0) tables.old image.old result tables.new image.new }
     ensures answer { IfOk result (λ owing. (given : List HandleSeen) → psa_reply system.now (state_with tables.old given (byte_at image.old)) actor.0 handle status.0
         ≡ Some (effect Done (record { spm = once_panicked system.now (spm_of tables.new) owing; handles_given = given; memory = byte_at image.new }))) }
+    ensures settled { IfOk result (λ owing. owing ≡ None → ObjectsFit system.now (spm_of tables.new)) }
     ensures owed { IfOk result (λ owing. IfSome owing (λ p. ObjectsFit system.now (with_phase (spm_of tables.new) p.0 ActorPhase.Running))) }
     ensures partition { IfOk result (λ owing. IfSome owing (λ p. p.0 < length system.now.partitions)) }
     ensures shape { shape_of tables.new ≡ shape_of tables.old }

@@ -5,6 +5,7 @@ ghost use Rattle.ffm_model.specs.declared.machine.Handle.{Handle as HandleSeen};
 ghost use Rattle.ffm_model.specs.declared.machine.Outcome.TheVariants.{Number, Done};
 ghost use Rattle.ffm_model.specs.declared.system.System.{System as SystemSeen};
 ghost use Rattle.ffm_model.specs.ServiceCalls.{psa_read, psa_skip, psa_write, request_held};
+ghost use Rattle.counting_law.specs.Objects.{ObjectsFit};
 ghost use Rattle.ffm_model.specs.State.{with_vectors};
 ghost use Rattle.handle_table.specs.declared.handles.Family.TheVariants as family;
 ghost use Rattle.handle_table.specs.Handles.{handle_at};
@@ -65,6 +66,7 @@ pub fn skip(
     ensures within { (regions : List (ℕ × ℕ)) → All (λ m. AreWithin regions m.vectors) (spm_of tables.old).messages → All (λ m. AreWithin regions m.vectors) (spm_of tables.new).messages }
     ensures shape { shape_of tables.new ≡ shape_of tables.old }
     ensures names { (s : SystemSeen) → MadeFor tables.old s → KeepsNames s tables.old tables.new }
+    ensures fits { (s : SystemSeen) → MadeFor tables.old s → ObjectsFit s (spm_of tables.old) → ObjectsFit s (spm_of tables.new) }
 {
     let Some(slot) = request(tables, actor, handle, index) else {
         return Err(Fault);
@@ -96,11 +98,12 @@ pub fn read(
     ensures regions { regions_of image.new ≡ regions_of image.old }
     ensures vectors { All (λ m. AreWithin (regions_of image.new) m.vectors) (spm_of tables.new).messages }
     ensures names { KeepsNames system.now tables.old tables.new }
+    ensures fits { ObjectsFit system.now (spm_of tables.old) → ObjectsFit system.now (spm_of tables.new) }
 {
     let Some(slot) = request(tables, actor, handle, index) else {
         return Err(Fault);
     };
-    if !valid_buffer(system, actor, buffer, len) {
+    if !valid_buffer(system, image, actor, buffer, len) {
         return Err(Fault);
     }
     let mut vectors = tables.queued(slot).vectors;
@@ -130,11 +133,12 @@ pub fn write(
     ensures regions { regions_of image.new ≡ regions_of image.old }
     ensures vectors { All (λ m. AreWithin (regions_of image.new) m.vectors) (spm_of tables.new).messages }
     ensures names { KeepsNames system.now tables.old tables.new }
+    ensures fits { ObjectsFit system.now (spm_of tables.old) → ObjectsFit system.now (spm_of tables.new) }
 {
     let Some(slot) = request(tables, actor, handle, index) else {
         return Err(Fault);
     };
-    if !valid_buffer(system, actor, buffer, len) {
+    if !valid_buffer(system, image, actor, buffer, len) {
         return Err(Fault);
     }
     let mut vectors = tables.queued(slot).vectors;

@@ -26,7 +26,8 @@ use Rattle.ffm_model.specs.declared.objects.ConnPhase.TheVariants.{Error, Idle}
 use Rattle.ffm_model.specs.declared.objects.ActorPhase.{ActorPhase}
 use Rattle.ffm_model.specs.Actors.{is_partition, is_service_of, kind_of}
 use Rattle.ffm_model.specs.Panic.{is_dead, panic_effect}
-use Rattle.ffm_model.specs.ServiceCalls.{Answered, answered, close_answered, connect_answered, is_connect_status, owes_panic, replied, reply_on, with_request_phase}
+use Rattle.ffm_model.specs.ServiceCalls.{answered, close_answered, connect_answered, is_connect_status, owes_panic, replied, with_request_phase}
+use Rattle.slot_names.specs.Replies.{Answered, reply_on}
 use Rattle.ffm_model.specs.Signals.{is_blocked}
 use Rattle.ffm_model.specs.State.{SpmState, has_handle, message_held, phase_of, with_connection_phase, with_phase, without_connection, without_message}
 use Rattle.counting_law.specs.Objects.{ObjectsFit}

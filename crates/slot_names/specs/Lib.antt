@@ -1,2 +1,4 @@
 pub mod Named
 pub mod Changes
+pub mod Replies
+pub mod Stands

@@ -2,7 +2,7 @@
 use Rattle.std.proofs.Common.{ℕ, ◌≡◌, Bool, true, false, not, ◌&&◌, refl, sym, ◌∙◌}
 use Rattle.std.specs.Prelude.{nat_lt, nat_le, length}
 use Rattle.ffm_model.specs.declared.system.System.{System}
-use Rattle.ffm_model.specs.ServiceCalls.{has_flih}
+use Rattle.ffm_model.specs.SignalCalls.{has_flih}
 use Rattle.counting_law.proofs.Parts.{left_true, right_true}
 use Rattle.doorbell_irq.proofs.HandlingLemmas.{handling-is}
 use Rattle.spm_tables.specs.TablesView.{TablesView, MadeFor, handling}

@@ -1,4 +1,3 @@
-pub mod Groups
 pub mod Manager
 pub mod Performed
 pub mod Views

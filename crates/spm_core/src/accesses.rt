@@ -27,7 +27,7 @@ pub(crate) fn load(
     requires { regions_of image.now ≡ ranges_of system.now.regions }
     ensures { Loads system.now actor.0 address size image.now result }
 {
-    if !is_access_size(size) || !may_read(system, actor, address, size) {
+    if !is_access_size(size) || !may_read(system, image, actor, address, size) {
         return Err(Fault);
     }
     Ok(image.load(address, size))
@@ -46,7 +46,7 @@ pub(crate) fn store(
     ensures stores { Stores system.now actor.0 address size value image.old result image.new }
     ensures regions { regions_of image.new ≡ regions_of image.old }
 {
-    if !is_access_size(size) || !may_write(system, actor, address, size) {
+    if !is_access_size(size) || !may_write(system, image, actor, address, size) {
         return Err(Fault);
     }
     image.store(address, size, value);

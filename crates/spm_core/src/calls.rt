@@ -1,16 +1,16 @@
 //! The calls of an actor that runs, by the crate that makes them.
-ghost use Rattle.std.specs.Prelude.{◌≡◌, ◌≤◌, ◌+◌, All, IfOk, List, true};
+ghost use Rattle.std.specs.Prelude.{◌≡◌, ◌≤◌, ◌+◌, All, IfOk, List};
+ghost use Rattle.ffm_model.specs.declared.groups.Group.TheVariants as group;
 ghost use Rattle.ffm_model.specs.declared.scenario.Bytes.{Bytes as BytesSeen};
 ghost use Rattle.ffm_model.specs.declared.machine.Call.TheVariants as call;
 ghost use Rattle.ffm_model.specs.declared.objects.ActorPhase.{ActorPhase as PhaseSeen};
+ghost use Rattle.ffm_model.specs.Groups.{group_of};
 ghost use Rattle.ffm_model.specs.State.{phase_of};
 ghost use Rattle.counting_law.specs.Objects.{ObjectsFit};
 ghost use Rattle.memory_image.specs.Pieces.{byte_at, regions_of, ranges_of};
 ghost use Rattle.message_vectors.specs.Vectors.{AreWithin};
 ghost use Rattle.slot_names.specs.Named.{KeepsNames};
 ghost use Rattle.spm_tables.specs.TablesView.{TablesView, spm_of, shape_of, MadeFor};
-ghost use Rattle.spm_core.specs.Groups.{group_of, is_transfer};
-ghost use Rattle.spm_core.specs.declared.groups.Group.TheVariants as group;
 ghost use Rattle.spm_core.specs.Performed.{Attempts, ShowsName};
 
 use crate::accesses::{load, store};
@@ -62,8 +62,8 @@ pub(crate) fn client_call(
     }
 }
 
-/// Makes a call of `psa/service.h` that waits for messages, moves their bytes or answers them. A
-/// partition whose request is answered with PROGRAMMER ERROR panics here.
+/// Makes a call of `psa/service.h` that waits for messages, takes or answers them. A partition whose
+/// request is answered with PROGRAMMER ERROR panics here.
 pub(crate) fn service_call(
     system: &System,
     tables: &mut Tables,
@@ -94,19 +94,19 @@ pub(crate) fn service_call(
             Ok(Outcome::Done)
         }
         Call::Reply { handle, status } => answer(system, tables, image, actor, handle, status),
-        _ => transfer(system, tables, image, actor, call),
+        _ => unreachable!(),
     }
 }
 
-// Moves bytes of a request.
-fn transfer(
+/// Moves bytes of a request.
+pub(crate) fn transfer(
     system: &System,
     tables: &mut Tables,
     image: &mut Image,
     actor: ActorId,
     call: Call,
 ) -> Result<Outcome, Fault>
-    requires transfers { is_transfer call ≡ true }
+    requires group { group_of call ≡ group.Transfer }
     requires made { MadeFor tables.old system.now }
     requires regions { regions_of image.old ≡ ranges_of system.now.regions }
     requires vectors { All (λ m. AreWithin (regions_of image.old) m.vectors) (spm_of tables.old).messages }

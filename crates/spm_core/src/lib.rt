@@ -4,7 +4,6 @@
 mod accesses;
 mod actors;
 mod calls;
-mod groups;
 mod interrupts;
 mod perform;
 mod returns;

@@ -1,9 +1,11 @@
 //! One event: a call of an actor that can go on.
 ghost use Rattle.std.specs.Prelude.{◌≡◌, ◌<◌, ◌≤◌, ◌+◌, All, IfOk, List, true, false};
+ghost use Rattle.ffm_model.specs.declared.groups.Group.TheVariants as group;
 ghost use Rattle.ffm_model.specs.declared.scenario.Bytes.{Bytes as BytesSeen};
 ghost use Rattle.ffm_model.specs.declared.system.System.{System as SystemSeen};
 ghost use Rattle.ffm_model.specs.declared.objects.ActorPhase.{ActorPhase as PhaseSeen};
 ghost use Rattle.ffm_model.specs.Actors.{actor_count, kind_of};
+ghost use Rattle.ffm_model.specs.Groups.{group_of};
 ghost use Rattle.ffm_model.specs.Signals.{may_resume};
 ghost use Rattle.ffm_model.specs.State.{phase_of};
 ghost use Rattle.ffm_model.specs.Step.{may_call};
@@ -12,17 +14,14 @@ ghost use Rattle.memory_image.specs.Pieces.{byte_at, regions_of, ranges_of};
 ghost use Rattle.message_vectors.specs.Vectors.{AreWithin};
 ghost use Rattle.slot_names.specs.Named.{KeepsNames};
 ghost use Rattle.spm_tables.specs.TablesView.{spm_of, shape_of, MadeFor};
-ghost use Rattle.spm_core.specs.Groups.{group_of};
-ghost use Rattle.spm_core.specs.declared.groups.Group.TheVariants as group;
 ghost use Rattle.spm_core.specs.Manager.{is_resume};
 ghost use Rattle.spm_core.specs.Performed.{Attempts, Does, IsRefusedCall, ShowsName};
 
-use crate::calls::{client_call, memory_call, service_call, signal_call};
-use crate::groups::{Group, group_of};
+use crate::calls::{client_call, memory_call, service_call, signal_call, transfer};
 use crate::returns::resume;
 use ffm_model::{
-    ActorId, ActorKind, ActorPhase, Call, Fault, Outcome, PSA_ERROR_PROGRAMMER_ERROR, System,
-    has_call, refusal_of,
+    ActorId, ActorKind, ActorPhase, Call, Fault, Group, Outcome, PSA_ERROR_PROGRAMMER_ERROR,
+    System, group_of, has_call, refusal_of,
 };
 use memory_image::Image;
 use panic_state::panic;
@@ -53,6 +52,7 @@ fn attempt(
     match group_of(call) {
         Group::Client => client_call(system, tables, image, actor, call),
         Group::Service => service_call(system, tables, image, actor, call),
+        Group::Transfer => transfer(system, tables, image, actor, call),
         Group::Signal => signal_call(system, tables, actor, call),
         Group::Memory => memory_call(system, image, actor, call),
         Group::Actor => end(tables, actor, call),

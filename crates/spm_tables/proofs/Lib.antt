@@ -7,3 +7,4 @@ pub mod QueueMessages
 pub mod WordLemmas
 pub mod SlotLemmas
 pub mod PoolLemmas
+pub mod BoxLemmas

@@ -1,4 +1,4 @@
--- How many connections a system declares, and how many messages there may be.
+-- How many messages there may be.
 use Rattle.std.proofs.Common.{ℕ, zero, suc, ◌≡◌, ◌≤◌, ◌+◌, true, List, [], ◌∷◌, ◌++◌, length, arith, ◌∙◌, ap}
 use Rattle.std.specs.Prelude.{sum_by, nat_le, count_by}
 use Rattle.std.specs.List.{range_with_len}
@@ -7,18 +7,10 @@ use Rattle.std.proofs.lemmas.List.Sums.{count_by-le-length}
 use Rattle.std.proofs.lemmas.List.FromFn.{length-range_with_len}
 use Rattle.ffm_model.specs.declared.system.System.{System}
 use Rattle.ffm_model.specs.Names.{calls_stateless, message_capacity}
-use Rattle.ffm_model.specs.WellFormed.{is_well_formed, budgets_fit}
 use Rattle.ffm_model.proofs.ActorLemmas.{few_partitions, few_clients}
+use Rattle.ffm_model.proofs.WellFormedLemmas.{few_connections}
 use Rattle.object_pools.proofs.Counts.{bit, count-push}
 use Rattle.handle_table.proofs.SlotLemmas.{both}
-
-fits : (s : System) → budgets_fit (length s.partitions + length s.clients) s.services s.budgets ≡ true
-unfolding is_well_formed
-fits s = (both _ (budgets_fit (length s.partitions + length s.clients) s.services s.budgets) s.well_formed).1
-
--- at most 256
-pub few_connections : (s : System) → sum_by (λ b. b.count) s.budgets ≤ 256
-few_connections s = let h : nat_le (sum_by (λ b. b.count) s.budgets) 256 ≡ true = (both _ (nat_le (sum_by (λ b. b.count) s.budgets) 256) (fits s)).1 in grind (arith, nat_tests)
 
 -- ---- partitions and clients that may use a stateless service
 

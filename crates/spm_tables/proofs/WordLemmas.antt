@@ -14,7 +14,8 @@ use Rattle.ffm_model.specs.declared.system.Service.{Service}
 use Rattle.ffm_model.specs.declared.system.Source.{Source}
 use Rattle.ffm_model.specs.State.{no_flags}
 use Rattle.ffm_model.specs.Signals.{union_of, signals_of, service_signals, source_signals, doorbell_signal, has_undelivered}
-use Rattle.ffm_model.specs.WellFormed.{is_well_formed, signal_fits, is_signal_bit, signals_fit, budgets_fit, each_pair}
+use Rattle.ffm_model.specs.WellFormed.{signal_fits, is_signal_bit}
+use Rattle.ffm_model.proofs.WellFormedLemmas.{service_signals_hold, source_signals_hold}
 use Rattle.spm_tables.specs.declared.queues.Ends.{Ends}
 use Rattle.spm_tables.specs.declared.signals.OwnedSignal.{OwnedSignal}
 use Rattle.spm_tables.specs.TablesView.{TablesView, Shape, MadeFor, spm_of, asserted}
@@ -77,7 +78,7 @@ remade w u (Some o) words old same p inside =
     ] in
     go (p == o) refl
 
-count-kept : (o : Option ℕ) (u : ℕ → ℕ) (words : List ℕ) → length (with_word o u words) ≡ length words
+pub count-kept : (o : Option ℕ) (u : ℕ → ℕ) (words : List ℕ) → length (with_word o u words) ≡ length words
 count-kept None u words = refl
 count-kept (Some p) u words = length-set words p (u p)
 
@@ -211,24 +212,13 @@ none-beyond X owner signal n p past t (x ∷ xs) i fits =
     ap (λ (b : Bool). cons_option (if b && t i then Some (signal x) else None) (filter_map (λ e. if (owner e.1 == p) && t e.0 then Some (signal e.1) else None) (enumerate_from (i + 1) xs))) other
     ∙ rest
 
-owners-fit : (s : System) → signals_fit (length s.partitions) s.services s.sources ≡ true
-unfolding is_well_formed
-owners-fit s =
-    let first = both _ (budgets_fit (length s.partitions + length s.clients) s.services s.budgets) s.well_formed in
-    let second = both _ (each_pair (λ v w. not (v.sid.0 == w.sid.0)) s.services) first.0 in
-    (both _ (signals_fit (length s.partitions) s.services s.sources) second.0).1
-
-owners-low : (a b c d e : Bool) → (a && b && c && d && e) ≡ true → (a ≡ true) × (b ≡ true)
-owners-low a b c d e h = both a b (both (a && b) c (both (a && b && c) d (both (a && b && c && d) e h).0).0).0
-
 -- no partition is there, so no signal is asserted
 pub none-there : (d : TablesView) (s : System) (p : ℕ) → length d.doorbells ≤ p → MadeFor d s → 0 ≡ signals_of s (spm_of d) p
 none-there d s p past made =
     let many : length d.doorbells ≡ length s.partitions = ap (λ (h : Shape). h.partitions) made in
     let beyond : length s.partitions ≤ p = subst (λ n. n ≤ p) many past in
-    let fit = owners-low _ _ _ _ _ (owners-fit s) in
-    let services : service_signals s (spm_of d) p ≡ [] = none-beyond Service (λ v. v.owner) (λ v. v.signal) (length s.partitions) p beyond (has_undelivered (spm_of d)) s.services 0 fit.0 in
-    let sources : source_signals s (spm_of d) p ≡ [] = none-beyond Source (λ v. v.owner) (λ v. v.signal) (length s.partitions) p beyond (λ i. (get_or d.flags i no_flags).asserted) s.sources 0 fit.1 in
+    let services : service_signals s (spm_of d) p ≡ [] = none-beyond Service (λ v. v.owner) (λ v. v.signal) (length s.partitions) p beyond (has_undelivered (spm_of d)) s.services 0 (service_signals_hold s) in
+    let sources : source_signals s (spm_of d) p ≡ [] = none-beyond Source (λ v. v.owner) (λ v. v.signal) (length s.partitions) p beyond (λ i. (get_or d.flags i no_flags).asserted) s.sources 0 (source_signals_hold s) in
     let bell : get_or d.doorbells p false ≡ false = get_or_past d.doorbells p false past in
     sym (ap (λ (ys : List ℕ). bit_or (union_of ys) (bit_or (doorbell_signal (spm_of d) p) (union_of (source_signals s (spm_of d) p)))) services
     ∙ ap (λ (ys : List ℕ). bit_or 0 (bit_or (doorbell_signal (spm_of d) p) (union_of ys))) sources

@@ -1,5 +1,5 @@
 -- Which connection a message belongs to: the one of its serial number, in the slot that the message names, or none.
--- Source: FF-M 1.0, a message is of one connection; the slots are this manager's.
+-- Source: FF-M 1.0, a message is of one connection; FF-M 1.1 Extensions, or of none where a stateless handle sent it; the slots are this manager's.
 use Rattle.std.specs.Prelude.{◌≡◌, ◌<◌, Some, IfSome, All}
 use Rattle.ffm_model.specs.declared.objects.OpenConnection.{OpenConnection}
 use Rattle.object_pools.specs.Pool.{Places}

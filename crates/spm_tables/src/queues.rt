@@ -47,8 +47,8 @@ pub(crate) fn ends_at(ends: &[Ends], service: usize) -> Ends
     }
 }
 
-fn put_link(links: &mut Vec<Link>, index: u32, link: Link)
-    ensures { links.new.items ≡ slice_set links.old.items index link }
+fn put_link(links: &mut [Link], index: u32, link: Link)
+    ensures { links.new ≡ slice_set links.old index link }
 {
     let at = index as usize;
     if at < links.len() {
@@ -56,8 +56,8 @@ fn put_link(links: &mut Vec<Link>, index: u32, link: Link)
     }
 }
 
-fn put_ends(ends: &mut Vec<Ends>, service: u32, set: Ends)
-    ensures { ends.new.items ≡ slice_set ends.old.items service set }
+fn put_ends(ends: &mut [Ends], service: u32, set: Ends)
+    ensures { ends.new ≡ slice_set ends.old service set }
 {
     let at = service as usize;
     if at < ends.len() {
@@ -65,30 +65,30 @@ fn put_ends(ends: &mut Vec<Ends>, service: u32, set: Ends)
     }
 }
 
-fn set_after(links: &mut Vec<Link>, index: Option<u32>, after: Option<u32>)
-    ensures { links.new.items ≡ with_after index after links.old.items }
+fn set_after(links: &mut [Link], index: Option<u32>, after: Option<u32>)
+    ensures { links.new ≡ with_after index after links.old }
 {
     if let Some(index) = index {
-        let before = link_at(links.as_slice(), index).before;
+        let before = link_at(links, index).before;
         put_link(links, index, Link { before, after });
     }
 }
 
-fn set_before(links: &mut Vec<Link>, index: Option<u32>, before: Option<u32>)
-    ensures { links.new.items ≡ with_before index before links.old.items }
+fn set_before(links: &mut [Link], index: Option<u32>, before: Option<u32>)
+    ensures { links.new ≡ with_before index before links.old }
 {
     if let Some(index) = index {
-        let after = link_at(links.as_slice(), index).after;
+        let after = link_at(links, index).after;
         put_link(links, index, Link { before, after });
     }
 }
 
 /// Puts an index last into the queue of a service.
-pub(crate) fn join(links: &mut Vec<Link>, ends: &mut Vec<Ends>, service: u32, index: u32)
-    ensures links { links.new.items ≡ joined links.old.items (ends_at ends.old.items service).last index }
-    ensures ends { ends.new.items ≡ slice_set ends.old.items service (joined_ends (ends_at ends.old.items service) index) }
+pub(crate) fn join(links: &mut [Link], ends: &mut [Ends], service: u32, index: u32)
+    ensures links { links.new ≡ joined links.old (ends_at ends.old service).last index }
+    ensures ends { ends.new ≡ slice_set ends.old service (joined_ends (ends_at ends.old service) index) }
 {
-    let old = ends_at(ends.as_slice(), service as usize);
+    let old = ends_at(ends, service as usize);
     let before = old.last;
     let after = None;
     put_link(links, index, Link { before, after });
@@ -103,9 +103,9 @@ pub(crate) fn join(links: &mut Vec<Link>, ends: &mut Vec<Ends>, service: u32, in
 }
 
 /// Takes a message that goes out of its queue, where it waits in one.
-pub(crate) fn leave(links: &mut Vec<Link>, ends: &mut Vec<Ends>, item: &QueuedMessage, index: u32)
-    ensures links { links.new.items ≡ (if item.now.delivered then links.old.items else unlinked links.old.items (link_at links.old.items index)) }
-    ensures ends { ends.new.items ≡ (if item.now.delivered then ends.old.items else slice_set ends.old.items item.now.service (unlinked_ends (ends_at ends.old.items item.now.service) (link_at links.old.items index))) }
+pub(crate) fn leave(links: &mut [Link], ends: &mut [Ends], item: &QueuedMessage, index: u32)
+    ensures links { links.new ≡ (if item.now.delivered then links.old else unlinked links.old (link_at links.old index)) }
+    ensures ends { ends.new ≡ (if item.now.delivered then ends.old else slice_set ends.old item.now.service (unlinked_ends (ends_at ends.old item.now.service) (link_at links.old index))) }
 {
     if !item.delivered {
         unlink(links, ends, item.service, index);
@@ -113,14 +113,14 @@ pub(crate) fn leave(links: &mut Vec<Link>, ends: &mut Vec<Ends>, item: &QueuedMe
 }
 
 /// Takes an index out of the queue of a service.
-pub(crate) fn unlink(links: &mut Vec<Link>, ends: &mut Vec<Ends>, service: u32, index: u32)
-    ensures links { links.new.items ≡ unlinked links.old.items (link_at links.old.items index) }
-    ensures ends { ends.new.items ≡ slice_set ends.old.items service (unlinked_ends (ends_at ends.old.items service) (link_at links.old.items index)) }
+pub(crate) fn unlink(links: &mut [Link], ends: &mut [Ends], service: u32, index: u32)
+    ensures links { links.new ≡ unlinked links.old (link_at links.old index) }
+    ensures ends { ends.new ≡ slice_set ends.old service (unlinked_ends (ends_at ends.old service) (link_at links.old index)) }
 {
-    let link = link_at(links.as_slice(), index);
+    let link = link_at(links, index);
     set_after(links, link.before, link.after);
     set_before(links, link.after, link.before);
-    let old = ends_at(ends.as_slice(), service as usize);
+    let old = ends_at(ends, service as usize);
     let first = if link.before.is_none() {
         link.after
     } else {

@@ -1,6 +1,7 @@
 //! The signals of partitions.
 
 ghost use Rattle.std.specs.Prelude.{◌≡◌, map, IfOk, is_some};
+ghost use Rattle.std.specs.Box.{boxed_slice_items};
 ghost use Rattle.ffm_model.specs.Signals.{union_of};
 ghost use Rattle.spm_tables.specs.TablesView.{asserted, service_signal, source_signal};
 ghost use Rattle.spm_tables.specs.Queues.{ends_at};
@@ -11,6 +12,7 @@ ghost use Rattle.spm_tables.specs.Words.{owner_at, with_word, word_of};
 use crate::queues::{Ends, ends_at};
 use ffm_model::{Memory, PSA_DOORBELL, Service, Source, SourceFlags};
 use std::alloc::Global;
+use std::boxed::BoxedSlice;
 
 /// Whose a signal is, and its bit.
 #[derive(Clone, Copy, Debug, PartialEq, Eq)]
@@ -25,8 +27,8 @@ pub struct OwnedSignal {
 pub(crate) fn service_signals(
     alloc: Global,
     services: &[Service],
-) -> Result<Vec<OwnedSignal>, Memory>
-    ensures { IfOk result (λ v. v.items ≡ map service_signal services.now) }
+) -> Result<BoxedSlice<OwnedSignal>, Memory>
+    ensures { IfOk result (λ v. boxed_slice_items v ≡ map service_signal services.now) }
 {
     let mut signals = Vec::new(alloc);
     for service in services {
@@ -36,11 +38,14 @@ pub(crate) fn service_signals(
             flih: false,
         })?;
     }
-    Ok(signals)
+    Ok(signals.into_boxed_slice())
 }
 
-pub(crate) fn source_signals(alloc: Global, sources: &[Source]) -> Result<Vec<OwnedSignal>, Memory>
-    ensures { IfOk result (λ v. v.items ≡ map source_signal sources.now) }
+pub(crate) fn source_signals(
+    alloc: Global,
+    sources: &[Source],
+) -> Result<BoxedSlice<OwnedSignal>, Memory>
+    ensures { IfOk result (λ v. boxed_slice_items v ≡ map source_signal sources.now) }
 {
     let mut signals = Vec::new(alloc);
     for source in sources {
@@ -50,12 +55,15 @@ pub(crate) fn source_signals(alloc: Global, sources: &[Source]) -> Result<Vec<Ow
             flih: source.flih,
         })?;
     }
-    Ok(signals)
+    Ok(signals.into_boxed_slice())
 }
 
 // The flags of the sources at the start.
-pub(crate) fn opening_flags(alloc: Global, sources: &[Source]) -> Result<Vec<SourceFlags>, Memory>
-    ensures { IfOk result (λ v. v.items ≡ map (λ x. record { enabled = x.enabled; pending = false; asserted = false }) sources.now) }
+pub(crate) fn opening_flags(
+    alloc: Global,
+    sources: &[Source],
+) -> Result<BoxedSlice<SourceFlags>, Memory>
+    ensures { IfOk result (λ v. boxed_slice_items v ≡ map (λ x. record { enabled = x.enabled; pending = false; asserted = false }) sources.now) }
 {
     let mut flags = Vec::new(alloc);
     for source in sources {
@@ -65,7 +73,7 @@ pub(crate) fn opening_flags(alloc: Global, sources: &[Source]) -> Result<Vec<Sou
             asserted: false,
         })?;
     }
-    Ok(flags)
+    Ok(flags.into_boxed_slice())
 }
 
 pub(crate) fn flags_at(flags: &[SourceFlags], source: usize) -> SourceFlags
@@ -138,7 +146,7 @@ pub(crate) fn word_at(words: &[u32], partition: u32) -> u32
 
 // Makes the word of a partition anew, if one is meant and there.
 pub(crate) fn refresh(
-    words: &mut Vec<u32>,
+    words: &mut [u32],
     partition: Option<u32>,
     services: &[OwnedSignal],
     ends: &[Ends],
@@ -146,7 +154,7 @@ pub(crate) fn refresh(
     sources: &[OwnedSignal],
     flags: &[SourceFlags],
 )
-    ensures { words.new.items ≡ with_word partition (word_of services.now ends.now doorbells.now sources.now flags.now) words.old.items }
+    ensures { words.new ≡ with_word partition (word_of services.now ends.now doorbells.now sources.now flags.now) words.old }
 {
     if let Some(partition) = partition {
         let at = partition as usize;
@@ -162,7 +170,7 @@ pub(crate) fn refresh(
 // As `refresh`, but for a message that was delivered, and so waits in no queue, nothing is to be done.
 pub(crate) fn refresh_unless(
     delivered: bool,
-    words: &mut Vec<u32>,
+    words: &mut [u32],
     partition: Option<u32>,
     services: &[OwnedSignal],
     ends: &[Ends],
@@ -170,7 +178,7 @@ pub(crate) fn refresh_unless(
     sources: &[OwnedSignal],
     flags: &[SourceFlags],
 )
-    ensures { words.new.items ≡ (if delivered then words.old.items else with_word partition (word_of services.now ends.now doorbells.now sources.now flags.now) words.old.items) }
+    ensures { words.new ≡ (if delivered then words.old else with_word partition (word_of services.now ends.now doorbells.now sources.now flags.now) words.old) }
 {
     if !delivered {
         refresh(words, partition, services, ends, doorbells, sources, flags);

@@ -1,7 +1,6 @@
-pub mod ShortLists
 pub mod Positions
-pub mod SourceCount
 pub mod Scripts
+pub mod Gathered
 pub mod HexDigits
 pub mod Files
 pub mod ManifestSteps

@@ -23,7 +23,7 @@ use Rattle.ffm_model.specs.Trees.{tree_of}
 use Rattle.ffm_model.proofs.ReadingLemmas.{after_ok, after_err}
 use Rattle.manifest_json.specs.Trees.{FailsTree}
 use Rattle.system_json.specs.Refused.{IsReadRefusal}
-use Rattle.system_json.proofs.ShortLists.{items_short, items_long}
+use Rattle.manifest_json.proofs.ShortLists.{items_short, items_long}
 
 -- ---- a manifest in a file of its own
 

@@ -1,10 +1,12 @@
--- The scripts of a scenario: each actor has one at most, so there are no more scripts than actors; and none has too many lines.
-use Rattle.std.proofs.Common.{◌≡◌, ℕ, ◌+◌, ◌<◌, ◌≤◌, List, [], ◌∷◌, ◌++◌, length, map, fold, replicate, suc, zero, slice_set, Bool, true, false, ◌||◌, nat_eq, Some, None, Option, Result, Ok, Err, refl, ap, subst, ◌∙◌, eqb-true, arith, if◌then◌else◌}
-use Rattle.std.specs.List.{AllByRecursion, list_any, IsDistinct}
-use Rattle.std.proofs.lemmas.Cmp.{nat_eq_equiv}
-use Rattle.std.proofs.lemmas.List.{map-append, length-map}
-use Rattle.std.proofs.lemmas.Map.Keys.{IsDistinct-push}
-use Rattle.std.proofs.lemmas.Map.Steps.{length-le_from_distinct_below}
+-- The scripts of a scenario: no actor has more than it may have, so there are at most eight for each; and none has too many lines.
+use Rattle.std.proofs.Common.{◌≡◌, ℕ, ◌+◌, ◌*◌, ◌<◌, ◌≤◌, List, [], ◌∷◌, ◌++◌, length, map, suc, zero, Bool, true, false, not, cond, Some, None, Option, Result, Ok, Err, refl, subst, ◌∙◌, eqb-true, arith, if◌then◌else◌}
+use Rattle.std.specs.Prelude.{filter, count_by, get_or, nat_lt, ◌==◌}
+use Rattle.std.specs.List.{AllByRecursion, range_with_len}
+use Rattle.std.proofs.lemmas.Bool.Decides.{nat_tests}
+use Rattle.std.proofs.lemmas.List.{length-map}
+use Rattle.std.proofs.lemmas.List.Filters.{length-filter_both}
+use Rattle.std.proofs.lemmas.List.FromFn.{get_or-map-range_with_len}
+use Rattle.std.proofs.lemmas.List.Sums.{length-filter, sum_by-append}
 use Rattle.serde_json.specs.Data.{Data, Items, no_items, item}
 use Rattle.serde_json.specs.Find.{get, as_array}
 use Rattle.ffm_model.specs.declared.codes.TheConstants.{WRONG_TYPE, BAD_VALUE, UNKNOWN_ACTOR, MISSING_ATTRIBUTE}
@@ -17,10 +19,10 @@ use Rattle.ffm_model.specs.declared.place.PartRefusal.{PartRefusal}
 use Rattle.ffm_model.specs.declared.place.PathStep.{PathStep}
 use Rattle.ffm_model.specs.declared.place.PathStep.TheVariants as step
 use Rattle.ffm_model.specs.declared.system.System.{System}
-use Rattle.ffm_model.specs.Attributes.{◌>>=◌, refuse, or_refuse, within, if_there, required, optional, name_of, object_of, items_after, list_after}
-use Rattle.ffm_model.specs.SystemAttributes.{list_up_to}
+use Rattle.ffm_model.specs.Actors.{kind_of, is_client}
+use Rattle.ffm_model.specs.Attributes.{◌>>=◌, refuse, or_refuse, within, if_there, required, optional, name_of, object_of, items_after, list_after, list_up_to}
 use Rattle.ffm_model.specs.Keys.{key_text}
-use Rattle.ffm_model.specs.Scenarios.{actor_named, has_script, line_of, new_actor_of, script_of, lines_by_actor}
+use Rattle.ffm_model.specs.Scenarios.{actor_named, most_scripts, may_have_another, line_of, new_actor_of, script_of, lines_for, or_empty_script, lines_by_actor, AreScriptsOf}
 
 -- ---- what a reading that gave a value gave on the way
 
@@ -39,29 +41,28 @@ there read (Some d) x h = (d, h)
 of_required : {A : Type 0} (read : Data → Result A PartRefusal) (k : Key) (d : Data) (x : A) → required read k d ≡ Ok x → (part : Data) × (read part ≡ Ok x)
 of_required read k d x h = there read (get (key_text k) d) x (placed_here (step.Key k) (if_there read (refuse MISSING_ATTRIBUTE) (get (key_text k) d)) x h)
 
--- ---- no actor has two scripts
+-- ---- no actor has more scripts than it may have
 
-abbrev number : ScriptItem → ℕ
-number script = script.actor.0
+abbrev count : ℕ → List ScriptItem → ℕ
+count a scripts = count_by (λ script. script.actor.0 == a) scripts
 
--- no two scripts of one actor
-abbrev pub Apart : List ScriptItem → Type 0
-Apart scripts = IsDistinct nat_eq (map number scripts)
+abbrev pub Fits : System → List ScriptItem → Type 0
+Fits s scripts = (a : ℕ) → count_by (λ script. script.actor.0 == a) scripts ≤ most_scripts s a
 
-unless_there : (b : Bool) (actor x : ActorId) → (if b then refuse BAD_VALUE else Ok actor) ≡ Ok x → (actor ≡ x) × (b ≡ false)
-unless_there true actor x h = absurd cc
-unless_there false actor x h = (cc, refl)
+if_allowed : (b : Bool) (actor x : ActorId) → (if b then Ok actor else refuse BAD_VALUE) ≡ Ok x → (actor ≡ x) × (b ≡ true)
+if_allowed true actor x h = (cc, refl)
+if_allowed false actor x h = absurd cc
 
-is_new : (s : System) (scripts : List ScriptItem) (d : Data) (x : ActorId) → new_actor_of s scripts d ≡ Ok x → has_script x scripts ≡ false
+is_new : (s : System) (scripts : List ScriptItem) (d : Data) (x : ActorId) → new_actor_of s scripts d ≡ Ok x → may_have_another s scripts x ≡ true
 unfolding new_actor_of
 is_new s scripts d x h =
     let named = before (name_of d) _ x h in
     let known = before (or_refuse UNKNOWN_ACTOR (actor_named s named.0)) _ x named.2 in
-    let here = unless_there (has_script known.0 scripts) known.0 x known.2 in
-    let P : ActorId → Type 0 = λ actor. has_script actor scripts ≡ false in
+    let here = if_allowed (may_have_another s scripts known.0) known.0 x known.2 in
+    let P : ActorId → Type 0 = λ actor. may_have_another s scripts actor ≡ true in
     subst P here.0 here.1
 
-is_behind : (s : System) (scripts : List ScriptItem) (d : Data) (x : ScriptItem) → script_of s scripts d ≡ Ok x → has_script x.actor scripts ≡ false
+is_behind : (s : System) (scripts : List ScriptItem) (d : Data) (x : ScriptItem) → script_of s scripts d ≡ Ok x → may_have_another s scripts x.actor ≡ true
 unfolding script_of
 is_behind s scripts d x h =
     let object = before (object_of d) _ x h in
@@ -69,56 +70,111 @@ is_behind s scripts d x h =
     let lines = before (required (list_up_to MAX_SCRIPT_LINES line_of) key.Lines d) _ x actor.2 in
     let found = of_required (new_actor_of s scripts) key.Actor d actor.0 actor.1 in
     let same : actor.0 ≡ x.actor = cc in
-    let P : ActorId → Type 0 = λ a. has_script a scripts ≡ false in
+    let P : ActorId → Type 0 = λ a. may_have_another s scripts a ≡ true in
     subst P same (is_new s scripts found.0 actor.0 found.1)
 
-any_number : (n : ℕ) (scripts : List ScriptItem) → list_any (nat_eq n) (map number scripts) ≡ list_any (λ script. nat_eq script.actor.0 n) scripts
-any_number n [] = refl
-any_number n (x ∷ xs) = rw (nat_eq_equiv.symm n x.actor.0) (ap (λ b. nat_eq x.actor.0 n || b) (any_number n xs))
+fits_push : (s : System) (scripts : List ScriptItem) (x : ScriptItem) → Fits s scripts → may_have_another s scripts x.actor ≡ true → Fits s (scripts ++ x ∷ [])
+fits_push s scripts x fits allowed a =
+    let counted : count a (scripts ++ x ∷ []) ≡ count a scripts + count a (x ∷ []) = sum_by-append (λ script. cond (script.actor.0 == a) 1 0) scripts (x ∷ []) in
+    let less : count x.actor.0 scripts < most_scripts s x.actor.0 = (let h : nat_lt (count x.actor.0 scripts) (most_scripts s x.actor.0) ≡ true = allowed in grind (arith, nat_tests)) in
+    elim (x.actor.0 == a) as (λ b. (x.actor.0 == a) ≡ b → count a (scripts ++ x ∷ []) ≤ most_scripts s a) [
+      | true ↦ λ e.
+          let one : count a (x ∷ []) ≡ 1 = rw e refl in
+          let here : count a scripts < most_scripts s a = subst (λ (n : ℕ). count n scripts < most_scripts s n) (eqb-true x.actor.0 a e) less in
+          omega arith
+      | false ↦ λ e.
+          let none : count a (x ∷ []) ≡ 0 = rw e refl in
+          omega (arith, fits a)
+    ] refl
 
-apart_push : (scripts : List ScriptItem) (x : ScriptItem) → Apart scripts → has_script x.actor scripts ≡ false → Apart (scripts ++ x ∷ [])
-apart_push scripts x apart is =
-    rw map-append (IsDistinct-push nat_eq_equiv (map number scripts) (number x) apart (any_number (number x) scripts ∙ is))
-
-apart_items : (s : System) (front : List ScriptItem) (i : ℕ) (ds : Items) (scripts : List ScriptItem) → items_after (script_of s) front i ds ≡ Ok scripts → Apart front → Apart scripts
+fits_items : (s : System) (front : List ScriptItem) (i : ℕ) (ds : Items) (scripts : List ScriptItem) → items_after (script_of s) front i ds ≡ Ok scripts → Fits s front → Fits s scripts
 unfolding items_after
-apart_items s front i no_items scripts h apart =
+fits_items s front i no_items scripts h fits =
     let same : front ≡ scripts = cc in
-    subst Apart same apart
-apart_items s front i (item d ds) scripts h apart =
+    subst (Fits s) same fits
+fits_items s front i (item d ds) scripts h fits =
     let first = before (within (step.Index i) (script_of s front d)) _ scripts h in
     let read = placed_here (step.Index i) (script_of s front d) first.0 first.1 in
-    apart_items s (front ++ first.0 ∷ []) (i + 1) ds scripts first.2 (apart_push front first.0 apart (is_behind s front d first.0 read))
+    fits_items s (front ++ first.0 ∷ []) (i + 1) ds scripts first.2 (fits_push s front first.0 fits (is_behind s front d first.0 read))
 
-apart_list : (s : System) (d : Data) (scripts : List ScriptItem) → list_after (script_of s) d ≡ Ok scripts → Apart scripts
-unfolding list_after IsDistinct
-apart_list s d scripts h =
+fits_none : (s : System) → Fits s []
+fits_none s a = omega arith
+
+fits_list : (s : System) (d : Data) (scripts : List ScriptItem) → list_after (script_of s) d ≡ Ok scripts → Fits s scripts
+unfolding list_after
+fits_list s d scripts h =
     let items = before (or_refuse WRONG_TYPE (as_array d)) _ scripts h in
-    apart_items s [] 0 items.0 scripts items.2 tt
+    fits_items s [] 0 items.0 scripts items.2 (fits_none s)
 
-apart_if_there : (s : System) (held : Option Data) (scripts : List ScriptItem) → if_there (list_after (script_of s)) (Ok []) held ≡ Ok scripts → Apart scripts
-unfolding IsDistinct
-apart_if_there s None scripts h =
+fits_if_there : (s : System) (held : Option Data) (scripts : List ScriptItem) → if_there (list_after (script_of s)) (Ok []) held ≡ Ok scripts → Fits s scripts
+fits_if_there s None scripts h =
     let same : [] ≡ scripts = cc in
-    subst Apart same tt
-apart_if_there s (Some d) scripts h = apart_list s d scripts h
+    subst (Fits s) same (fits_none s)
+fits_if_there s (Some d) scripts h = fits_list s d scripts h
 
-below : (n q : ℕ) (scripts : List ScriptItem) → AllByRecursion (λ script. script.actor.0 < n) scripts → list_any (nat_eq q) (map number scripts) ≡ true → q < n
-below n q [] all is = absurd cc
-below n q (x ∷ xs) all is =
-    let step : (b : Bool) → nat_eq q x.actor.0 ≡ b → (b || list_any (nat_eq q) (map number xs)) ≡ true → q < n =
-    elim [ true ↦ λ e _. rw (eqb-true q x.actor.0 e) all.0 | false ↦ λ _ more. below n q xs all.1 more ] in
-    step (nat_eq q x.actor.0) refl is
+pub fitting : (s : System) (d : Data) (scripts : List ScriptItem) → optional (list_after (script_of s)) [] key.Scripts d ≡ Ok scripts → Fits s scripts
+fitting s d scripts h = fits_if_there s (get (key_text key.Scripts) d) scripts (placed_here (step.Key key.Scripts) (if_there (list_after (script_of s)) (Ok []) (get (key_text key.Scripts) d)) scripts h)
 
--- as many scripts as actors, at most
-pub few_scripts : (s : System) (n : ℕ) (d : Data) (scripts : List ScriptItem) → optional (list_after (script_of s)) [] key.Scripts d ≡ Ok scripts → AllByRecursion (λ script. script.actor.0 < n) scripts → length (map (λ (script : ScriptItem). script.actor) scripts) ≤ n
-few_scripts s n d scripts h all =
-    let read = placed_here (step.Key key.Scripts) (if_there (list_after (script_of s)) (Ok []) (get (key_text key.Scripts) d)) scripts h in
-    let apart = apart_if_there s (get (key_text key.Scripts) d) scripts read in
-    let few = length-le_from_distinct_below (map number scripts) n apart (λ q. below n q scripts all) in
-    rw length-map (rw length-map at few)
+-- ---- there are at most eight for each actor
 
--- ---- the lines of each actor
+most_between : (s : System) (a : ℕ) → (1 ≤ most_scripts s a) × (most_scripts s a ≤ 8)
+most_between s a =
+    elim (is_client (kind_of s a)) as (λ b. (1 ≤ (if b then 8 else 1)) × ((if b then 8 else 1) ≤ 8)) [ true ↦ (omega arith, omega arith) | false ↦ (omega arith, omega arith) ]
+
+-- the scripts of the actors below n, without those of n
+abbrev below : ℕ → List ScriptItem → List ScriptItem
+below n scripts = filter (λ script. not (script.actor.0 == n)) scripts
+
+below_kept : (n : ℕ) (scripts : List ScriptItem) → AllByRecursion (λ script. script.actor.0 < suc n) scripts → AllByRecursion (λ script. script.actor.0 < n) (below n scripts)
+below_kept n [] all = tt
+below_kept n (x ∷ xs) all =
+    let later = below_kept n xs all.1 in
+    let first : x.actor.0 < suc n = all.0 in
+    elim (x.actor.0 == n) as (λ b. (x.actor.0 == n) ≡ b → AllByRecursion (λ script. script.actor.0 < n) (below n (x ∷ xs))) [
+      | true ↦ λ e. rw e later
+      | false ↦ λ e. let here : x.actor.0 < n = grind (arith, nat_tests) in rw e (here, later)
+    ] refl
+
+count_first : (a : ℕ) (x : ScriptItem) (xs : List ScriptItem) → count a (x ∷ xs) ≡ count a (x ∷ []) + count a xs
+count_first a x xs = sum_by-append (λ script. cond (script.actor.0 == a) 1 0) (x ∷ []) xs
+
+count_below : (n a : ℕ) (scripts : List ScriptItem) → count a (below n scripts) ≤ count a scripts
+count_below n a [] = omega arith
+count_below n a (x ∷ xs) =
+    let later = count_below n a xs in
+    elim (x.actor.0 == n) as (λ b. (x.actor.0 == n) ≡ b → count a (below n (x ∷ xs)) ≤ count a (x ∷ xs)) [
+      | true ↦ λ e.
+          let fewer : below n (x ∷ xs) ≡ below n xs = rw e refl in
+          rw fewer (omega (arith, count_first a x xs))
+      | false ↦ λ e.
+          let same : below n (x ∷ xs) ≡ x ∷ below n xs = rw e refl in
+          rw same (omega (arith, count_first a x xs, count_first a x (below n xs)))
+    ] refl
+
+few_each : (n : ℕ) (scripts : List ScriptItem) → AllByRecursion (λ script. script.actor.0 < n) scripts → ((a : ℕ) → count a scripts ≤ 8) → length scripts ≤ 8 * n
+few_each zero [] all each = omega arith
+few_each zero (x ∷ xs) all each = absurd (omega (arith, all.0))
+few_each (suc n) scripts all each =
+    let rest = few_each n (below n scripts) (below_kept n scripts all) (λ a. omega (arith, count_below n a scripts, each a)) in
+    let parts = length-filter_both (λ script. script.actor.0 == n) (λ script. not (script.actor.0 == n)) (λ script. refl) scripts in
+    let own = length-filter (λ script. script.actor.0 == n) scripts in
+    omega (arith, rest, parts, own, each n)
+
+pub few_scripts : (s : System) (n : ℕ) (scripts : List ScriptItem) → Fits s scripts → AllByRecursion (λ script. script.actor.0 < n) scripts → length (map (λ (script : ScriptItem). script.actor) scripts) ≤ 8 * n
+few_scripts s n scripts fits all =
+    rw length-map (few_each n scripts all (λ a. omega (arith, fits a, (most_between s a).1)))
+
+-- ---- the scripts of each actor
+
+scripts_here : (m : ℕ) (scripts : List (List (List ℕ))) → 1 ≤ m → length scripts ≤ m → (0 < length (or_empty_script scripts)) × (length (or_empty_script scripts) ≤ m)
+scripts_here m [] some few = (omega arith, omega arith)
+scripts_here m (x ∷ xs) some few = (omega arith, few)
+
+pub scripts_of : (s : System) (n : ℕ) (scripts : List ScriptItem) → Fits s scripts → (a : ℕ) → a < n → AreScriptsOf s a (get_or (lines_by_actor n scripts) a [])
+scripts_of s n scripts fits a lt =
+    let at : get_or (lines_by_actor n scripts) a [] ≡ or_empty_script (lines_for scripts a) = get_or-map-range_with_len (λ b. or_empty_script (lines_for scripts b)) 0 n a a [] lt (omega arith) in
+    let own : length (lines_for scripts a) ≡ count a scripts = length-map (filter (λ script. script.actor.0 == a) scripts) (λ script. script.lines) ∙ length-filter (λ script. script.actor.0 == a) scripts in
+    rw at (scripts_here (most_scripts s a) (lines_for scripts a) (most_between s a).0 (omega (arith, own, fits a)))
 
 pub first_kept : {A : Type 0} (P Q : A → Type 0) (xs : List A) → AllByRecursion (λ x. P x × Q x) xs → AllByRecursion P xs
 first_kept P Q [] all = tt
@@ -131,19 +187,22 @@ second_kept P Q (x ∷ xs) all = (all.0.1, second_kept P Q xs all.1)
 abbrev IsShort : List (List ℕ) → Type 0
 IsShort lines = length lines ≤ MAX_SCRIPT_LINES
 
-short_set : (all : List (List (List ℕ))) (i : ℕ) (lines : List (List ℕ)) → IsShort lines → AllByRecursion IsShort all → AllByRecursion IsShort (slice_set all i lines)
-short_set [] i lines short h = tt
-short_set (x ∷ xs) zero lines short h = (short, h.1)
-short_set (x ∷ xs) (suc i) lines short h = (h.0, short_set xs i lines short h.1)
+short_for : (a : ℕ) (scripts : List ScriptItem) → AllByRecursion (λ script. length script.lines ≤ MAX_SCRIPT_LINES) scripts → AllByRecursion IsShort (lines_for scripts a)
+short_for a [] short = tt
+short_for a (x ∷ xs) short =
+    let later = short_for a xs short.1 in
+    elim (x.actor.0 == a) as (λ b. (x.actor.0 == a) ≡ b → AllByRecursion IsShort (lines_for (x ∷ xs) a)) [
+      | true ↦ λ e. rw e (short.0, later)
+      | false ↦ λ e. rw e later
+    ] refl
 
-short_replicate : (n : ℕ) → AllByRecursion IsShort (replicate n [])
-short_replicate zero = tt
-short_replicate (suc n) = (omega arith, short_replicate n)
+short_or_empty : (scripts : List (List (List ℕ))) → AllByRecursion IsShort scripts → AllByRecursion IsShort (or_empty_script scripts)
+short_or_empty [] short = (omega arith, tt)
+short_or_empty (x ∷ xs) short = short
 
-short_fold : (all : List (List (List ℕ))) (scripts : List ScriptItem) → AllByRecursion (λ script. length script.lines ≤ MAX_SCRIPT_LINES) scripts → AllByRecursion IsShort all
-    → AllByRecursion IsShort (fold (λ lines script. slice_set lines script.actor.0 script.lines) all scripts)
-short_fold all [] short h = h
-short_fold all (x ∷ xs) short h = short_fold (slice_set all x.actor.0 x.lines) xs short.1 (short_set all x.actor.0 x.lines short.0 h)
+short_each : (actors : List ℕ) (scripts : List ScriptItem) → AllByRecursion (λ script. length script.lines ≤ MAX_SCRIPT_LINES) scripts → AllByRecursion (AllByRecursion IsShort) (map (λ a. or_empty_script (lines_for scripts a)) actors)
+short_each [] scripts short = tt
+short_each (a ∷ actors) scripts short = (short_or_empty (lines_for scripts a) (short_for a scripts short), short_each actors scripts short)
 
-pub short_lines : (n : ℕ) (scripts : List ScriptItem) → AllByRecursion (λ script. length script.lines ≤ MAX_SCRIPT_LINES) scripts → AllByRecursion (λ lines. length lines ≤ MAX_SCRIPT_LINES) (lines_by_actor n scripts)
-short_lines n scripts short = short_fold (replicate n []) scripts short (short_replicate n)
+pub short_lines : (n : ℕ) (scripts : List ScriptItem) → AllByRecursion (λ script. length script.lines ≤ MAX_SCRIPT_LINES) scripts → AllByRecursion (AllByRecursion (λ lines. length lines ≤ MAX_SCRIPT_LINES)) (lines_by_actor n scripts)
+short_lines n scripts short = short_each (range_with_len 0 n) scripts short

@@ -2,7 +2,9 @@
 //! files.
 #![tactic(auto)]
 
-mod lists;
+mod actor_scripts;
+mod actors;
+mod interrupts;
 mod manifests;
 mod scenario;
 mod system;

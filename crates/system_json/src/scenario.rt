@@ -1,244 +1,40 @@
 //! What a scenario file says.
-ghost use Rattle.std.specs.Prelude.{◌≡◌, ◌+◌, ◌<◌, ◌≤◌, IfOk, IfSome, [], length, map, fold, replicate, position, slice_set};
-ghost use Rattle.std.specs.List.{list_any, AllByRecursion};
-ghost use Rattle.std.specs.Str.{bytes_eq};
+ghost use Rattle.std.specs.Prelude.{IfOk, IsTrue, [], length};
+ghost use Rattle.std.specs.List.{AllByRecursion, list_any};
 ghost use Rattle.serde_json.specs.View.{view};
-ghost use Rattle.ffm_model.specs.declared.constants.TheConstants.{MAX_SCRIPT_LINES};
-ghost use Rattle.ffm_model.specs.Actors.{actor_count};
+ghost use Rattle.ffm_model.specs.declared.key.Key.TheVariants as key;
+ghost use Rattle.ffm_model.specs.Attributes.{list_of, optional};
+ghost use Rattle.ffm_model.specs.Memory.{lies_in};
 ghost use Rattle.ffm_model.specs.Reading.{Reads};
-ghost use Rattle.ffm_model.specs.Scenarios.{actor_named, has_script, line_of, new_actor_of, script_of, turn_of, lines_by_actor, source_named, raise_of, scenario_of, scenario_in, IsScenarioOf};
+ghost use Rattle.ffm_model.specs.Scenarios.{bytes_of, scenario_of, scenario_in, IsScenarioOf};
 ghost use Rattle.ffm_model.specs.Systems.{stopped};
 ghost use Rattle.manifest_json.specs.Gives.{Gives};
 
-use crate::lists::{ListUpTo, WholeReader};
+use crate::actor_scripts::{ScriptReader, lines_by_actor, order_of};
+use crate::actors::TurnReader;
+use crate::interrupts::RaiseReader;
 use crate::text_bytes::BytesReader;
 use ffm_model::{
-    ActorId, BAD_VALUE, Key, Lines, List, MAX_ENTRIES, MAX_SCRIPT_LINES, Name, Partition, Place,
-    ReadError, Root, Scenario, ScriptItem, Source, System, UNKNOWN_ACTOR, WRONG_TYPE,
+    Bytes, Key, List, MAX_ENTRIES, MAX_RESTARTS, Place, ReadError, Root, Scenario, System,
 };
 use manifest_json::{
-    ListAfter, ListOf, NameReader, PartError, Reader, ReaderAfter, SourceReader, object, optional,
-    optional_list, placed, read_tree, refused, required,
+    ListAfter, PartError, WholeReader, object, optional, optional_list, placed, read_tree,
 };
+use memory_image::RegionIndex;
 use serde_json::Value;
-use std::alloc::{AllocError, Global};
+use std::alloc::Global;
 
 const DEFAULT_EVENTS: u32 = 4096;
 
-fn partition_named(partitions: &[Partition], text: &str) -> Option<usize>
-    ensures { result ≡ position (λ p. bytes_eq text.now p.name) partitions.now }
+/// The bytes that the memory begins with.
+#[tactic(auto, using(memory_image::proofs::Systems::regions_apart))]
+fn opening_memory(alloc: Global, system: &System, tree: &Value) -> Result<List<Bytes>, PartError>
+    ensures given { Gives result (optional (list_of (bytes_of system.now.regions)) [] key.Memory (view tree.now)) }
+    ensures kept { IfOk result (AllByRecursion (λ bytes. IsTrue (list_any (lies_in bytes.address (length bytes.content)) system.now.regions))) }
 {
-    partitions.iter().position(|p| text == p.name.as_str())
-}
-
-fn client_named(clients: &[Name], text: &str) -> Option<usize>
-    ensures { result ≡ position (bytes_eq text.now) clients.now }
-{
-    clients.iter().position(|name| text == name.as_str())
-}
-
-/// The actor with a name.
-#[tactic(auto, using(crate::proofs::Positions::is_partition, crate::proofs::Positions::is_client, crate::proofs::Positions::is_device, crate::proofs::Positions::is_nobody, crate::proofs::Positions::is_no_device, ffm_model::proofs::ActorLemmas::few_partitions, ffm_model::proofs::ActorLemmas::few_clients))]
-fn actor_named(system: &System, text: &str) -> Option<ActorId>
-    ensures named { result ≡ actor_named system.now text.now }
-    ensures kept { IfSome result (λ actor. actor.0 < actor_count system.now) }
-{
-    let partitions = system.partitions.len() as u32;
-    let clients = system.clients.len() as u32;
-    if let Some(place) = partition_named(system.partitions.as_slice(), text) {
-        return Some(ActorId(place as u32));
-    }
-    if let Some(place) = client_named(system.clients.as_slice(), text) {
-        return Some(ActorId(partitions + place as u32));
-    }
-    if text == "device" && !system.sources.is_empty() {
-        return Some(ActorId(partitions + clients));
-    }
-    None
-}
-
-/// One line of a script.
-#[derive(Clone, Copy)]
-struct LineReader;
-
-impl Reader for LineReader {
-    type Out = Name;
-
-    ghost gives = { λ _. line_of };
-
-    #[tactic(auto, unfolding(ffm_model::specs::Scenarios::line_of))]
-    fn read(&self, alloc: Global, tree: &Value) -> Result<Name, PartError> {
-        let Some(text) = tree.as_str() else {
-            return Err(refused(alloc, WRONG_TYPE));
-        };
-        Ok(Name::of(String::from_str(alloc, text)?))
-    }
-}
-
-fn has_script(actor: ActorId, scripts: &[ScriptItem]) -> bool
-    ensures { result ≡ has_script actor scripts.now }
-{
-    scripts.iter().any(|script| script.actor.0 == actor.0)
-}
-
-/// The name of an actor that has no script yet.
-#[derive(Clone, Copy)]
-struct NewActorReader<'a> {
-    system: &'a System,
-    scripts: &'a [ScriptItem],
-}
-
-impl Reader for NewActorReader<'_> {
-    type Out = ActorId;
-
-    ghost gives = { λ r. new_actor_of r.system.now r.scripts.now };
-
-    ghost keeps = { λ r actor. actor.0 < actor_count r.system.now };
-
-    #[tactic(auto, unfolding(ffm_model::specs::Scenarios::new_actor_of))]
-    fn read(&self, alloc: Global, tree: &Value) -> Result<ActorId, PartError> {
-        let name = NameReader.read(alloc, tree)?;
-        let Some(actor) = actor_named(self.system, name.as_str()) else {
-            return Err(refused(alloc, UNKNOWN_ACTOR));
-        };
-        if has_script(actor, self.scripts) {
-            return Err(refused(alloc, BAD_VALUE));
-        }
-        Ok(actor)
-    }
-}
-
-/// The script of an actor, behind those of other actors.
-#[derive(Clone, Copy)]
-struct ScriptReader<'a> {
-    system: &'a System,
-}
-
-impl ReaderAfter for ScriptReader<'_> {
-    type Out = ScriptItem;
-
-    ghost gives = { λ r. script_of r.system.now };
-
-    ghost keeps = { λ r script. (script.actor.0 < actor_count r.system.now) × (length script.lines ≤ MAX_SCRIPT_LINES) };
-
-    #[tactic(auto, unfolding(ffm_model::specs::Scenarios::script_of))]
-    fn read_after(
-        &self,
-        alloc: Global,
-        front: &[ScriptItem],
-        tree: &Value,
-    ) -> Result<ScriptItem, PartError> {
-        object(alloc, tree)?;
-        let actors = NewActorReader {
-            system: self.system,
-            scripts: front,
-        };
-        let actor = required(alloc, &actors, tree, Key::Actor)?;
-        let lines = ListUpTo {
-            reader: ListOf(LineReader),
-            most: MAX_SCRIPT_LINES as usize,
-        };
-        let lines = required(alloc, &lines, tree, Key::Lines)?;
-        Ok(ScriptItem { actor, lines })
-    }
-}
-
-/// An actor's name, or `device`.
-#[derive(Clone, Copy)]
-struct TurnReader<'a> {
-    system: &'a System,
-}
-
-impl Reader for TurnReader<'_> {
-    type Out = ActorId;
-
-    ghost gives = { λ r. turn_of r.system.now };
-
-    ghost keeps = { λ r actor. actor.0 < actor_count r.system.now };
-
-    #[tactic(auto, unfolding(ffm_model::specs::Scenarios::turn_of))]
-    fn read(&self, alloc: Global, tree: &Value) -> Result<ActorId, PartError> {
-        let Some(text) = tree.as_str() else {
-            return Err(refused(alloc, WRONG_TYPE));
-        };
-        match actor_named(self.system, text) {
-            Some(actor) => Ok(actor),
-            None => Err(refused(alloc, UNKNOWN_ACTOR)),
-        }
-    }
-}
-
-fn place_of_source(sources: &[Source], text: &str) -> Option<usize>
-    ensures { result ≡ position (λ x. bytes_eq text.now x.name) sources.now }
-{
-    sources
-        .iter()
-        .position(|source| text == source.name.as_str())
-}
-
-/// The place of the source with a name.
-#[tactic(auto, using(crate::proofs::SourceCount::few_sources))]
-fn source_named(system: &System, text: &str) -> Option<u32>
-    ensures named { result ≡ source_named system.now text.now }
-    ensures kept { IfSome result (λ source. source < length system.now.sources) }
-{
-    let place = place_of_source(system.sources.as_slice(), text)?;
-    Some(place as u32)
-}
-
-/// An interrupt source, named as an irq item names it, as its place among the system's sources.
-#[derive(Clone, Copy)]
-struct RaiseReader<'a> {
-    system: &'a System,
-}
-
-impl Reader for RaiseReader<'_> {
-    type Out = u32;
-
-    ghost gives = { λ r. raise_of r.system.now };
-
-    ghost keeps = { λ r source. source < length r.system.now.sources };
-
-    #[tactic(auto, unfolding(ffm_model::specs::Scenarios::raise_of))]
-    fn read(&self, alloc: Global, tree: &Value) -> Result<u32, PartError> {
-        let name = SourceReader.read(alloc, tree)?;
-        source_named(self.system, name.as_str()).ok_or_else(|| refused(alloc, UNKNOWN_ACTOR))
-    }
-}
-
-/// No lines, for each of so many actors.
-fn no_lines(alloc: Global, count: u32) -> Result<Vec<Lines>, AllocError>
-    ensures { IfOk result (λ lines. lines.items ≡ replicate count []) }
-{
-    let mut lines = Vec::new(alloc);
-    for actor in 0..count {
-        lines.push(List::of(Vec::new(alloc)))?;
-    }
-    Ok(lines)
-}
-
-/// Each script's lines at its actor's place.
-fn lines_by_actor(
-    alloc: Global,
-    count: u32,
-    scripts: List<ScriptItem>,
-) -> Result<Vec<Lines>, AllocError>
-    requires { AllByRecursion (λ script. script.actor.0 < count) scripts }
-    ensures placed { IfOk result (λ lines. lines.items ≡ lines_by_actor count scripts) }
-    ensures counted { IfOk result (λ lines. length lines.items ≡ count) }
-{
-    let mut lines = no_lines(alloc, count)?;
-    for script in scripts.into_vec() {
-        lines[script.actor.0 as usize] = script.lines;
-    }
-    Ok(lines)
-}
-
-/// The actor of each script, in order.
-fn order_of(alloc: Global, scripts: &[ScriptItem]) -> Result<Vec<ActorId>, AllocError>
-    ensures { IfOk result (λ order. order.items ≡ map (λ script. script.actor) scripts.now) }
-{
-    scripts.iter().map(|script| script.actor).collect(alloc)
+    let regions = RegionIndex::of(alloc, system.regions.as_slice())?;
+    let bytes = BytesReader { regions: &regions };
+    optional_list(alloc, bytes, tree, Key::Memory)
 }
 
 /// What a scenario file's tree says.
@@ -258,8 +54,12 @@ fn scenario(alloc: Global, system: &System, tree: &Value) -> Result<Scenario, Pa
     let scripts = optional(alloc, &scripts, none, tree, Key::Scripts)?;
     let schedule = optional_list(alloc, TurnReader { system }, tree, Key::Schedule)?;
     let raises = optional_list(alloc, RaiseReader { system }, tree, Key::Interrupts)?;
-    let regions = system.regions.as_slice();
-    let memory = optional_list(alloc, BytesReader { regions }, tree, Key::Memory)?;
+    let memory = opening_memory(alloc, system, tree)?;
+    let restarts = WholeReader {
+        least: 0,
+        most: MAX_RESTARTS,
+    };
+    let restarts = optional(alloc, &restarts, 0, tree, Key::Restarts)?;
     let order = order_of(alloc, scripts.as_slice())?;
     let lines = lines_by_actor(alloc, system.actor_count(), scripts)?;
     Ok(Scenario {
@@ -269,14 +69,17 @@ fn scenario(alloc: Global, system: &System, tree: &Value) -> Result<Scenario, Pa
         schedule,
         raises,
         memory,
+        restarts,
     })
 }
 
 /// What a scenario file's bytes say to this system, with the defaults filled in.
 ///
-/// `lines` has one list for each actor, in actor order, and `order` the actor of each script in the
-/// file's order. `raises` has the place of each interrupt's source among the system's sources, in the
-/// file's order: where two sources have the name, the first one's.
+/// `lines` has the scripts of each actor, in actor order: those of the file in its order, up to eight
+/// of a non-secure client and one of any other actor, or an empty one where the file gives the actor
+/// none. `order` has the actor of each script in the file's order. `raises` has, in the file's order,
+/// the place of each interrupt's source among the system's sources, the first one's where two have
+/// the name, and the answer of its first-level handler: 1 where the file states none.
 ///
 /// # Errors
 ///

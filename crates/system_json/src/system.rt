@@ -7,13 +7,12 @@ ghost use Rattle.ffm_model.specs.PartsItems.{IsRegion, IsConnection};
 ghost use Rattle.ffm_model.specs.SystemAttributes.{region_of, connection_of, level_of, parts_with};
 ghost use Rattle.manifest_json.specs.Gives.{Gives};
 
-use crate::lists::{ListUpTo, WholeReader};
 use ffm_model::{
     BAD_VALUE, ConnectionItem, Key, List, MAX_CLIENTS, Manifest, Parts, PathStep, RegionItem,
 };
 use manifest_json::{
-    ListOf, NameReader, NumberReader, PartError, Reader, object, optional, optional_list,
-    refused_at, required,
+    ListOf, ListUpTo, NameReader, NumberReader, PartError, Reader, WholeReader, object, optional,
+    optional_list, refused_at, required,
 };
 use serde_json::Value;
 use std::alloc::Global;

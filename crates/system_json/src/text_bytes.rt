@@ -5,8 +5,9 @@ ghost use Rattle.std.specs.Option.{option_map};
 ghost use Rattle.ffm_model.specs.Memory.{lies_in};
 ghost use Rattle.ffm_model.specs.Scenarios.{hex_byte, hex_bytes, bytes_of};
 
-use ffm_model::{BAD_VALUE, Bytes, Key, List, PathStep, Region, WRONG_TYPE};
+use ffm_model::{BAD_VALUE, Bytes, Key, List, PathStep, WRONG_TYPE};
 use manifest_json::{NumberReader, PartError, Reader, object, refused, refused_at, required};
+use memory_image::RegionIndex;
 use serde_json::Value;
 use std::alloc::{AllocError, Global};
 
@@ -60,29 +61,10 @@ impl Reader for HexReader {
     }
 }
 
-fn lies_in(region: &Region, address: u32, size: usize) -> bool
-    ensures { result ≡ lies_in address size region.now }
-{
-    if size == 0 {
-        return true;
-    }
-    if address < region.base {
-        return false;
-    }
-    let offset = address - region.base;
-    offset <= region.size && size <= (region.size - offset) as usize
-}
-
-fn lies_in_one(regions: &[Region], address: u32, size: usize) -> bool
-    ensures { result ≡ list_any (lies_in address size) regions.now }
-{
-    regions.iter().any(|region| lies_in(region, address, size))
-}
-
 /// Bytes at an address. Their range lies whole in one of the regions.
 #[derive(Clone, Copy)]
 pub(crate) struct BytesReader<'a> {
-    pub regions: &'a [Region],
+    pub regions: &'a RegionIndex<'a>,
 }
 
 impl Reader for BytesReader<'_> {
@@ -99,7 +81,7 @@ impl Reader for BytesReader<'_> {
         object(alloc, tree)?;
         let address = required(alloc, &NumberReader, tree, Key::Address)?;
         let content = required(alloc, &HexReader, tree, Key::Bytes)?;
-        if !lies_in_one(self.regions, address, content.len()) {
+        if !self.regions.is_inside(address, content.len()) {
             return Err(refused_at(alloc, PathStep::Key(Key::Address), BAD_VALUE));
         }
         Ok(Bytes { address, content })

@@ -91,11 +91,12 @@ const RANGES: [RangeRow; 19] = [
 #[test]
 fn actors_name_their_ranges(rt: HostRuntime) -> Result<(), Fail> {
     let system = system_with(rt.alloc(), 1)?;
+    let image = image_of(&rt, rt.alloc(), &system)?;
     for RangeRow(actor, base, len, valid, read, write) in &RANGES {
         let answers = (
-            valid_buffer(&system, *actor, *base, *len),
-            may_read(&system, *actor, *base, *len),
-            may_write(&system, *actor, *base, *len),
+            valid_buffer(&system, &image, *actor, *base, *len),
+            may_read(&system, &image, *actor, *base, *len),
+            may_write(&system, &image, *actor, *base, *len),
         );
         assert_eq!(rt;
             answers,
@@ -109,9 +110,10 @@ fn actors_name_their_ranges(rt: HostRuntime) -> Result<(), Fail> {
 #[test]
 fn partitions_share_a_domain(rt: HostRuntime) -> Result<(), Fail> {
     let system = system_with(rt.alloc(), 0)?;
-    assert!(rt; may_read(&system, SPY, 0x3000_0000, 4));
-    assert!(rt; !may_read(&system, SPY, 0x4000_0000, 4));
-    assert!(rt; !may_read(&system, CLIENT, 0x3000_0000, 4));
+    let image = image_of(&rt, rt.alloc(), &system)?;
+    assert!(rt; may_read(&system, &image, SPY, 0x3000_0000, 4));
+    assert!(rt; !may_read(&system, &image, SPY, 0x4000_0000, 4));
+    assert!(rt; !may_read(&system, &image, CLIENT, 0x3000_0000, 4));
     Ok(())
 }
 
@@ -142,7 +144,7 @@ fn load_as(system: &System, image: &Image, actor: ActorId, address: u32, size: u
     requires { regions_of image.now ≡ ranges_of system.now.regions }
 {
     let is_size = size == 1 || (size == 2 || size == 4);
-    if is_size && may_read(system, actor, address, size) {
+    if is_size && may_read(system, image, actor, address, size) {
         return Some(image.load(address, size));
     }
     None
@@ -202,7 +204,7 @@ fn store_as(system: &System, image: &mut Image, address: u32, size: u32, value: 
     ensures { regions_of image.new ≡ ranges_of system.now.regions }
 {
     let is_size = size == 1 || (size == 2 || size == 4);
-    if is_size && may_write(system, CLIENT, address, size) {
+    if is_size && may_write(system, image, CLIENT, address, size) {
         image.store(address, size, value);
         return true;
     }
@@ -243,7 +245,9 @@ fn copy_as(system: &System, image: &mut Image, row: &CopyRow) -> bool
     ensures { regions_of image.new ≡ ranges_of system.now.regions }
 {
     let CopyRow(reader, from, writer, to, len) = *row;
-    if valid_buffer(system, reader, from, len) && valid_buffer(system, writer, to, len) {
+    if valid_buffer(system, image, reader, from, len)
+        && valid_buffer(system, image, writer, to, len)
+    {
         image.copy(from, to, len);
         return true;
     }
@@ -305,7 +309,7 @@ fn bytes_are_copied(rt: HostRuntime) -> Result<(), Fail> {
 fn words_are_stored(rt: HostRuntime) -> Result<(), Fail> {
     let system = system_with(rt.alloc(), 1)?;
     let mut image = image_of(&rt, rt.alloc(), &system)?;
-    assert!(rt; valid_buffer(&system, VAULT, 0x3000_03f4, 12));
+    assert!(rt; valid_buffer(&system, &image, VAULT, 0x3000_03f4, 12));
     image.store_words(0x3000_03f4, &[0x1234_5678, 0xffff_ffff, 3]);
     assert_eq!(rt;
         load_as(&system, &image, VAULT, 0x3000_03f5, 4),

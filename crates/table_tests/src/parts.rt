@@ -15,5 +15,7 @@ pub(crate) fn partition(alloc: Global, domain: u32, ram: u32) -> Partition {
         priority: Priority::Normal,
         domain,
         ram,
+        sfn: false,
+        heap: 0,
     }
 }

@@ -145,14 +145,14 @@ fn moved(system: &System, image: &mut Image, vectors: &mut Vectors, row: Move) -
 {
     match row {
         Move::Read { index, buffer, len } if index < 4 => {
-            if !valid_buffer(system, VAULT, buffer, len) {
+            if !valid_buffer(system, image, VAULT, buffer, len) {
                 return None;
             }
             Some(read(image, vectors, index, buffer, len))
         }
         Move::Skip { index, len } if index < 4 => Some(skip(vectors, index, len)),
         Move::Write { index, buffer, len } if index < 4 => {
-            if !valid_buffer(system, VAULT, buffer, len) {
+            if !valid_buffer(system, image, VAULT, buffer, len) {
                 return None;
             }
             write(image, vectors, index, buffer, len).ok()?;
@@ -165,7 +165,7 @@ fn moved(system: &System, image: &mut Image, vectors: &mut Vectors, row: Move) -
 fn load_as(system: &System, image: &Image, actor: ActorId, address: u32) -> Option<u32>
     requires { regions_of image.now ≡ ranges_of system.now.regions }
 {
-    if valid_buffer(system, actor, address, 4) {
+    if valid_buffer(system, image, actor, address, 4) {
         return Some(image.load(address, 4));
     }
     None

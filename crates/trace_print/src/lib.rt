@@ -13,6 +13,6 @@ mod whole;
 
 pub use error::TraceError;
 pub use field::hexadecimal;
-pub use line::{LONGEST_LINE, print, print_into, print_verdict};
+pub use line::{LONGEST_LINE, print, print_into, print_verdict, value_of_the_longest_line};
 pub use line_buffer::{LINE_CAPACITY, Line};
 pub use whole::{one_wrong_line, read_trace, texts_differ};

@@ -5,6 +5,7 @@ ghost use Rattle.std.specs.List.{flat_map, sum_by, AllByRecursion};
 ghost use Rattle.trace_print.specs.Buffer.{line_len};
 ghost use Rattle.ffm_model.specs.TraceText.{call_phrase, outcome_phrase, message_phrase, message_front, spaced, spaced_field, spaced_phrase, actor_word, entry_text, verdict_word, verdict_text, line, FieldFits, CallFits, MessageFits, OutcomeFits, EntryFits, IsActorOf};
 ghost use Rattle.trace_print.specs.Fields.{width_of};
+ghost use Rattle.trace_print.specs.declared.line.TheConstants.{LONGEST_LINE};
 
 use crate::field::Field::{Hex, Signed, Unsigned};
 use crate::field::{append, append_fields, append_phrase, append_sizes, append_unsigned};
@@ -13,6 +14,11 @@ use ffm_model::{ActorId, Call, Counts, Entry, Handle, Message, Outcome, Verdict}
 
 /// How many bytes the longest line of an entry has, with its line feed.
 pub const LONGEST_LINE: usize = 223;
+
+/// The longest line has this number of bytes. All other contracts name the constant. It does nothing.
+pub fn value_of_the_longest_line()
+    ensures { LONGEST_LINE ≡ 223 }
+{}
 
 #[tactic(auto, unfolding(ffm_model::specs::TraceText::actor_word))]
 fn append_actor(line: &mut Line, counts: Counts, actor: ActorId)

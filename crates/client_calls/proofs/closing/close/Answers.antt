@@ -11,6 +11,14 @@ use Rattle.client_calls.proofs.HeldLemmas.{held-item, told-phase, may-send, has-
 use Rattle.spm_tables.specs.TablesView.{spm_of}
 use Rattle.client_calls.proofs.NameLemmas.{names_kept, names_gone, names-held}
 use Rattle.client_calls.proofs.closing.close.Goals as goal
+use Rattle.std.proofs.Common.{subst}
+use Rattle.std.specs.Prelude.{All}
+use Rattle.ffm_model.specs.declared.machine.Outcome.TheVariants.{Done}
+use Rattle.ffm_model.specs.ClientCalls.{psa_close}
+use Rattle.message_vectors.specs.Vectors.{AreWithin}
+use Rattle.spm_tables.specs.TablesView.{TablesView}
+use Rattle.counting_law.proofs.CallsFit.{close-fits-after}
+use Rattle.isolation_law.proofs.CallsWithin.{close-within}
 
 pub send-requires-clause-connection : goal.send-requires-clause-connection
 send-requires-clause-connection c =
@@ -62,3 +70,19 @@ returns-in_default-phase-clause-names c = λ s made.
     let it = held-item d c.connections.result.now a c.args.handle c.in-Some.slot c.connections.ensures c.in-Some.ensures.live c.in-Some.ensures.connection in
     names-held s d c.set_connection_phase.new.self c.send.new.tables a c.args.handle c.in-Some.slot it.0 Closing PSA_IPC_DISCONNECT no_vectors it.1 c.set_connection_phase.ensures.item
     made c.law.ensures.connections c.send.ensures.linked c.send.ensures.waiting
+
+pub returns-in_default-phase-clause-fits : goal.returns-in_default-phase-clause-fits
+returns-in_default-phase-clause-fits c = λ s fit.
+    close-fits-after s (spm_of c.args.tables.now) c.args.actor.0 c.args.handle (move Blocks (spm_of c.send.new.tables)) fit c.requires.running (returns-in_default-phase-clause-answer c)
+
+pub returns-in_default-phase-clause-within : goal.returns-in_default-phase-clause-within
+returns-in_default-phase-clause-within c = λ ranges.
+    close-within ranges (spm_of c.args.tables.now) c.args.actor.0 c.args.handle (move Blocks (spm_of c.send.new.tables)) (returns-in_default-phase-clause-answer c)
+
+pub returns-in-Dead-clause-fits : goal.returns-in-Dead-clause-fits
+returns-in-Dead-clause-fits c = λ s fit.
+    let due : psa_close (spm_of c.args.tables.now) c.args.actor.0 c.args.handle ≡ Some (move Done (spm_of c.free.new.self)) = search rules in
+    close-fits-after s (spm_of c.args.tables.now) c.args.actor.0 c.args.handle (move Done (spm_of c.free.new.self)) fit c.requires.running due
+
+pub returns-in-Dead-clause-within : goal.returns-in-Dead-clause-within
+returns-in-Dead-clause-within c = λ ranges all. subst (λ (d : TablesView). All (λ m. AreWithin ranges m.vectors) (spm_of d).messages) (sym c.free.ensures.after) all

@@ -14,6 +14,8 @@ use Rattle.client_calls.proofs.SendLemmas.{at-item, has-item, room-for-connectio
 use Rattle.client_calls.proofs.ConnectLemmas.{connect-rooms, connect-issues}
 use Rattle.client_calls.proofs.NameLemmas.{names_kept, names-connect}
 use Rattle.client_calls.proofs.connecting.connect.Goals as goal
+use Rattle.counting_law.proofs.CallsFit.{connect-keeps}
+use Rattle.isolation_law.proofs.CallsWithin.{connect-within}
 
 pub start-slot-requires-clause-room : goal.start-slot-requires-clause-room
 start-slot-requires-clause-room c =
@@ -80,3 +82,11 @@ returns-clause-names c =
     let d = c.args.tables.now in
     names-connect c.args.system.now d c.start-slot.new.self c.send.new.tables c.start-slot.result (new_connection (spm_of d) c.args.actor.0 c.in-Some.place) PSA_IPC_CONNECT no_vectors
     c.requires.made c.law.ensures.table c.start-slot.ensures.slot refl c.start-slot.ensures.after c.send.ensures.linked c.send.ensures.waiting
+
+pub returns-clause-fits : goal.returns-clause-fits
+returns-clause-fits c =
+    connect-keeps c.args.system.now (spm_of c.args.tables.now) c.args.actor.0 c.args.sid c.args.version (move Blocks (spm_of c.send.new.tables)) c.requires.fits c.requires.running (returns-clause-answer c)
+
+pub returns-clause-within : goal.returns-clause-within
+returns-clause-within c = λ ranges.
+    connect-within ranges c.args.system.now (spm_of c.args.tables.now) c.args.actor.0 c.args.sid c.args.version (move Blocks (spm_of c.send.new.tables)) (returns-clause-answer c)

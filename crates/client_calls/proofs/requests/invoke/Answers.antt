@@ -5,9 +5,20 @@ use Rattle.std.proofs.lemmas.Int.{to_z-of_z}
 use Rattle.ffm_model.specs.Actors.{stateless_index}
 use Rattle.ffm_model.specs.ClientCalls.{Move, connection_called, service_called}
 use Rattle.ffm_model.specs.State.{State}
-use Rattle.memory_image.specs.Pieces.{byte_at}
+use Rattle.memory_image.specs.Pieces.{byte_at, regions_of}
 use Rattle.spm_tables.specs.Answers.{Answers, state_with}
 use Rattle.client_calls.proofs.requests.invoke.Goals as goal
+use Rattle.std.specs.Prelude.{All}
+use Rattle.std.proofs.Common.{List, []}
+use Rattle.ffm_model.specs.declared.machine.Handle.{Handle}
+use Rattle.ffm_model.specs.ClientCalls.{psa_call}
+use Rattle.ffm_model.specs.State.{SpmState}
+use Rattle.counting_law.specs.Objects.{ObjectsFit}
+use Rattle.counting_law.proofs.CallsFit.{call-keeps}
+use Rattle.isolation_law.proofs.CallsWithin.{call-within}
+use Rattle.message_vectors.specs.Vectors.{AreWithin}
+use Rattle.spm_tables.specs.TablesView.{spm_of}
+use Rattle.client_calls.proofs.RequestLemmas.{answers-keep}
 
 pub returns-in-Some-clause-answer : goal.returns-in-Some-clause-answer
 returns-in-Some-clause-answer c = λ given.
@@ -30,3 +41,39 @@ returns-in-None-clause-answer c = λ given.
     let is : stateless_index c.args.handle ≡ None = sym c.stateless_index.ensures ∙ c.in-None.is in
     subst (λ (o : Option ℕ). done (due o c.args.kind)) (sym is)
     (subst (λ (kind : ℤ). done (due None kind)) (to_z-of_z w32 c.args.kind c.ranges.kind) (c.call_connection.ensures.answer given))
+
+pub returns-in-Some-clause-fits : goal.returns-in-Some-clause-fits
+returns-in-Some-clause-fits c =
+    let s = c.args.system.now in
+    let due : List Handle → Option Move = λ given. psa_call s (state_with c.args.tables.now given (byte_at c.args.image.now)) c.args.actor.0 c.args.handle c.args.kind c.args.in_vec c.args.in_len c.args.out_vec c.args.out_len in
+    answers-keep (ObjectsFit s) due c.args.tables.now c.call_service.new.tables c.call_service.result (returns-in-Some-clause-answer c) c.requires.fits
+    (λ m e. call-keeps s (spm_of c.args.tables.now) (byte_at c.args.image.now) c.args.actor.0 c.args.handle c.args.kind c.args.in_vec c.args.in_len c.args.out_vec c.args.out_len m c.requires.fits c.requires.running e)
+
+pub returns-in-Some-clause-vectors : goal.returns-in-Some-clause-vectors
+returns-in-Some-clause-vectors c = λ all.
+    let s = c.args.system.now in
+    let due : List Handle → Option Move = λ given. psa_call s (state_with c.args.tables.now given (byte_at c.args.image.now)) c.args.actor.0 c.args.handle c.args.kind c.args.in_vec c.args.in_len c.args.out_vec c.args.out_len in
+    let W : List (ℕ × ℕ) → SpmState → Type 0 = λ ranges b. All (λ m. AreWithin ranges m.vectors) b.messages in
+    answers-keep (W (regions_of c.args.image.now)) due c.args.tables.now c.call_service.new.tables c.call_service.result (returns-in-Some-clause-answer c) all
+    (λ m e.
+    subst (λ (ranges : List (ℕ × ℕ)). W ranges m.spm) (sym c.requires.regions)
+    (call-within s (state_with c.args.tables.now [] (byte_at c.args.image.now)) c.args.actor.0 c.args.handle c.args.kind c.args.in_vec c.args.in_len c.args.out_vec c.args.out_len m (e [])
+    (subst (λ (ranges : List (ℕ × ℕ)). W ranges (spm_of c.args.tables.now)) c.requires.regions all)))
+
+pub returns-in-None-clause-fits : goal.returns-in-None-clause-fits
+returns-in-None-clause-fits c =
+    let s = c.args.system.now in
+    let due : List Handle → Option Move = λ given. psa_call s (state_with c.args.tables.now given (byte_at c.args.image.now)) c.args.actor.0 c.args.handle c.args.kind c.args.in_vec c.args.in_len c.args.out_vec c.args.out_len in
+    answers-keep (ObjectsFit s) due c.args.tables.now c.call_connection.new.tables c.call_connection.result (returns-in-None-clause-answer c) c.requires.fits
+    (λ m e. call-keeps s (spm_of c.args.tables.now) (byte_at c.args.image.now) c.args.actor.0 c.args.handle c.args.kind c.args.in_vec c.args.in_len c.args.out_vec c.args.out_len m c.requires.fits c.requires.running e)
+
+pub returns-in-None-clause-vectors : goal.returns-in-None-clause-vectors
+returns-in-None-clause-vectors c = λ all.
+    let s = c.args.system.now in
+    let due : List Handle → Option Move = λ given. psa_call s (state_with c.args.tables.now given (byte_at c.args.image.now)) c.args.actor.0 c.args.handle c.args.kind c.args.in_vec c.args.in_len c.args.out_vec c.args.out_len in
+    let W : List (ℕ × ℕ) → SpmState → Type 0 = λ ranges b. All (λ m. AreWithin ranges m.vectors) b.messages in
+    answers-keep (W (regions_of c.args.image.now)) due c.args.tables.now c.call_connection.new.tables c.call_connection.result (returns-in-None-clause-answer c) all
+    (λ m e.
+    subst (λ (ranges : List (ℕ × ℕ)). W ranges m.spm) (sym c.requires.regions)
+    (call-within s (state_with c.args.tables.now [] (byte_at c.args.image.now)) c.args.actor.0 c.args.handle c.args.kind c.args.in_vec c.args.in_len c.args.out_vec c.args.out_len m (e [])
+    (subst (λ (ranges : List (ℕ × ℕ)). W ranges (spm_of c.args.tables.now)) c.requires.regions all)))

@@ -1,8 +1,15 @@
 use Rattle.doorbell_irq.proofs.NameLemmas.{names-doorbells, names-stay}
 use Rattle.doorbell_irq.proofs.doorbell.notify.Goals as goal
+use Rattle.doorbell_irq.proofs.NameLemmas.{fits-doorbells, within-doorbells}
 
 pub returns-in_err-notified-clause-names : goal.returns-in_err-notified-clause-names
 returns-in_err-notified-clause-names c = λ s made. names-stay s _
 
 pub returns-clause-names : goal.returns-clause-names
 returns-clause-names c = λ s made. names-doorbells s _ _ _ c.set_doorbell.ensures.after
+
+pub returns-clause-fits : goal.returns-clause-fits
+returns-clause-fits c = λ s. fits-doorbells s _ _ _ c.set_doorbell.ensures.after
+
+pub returns-clause-within : goal.returns-clause-within
+returns-clause-within c = λ ranges. within-doorbells ranges c.args.tables.now c.set_doorbell.new.self _ c.set_doorbell.ensures.after

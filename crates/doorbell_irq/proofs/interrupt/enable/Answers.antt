@@ -3,3 +3,9 @@ use Rattle.doorbell_irq.proofs.interrupt.enable.Goals as goal
 
 pub returns-in_err-source-clause-names : goal.returns-in_err-source-clause-names
 returns-in_err-source-clause-names c = λ s made. names-stay s _
+
+pub returns-clause-fits : goal.returns-clause-fits
+returns-clause-fits c = c.put_forwarded.ensures.fits
+
+pub returns-clause-within : goal.returns-clause-within
+returns-clause-within c = c.put_forwarded.ensures.within

@@ -24,4 +24,4 @@ loop-connection-preserved c = λ client service.
 pub returns : goal.returns
 returns c = λ client service.
     ap (λ o. unwrap_or o 1) (c.loop-connection.invariant client service ∙ ap (last_count (named_pair client service)) (take_all c.loop-connection.connection-index c.args.connections.now c.loop-connection-test.false))
-    ∙ last_count-counts (named_pair client service) c.args.connections.now
+    ∙ last_count-counts client service c.args.connections.now

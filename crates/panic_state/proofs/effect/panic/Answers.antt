@@ -4,6 +4,12 @@ use Rattle.spm_tables.specs.TablesView.{TablesView, Shape}
 use Rattle.panic_state.specs.Losses.{disconnect_messages}
 use Rattle.panic_state.proofs.EffectLemmas.{effect-is, names-are, shape-is, room-of, services-of, few-disconnects}
 use Rattle.panic_state.proofs.effect.panic.Goals as goal
+use Rattle.counting_law.specs.Objects.{ObjectsFit}
+use Rattle.ffm_model.specs.State.{SpmState}
+use Rattle.isolation_law.proofs.CallsWithin.{panic-within}
+use Rattle.message_vectors.specs.Vectors.{AreWithin}
+use Rattle.spm_tables.specs.TablesView.{spm_of}
+use Rattle.panic_state.proofs.EffectLemmas.{panicked-fits}
 
 pub leave_services-requires-clause-services : goal.leave_services-requires-clause-services
 leave_services-requires-clause-services c =
@@ -63,3 +69,13 @@ returns-clause-message_takes c =
       c.leave_services.ensures.takes,
       ap (λ (d : TablesView). d.waiting.takes + length (disconnect_messages p d.linked)) c.end_services.ensures,
     )
+
+pub returns-clause-fits : goal.returns-clause-fits
+returns-clause-fits c =
+    subst (λ (b : SpmState). ObjectsFit c.args.system.now b) (sym (returns-clause-state c))
+    (panicked-fits c.args.system.now c.args.partition.0 c.args.tables.now c.requires.made c.requires.partition c.requires.fits)
+
+pub returns-clause-within : goal.returns-clause-within
+returns-clause-within c = λ ranges all.
+    subst (λ (b : SpmState). All (λ m. AreWithin ranges m.vectors) b.messages) (sym (returns-clause-state c))
+    (panic-within ranges c.args.system.now (spm_of c.args.tables.now) c.args.partition.0 all)

@@ -13,6 +13,16 @@ use Rattle.memory_image.specs.Pieces.{byte_at}
 use Rattle.ffm_model.specs.declared.machine.Message.{Message as ShownMessage}
 use Rattle.service_calls.proofs.DeliveryLemmas.{IsDelivered, due-name, delivered-names, delivered-within}
 use Rattle.service_calls.proofs.delivery.get.Goals as goal
+use Rattle.std.specs.Prelude.{true}
+use Rattle.ffm_model.specs.State.{fresh}
+use Rattle.handle_table.specs.declared.handles.Family.TheVariants.{Message}
+use Rattle.handle_table.proofs.FreshLemmas.{fresh-at}
+use Rattle.service_calls.proofs.DeliveryLemmas.{was-undelivered}
+use Rattle.ffm_model.specs.State.{SpmState}
+use Rattle.counting_law.specs.Objects.{ObjectsFit}
+use Rattle.counting_law.proofs.CallsFit.{get-fits}
+use Rattle.handle_table.specs.Handles.{handle_at}
+use Rattle.service_calls.proofs.FreshHandle.{objects-without}
 
 pub shown-shown-requires-clause-there : goal.shown-shown-requires-clause-there
 shown-shown-requires-clause-there c =
@@ -69,3 +79,20 @@ returns-clause-within c = λ regions. delivered-within regions c.args.tables.now
 pub returns-clause-names : goal.returns-clause-names
 returns-clause-names c =
     delivered-names c.args.system.now c.args.tables.now c.dequeue.new.self c.in-Some.service c.in-Some-dequeue.slot c.queued-message.result c.law.ensures.messages (delivered-so c)
+
+pub returns-clause-fresh : goal.returns-clause-fresh
+returns-clause-fresh c = λ st stands.
+    let it = delivered-so c in
+    let waited = was-undelivered c.args.tables.now c.dequeue.new.self c.in-Some.service c.in-Some-dequeue.slot c.queued-message.result it in
+    subst (λ (m : ShownMessage). fresh st m.handle ≡ true) (sym c.shown-shown.ensures)
+    (fresh-at Message (λ (m : QueuedMessage). m.delivered) c.args.tables.now.waiting st c.in-Some-dequeue.slot it.item c.law.ensures.messages stands.messages it.live waited)
+
+pub returns-clause-fits : goal.returns-clause-fits
+returns-clause-fits c =
+    let s = c.args.system.now in
+    let d = c.args.tables.now in
+    let t = c.in-Some-dequeue.slot in
+    let it = delivered-so c in
+    let waited = was-undelivered d c.dequeue.new.self c.in-Some.service t c.queued-message.result it in
+    let none = objects-without d t it.item c.law.ensures.messages c.law.ensures.connections c.law.ensures.table it.live waited in
+    subst (λ (b : SpmState). ObjectsFit s b) (sym c.in-Some-dequeue.ensures.state) (get-fits s (spm_of d) c.in-Some.service (handle_at Message t) c.requires.fits none)

@@ -16,6 +16,7 @@ use Rattle.std.specs.Prelude.{All}
 use Rattle.spm_tables.specs.TablesView.{TablesView}
 use Rattle.service_calls.proofs.Kept.{all-out, reply-names}
 use Rattle.service_calls.proofs.replies.reply.Goals as goal
+use Rattle.service_calls.proofs.ReplyLemmas.{settled-fits}
 
 pub connection_of-connection-requires-clause-there : goal.connection_of-connection-requires-clause-there
 connection_of-connection-requires-clause-there c =
@@ -63,3 +64,7 @@ pub returns-clause-names : goal.returns-clause-names
 returns-clause-names c =
     reply-names c.args.system.now c.args.tables.now c.drop_message.new.self c.answer.new.tables c.in-Some.slot c.connection_of-connection.result c.requires.fits c.law.ensures.connections c.drop_message.ensures.after
     c.answer.ensures.linked c.answer.ensures.waiting
+
+pub returns-clause-settled : goal.returns-clause-settled
+returns-clause-settled c =
+    settled-fits c.args.system.now c.args.tables.now c.answer.new.tables c.args.actor.0 c.args.handle c.args.status.0 c.in-Some.slot c.queued-message.result c.answer.result c.requires.fits (replied-so c)

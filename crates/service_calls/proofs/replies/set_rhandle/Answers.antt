@@ -8,6 +8,10 @@ use Rattle.service_calls.proofs.Kept.{unchanged-names}
 use Rattle.std.proofs.Common.{refl}
 use Rattle.service_calls.proofs.Kept.{rhandle-names}
 use Rattle.service_calls.proofs.replies.set_rhandle.Goals as goal
+use Rattle.std.specs.Prelude.{IsSome}
+use Rattle.object_pools.specs.Pool.{item_at}
+use Rattle.std.proofs.Common.{rules}
+use Rattle.service_calls.proofs.Kept.{rhandle-fit, rhandle-within}
 
 pub connection_of-requires-clause-there : goal.connection_of-requires-clause-there
 connection_of-requires-clause-there c =
@@ -24,3 +28,13 @@ returns-in_default-connection_of-clause-names c = λ s made. unchanged-names s c
 pub returns-clause-names : goal.returns-clause-names
 returns-clause-names c = λ s made.
     rhandle-names s c.args.tables.now c.set_rhandle.new.self c.in-Some-connection_of.connection c.queued-message.result c.args.rhandle c.law.ensures.connections c.in-Some-connection_of.ensures c.set_rhandle.ensures.item
+
+pub returns-clause-fits : goal.returns-clause-fits
+returns-clause-fits c = λ s fit.
+    let live : IsSome (item_at c.args.tables.now.linked c.in-Some-connection_of.connection) = search rules in
+    rhandle-fit s (spm_of c.args.tables.now) (spm_of c.set_rhandle.new.self) c.args.rhandle _ live c.set_rhandle.ensures.state fit
+
+pub returns-clause-within : goal.returns-clause-within
+returns-clause-within c = λ ranges all.
+    let live : IsSome (item_at c.args.tables.now.linked c.in-Some-connection_of.connection) = search rules in
+    rhandle-within ranges (spm_of c.args.tables.now) (spm_of c.set_rhandle.new.self) c.args.rhandle _ live c.set_rhandle.ensures.state all

@@ -5,6 +5,10 @@ use Rattle.service_calls.proofs.Kept.{unchanged-names}
 use Rattle.std.proofs.Common.{refl}
 use Rattle.message_vectors.specs.Vectors.{AreWithin}
 use Rattle.service_calls.proofs.transfer.skip.Goals as goal
+use Rattle.ffm_model.specs.declared.machine.Outcome.TheVariants.{Number}
+use Rattle.ffm_model.specs.ClientCalls.{move}
+use Rattle.counting_law.proofs.CallsFit.{skip-fits}
+use Rattle.spm_tables.specs.TablesView.{spm_of}
 
 pub skip-count-requires-clause-moved : goal.skip-count-requires-clause-moved
 skip-count-requires-clause-moved c = holds-at (λ m. AreMovedWithin m.vectors) c.args.tables.now c.in-Some.slot c.queued.result c.requires.moved c.queued.ensures
@@ -25,3 +29,7 @@ returns-clause-moved c = c.set_vectors.ensures.moved c.skip-count.ensures.moved 
 pub returns-clause-within : goal.returns-clause-within
 returns-clause-within c = λ regions all.
     c.set_vectors.ensures.within regions (c.skip-count.ensures.within regions (holds-at (λ m. AreWithin regions m.vectors) c.args.tables.now c.in-Some.slot c.queued.result all c.queued.ensures)) all
+
+pub returns-clause-fits : goal.returns-clause-fits
+returns-clause-fits c = λ s made fit.
+    skip-fits s (spm_of c.args.tables.now) c.args.actor.0 c.args.handle c.args.index c.args.len (move (Number c.skip-count.result) (spm_of c.set_vectors.new.tables)) fit (returns-clause-answer c s made)

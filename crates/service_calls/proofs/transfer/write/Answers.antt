@@ -9,6 +9,12 @@ use Rattle.std.proofs.Common.{refl, subst}
 use Rattle.std.specs.Prelude.{All}
 use Rattle.spm_tables.specs.TablesView.{spm_of}
 use Rattle.service_calls.proofs.transfer.write.Goals as goal
+use Rattle.std.proofs.Common.{[]}
+use Rattle.ffm_model.specs.declared.machine.Outcome.TheVariants.{Done}
+use Rattle.ffm_model.specs.ClientCalls.{effect}
+use Rattle.counting_law.proofs.CallsFit.{write-fits}
+use Rattle.memory_image.specs.Pieces.{byte_at}
+use Rattle.spm_tables.specs.Answers.{state_with}
 
 pub write-requires-clause-within : goal.write-requires-clause-within
 write-requires-clause-within c =
@@ -38,3 +44,8 @@ returns-in_err-write-clause-names c = unchanged-names c.args.system.now c.args.t
 pub returns-clause-vectors : goal.returns-clause-vectors
 returns-clause-vectors c =
     c.set_vectors.ensures.within (regions_of c.write.new.image) c.in_ok-write.ensures.within (subst (λ rs. All (λ m. AreWithin rs m.vectors) (spm_of c.args.tables.now).messages) (sym c.in_ok-write.ensures.regions) c.requires.vectors)
+
+pub returns-clause-fits : goal.returns-clause-fits
+returns-clause-fits c = λ fit.
+    write-fits c.args.system.now (state_with c.args.tables.now [] (byte_at c.args.image.now)) c.args.actor.0 c.args.handle c.args.index c.args.buffer c.args.len
+    (effect Done (state_with c.set_vectors.new.tables [] (byte_at c.write.new.image))) fit (returns-clause-answer c [])

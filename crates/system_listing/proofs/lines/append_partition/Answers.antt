@@ -1,5 +1,5 @@
 use Rattle.ffm_model.specs.Listing.{partition_line}
-use Rattle.system_listing.proofs.Limits.{line_joined}
+use Rattle.system_listing.proofs.LineLemmas.{line_joined}
 use Rattle.system_listing.proofs.lines.append_partition.Goals as goal
 
 pub returns : goal.returns

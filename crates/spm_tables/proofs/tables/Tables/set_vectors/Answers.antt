@@ -13,7 +13,7 @@ returns-clause-state c =
 pub invariant_of-self : goal.invariant_of-self
 invariant_of-self c =
     rw c.set.ensures (
-      keeps-vectors c.self.inside.messages c.self.inside.services.items c.self.inside.links.items c.self.inside.ends.items c.args.slot c.live_item-item.result c.args.vectors c.law.ensures c.self.invariant.0 c.live_item-item.ensures,
+      keeps-vectors c.self.inside.messages c.self.inside.services.items.items c.self.inside.links.items.items c.self.inside.ends.items.items c.args.slot c.live_item-item.result c.args.vectors c.law.ensures c.self.invariant.0 c.live_item-item.ensures,
       c.self.invariant.1,
       slots-put c.self.inside.connections c.self.inside.messages c.args.slot c.live_item-item.result (record c.live_item-item.result { vectors = c.args.vectors }) c.live_item-item.ensures refl refl c.self.invariant.2,
     )

@@ -5,4 +5,4 @@ use Rattle.spm_tables.proofs.tables.Tables.signals.Goals as goal
 pub returns : goal.returns
 returns c =
     rw (c.word_at.ensures, c.as_slice.ensures.value, ← c.self.view_is)
-    (λ s made. stored (the_view c.self.inside) s c.self.inside.links.items c.self.inside.ends.items c.self.inside.words.items c.args.partition.0 c.self.invariant.0 c.self.invariant.1 made)
+    (λ s made. stored (the_view c.self.inside) s c.self.inside.links.items.items c.self.inside.ends.items.items c.self.inside.words.items.items c.args.partition.0 c.self.invariant.0 c.self.invariant.1 made)

@@ -1,0 +1,4 @@
+mod PlanLemmas
+mod ContextLemmas
+mod HeldLemmas
+mod ResumeLemmas

@@ -1,0 +1,10 @@
+//! What each actor of a system runs: the programs that a scenario's lines make.
+#![tactic(auto)]
+
+mod program;
+mod programs;
+mod scripts;
+
+pub use program::Program;
+pub use programs::programs_of;
+pub use scripts::scripts_of;

@@ -1,9 +1,0 @@
--- The scenario's opening bytes lie in the system's regions.
-use Rattle.std.proofs.Common.{length}
-use Rattle.std.specs.List.{list_any}
-use Rattle.ffm_model.specs.Memory.{lies_in}
-use Rattle.ffm_top.proofs.Tested.{list_all-each}
-use Rattle.ffm_top.proofs.run.opening_image.Goals as goal
-
-pub new-requires-clause-opening : goal.new-requires-clause-opening
-new-requires-clause-opening c = list_all-each (λ b. list_any (lies_in b.address (length b.content)) c.args.system.now.regions) c.args.scenario.now.memory c.requires.memory

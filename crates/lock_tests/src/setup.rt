@@ -1,0 +1,94 @@
+//! A partition with a service and two clients of it, and the judge's word on what they did.
+ghost use Rattle.std.specs.Prelude.{◌≡◌, ◌≤◌, [], IfOk, IfSome};
+ghost use Rattle.ffm_model.specs.declared.constants.TheConstants.{MAX_ENTRIES};
+ghost use Rattle.spm_lock.specs.Passes.{ArePasses};
+ghost use Rattle.lock_tests.specs.Threes.{AreThree};
+
+use ffm_model::{List, Trace, Verdict};
+use machine_check::{Checked, check};
+use memory_image::Image;
+use sample_systems::system_of;
+use spm_core::Spm;
+use spm_lock::{Pass, Shared};
+use std::alloc::{AllocError, Global};
+use std::process::Abort;
+use std::test::Fail;
+
+const SYSTEM: &str = r#"{"isolation_level":3,"manifests":[
+{"psa_framework_version":1.0,"name":"VAULT","type":"APPLICATION-ROT",
+"priority":"NORMAL","entry_point":"main","stack_size":"0x400",
+"services":[{"name":"KEYS","sid":"0x40","non_secure_clients":true},
+{"name":"ADMIN","sid":"0x41","non_secure_clients":false,"version":2}]}],
+"non_secure_ram":"0x1000","clients":["NS","OTHER"]}"#;
+
+#[tactic(auto, using(memory_image::proofs::Systems::system_fits))]
+pub fn manager(alloc: Global, limit: u32) -> Result<Spm, Fail>
+    requires positive { 1 ≤ limit }
+    requires limited { limit ≤ MAX_ENTRIES }
+    ensures { IfOk result (λ m. m.history ≡ []) }
+{
+    let system = system_of(alloc, SYSTEM)?;
+    if system.regions.len() >= 2147483648 {
+        return Err(Fail::from("too many regions"));
+    }
+    let image = Image::new(alloc, &system.regions, &List::of(Vec::new(alloc)))?;
+    Ok(Spm::new(alloc, system, image, limit)?)
+}
+
+// The passes of the partition and of the two clients, where there are no others.
+pub fn taken_apart(shared: &Shared, passes: List<Pass>) -> Option<(Pass, Pass, Pass)>
+    requires { ArePasses shared.now passes }
+    ensures { IfSome result (λ r. AreThree shared.now r.0 r.1 r.2) }
+{
+    let mut passes = passes.into_vec();
+    let third = passes.pop()?;
+    let second = passes.pop()?;
+    let first = passes.pop()?;
+    if !passes.is_empty() {
+        return None;
+    }
+    let _ = shared;
+    Some((first, second, third))
+}
+
+pub fn put_together(
+    alloc: Global,
+    shared: &Shared,
+    first: Pass,
+    second: Pass,
+    third: Pass,
+) -> Result<List<Pass>, AllocError>
+    requires { AreThree shared.now first second third }
+    ensures { IfOk result (λ ps. ArePasses shared.now ps) }
+{
+    let mut passes = Vec::with_capacity(alloc, 3)?;
+    passes.push_reserved(first);
+    passes.push_reserved(second);
+    passes.push_reserved(third);
+    let _ = shared;
+    Ok(List::of(passes))
+}
+
+// The judge's word on a run up to a limit, with its verdict.
+pub fn judged(
+    rt: &impl Abort,
+    alloc: Global,
+    spm: &Spm,
+    limit: u32,
+    verdict: Verdict,
+) -> Result<Checked, Fail>
+    requires positive { 1 ≤ limit }
+    requires limited { limit ≤ MAX_ENTRIES }
+{
+    let mut entries = Vec::new(alloc);
+    for place in 1..=spm.length() {
+        entries.push(spm.entry(place))?;
+    }
+    assert!(rt; entries.len() < 100);
+    let trace = Trace {
+        entries: List::of(entries),
+        verdict,
+    };
+    let opening = manager(alloc, limit)?;
+    Ok(check(alloc, opening.system(), opening.image(), limit, &trace)?)
+}

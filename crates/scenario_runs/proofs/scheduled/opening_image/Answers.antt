@@ -1,0 +1,9 @@
+-- The scenario's opening bytes lie in the system's regions.
+use Rattle.std.proofs.Common.{length}
+use Rattle.std.specs.List.{list_any}
+use Rattle.ffm_model.specs.Memory.{lies_in}
+use Rattle.scenario_runs.proofs.Tested.{list_all-each}
+use Rattle.scenario_runs.proofs.scheduled.opening_image.Goals as goal
+
+pub new-requires-clause-opening : goal.new-requires-clause-opening
+new-requires-clause-opening c = list_all-each (λ b. list_any (lies_in b.address (length b.content)) c.args.system.now.regions) c.args.scenario.now.memory c.requires.memory

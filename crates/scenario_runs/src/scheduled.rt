@@ -1,0 +1,82 @@
+//! Runs in the turns of a schedule.
+
+ghost use Rattle.std.specs.Prelude.{◌≡◌, IfOk, false, length, map};
+ghost use Rattle.std.specs.List.{All};
+ghost use Rattle.ffm_model.specs.Actors.{actor_count};
+ghost use Rattle.ffm_model.specs.Scenarios.{IsScenarioOf};
+ghost use Rattle.ffm_model.specs.Memory.{opening_memory};
+ghost use Rattle.memory_image.specs.Pieces.{byte_at, regions_of, ranges_of};
+ghost use Rattle.actor_programs.specs.Programs.{ArePrograms};
+ghost use Rattle.actor_programs.specs.declared.program.Program.TheVariants.{Plain};
+ghost use Rattle.scenario_runs.specs.Runs.{RanBy};
+
+use actor_programs::{Program, scripts_of};
+use ffm_model::{List, Memory, Scenario, Script, System, Verdict};
+use memory_image::Image;
+use partition_sim::drive_scheduled;
+use spm_core::Spm;
+use std::alloc::Global;
+
+/// A run that ended.
+#[derive(Drop)]
+pub struct Ran {
+    pub spm: Spm,
+    pub verdict: Verdict,
+}
+
+// The regions are fewer than 2^31 where there is memory for so many.
+const MAX_REGIONS: usize = 0x7fff_ffff;
+
+/// The memory that a run begins with. Err where no memory was found.
+#[tactic(auto, using(memory_image::proofs::Systems::system_fits))]
+pub fn opening_image(alloc: Global, system: &System, scenario: &Scenario) -> Result<Image, Memory>
+    requires { IsScenarioOf system.now scenario.now }
+    ensures regions { IfOk result (λ image. regions_of image ≡ ranges_of system.now.regions) }
+    ensures bytes { IfOk result (λ image. byte_at image ≡ opening_memory scenario.now.memory) }
+{
+    if system.regions.len() > MAX_REGIONS {
+        return Err(Memory);
+    }
+    Image::new(alloc, &system.regions, &scenario.memory)
+}
+
+// The run of scripts, one for each actor, over a system.
+#[tactic(auto, using(headline_law::proofs::Kept::run_keeps, crate::proofs::Programs::plain_run))]
+fn run(
+    alloc: Global,
+    system: System,
+    scenario: &Scenario,
+    scripts: &List<Script>,
+) -> Result<Ran, Memory>
+    requires scenario { IsScenarioOf system scenario.now }
+    requires scripts { length scripts.now ≡ actor_count system }
+    ensures system { IfOk result (λ ran. ran.spm.opening.system ≡ system) }
+    ensures ran { IfOk result (λ ran. RanBy system (opening_memory scenario.now.memory) scenario.now (map Plain scripts.now) false ran.spm.history ran.verdict) }
+{
+    let image = opening_image(alloc, &system, scenario)?;
+    let mut spm = Spm::new(alloc, system, image, scenario.limit)?;
+    drive_scheduled(alloc, &mut spm, scripts, &scenario.schedule)?;
+    let _length = spm.length();
+    match spm.verdict() {
+        Some(verdict) => Ok(Ran { spm, verdict }),
+        None => unreachable!(),
+    }
+}
+
+/// The run of programs, one for each actor, over a system, in the turns of the scenario's schedule.
+/// Memory where no memory was found.
+pub fn run_in_turns(
+    alloc: Global,
+    system: System,
+    scenario: &Scenario,
+    programs: List<Program>,
+) -> Result<Ran, Memory>
+    requires scenario { IsScenarioOf system scenario.now }
+    requires programs { length programs ≡ actor_count system }
+    requires fit { ArePrograms system programs }
+    ensures system { IfOk result (λ ran. ran.spm.opening.system ≡ system) }
+    ensures ran { IfOk result (λ ran. RanBy system (opening_memory scenario.now.memory) scenario.now programs false ran.spm.history ran.verdict) }
+{
+    let scripts = scripts_of(alloc, &system, programs)?;
+    run(alloc, system, scenario, &scripts)
+}

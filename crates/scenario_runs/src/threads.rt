@@ -1,0 +1,335 @@
+//! Runs with a thread for each actor.
+//!
+//! The actors share one manager by turns. A crew is one actor's worker. Each crew is driven by a
+//! thread of its own; those for which no thread can be started are driven together by the caller.
+ghost use Rattle.std.specs.Thread.{IsSync};
+ghost use Rattle.std.specs.Prelude.{◌≡◌, ◌≤◌, ◌<◌, [], ◌∷◌, ◌++◌, IfOk, false, true, length, map, vec_capacity};
+ghost use Rattle.ffm_model.specs.Actors.{actor_count};
+ghost use Rattle.ffm_model.specs.Memory.{opening_memory};
+ghost use Rattle.ffm_model.specs.Scenarios.{IsScenarioOf};
+ghost use Rattle.actor_programs.specs.Programs.{ArePrograms};
+ghost use Rattle.actor_programs.specs.declared.program.Program.TheVariants.{Plain};
+ghost use Rattle.spm_lock.specs.Passes.{IsOwn, record_of};
+ghost use Rattle.scenario_runs.specs.Runs.{RanBy};
+ghost use Rattle.scenario_runs.specs.Threads.{AllFresh, AllFinished, AreNewCrews, AreDoneBy, AreSeats, AreUnused, CrewedBy, IsDoneBy, IsNewCrew, IsSeat, IsTrip, Crew as Workers, SameWorkers, crews_in, left_of, waiting};
+
+use crate::scheduled::{Ran, opening_image};
+use actor_programs::{Program, scripts_of};
+use ffm_model::{Gate, List, Memory, Scenario, Script, System};
+use partition_sim::{Runner, Worker, drive};
+use spm_core::Spm;
+use spm_lock::{Pass, Shared};
+use std::alloc::Global;
+use std::snapshot::Snapshot;
+use std::sync::Wait;
+use std::sync::atomic::{AtomicBool, Ordering};
+use std::thread;
+use std::thread::{Promise, PromisedHandle, Threads};
+use std::vec::IntoIter;
+
+type Crew = List<Worker<Pass>>;
+
+/// What a thread is to give back of a crew of this manager.
+#[derive(Drop)]
+pub struct Trip {
+    shared: Snapshot<Shared>,
+    crew: Snapshot<Crew>,
+}
+
+impl Promise<(bool, Crew)> for Trip {
+    ghost use Rattle.scenario_runs.specs.Threads.{IsTrip};
+
+    ghost kept_by = { λ p r. IsTrip p.shared.value p.crew.value r.0 r.1 };
+}
+
+/// How far a crew is.
+#[derive(Drop)]
+pub enum Progress {
+    /// A thread drives it.
+    Started(PromisedHandle<(bool, Crew), Trip>),
+    /// It was driven, and this is its actor's pass.
+    Driven(Pass),
+    /// It waits for the caller.
+    Waiting,
+}
+
+/// A crew as it was handed in, and how far it is.
+#[derive(Drop)]
+pub struct Seat {
+    crew: Snapshot<Crew>,
+    progress: Progress,
+}
+
+// The crew of one actor.
+fn crew_of(alloc: Global, shared: &Shared, pass: Pass, script: Script) -> Result<Crew, Memory>
+    requires own { IsOwn shared.now pass }
+    requires new { record_of pass ≡ [] }
+    ensures { IfOk result (λ crew. CrewedBy shared.now (pass ∷ []) (script ∷ []) (crew ∷ [])) }
+{
+    let mut crew = Vec::with_capacity(alloc, 1)?;
+    crew.push_reserved(Worker::new(pass, Runner::new(), script));
+    Ok(List::of(crew))
+}
+
+// The crews, one for each actor.
+fn crews_of(
+    alloc: Global,
+    shared: &Shared,
+    passes: List<Pass>,
+    scripts: List<Script>,
+) -> Result<Vec<Crew>, Memory>
+    requires count { length passes ≡ length scripts }
+    requires passes { AreUnused shared.now passes }
+    ensures { IfOk result (λ crews. CrewedBy shared.now passes scripts crews.items) }
+{
+    let mut crews = Vec::with_capacity(alloc, passes.len())?;
+    let mut left = scripts.into_vec().into_iter();
+    for pass in passes.into_vec() {
+        let script = left.next().unwrap();
+        crews.push_reserved(crew_of(alloc, shared, pass, script)?);
+    }
+    Ok(crews)
+}
+
+// So many flags, none of them set.
+fn flags_of(alloc: Global, count: usize) -> Result<Vec<AtomicBool>, Memory>
+    ensures { IfOk result (λ flags. length flags.items ≡ count) }
+{
+    let mut flags = Vec::with_capacity(alloc, count)?;
+    for _ in 0..count {
+        flags.push_reserved(AtomicBool::new(false));
+    }
+    Ok(flags)
+}
+
+// Drives the crew, unless the flag is set.
+fn travel<R: Wait, G: Gate>(
+    rt: &R,
+    shared: &Shared,
+    gate: &G,
+    flag: &AtomicBool,
+    crew: Crew,
+) -> (bool, Crew)
+    requires { AllFresh shared.now crew }
+    ensures { IsTrip shared.now crew result.0 result.1 }
+{
+    if flag.load(Ordering::SeqCst) {
+        return (false, crew);
+    }
+    let mut crew = crew;
+    drive(rt, shared, &mut crew, gate);
+    (true, crew)
+}
+
+// Drives the crew, where that wasn't done yet.
+fn driven<R: Wait, G: Gate>(rt: &R, shared: &Shared, gate: &G, drove: bool, crew: Crew) -> Crew
+    requires finished { drove ≡ true → AllFinished shared.now crew }
+    requires fresh { drove ≡ false → AllFresh shared.now crew }
+    ensures same { SameWorkers crew result }
+    ensures finished { AllFinished shared.now result }
+{
+    if drove {
+        return crew;
+    }
+    let mut crew = crew;
+    drive(rt, shared, &mut crew, gate);
+    crew
+}
+
+// The crew's worker.
+fn worker_of(crew: Crew) -> Worker<Pass>
+    requires { length crew ≡ 1 }
+    ensures { crew ≡ result ∷ [] }
+{
+    crew.into_vec().into_iter().next().unwrap()
+}
+
+// The place of a crew that came back, whose worker joins those that wait where it wasn't driven.
+fn seat_of(
+    shared: &Shared,
+    undriven: &mut Vec<Worker<Pass>>,
+    crew: Snapshot<Crew>,
+    trip: (bool, Crew),
+) -> Seat
+    requires new { IsNewCrew shared.now crew.value }
+    requires trip { IsTrip shared.now crew.value trip.0 trip.1 }
+    requires room { length undriven.old.items < vec_capacity undriven.old }
+    ensures seat { IsSeat shared.now result }
+    ensures crew { result.crew.value ≡ crew.value }
+    ensures undriven { undriven.new.items ≡ undriven.old.items ++ left_of result.crew.value result.progress }
+    ensures capacity { vec_capacity undriven.new ≡ vec_capacity undriven.old }
+{
+    let (drove, back) = trip;
+    if drove {
+        return Seat {
+            crew,
+            progress: Progress::Driven(worker_of(back).pass),
+        };
+    }
+    undriven.push_reserved(worker_of(back));
+    Seat {
+        crew,
+        progress: Progress::Waiting,
+    }
+}
+
+// The pass of a crew, when it is driven. Those that waited are driven by now, and come in order.
+fn pass_of<R: Threads + Wait, G: Gate>(
+    rt: &R,
+    shared: &Shared,
+    gate: &G,
+    seat: Seat,
+    workers: &mut IntoIter<Worker<Pass>>,
+) -> Pass
+    requires seat { IsSeat shared.now seat }
+    requires next { (rest : Workers) × SameWorkers (left_of seat.crew.value seat.progress ++ rest) workers.old.rest.items }
+    requires finished { AllFinished shared.now workers.old.rest.items }
+    ensures pass { IsDoneBy shared.now seat.crew.value result }
+    ensures left { (rest : Workers) → SameWorkers (left_of seat.crew.value seat.progress ++ rest) workers.old.rest.items → SameWorkers rest workers.new.rest.items }
+    ensures finished { AllFinished shared.now workers.new.rest.items }
+{
+    let Seat { crew: _, progress } = seat;
+    match progress {
+        Progress::Started(handle) => {
+            let (drove, crew) = handle.join(rt);
+            worker_of(driven(rt, shared, gate, drove, crew)).pass
+        }
+        Progress::Driven(pass) => pass,
+        Progress::Waiting => workers.next().unwrap().pass,
+    }
+}
+
+// The passes of all crews, in order, when each is driven.
+fn gather<R: Threads + Wait, G: Gate>(
+    rt: &R,
+    shared: &Shared,
+    gate: &G,
+    seats: Vec<Seat>,
+    undriven: Vec<Worker<Pass>>,
+    room: Vec<Pass>,
+) -> List<Pass>
+    requires seats { AreSeats shared.now seats.items }
+    requires undriven { undriven.items ≡ waiting seats.items }
+    requires fresh { AllFresh shared.now undriven.items }
+    requires room { length seats.items ≤ vec_capacity room }
+    requires none { room.items ≡ [] }
+    ensures { AreDoneBy shared.now (crews_in seats.items) result }
+{
+    let mut passes = room;
+    let mut workers = driven(rt, shared, gate, false, List::of(undriven))
+        .into_vec()
+        .into_iter();
+    for seat in seats {
+        passes.push_reserved(pass_of(rt, shared, gate, seat, &mut workers));
+    }
+    List::of(passes)
+}
+
+// Each crew is driven by a thread of its own, or where no thread can be started by the caller. All
+// memory is taken before the first thread is started.
+fn drive_crews<R: Threads + Wait + Sync, G: Gate + Sync>(
+    rt: &R,
+    alloc: Global,
+    shared: &Shared,
+    gate: &G,
+    crews: Vec<Crew>,
+) -> Result<List<Pass>, Memory>
+    requires { AreNewCrews shared.now crews.items }
+    ensures { IfOk result (AreDoneBy shared.now crews.items) }
+{
+    let count = crews.len();
+    let flags = flags_of(alloc, count)?;
+    let flags = flags.as_slice();
+    let mut seats = Vec::with_capacity(alloc, count)?;
+    let mut undriven = Vec::with_capacity(alloc, count)?;
+    let room = Vec::with_capacity(alloc, count)?;
+    Ok(thread::scope(
+        thread::scope_env(),
+        rt,
+        move |scope| -> List<Pass>
+            requires sync { IsSync R.row × IsSync G.row }
+            requires new { AreNewCrews shared.now crews.items }
+            requires flags { length crews.items ≤ length flags.now }
+            requires room { (length crews.items ≤ vec_capacity seats) × (length crews.items ≤ vec_capacity undriven) × (length crews.items ≤ vec_capacity room) }
+            requires none { (seats.items ≡ []) × (undriven.items ≡ []) × (room.items ≡ []) }
+            ensures { AreDoneBy shared.entry.now crews.items result }
+        {
+            for crew in crews {
+                let flag = &flags[seats.len()];
+                let before = Snapshot::of(&crew);
+                let trip = Trip {
+                    shared: Snapshot::of(shared),
+                    crew: Snapshot::of(&crew),
+                };
+                let started = scope.spawn_with(
+                    trip,
+                    move || -> (bool, Crew)
+                        requires { AllFresh shared.now crew }
+                        ensures { IsTrip shared.entry.now crew result.0 result.1 }
+                    { travel(rt, shared, gate, flag, crew) },
+                );
+                let seat = match started {
+                    Ok(handle) => Seat {
+                        crew: before,
+                        progress: Progress::Started(handle),
+                    },
+                    Err(refused) => {
+                        flag.store(true, Ordering::SeqCst);
+                        seat_of(shared, &mut undriven, before, (refused.value)())
+                    }
+                };
+                seats.push_reserved(seat);
+            }
+            gather(rt, shared, gate, seats, undriven, room)
+        },
+    ))
+}
+
+// The run of scripts, one for each actor, over a system, each in a thread of its own.
+fn run_scripts<R: Threads + Wait + Sync, G: Gate + Sync>(
+    rt: &R,
+    alloc: Global,
+    gate: &G,
+    system: System,
+    scenario: &Scenario,
+    scripts: List<Script>,
+) -> Result<Ran, Memory>
+    requires scenario { IsScenarioOf system scenario.now }
+    requires scripts { length scripts ≡ actor_count system }
+    ensures system { IfOk result (λ ran. ran.spm.opening.system ≡ system) }
+    ensures ran { IfOk result (λ ran. RanBy system (opening_memory scenario.now.memory) scenario.now (map Plain scripts) true ran.spm.history ran.verdict) }
+{
+    let image = opening_image(alloc, &system, scenario)?;
+    let spm = Spm::new(alloc, system, image, scenario.limit)?;
+    let (shared, passes) = Shared::new(alloc, spm)?;
+    let crews = crews_of(alloc, &shared, passes, scripts)?;
+    let passes = drive_crews(rt, alloc, &shared, gate, crews)?;
+    let spm = shared.finish(passes);
+    let _length = spm.length();
+    match spm.verdict() {
+        Some(verdict) => Ok(Ran { spm, verdict }),
+        None => unreachable!(),
+    }
+}
+
+/// The run of programs, one for each actor, over a system, each in a thread of its own; where no
+/// thread can be started, the caller drives what is left. The schedule isn't used.
+///
+/// Memory where no memory was found; no thread was started then.
+pub fn run_in_threads<R: Threads + Wait + Sync, G: Gate + Sync>(
+    rt: &R,
+    alloc: Global,
+    gate: &G,
+    system: System,
+    scenario: &Scenario,
+    programs: List<Program>,
+) -> Result<Ran, Memory>
+    requires scenario { IsScenarioOf system scenario.now }
+    requires programs { length programs ≡ actor_count system }
+    requires fit { ArePrograms system programs }
+    ensures system { IfOk result (λ ran. ran.spm.opening.system ≡ system) }
+    ensures ran { IfOk result (λ ran. RanBy system (opening_memory scenario.now.memory) scenario.now programs true ran.spm.history ran.verdict) }
+{
+    let scripts = scripts_of(alloc, &system, programs)?;
+    run_scripts(rt, alloc, gate, system, scenario, scripts)
+}

@@ -1,0 +1,91 @@
+-- The functions of an SFN partition, section by section.
+use Rattle.std.proofs.Common.{ℕ, ◌≡◌, ◌≤◌, ◌+◌, List, [], ◌∷◌, ◌++◌, length, refl, ap, arith, drop, map, Bool, true, false}
+use Rattle.std.proofs.lemmas.Grind.{common_steps}
+use Rattle.std.specs.Prelude.{Some, None, Result, Ok, Err, ◌==◌, ◌||◌}
+use Rattle.std.specs.List.{AllByRecursion, IsDistinct}
+use Rattle.ffm_model.specs.declared.constants.TheConstants.{MAX_SCRIPT_LINES}
+use Rattle.ffm_model.specs.declared.system.System.{System}
+use Rattle.ffm_model.specs.declared.script.SfnInstruction.{SfnInstruction}
+use Rattle.ffm_model.specs.declared.script.SfnFunction.{SfnFunction}
+use Rattle.ffm_model.specs.SfnScripts.{IsFunction, IsSfnScript}
+use Rattle.script_asm.specs.declared.lines.Line as code
+use Rattle.script_asm.specs.Made.{Fails}
+use Rattle.script_asm.specs.Views.{lines_view}
+use Rattle.script_asm.specs.declared.scripts.LineError.{LineError}
+use Rattle.script_asm.specs.declared.scripts.LineError.TheVariants as error
+use Rattle.sfn_calls.specs.FunctionLines.{◌>>=◌, has_function, instructions_of, service_of_head, function_of, functions_below}
+use Rattle.sfn_calls.specs.Sections.{Section, sections}
+
+-- ---- the function of a section
+
+pub wrong-head : (s : System) (a : ℕ) (above : List SfnFunction) (x : Section) → None ≡ service_of_head s a above x.name → function_of s a above x ≡ Err x.line
+unfolding function_of
+wrong-head s a above x e = rw (← e) refl
+
+pub made-function : (s : System) (a : ℕ) (above : List SfnFunction) (x : Section) (v : ℕ) (xs : List SfnInstruction) → Some v ≡ service_of_head s a above x.name
+    → instructions_of (x.line + 1) x.lines ≡ Ok xs → function_of s a above x ≡ Ok (record { service = v; instructions = xs })
+unfolding function_of
+made-function s a above x v xs e made = rw (← e, made) refl
+
+fails-then : {A B : Type 0} (error : LineError) (r : Result A ℕ) (f : A → Result B ℕ) → Fails error r → Fails error (r >>= f)
+fails-then (error.Wrong line) r f h = ap (λ r. r >>= f) h
+fails-then error.Memory r f h = tt
+
+pub wrong-line : (s : System) (a : ℕ) (above : List SfnFunction) (x : Section) (v : ℕ) (e : LineError) → Some v ≡ service_of_head s a above x.name
+    → Fails e (instructions_of (x.line + 1) x.lines) → Fails e (function_of s a above x)
+unfolding function_of
+wrong-line s a above x v e some h = rw (← some) (fails-then e (instructions_of (x.line + 1) x.lines) (λ xs. Ok (record { service = v; instructions = xs })) h)
+
+-- ---- one section more
+
+pub below-next : (s : System) (a : ℕ) (above : List SfnFunction) (x : Section) (xs : List Section) (f : SfnFunction) → function_of s a above x ≡ Ok f
+    → functions_below s a (above ++ f ∷ []) xs ≡ functions_below s a above (x ∷ xs)
+unfolding functions_below
+below-next s a above x xs f made = rw made refl
+
+pub below-wrong : (s : System) (a : ℕ) (above : List SfnFunction) (x : Section) (xs : List Section) (e : LineError) → Fails e (function_of s a above x)
+    → Fails e (functions_below s a above (x ∷ xs))
+unfolding functions_below
+below-wrong s a above x xs e h = fails-then e (function_of s a above x) (λ f. functions_below s a (above ++ f ∷ []) xs) h
+
+-- ---- what the functions keep
+
+each-push : {A : Type 0} (P : A → Type 0) (xs : List A) (x : A) → AllByRecursion P xs → P x → AllByRecursion P (xs ++ x ∷ [])
+each-push P [] x h k = (k, tt)
+each-push P (y ∷ ys) x h k = (h.0, each-push P ys x h.1 k)
+
+neither : (x y : Bool) → (x || y) ≡ false → (x ≡ false) × (y ≡ false)
+neither true y h = cc
+neither false y h = (refl, h)
+
+services-push : (fs : List SfnFunction) (f : SfnFunction) → map (λ f. f.service) (fs ++ f ∷ []) ≡ map (λ f. f.service) fs ++ f.service ∷ []
+services-push [] f = refl
+services-push (g ∷ fs) f = ap (λ (xs : List ℕ). g.service ∷ xs) (services-push fs f)
+
+distinct-push : (fs : List SfnFunction) (service : ℕ) → IsDistinct (λ x y. x == y) (map (λ f. f.service) fs) → has_function fs service ≡ false
+    → IsDistinct (λ x y. x == y) (map (λ f. f.service) fs ++ service ∷ [])
+unfolding IsDistinct
+distinct-push [] service h fresh = (tt, tt)
+distinct-push (f ∷ fs) service h fresh =
+    let apart = neither (f.service == service) (has_function fs service) fresh in
+    (each-push (λ y. (f.service == y) ≡ false) (map (λ f. f.service) fs) service h.0 apart.0, distinct-push fs service h.1 apart.1)
+
+pub kept-start : IsSfnScript []
+unfolding IsDistinct
+kept-start = record { one_each = tt; fit = tt; short = tt }
+
+pub kept-next : (fs : List SfnFunction) (f : SfnFunction) → IsSfnScript fs → has_function fs f.service ≡ false → IsFunction f.instructions → length f.instructions ≤ MAX_SCRIPT_LINES
+    → IsSfnScript (fs ++ f ∷ [])
+kept-next fs f kept fresh fits short = record {
+  one_each = rw services-push (distinct-push fs f.service kept.one_each fresh);
+  fit = each-push (λ f. IsFunction f.instructions) fs f kept.fit fits;
+  short = each-push (λ f. length f.instructions ≤ MAX_SCRIPT_LINES) fs f kept.short short;
+}
+
+-- ---- behind the last line
+
+pub below-end : (s : System) (a : ℕ) (above : List SfnFunction) (ls : List code.Line) (at : ℕ) → length ls ≤ at → functions_below s a above (sections at (lines_view (drop at ls))) ≡ Ok above
+unfolding functions_below sections
+below-end s a above ls at past =
+    let none : drop at ls ≡ [] = grind (arith, common_steps) in
+    rw none refl

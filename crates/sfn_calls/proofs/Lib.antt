@@ -1,0 +1,11 @@
+pub mod Registers
+pub mod Places
+pub mod Steps
+pub mod Dispatch
+pub mod Rounds
+pub mod Stages
+pub mod SameRuns
+pub mod CodeLemmas
+pub mod FunctionLemmas
+pub mod SectionLemmas
+pub mod AssemblyLemmas

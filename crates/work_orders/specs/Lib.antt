@@ -1,0 +1,4 @@
+pub mod Words
+pub mod Later
+pub mod Work
+pub mod View

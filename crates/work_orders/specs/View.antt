@@ -1,0 +1,36 @@
+-- The code's work as contracts see it, and what it keeps.
+-- Source: this simulator's.
+use Rattle.std.specs.Prelude.{◌≡◌, Bool, false, length}
+use Rattle.ffm_model.specs.Actors.{actor_count}
+use Rattle.ffm_model.specs.Scenarios.{IsScenarioOf}
+use Rattle.actor_programs.specs.Programs.{ArePrograms}
+use Rattle.work_orders.specs.declared.work.Work as code
+use Rattle.work_orders.specs.declared.work.Work.TheVariants as code_work
+use Rattle.work_orders.specs.declared.work.RunWork.{RunWork}
+use Rattle.work_orders.specs.declared.work.ReplayWork.{ReplayWork}
+use Rattle.work_orders.specs.Work.{Work, listing_of, run_of, replay_of, make_of}
+
+abbrev pub work : code.Work → Work
+work (code_work.Listing system) = listing_of system
+work (code_work.Run run) = run_of run.threads run.system run.scenario run.programs
+work (code_work.Replay replay) = replay_of replay.system replay.scenario replay.trace.items
+work (code_work.Make rounds) = make_of rounds
+
+-- whether a run with threads is to be done
+abbrev pub threads_of : code.Work → Bool
+threads_of (code_work.Run run) = run.threads
+threads_of _ = false
+
+-- a scenario of the system, and a program for each actor
+abbrev pub IsRun : RunWork → Type 0
+IsRun run = IsScenarioOf run.system run.scenario × (length run.programs ≡ actor_count run.system) × ArePrograms run.system run.programs
+
+-- a scenario of the system
+abbrev pub IsReplay : ReplayWork → Type 0
+IsReplay replay = IsScenarioOf replay.system replay.scenario
+
+abbrev pub IsWork : code.Work → Type 0
+IsWork (code_work.Listing system) = Unit {0}
+IsWork (code_work.Run run) = IsRun run
+IsWork (code_work.Replay replay) = IsReplay replay
+IsWork (code_work.Make rounds) = Unit {0}

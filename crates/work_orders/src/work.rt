@@ -1,0 +1,311 @@
+//! What a command and its files ask to be done.
+
+ghost use Rattle.std.specs.Prelude.{◌≡◌, ◌≤◌, [], Ok, false, IfOk, IfErr, IfSome, IsErrOf, length};
+ghost use Rattle.outside_io.specs.Count.{Rose};
+ghost use Rattle.ffm_model.specs.Reading.{Gives, Reads, file_at};
+ghost use Rattle.ffm_model.specs.Compiled.{compiled};
+ghost use Rattle.ffm_model.specs.Scenarios.{IsScenarioOf, scenario_in};
+ghost use Rattle.ffm_model.specs.Systems.{stopped};
+ghost use Rattle.work_orders.specs.Later.{carried_out, later_in_manifests, unless_later};
+ghost use Rattle.work_orders.specs.Words.{has_threads, order};
+ghost use Rattle.work_orders.specs.Work.{system_in, system_at, scenario_at, run_in, list_in, run_at, trace_in, replay_in, replay_at, work_of};
+ghost use Rattle.work_orders.specs.View.{work, IsWork, threads_of};
+
+use crate::later::{bad_value, later_in_manifests, later_in_scenario};
+use crate::limits::MAX_TRACE_BYTES;
+use crate::words::Command;
+use actor_programs::{Program, programs_of};
+use ffm_model::{
+    FILE_TOO_LONG, List, MAX_FILE_BYTES, Parts, PartsError, Place, ReadError, Refusal, Root,
+    Scenario, System,
+};
+use manifest_compile::compile;
+use outside_io::{FileError, Files};
+use std::alloc::Global;
+use system_json::{read_scenario, read_system};
+
+/// A run of a scenario's programs, one for each actor, over a system, with a thread for each or
+/// without.
+#[derive(Drop)]
+pub struct RunWork {
+    pub threads: bool,
+    pub system: System,
+    pub scenario: Scenario,
+    pub programs: List<Program>,
+}
+
+/// A trace's text, for a scenario over a system.
+#[derive(Drop)]
+pub struct ReplayWork {
+    pub system: System,
+    pub scenario: Scenario,
+    pub trace: Vec<u8>,
+}
+
+/// What is to be done.
+#[derive(Drop)]
+pub enum Work {
+    /// To list a system.
+    Listing(System),
+    Run(RunWork),
+    /// To judge a trace.
+    Replay(ReplayWork),
+    /// To run a generated system, with so many requests of each client.
+    Make(u32),
+}
+
+// A refusal of a whole file.
+fn too_long(alloc: Global, root: Root) -> Refusal
+    ensures { result ≡ record { code = FILE_TOO_LONG; place = record { root = root; steps = [] }; cycle = [] } }
+{
+    Refusal {
+        code: FILE_TOO_LONG,
+        place: Place {
+            root,
+            steps: List::of(Vec::new(alloc)),
+        },
+        cycle: List::of(Vec::new(alloc)),
+    }
+}
+
+// The bytes of a file.
+fn bytes_of<F: Files>(
+    alloc: Global,
+    files: &mut F,
+    root: Root,
+    limit: u32,
+    name: &str,
+) -> Result<Vec<u8>, PartsError>
+    ensures gives { IfSome (F.held files.old) (λ of. Gives (λ bytes. bytes.items) (F.last_failed files.new) result (file_at of (record { root = root; steps = [] }) limit name.now)) }
+    ensures keeps { F.held files.new ≡ F.held files.old }
+    ensures later { F.faults files.old ≤ F.faults files.new }
+    ensures failed { IsErrOf result PartsError.ReadFault → Rose (F.faults files.old) (F.faults files.new) }
+    ensures short { IfOk result (λ bytes. length bytes.items ≤ limit) }
+{
+    match files.read(alloc, name, limit) {
+        Ok(bytes) => Ok(bytes),
+        Err(FileError::TooLong) => Err(PartsError::Refused(too_long(alloc, root))),
+        Err(FileError::Failed) => Err(PartsError::ReadFault),
+        Err(FileError::Memory) => Err(PartsError::Memory),
+    }
+}
+
+// The system that the parts of a system file make.
+fn compiled(alloc: Global, parts: &Parts) -> Result<System, ReadError>
+    ensures { Reads (λ s. s) result (unless_later Root.System (later_in_manifests 0 parts.now.manifests) (compiled parts.now)) }
+{
+    match later_in_manifests(alloc, 0, parts.manifests.as_slice())? {
+        Some(steps) => Err(ReadError::Refused(bad_value(alloc, Root::System, steps))),
+        None => compile(alloc, parts),
+    }
+}
+
+// The scenario of a scenario file's bytes.
+fn scenario_in(alloc: Global, bytes: &[u8], system: &System) -> Result<Scenario, ReadError>
+    ensures reads { Reads (λ c. c) result (carried_out (stopped (scenario_in system.now bytes.now))) }
+    ensures kept { IfOk result (IsScenarioOf system.now) }
+{
+    let scenario = read_scenario(alloc, bytes, system)?;
+    match later_in_scenario(alloc, &scenario)? {
+        Some(steps) => Err(ReadError::Refused(bad_value(alloc, Root::Scenario, steps))),
+        None => Ok(scenario),
+    }
+}
+
+/// The system of a system file's bytes.
+#[tactic(auto, unfolding(crate::specs::Work::system_in), using(ffm_model::proofs::ReadingLemmas::after_ok, ffm_model::proofs::ReadingLemmas::after_err))]
+pub fn system_in<F: Files>(alloc: Global, files: &mut F, bytes: &[u8]) -> Result<System, PartsError>
+    ensures gives { IfSome (F.held files.old) (λ of. Gives (λ s. s) (F.last_failed files.new) result (system_in of bytes.now)) }
+    ensures keeps { F.held files.new ≡ F.held files.old }
+    ensures later { F.faults files.old ≤ F.faults files.new }
+    ensures failed { IsErrOf result PartsError.ReadFault → Rose (F.faults files.old) (F.faults files.new) }
+{
+    let parts = read_system(alloc, bytes, files)?;
+    Ok(compiled(alloc, &parts)?)
+}
+
+// The system of a system file.
+#[tactic(auto, unfolding(crate::specs::Work::system_at), using(ffm_model::proofs::ReadingLemmas::after_ok, ffm_model::proofs::ReadingLemmas::after_err))]
+fn system_at<F: Files>(alloc: Global, files: &mut F, name: &str) -> Result<System, PartsError>
+    ensures gives { IfSome (F.held files.old) (λ of. Gives (λ s. s) (F.last_failed files.new) result (system_at of name.now)) }
+    ensures keeps { F.held files.new ≡ F.held files.old }
+    ensures later { F.faults files.old ≤ F.faults files.new }
+    ensures failed { IsErrOf result PartsError.ReadFault → Rose (F.faults files.old) (F.faults files.new) }
+{
+    let bytes = bytes_of(alloc, files, Root::System, MAX_FILE_BYTES, name)?;
+    system_in(alloc, files, &bytes)
+}
+
+// The scenario of a scenario file.
+#[tactic(auto, unfolding(crate::specs::Work::scenario_at), using(ffm_model::proofs::ReadingLemmas::after_ok, ffm_model::proofs::ReadingLemmas::after_err))]
+fn scenario_at<F: Files>(
+    alloc: Global,
+    files: &mut F,
+    system: &System,
+    name: &str,
+) -> Result<Scenario, PartsError>
+    ensures gives { IfSome (F.held files.old) (λ of. Gives (λ c. c) (F.last_failed files.new) result (scenario_at of system.now name.now)) }
+    ensures keeps { F.held files.new ≡ F.held files.old }
+    ensures later { F.faults files.old ≤ F.faults files.new }
+    ensures failed { IsErrOf result PartsError.ReadFault → Rose (F.faults files.old) (F.faults files.new) }
+    ensures kept { IfOk result (IsScenarioOf system.now) }
+{
+    let bytes = bytes_of(alloc, files, Root::Scenario, MAX_FILE_BYTES, name)?;
+    Ok(scenario_in(alloc, &bytes, system)?)
+}
+
+// The scenario's run of a system.
+#[tactic(auto, unfolding(crate::specs::Work::run_in), using(ffm_model::proofs::ReadingLemmas::after_ok, ffm_model::proofs::ReadingLemmas::after_err))]
+fn run_in<F: Files>(
+    alloc: Global,
+    files: &mut F,
+    threads: bool,
+    system: System,
+    name: &str,
+) -> Result<Work, PartsError>
+    ensures gives { IfSome (F.held files.old) (λ of. Gives work (F.last_failed files.new) result (run_in of threads system name.now)) }
+    ensures keeps { F.held files.new ≡ F.held files.old }
+    ensures later { F.faults files.old ≤ F.faults files.new }
+    ensures failed { IsErrOf result PartsError.ReadFault → Rose (F.faults files.old) (F.faults files.new) }
+    ensures kept { IfOk result IsWork }
+    ensures threads { IfOk result (λ work. threads_of work ≡ threads) }
+{
+    let scenario = scenario_at(alloc, files, &system, name)?;
+    let programs = programs_of(alloc, &system, &scenario)?;
+    Ok(Work::Run(RunWork {
+        threads,
+        system,
+        scenario,
+        programs,
+    }))
+}
+
+// The listing of a system, from its file.
+#[tactic(auto, unfolding(crate::specs::Work::list_in), using(ffm_model::proofs::ReadingLemmas::after_ok, ffm_model::proofs::ReadingLemmas::after_err))]
+fn list_in<F: Files>(alloc: Global, files: &mut F, name: &str) -> Result<Work, PartsError>
+    ensures gives { IfSome (F.held files.old) (λ of. Gives work (F.last_failed files.new) result (list_in of name.now)) }
+    ensures keeps { F.held files.new ≡ F.held files.old }
+    ensures later { F.faults files.old ≤ F.faults files.new }
+    ensures failed { IsErrOf result PartsError.ReadFault → Rose (F.faults files.old) (F.faults files.new) }
+    ensures kept { IfOk result IsWork }
+    ensures threads { IfOk result (λ work. threads_of work ≡ false) }
+{
+    let system = system_at(alloc, files, name)?;
+    Ok(Work::Listing(system))
+}
+
+// The scenario's run of a system, from their files.
+#[tactic(auto, unfolding(crate::specs::Work::run_at), using(ffm_model::proofs::ReadingLemmas::after_ok, ffm_model::proofs::ReadingLemmas::after_err))]
+fn run_at<F: Files>(
+    alloc: Global,
+    files: &mut F,
+    threads: bool,
+    system: &str,
+    scenario: &str,
+) -> Result<Work, PartsError>
+    ensures gives { IfSome (F.held files.old) (λ of. Gives work (F.last_failed files.new) result (run_at of threads system.now scenario.now)) }
+    ensures keeps { F.held files.new ≡ F.held files.old }
+    ensures later { F.faults files.old ≤ F.faults files.new }
+    ensures failed { IsErrOf result PartsError.ReadFault → Rose (F.faults files.old) (F.faults files.new) }
+    ensures kept { IfOk result IsWork }
+    ensures threads { IfOk result (λ work. threads_of work ≡ threads) }
+{
+    let system = system_at(alloc, files, system)?;
+    run_in(alloc, files, threads, system, scenario)
+}
+
+// A trace for a scenario over a system, from its file.
+#[tactic(auto, unfolding(crate::specs::Work::trace_in), using(ffm_model::proofs::ReadingLemmas::after_ok, ffm_model::proofs::ReadingLemmas::after_err))]
+fn trace_in<F: Files>(
+    alloc: Global,
+    files: &mut F,
+    system: System,
+    scenario: Scenario,
+    name: &str,
+) -> Result<Work, PartsError>
+    requires { IsScenarioOf system scenario }
+    ensures gives { IfSome (F.held files.old) (λ of. Gives work (F.last_failed files.new) result (trace_in of system scenario name.now)) }
+    ensures keeps { F.held files.new ≡ F.held files.old }
+    ensures later { F.faults files.old ≤ F.faults files.new }
+    ensures failed { IsErrOf result PartsError.ReadFault → Rose (F.faults files.old) (F.faults files.new) }
+    ensures kept { IfOk result IsWork }
+    ensures threads { IfOk result (λ work. threads_of work ≡ false) }
+{
+    let trace = bytes_of(alloc, files, Root::Trace, MAX_TRACE_BYTES, name)?;
+    Ok(Work::Replay(ReplayWork {
+        system,
+        scenario,
+        trace,
+    }))
+}
+
+// A trace for a system, from the files of the scenario and the trace. The programs are read and not
+// used.
+#[tactic(auto, unfolding(crate::specs::Work::replay_in), using(ffm_model::proofs::ReadingLemmas::after_ok, ffm_model::proofs::ReadingLemmas::after_err))]
+fn replay_in<F: Files>(
+    alloc: Global,
+    files: &mut F,
+    system: System,
+    scenario: &str,
+    trace: &str,
+) -> Result<Work, PartsError>
+    ensures gives { IfSome (F.held files.old) (λ of. Gives work (F.last_failed files.new) result (replay_in of system scenario.now trace.now)) }
+    ensures keeps { F.held files.new ≡ F.held files.old }
+    ensures later { F.faults files.old ≤ F.faults files.new }
+    ensures failed { IsErrOf result PartsError.ReadFault → Rose (F.faults files.old) (F.faults files.new) }
+    ensures kept { IfOk result IsWork }
+    ensures threads { IfOk result (λ work. threads_of work ≡ false) }
+{
+    let scenario = scenario_at(alloc, files, &system, scenario)?;
+    let _programs = programs_of(alloc, &system, &scenario)?;
+    trace_in(alloc, files, system, scenario, trace)
+}
+
+// A trace for a scenario over a system, from their files.
+#[tactic(auto, unfolding(crate::specs::Work::replay_at), using(ffm_model::proofs::ReadingLemmas::after_ok, ffm_model::proofs::ReadingLemmas::after_err))]
+fn replay_at<F: Files>(
+    alloc: Global,
+    files: &mut F,
+    system: &str,
+    scenario: &str,
+    trace: &str,
+) -> Result<Work, PartsError>
+    ensures gives { IfSome (F.held files.old) (λ of. Gives work (F.last_failed files.new) result (replay_at of system.now scenario.now trace.now)) }
+    ensures keeps { F.held files.new ≡ F.held files.old }
+    ensures later { F.faults files.old ≤ F.faults files.new }
+    ensures failed { IsErrOf result PartsError.ReadFault → Rose (F.faults files.old) (F.faults files.new) }
+    ensures kept { IfOk result IsWork }
+    ensures threads { IfOk result (λ work. threads_of work ≡ false) }
+{
+    let system = system_at(alloc, files, system)?;
+    replay_in(alloc, files, system, scenario, trace)
+}
+
+/// The work of a command.
+pub fn work_of<F: Files>(
+    alloc: Global,
+    command: Command<'_>,
+    files: &mut F,
+) -> Result<Work, PartsError>
+    ensures gives { IfSome (F.held files.old) (λ of. Gives work (F.last_failed files.new) result (work_of of (order command.entry))) }
+    ensures keeps { F.held files.new ≡ F.held files.old }
+    ensures later { F.faults files.old ≤ F.faults files.new }
+    ensures failed { IsErrOf result PartsError.ReadFault → Rose (F.faults files.old) (F.faults files.new) }
+    ensures kept { IfOk result IsWork }
+    ensures threads { IfOk result (λ work. threads_of work ≡ has_threads (order command.entry)) }
+{
+    match command {
+        Command::Compile { system } => list_in(alloc, files, system),
+        Command::Run {
+            threads,
+            system,
+            scenario,
+        } => run_at(alloc, files, threads, system, scenario),
+        Command::Replay {
+            system,
+            scenario,
+            trace,
+        } => replay_at(alloc, files, system, scenario, trace),
+        Command::Make { rounds } => Ok(Work::Make(rounds)),
+    }
+}

@@ -1,0 +1,176 @@
+#!/usr/bin/env python3
+"""Looks at what the tables of the pages name: files, functions, clauses, wrong bodies, tests, public calls.
+
+    python3 tools/check_evidence.py
+
+Run at the top of the repository. In the tables of PAGES each file, function, clause, wrong body and test has to be
+there, in the file or crate that is named before it in the same cell; a wrong body for which none is named is one
+of the row's contract's crate. In proved.md each public call of a crate has to stand in the crate's section, in code
+marks, and each clause that a section names has to be the crate's. The figures of the gate in evidence.md have to be
+those counted. Prints what isn't so. The status is 1 where something is wrong."""
+
+import pathlib
+import re
+import sys
+
+CRATES = pathlib.Path("crates")
+SPECS = CRATES / "ffm_model" / "specs"
+NAMES = {path.parent.name for path in CRATES.glob("*/src")}
+PROVED = pathlib.Path("docs/proved.md")
+PAGES = [pathlib.Path("docs") / name for name in ("evidence.md", "machine.md", "architecture.md")] + [PROVED]
+CITED = (
+    "Definition", "Contract", "Contract and body", "Wrong bodies, refused", "Worked run in machine_examples/src", "Tests", "Here",
+    "Where", "Definitions that its clauses cite", "A caller that is proved",
+)
+TOKEN = re.compile(r"[\w/]+\.(?:rt|antt)|`[\w:]+`|\b[a-z]\w*\b|;")
+ITEM = r"\b(?:fn|struct|enum|trait|record|data|abbrev pub|pub) {}\b"
+CLAUSE = r"\bensures {}\b"
+NAMED = r"\b(?:ensures|requires)\*? {0}\b|\bpub {0} :|\bghost {0}\b"
+TEST = r"#\[test\]\s+(?:pub )?fn {}\b"
+
+
+def rows(page):
+    """Each row of a table with its line's number, as a map from the heads of the columns to the cells."""
+    head = None
+    for number, line in enumerate(page.read_text().splitlines(), 1):
+        cells = [cell.strip() for cell in line.strip("|").split("|")] if line.startswith("|") else None
+        if cells is None or head is None:
+            head = cells
+        elif set(line) - set("|- "):
+            yield number, dict(zip(head, cells))
+
+
+def file_of(name, column, before):
+    """The file of that name: from the top or from crates/ on, in a crate's src/, among the definitions, in the folder
+    that the column's head tells, or in the crate of the file before it."""
+    folder = CRATES / "machine_examples" / "src" if column.startswith("Worked") else SPECS
+    places = [pathlib.Path(name), CRATES / name, CRATES / name.replace("/", "/src/", 1), folder / name]
+    places += [path.parents[1] / name for path in before]
+    return next((path for path in places if path.is_file()), None)
+
+
+def sources(crate):
+    return sorted((CRATES / crate / "src").rglob("*.rt"))
+
+
+def has(files, name, pattern):
+    return any(re.search(pattern.format(re.escape(name)), path.read_text()) for path in files)
+
+
+def pattern_of(column, files, clause):
+    """What a name has to be in these files: a clause, a test in a crate that has tests, or any item."""
+    if clause:
+        return CLAUSE
+    return TEST if column == "Tests" and has(files, "", r"#\[test\]{}") else ITEM
+
+
+def everywhere():
+    return [*CRATES.glob("*/src/**/*.rt"), *CRATES.glob("*/specs/*.antt")]
+
+
+def without_links(cell):
+    """The cell with the names of linked files, and without other links."""
+    return re.sub(r"\[[^\]]*\]\([^)]*\)", "", re.sub(r"\[([\w/]+\.(?:rt|antt))\]\([^)]*\)", r"\1", cell))
+
+
+def wrong_in(cell, column, crate):
+    """What a cell names and isn't there. `crate` is the one whose wrong bodies are meant where none is named."""
+    files, clause, edits = [], False, column.startswith("Wrong")
+    for token in TOKEN.findall(without_links(cell)):
+        if token == ";":
+            files, clause = [], False
+        elif token.endswith((".rt", ".antt")):
+            path = file_of(token, column, files)
+            files = [path] if path else []
+            if path is None:
+                yield f"{token}: no such file"
+        elif token in NAMES:
+            files, crate = sources(token), token
+        elif token[0] == "`":
+            name = token.strip("`").split("::")[-1]
+            if not has(files or everywhere(), name, pattern_of(column, files, clause)):
+                yield f"{name}: no such name"
+        elif token in ("clause", "clauses"):
+            clause = True
+        elif edits and "_" in token and not (CRATES / crate / "must-fail" / f"{token}.edit").is_file():
+            yield f"{token}: no such wrong body of {crate}"
+
+
+def wrong_cells(page):
+    for number, row in rows(page):
+        contract = row.get("Contract and body") or row.get("Contract") or ""
+        crate = next((word for word in re.findall(r"\w+", contract) if word in NAMES), "")
+        for column in set(row) & set(CITED):
+            for what in wrong_in(row[column], column, crate):
+                yield f"{page}:{number}: {column}: {what}"
+
+
+def exported(library):
+    """The names that a crate's root makes public."""
+    text = library.read_text()
+    uses = re.findall(r"^pub use \w+::(\{[^}]*\}|\w+);", text, re.M)
+    return {name for use in uses for name in re.findall(r"\w+", use)} | set(re.findall(r"^pub fn (\w+)", text, re.M))
+
+
+def public_calls(crate):
+    """Public functions, methods of public types, and those of public traits."""
+    names = exported(CRATES / crate / "src" / "lib.rt")
+    for path in sources(crate):
+        owner, trait = None, False
+        for line in path.read_text().splitlines():
+            opened = re.match(r"(?:pub (trait) |impl(?:<.*?>)? )(\w+)[^;]*$", line)
+            if opened:
+                owner, trait = opened[2], bool(opened[1])
+            owner = None if line == "}" or " for " in line and line.startswith("impl") else owner
+            call = re.match(r"pub fn (\w+)", line) or owner in names and re.match(r"    fn (\w+)" if trait else r"    pub fn (\w+)", line)
+            if call and (owner or call[1] in names):
+                yield call[1]
+
+
+def sections(page):
+    """The text of each section, by its heading."""
+    parts = re.split(r"^## (.*)$", page.read_text(), flags=re.M)
+    return dict(zip(parts[1::2], parts[2::2]))
+
+
+def words_of(text):
+    """The words in code marks."""
+    return {word for code in re.findall(r"`[^`\n]*`", text) for word in re.findall(r"\w+", code)}
+
+
+def clauses_told(section):
+    """The names in the last of three columns."""
+    lines = (line.strip("|").split("|") for line in section.splitlines() if line.startswith("|"))
+    return {word for cells in lines if len(cells) == 3 for word in words_of(cells[2])}
+
+
+def wrong_proved(page):
+    told = sections(page)
+    for crate in sorted(NAMES):
+        if (CRATES / crate / "src" / "lib.rt").is_file():
+            section = told.get(crate, "")
+            yield from (f"{crate}: {call} has no row" for call in sorted(set(public_calls(crate)) - words_of(section)))
+            files = [*sources(crate), *(CRATES / crate / "specs").glob("*.antt")]
+            yield from (f"{crate}: {name} is no clause" for name in sorted(clauses_told(section)) if not has(files, name, NAMED))
+
+
+def wrong_figures(page):
+    """The figures of the whole that a page tells are those that are counted."""
+    edits = len(list(CRATES.glob("*/must-fail/*.edit")))
+    tests = sum(path.read_text().count("#[test]") for path in CRATES.glob("*/src/**/*.rt"))
+    counted = f"{len(NAMES)} crates, {edits} wrong bodies, {tests} tests"
+    if counted not in page.read_text():
+        yield f"{page}: the figures are {counted}"
+
+
+def main():
+    wrong = [what for page in PAGES for what in wrong_cells(page)]
+    wrong += [f"{PROVED}: {what}" for what in wrong_proved(PROVED)]
+    wrong += wrong_figures(pathlib.Path("docs/evidence.md"))
+    count = sum(bool(set(row) & set(CITED)) for page in PAGES for _, row in rows(page))
+    print("\n".join(wrong) if wrong else f"{count} rows, and all public calls")
+    sys.exit(1 if wrong else 0)
+
+
+if __name__ == "__main__":
+    main()
