@@ -1,0 +1,5 @@
+pub mod TableLemmas
+pub mod VectorLemmas
+pub mod WindowLemmas
+pub mod NotedLemmas
+pub mod OwnLemmas
