@@ -14,6 +14,7 @@ import re
 import sys
 
 CRATES = pathlib.Path("crates")
+WRONG_BODIES = pathlib.Path("wrong_bodies")
 SPECS = CRATES / "ffm_model" / "specs"
 NAMES = {path.parent.name for path in CRATES.glob("*/src")}
 PROVED = pathlib.Path("docs/proved.md")
@@ -92,7 +93,7 @@ def wrong_in(cell, column, crate):
                 yield f"{name}: no such name"
         elif token in ("clause", "clauses"):
             clause = True
-        elif edits and "_" in token and not (CRATES / crate / "must-fail" / f"{token}.edit").is_file():
+        elif edits and "_" in token and not any((folder / f"{token}.edit").is_file() for folder in (CRATES / crate / "must-fail", WRONG_BODIES / crate)):
             yield f"{token}: no such wrong body of {crate}"
 
 
@@ -157,8 +158,9 @@ def wrong_proved(page):
 def wrong_figures(page):
     """The figures of the whole that a page tells are those that are counted."""
     edits = len(list(CRATES.glob("*/must-fail/*.edit")))
+    further = len(list(WRONG_BODIES.glob("*/*.edit")))
     tests = sum(path.read_text().count("#[test]") for path in CRATES.glob("*/src/**/*.rt"))
-    counted = f"{len(NAMES)} crates, {edits} wrong bodies, {tests} tests"
+    counted = f"{len(NAMES)} crates, {edits} wrong bodies in the gate and {further} beside it, {tests} tests"
     if counted not in page.read_text():
         yield f"{page}: the figures are {counted}"
 

@@ -20,7 +20,7 @@ def guided():
         if " " not in line:
             name = line.strip()
             traces[name] = ""
-        elif not line.startswith(("status ", "legal ")):
+        elif not line.startswith(("status ", "legal ", "refused ")):
             traces[name] += line
     return traces
 

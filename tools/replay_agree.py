@@ -167,13 +167,15 @@ class Trial:
 
 
 def cases(program, examples, work):
-    """Each example and each system from above, with its trace."""
+    """Each example of one run and each system from above, with its trace."""
     for name, (system_tree, scenario_tree) in BUILT_IN.items():
         (work / name).mkdir()
         (work / name / "system.json").write_text(json.dumps(system_tree))
         (work / name / "scenario.json").write_text(json.dumps(scenario_tree))
     for place in sorted(examples.glob("*/scenario.json")) + [work / name / "scenario.json" for name in BUILT_IN]:
         folder = place.resolve().parent
+        if json.loads(place.read_text()).get("restarts", 0) > 0:
+            continue  # several runs, and a trace is of one
         if (folder / "trace.txt").exists():
             text = (folder / "trace.txt").read_bytes()
         else:

@@ -1,94 +1,21 @@
--- The programs of a scenario's scripts, one after the other.
-use Rattle.std.proofs.Common.{ℕ, zero, suc, ◌≡◌, ◌<◌, ◌≤◌, ◌+◌, ◌++◌, Bool, true, false, List, [], ◌∷◌, ⊎_elim, length, map, drop, get_or, append-nil, refl, ap, sym, ◌∙◌, subst, arith, rules}
-use Rattle.std.specs.Prelude.{Result, Ok, Err, slice_get, slice_set, if◌then◌else◌}
-use Rattle.std.specs.Option.{option_map_or}
-use Rattle.std.specs.List.{AllByRecursion, IsDistinct, range_with_len}
-use Rattle.std.proofs.lemmas.List.FromFn.{length-map-range_with_len, get_or-map-range_with_len}
-use Rattle.std.proofs.lemmas.List.{drop_more, drop_all, length-append, length-set, get_or_append_left, get_or-set_same, get_or-set_other}
+-- The programs of all actors, and the scripts by which they run.
+use Rattle.std.proofs.Common.{ℕ, ◌≡◌, ◌<◌, ◌≤◌, ◌+◌, ◌++◌, Bool, true, false, List, [], ◌∷◌, ⊎_elim, length, map, get_or, append-nil, refl, ap, sym, ◌∙◌, subst, arith, rules}
+use Rattle.std.specs.Prelude.{if◌then◌else◌}
+use Rattle.std.specs.List.{AllByRecursion, IsDistinct, enumerate_from, flat_map}
+use Rattle.std.proofs.lemmas.List.FromFn.{length-enumerate_from, get_or-enumerate_from}
+use Rattle.std.proofs.lemmas.List.{length-append, length-map, get_or_append_left, get_or-map}
 use Rattle.std.proofs.Math.Seq.{get_or-append_seam}
 use Rattle.std.proofs.lemmas.Bool.{cases_eq}
-use Rattle.ffm_model.specs.declared.machine.ActorId.{ActorId}
-use Rattle.ffm_model.specs.declared.place.ReadError.{ReadError}
-use Rattle.ffm_model.specs.declared.place.ReadError.TheVariants as read_error
-use Rattle.ffm_model.specs.declared.scenario.RaiseItem.{RaiseItem}
-use Rattle.ffm_model.specs.declared.scenario.Scenario.{Scenario}
-use Rattle.ffm_model.specs.declared.system.Source.{Source}
-use Rattle.ffm_model.specs.Actors.{actor_count, device_count}
-use Rattle.script_asm.specs.Device.{device_script}
 use Rattle.ffm_model.specs.declared.system.System.{System}
-use Rattle.ffm_model.specs.Reading.{Stop, Reads}
+use Rattle.ffm_model.specs.Scenarios.{most_scripts}
 use Rattle.ffm_model.specs.SfnScripts.{IsSfnScript}
 use Rattle.actor_programs.specs.declared.program.Program.{Program}
-use Rattle.ffm_model.specs.declared.system.Partition.{Partition}
 use Rattle.actor_programs.specs.declared.program.Program.TheVariants.{Plain, Functions}
 use Rattle.sfn_calls.specs.Partitions.{is_sfn}
-use Rattle.actor_programs.specs.Programs.{Parts, ArePrograms, AreScriptsOf, IsProgramOf, and_program, device_programs, empty_program, first_programs, program_at, programs_from, script_of}
+use Rattle.actor_programs.proofs.ActorLemmas.{several, some-scripts}
+use Rattle.actor_programs.specs.Programs.{Parts, Made, AreMade, ArePrograms, AreScriptsOf, IsOfOneScript, IsOnePart, IsProgramOf, all_joined, empty_program, joined, parts_of, script_of}
 
--- a right program is put at its actor's place
-pub programs_from-next : (s : System) (c : Scenario) (n : ℕ) (xs : List ActorId) (programs : List Program) (program : Program) (d : ActorId) → n < length xs → program_at s c n (get_or xs n d) ≡ Ok program
-    → programs_from s c n (drop n xs) programs ≡ programs_from s c (n + 1) (drop (n + 1) xs) (slice_set programs (get_or xs n d).0 program)
-unfolding programs_from
-programs_from-next s c n xs programs program d lt e =
-    ap (λ (ys : List ActorId). programs_from s c n ys programs) (drop_more xs n d lt)
-    ∙ ap (λ (r : Result Program Stop). and_program r (λ program. programs_from s c (n + 1) (drop (n + 1) xs) (slice_set programs (get_or xs n d).0 program))) e
-
--- a wrong one ends it
-pub programs_from-wrong : (s : System) (c : Scenario) (n : ℕ) (xs : List ActorId) (programs : List Program) (stop : Stop) (d : ActorId) → n < length xs → program_at s c n (get_or xs n d) ≡ Err stop
-    → programs_from s c n (drop n xs) programs ≡ Err stop
-unfolding programs_from
-programs_from-wrong s c n xs programs stop d lt e =
-    ap (λ (ys : List ActorId). programs_from s c n ys programs) (drop_more xs n d lt)
-    ∙ ap (λ (r : Result Program Stop). and_program r (λ program. programs_from s c (n + 1) (drop (n + 1) xs) (slice_set programs (get_or xs n d).0 program))) e
-
-pub programs_from-end : (s : System) (c : Scenario) (n : ℕ) (xs : List ActorId) (programs : List Program) → length xs ≤ n → programs_from s c n (drop n xs) programs ≡ Ok programs
-unfolding programs_from
-programs_from-end s c n xs programs all = ap (λ (ys : List ActorId). programs_from s c n ys programs) (drop_all n xs all)
-
--- a refusal of a part is the refusal of the whole
-pub same_refusal : {X Y A B : Type 0} (one : X → A) (all : Y → B) (e : ReadError) (part : Result A Stop) (whole : Result B Stop) → ((stop : Stop) → part ≡ Err stop → whole ≡ Err stop)
-    → Reads one (Err e) part → Reads all (Err e) whole
-same_refusal one all (read_error.Refused f) part whole goes h = goes _ h
-same_refusal one all read_error.Memory part whole goes h = tt
-
-pub each-at : {X : Type 0} (P : X → Type 0) (xs : List X) (i : ℕ) (d : X) → AllByRecursion P xs → i < length xs → P (get_or xs i d)
-each-at P [] i d h lt = absurd (omega arith)
-each-at P (x ∷ xs) zero d h lt = h.0
-each-at P (x ∷ xs) (suc i) d h lt = each-at P xs i d h.1 (omega arith)
-
--- ---- programs of a system
-
-none_past : (xs : List Partition) (a : ℕ) → length xs ≤ a → option_map_or (λ p. p.sfn) (slice_get xs a) false ≡ false
-none_past [] a all = refl
-none_past (x ∷ xs) zero all = absurd (omega arith)
-none_past (x ∷ xs) (suc a) all = none_past xs a (omega arith)
-
--- an actor behind the partitions is none
-pub not_sfn : (s : System) (a : ℕ) → length s.partitions ≤ a → is_sfn s a ≡ false
-not_sfn s a all = none_past s.partitions a all
-
--- one more
-pub programs-more : (s : System) (ps : List Program) (p : Program) (n : ℕ) → length ps ≡ n → ArePrograms s ps → IsProgramOf s n p → ArePrograms s (ps ++ p ∷ [])
-programs-more s ps p n long are one = record {
-  each = λ a lt.
-      let within : a < length ps + 1 = subst (λ (k : ℕ). a < k) (length-append ps (p ∷ [])) lt in
-      ⊎_elim
-      (λ e. subst (λ (k : ℕ). IsProgramOf s k (get_or (ps ++ p ∷ []) k (Plain []))) (sym e) (subst (IsProgramOf s (length ps)) (sym (get_or-append_seam ps p [] (Plain []))) (subst (λ (k : ℕ). IsProgramOf s k p) (sym long) one)))
-      (λ other. let low : a < length ps = omega arith in subst (IsProgramOf s a) (sym (get_or_append_left ps (p ∷ []) (Plain []) a low)) (are.each a low))
-      (cases_eq a (length ps));
-}
-
--- another program of an actor
-pub programs-set : (s : System) (ps : List Program) (n : ℕ) (p : Program) → n < length ps → ArePrograms s ps → IsProgramOf s n p → ArePrograms s (slice_set ps n p)
-programs-set s ps n p here are one = record {
-  each = λ a lt.
-      let low : a < length ps = subst (λ (k : ℕ). a < k) (length-set ps n p) lt in
-      ⊎_elim
-      (λ e. subst (λ (k : ℕ). IsProgramOf s k (get_or (slice_set ps n p) k (Plain []))) (sym e) (subst (IsProgramOf s n) (sym (get_or-set_same ps n p (Plain []) here)) one))
-      (λ other. subst (IsProgramOf s a) (sym (get_or-set_other ps n a p (Plain []) other)) (are.each a low))
-      (cases_eq a n);
-}
-
--- ---- before one of the file is put in
+-- ---- the programs of an actor's scripts as one
 
 pub no-functions : IsSfnScript []
 unfolding IsDistinct
@@ -96,40 +23,104 @@ no-functions = record { one_each = search rules; fit = tt; short = tt }
 
 empty-by : (s : System) (a : ℕ) (b : Bool) → is_sfn s a ≡ b → IsProgramOf s a (if b then Functions [] else Plain ([] ∷ []))
 empty-by s a true e = (e, no-functions)
-empty-by s a false e = e
+empty-by s a false e = (e, omega arith, some-scripts s a)
 
 empty-fits : (s : System) (a : ℕ) → IsProgramOf s a (empty_program s a)
 empty-fits s a = empty-by s a (is_sfn s a) refl
 
-empty-long : (s : System) (n : ℕ) → length (map (empty_program s) (range_with_len 0 n)) ≡ n
-empty-long s n = length-map-range_with_len (empty_program s) 0 n
+one-fits : (s : System) (a : ℕ) (p : Program) → IsOfOneScript s a p → IsProgramOf s a p
+one-fits s a (Plain parts) h = (h.0, omega (arith, h.1), omega (arith, h.1, some-scripts s a))
+one-fits s a (Functions functions) h = h
 
-empty-are : (s : System) (n : ℕ) → ArePrograms s (map (empty_program s) (range_with_len 0 n))
-empty-are s n = record {
-  each = λ a lt. subst (IsProgramOf s a) (sym (get_or-map-range_with_len (empty_program s) 0 n a a (Plain []) (subst (λ (k : ℕ). a < k) (empty-long s n) lt) (omega arith))) (empty-fits s a);
+-- scripts, where the actor isn't one of the SFN model
+pub plain-each : (s : System) (a : ℕ) (ps : List Program) → is_sfn s a ≡ false → AllByRecursion (IsOfOneScript s a) ps → AllByRecursion IsOnePart ps
+plain-each s a [] plain h = tt
+plain-each s a (Plain parts ∷ ps) plain h = (h.0.1, plain-each s a ps plain h.1)
+plain-each s a (Functions functions ∷ ps) plain h = let e : true ≡ false = sym h.0.0 ∙ plain in cc
+
+-- a part for each
+pub parts-counted : (ps : List Program) → AllByRecursion IsOnePart ps → length (flat_map parts_of ps) ≡ length ps
+parts-counted [] h = refl
+parts-counted (Plain parts ∷ ps) h = length-append parts (flat_map parts_of ps) ∙ (ap (λ (n : ℕ). n + length (flat_map parts_of ps)) h.0 ∙ (ap (λ (n : ℕ). 1 + n) (parts-counted ps h.1) ∙ omega arith))
+parts-counted (Functions functions ∷ ps) h = absurd h.0
+
+pub parts-each : (ps : List Program) → AllByRecursion IsOnePart ps → AllByRecursion (λ (s : Parts). length s ≡ 1) (map parts_of ps)
+parts-each [] h = tt
+parts-each (Plain parts ∷ ps) h = (h.0, parts-each ps h.1)
+parts-each (Functions functions ∷ ps) h = absurd h.0
+
+-- the parts of all scripts, in order
+pub parts-joined : (ps : List Program) → flat_map (λ (parts : Parts). parts) (map parts_of ps) ≡ flat_map parts_of ps
+parts-joined [] = refl
+parts-joined (p ∷ ps) = ap (λ (more : Parts). parts_of p ++ more) (parts-joined ps)
+
+pub joined-many : (s : System) (a : ℕ) (ps : List Program) → 1 < length ps → Plain (flat_map parts_of ps) ≡ joined s a ps
+joined-many s a [] more = absurd (omega arith)
+joined-many s a (p ∷ []) more = absurd (omega arith)
+joined-many s a (p ∷ q ∷ ps) more = refl
+
+many-fit : (s : System) (a : ℕ) (ps : List Program) → 1 < length ps → length ps ≤ most_scripts s a → AllByRecursion (IsOfOneScript s a) ps → IsProgramOf s a (Plain (flat_map parts_of ps))
+many-fit s a ps more few each =
+    let plain : is_sfn s a ≡ false = several s a (omega arith) in
+    let counted = parts-counted ps (plain-each s a ps plain each) in
+    (plain, omega (arith, counted), omega (arith, counted))
+
+pub joined-fits : (s : System) (a : ℕ) (ps : List Program) → length ps ≤ most_scripts s a → AllByRecursion (IsOfOneScript s a) ps → IsProgramOf s a (joined s a ps)
+joined-fits s a [] few each = empty-fits s a
+joined-fits s a (p ∷ []) few each = one-fits s a p each.0
+joined-fits s a (p ∷ q ∷ ps) few each = many-fit s a (p ∷ (q ∷ ps)) (omega arith) few each
+
+-- ---- the programs of all actors
+
+pub joined_long : (s : System) (made : Made) → length (all_joined s made) ≡ length made
+joined_long s made = length-map (enumerate_from 0 made) (λ (own : ℕ × List Program). joined s own.0 own.1) ∙ length-enumerate_from 0 made
+
+pub joined-at : (s : System) (made : Made) (a : ℕ) → a < length made → get_or (all_joined s made) a (Plain []) ≡ joined s a (get_or made a [])
+joined-at s made a lt =
+    get_or-map (λ (own : ℕ × List Program). joined s own.0 own.1) (enumerate_from 0 made) a (0, []) (Plain []) (rw length-enumerate_from lt)
+    ∙ (ap (λ (own : ℕ × List Program). joined s own.0 own.1) (get_or-enumerate_from 0 made a (0, []) lt) ∙ ap (λ (n : ℕ). joined s n (get_or made a [])) (omega arith))
+
+pub joined_fit : (s : System) (made : Made) → AreMade s made → ArePrograms s (all_joined s made)
+joined_fit s made are = record {
+  each = λ a lt.
+      let low : a < length made = subst (λ (k : ℕ). a < k) (joined_long s made) lt in
+      subst (IsProgramOf s a) (sym (joined-at s made a low)) (joined-fits s a (get_or made a []) (are.few a low) (are.each a low));
 }
 
-device-long : (xs : List Source) (raises : List RaiseItem) → length (device_programs xs raises) ≡ device_count xs
-device-long [] raises = refl
-device-long (x ∷ xs) raises = refl
+abbrev joined_own : System → ℕ × List Program → Program
+joined_own s own = joined s own.0 own.1
 
-device-are : (s : System) (n : ℕ) (ps : List Program) (xs : List Source) (raises : List RaiseItem) → length s.partitions ≤ n → length ps ≡ n → ArePrograms s ps → ArePrograms s (ps ++ device_programs xs raises)
-device-are s n ps [] raises past long are = subst (ArePrograms s) (sym (append-nil ps)) are
-device-are s n ps (x ∷ xs) raises past long are = programs-more s ps (Plain (device_script raises)) n long are (not_sfn s n past)
+joined-from : (s : System) (made : Made) (own : List Program) (k : ℕ)
+    → map (joined_own s) (enumerate_from k (made ++ own ∷ [])) ≡ map (joined_own s) (enumerate_from k made) ++ joined s (k + length made) own ∷ []
+joined-from s [] own k = let here : k ≡ k + 0 = omega arith in ap (λ (n : ℕ). joined s n own ∷ []) here
+joined-from s (x ∷ xs) own k =
+    let here : k + 1 + length xs ≡ k + length (x ∷ xs) = omega arith in
+    ap (λ (ps : List Program). joined s k x ∷ ps) (joined-from s xs own (k + 1) ∙ ap (λ (n : ℕ). map (joined_own s) (enumerate_from (k + 1) xs) ++ joined s n own ∷ []) here)
 
-pub first_long : (s : System) (c : Scenario) → length (first_programs s c) ≡ actor_count s
-unfolding first_programs
-first_long s c =
-    let n = length s.partitions + length s.clients in
-    length-append (map (empty_program s) (range_with_len 0 n)) (device_programs s.sources c.raises) ∙ ap (λ (k : ℕ). k + length (device_programs s.sources c.raises)) (empty-long s n) ∙ ap (λ (k : ℕ). n + k) (device-long s.sources c.raises)
+-- one actor more
+pub joined-more : (s : System) (made : Made) (own : List Program) (n : ℕ) → n ≡ length made → all_joined s (made ++ own ∷ []) ≡ all_joined s made ++ joined s n own ∷ []
+joined-more s made own n here =
+    let at : 0 + length made ≡ n = omega (arith, here) in
+    joined-from s made own 0 ∙ ap (λ (k : ℕ). all_joined s made ++ joined s k own ∷ []) at
 
-pub first_fit : (s : System) (c : Scenario) → ArePrograms s (first_programs s c)
-unfolding first_programs
-first_fit s c =
-    let n = length s.partitions + length s.clients in
-    device-are s n (map (empty_program s) (range_with_len 0 n)) s.sources c.raises (omega arith) (empty-long s n) (empty-are s n)
+-- what is known of the programs of the next actor
+pub own-kept : (s : System) (made front behind : Made) (own : List Program) (n : ℕ) → AreMade s made → front ++ own ∷ behind ≡ made → n ≡ length front
+    → AllByRecursion (IsOfOneScript s n) own × (length own ≤ most_scripts s n)
+own-kept s made front behind own n are whole here =
+    let parted : AreMade s (front ++ own ∷ behind) = subst (AreMade s) (sym whole) are in
+    let at : get_or (front ++ own ∷ behind) (length front) [] ≡ own = get_or-append_seam front own behind [] in
+    let counted : length (front ++ own ∷ behind) ≡ length front + length (own ∷ behind) = length-append front (own ∷ behind) in
+    let within : length front < length (front ++ own ∷ behind) = omega (arith, counted) in (
+      subst (λ (k : ℕ). AllByRecursion (IsOfOneScript s k) own) (sym here) (subst (AllByRecursion (IsOfOneScript s (length front))) at (parted.each (length front) within)),
+      subst (λ (k : ℕ). length own ≤ most_scripts s k) (sym here) (subst (λ (x : List Program). length x ≤ most_scripts s (length front)) at (parted.few (length front) within)),
+    )
 
 -- ---- the scripts by which programs run
+
+-- a script has as many parts as its actor may have scripts, at most
+pub script-parts : (s : System) (a : ℕ) (p : Program) → IsProgramOf s a p → length (script_of s a p) ≤ most_scripts s a
+script-parts s a (Plain parts) h = h.2
+script-parts s a (Functions functions) h = some-scripts s a
 
 pub all-yielded : {X : Type 0} (ys rest all : List X) → ys ++ rest ≡ all → length rest ≡ 0 → ys ≡ all
 all-yielded ys [] all h none = sym (append-nil ys) ∙ h

@@ -3,7 +3,7 @@ ghost use Rattle.std.specs.Prelude.{◌≡◌, ◌<◌, ◌≤◌, IfOk, length}
 ghost use Rattle.ffm_model.specs.Actors.{actor_count};
 ghost use Rattle.ffm_model.specs.Reading.{Reads};
 ghost use Rattle.sfn_calls.specs.Partitions.{is_sfn};
-ghost use Rattle.actor_programs.specs.Programs.{IsProgramOf, empty_program, program_read};
+ghost use Rattle.actor_programs.specs.Programs.{IsOfOneScript, empty_program, program_read};
 
 use ffm_model::{ActorId, Lines, List, Memory, ReadError, Script, SfnScript, System};
 use script_asm::assemble;
@@ -13,7 +13,8 @@ use std::alloc::Global;
 /// What an actor runs.
 #[derive(Drop)]
 pub enum Program {
-    /// A script.
+    /// A script: of a non-secure client it has a part for each of the client's scripts in the
+    /// scenario, in order, and of any other actor one part.
     Plain(Script),
     /// The functions of a partition of the SFN model.
     Functions(SfnScript),
@@ -40,7 +41,8 @@ pub fn empty_program(alloc: Global, system: &System, actor: ActorId) -> Result<P
     Ok(Program::Plain(Script::plain(alloc, Vec::new(alloc))?))
 }
 
-/// The program that lines make of an actor, where their script has this number in the scenario.
+/// The program that the lines of one script make of an actor, where it has this number in the
+/// scenario.
 pub fn program_of(
     alloc: Global,
     system: &System,
@@ -51,7 +53,7 @@ pub fn program_of(
     requires actor { actor.0 < actor_count system.now }
     requires short { length lines.now ≤ 4096 }
     ensures reads { Reads (λ p. p) result (program_read system.now number actor.0 lines.now) }
-    ensures fits { IfOk result (IsProgramOf system.now actor.0) }
+    ensures fits { IfOk result (IsOfOneScript system.now actor.0) }
 {
     if is_sfn(system, actor) {
         let functions = assemble_sfn(alloc, lines, system, actor.0, number)?;

@@ -8,6 +8,7 @@ use Rattle.ffm_model.specs.declared.system.Service.{Service}
 use Rattle.ffm_model.specs.declared.system.Source.{Source}
 use Rattle.ffm_model.specs.declared.system.Region.{Region}
 use Rattle.ffm_model.specs.declared.system.Budget.{Budget}
+use Rattle.ffm_model.specs.ManifestItems.{IsService}
 use Rattle.ffm_model.specs.PartsItems.{PartsRecord, IsParts}
 use Rattle.ffm_model.specs.Parts.{SystemParts, are_numbered, do_fit, system_from, parts_of_system}
 use Rattle.ffm_model.specs.WellFormed.{is_well_formed}
@@ -17,9 +18,9 @@ use Rattle.ffm_model.specs.Permissions.{services_in, budgets_of}
 use Rattle.ffm_model.specs.Reading.{refused}
 use Rattle.ffm_model.proofs.PartsLemmas.{system_of_parts}
 use Rattle.ffm_model.specs.Rules.{broken, duplicate_partitions, duplicate_sids, unknown_dependencies, self_dependencies, dependency_cycle, too_many_signals, unknown_regions, overlapping_regions, too_many_partitions, too_many_connections, budgets_without_permission, duplicate_sources, memory_too_large, duplicate_indices, too_many_stateless}
-use Rattle.admitted_systems.proofs.Lists.{append_nil, only_if_nil, four, eight}
+use Rattle.admitted_systems.proofs.Lists.{each_weaker, append_nil, only_if_nil, four, eight}
 use Rattle.admitted_systems.proofs.Models.{models_do_fit}
-use Rattle.admitted_systems.proofs.Stateless.{stateless_do_fit}
+use Rattle.admitted_systems.proofs.Stateless.{items_right, stateless_do_fit}
 use Rattle.admitted_systems.proofs.Enough.{all_have_indices}
 use Rattle.admitted_systems.proofs.Partitions.{length_partitions, partitions_do_fit}
 use Rattle.admitted_systems.proofs.Regions.{regions_do_fit}
@@ -97,9 +98,12 @@ parts_are_numbered p parts none =
     let services : length (services_of p) ≤ 28 * length p.manifests = few_services p rules.signals in
     lt-ltb (length (services_of p)) (2 ^ 31) (omega arith)
 
-pub stateless_have_indices : (p : PartsRecord) → Each (λ x. x.value.connection_based ≡ true → x.value.stateless_handle ≡ 0) (services_in p) → broken p ≡ []
-    → map (λ v. v.stateless == 0) (services_of p) ≡ map (λ x. x.value.connection_based) (services_in p)
-stateless_have_indices p stated none = let rules : Kept p = kept p none in all_have_indices p stated rules.stateless
+pub stateless_have_indices : (p : PartsRecord) → IsParts p → broken p ≡ [] → map (λ v. v.stateless == 0) (services_of p) ≡ map (λ x. x.value.connection_based) (services_in p)
+stateless_have_indices p parts none =
+    let rules : Kept p = kept p none in
+    let stated : Each (λ x. x.value.connection_based ≡ true → x.value.stateless_handle ≡ 0) (services_in p) =
+    each_weaker (λ x. IsService x.value) (λ x. x.value.connection_based ≡ true → x.value.stateless_handle ≡ 0) (λ x v. v.unstated) (services_in p) (items_right p.manifests parts.manifests) in
+    all_have_indices p stated rules.stateless
 
 -- the same of lists that are the parts' fields
 pub lists_fit : (p : PartsRecord) (level : ℕ) (partitions : List Partition) (services : List Service) (sources : List Source) (regions : List Region) (clients : List (List ℕ)) (budgets : List Budget)

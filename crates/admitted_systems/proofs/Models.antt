@@ -13,7 +13,7 @@ use Rattle.ffm_model.specs.declared.system.Service.{Service}
 use Rattle.ffm_model.specs.ManifestItems.{ManifestRecord, ServiceRecord, IsManifest}
 use Rattle.ffm_model.specs.PartsItems.{PartsRecord, IsParts}
 use Rattle.ffm_model.specs.WellFormed.{ram_bytes, functions_fit, models_fit}
-use Rattle.ffm_model.specs.Layout.{Located, located_in, located_from, rounded, ram_size, domain_at, rams_from, non_secure_of, mmio_of, regions_of}
+use Rattle.ffm_model.specs.Layout.{Located, located_in, located_from, rounded, ram_needed, domain_at, rams_from, non_secure_of, mmio_of, regions_of}
 use Rattle.ffm_model.specs.Permissions.{services_in}
 use Rattle.ffm_model.specs.Compiled.{index_for, services_from, stated_indices, services_of, partition_of, partitions_of}
 use Rattle.admitted_systems.proofs.Lists.{get_behind, each_weaker, all_from}
@@ -60,11 +60,11 @@ all_owned p parts =
 rounded_up : (n : ℕ) → n ≤ rounded n
 rounded_up n = omega arith
 
-stack_in_ram : (m : ManifestRecord) → 48 ≤ m.stack_size → 48 ≤ ram_size m
-stack_in_ram m h = let up : m.stack_size + m.heap_size ≤ ram_size m = rounded_up (m.stack_size + m.heap_size) in omega arith
+stack_in_ram : (m : ManifestRecord) → 48 ≤ m.stack_size → 48 ≤ ram_needed m
+stack_in_ram m h = let up : m.stack_size + m.heap_size ≤ ram_needed m = rounded_up (m.stack_size + m.heap_size) in omega arith
 
-heap_in_ram : (m : ManifestRecord) → m.heap_size ≤ ram_size m
-heap_in_ram m = let up : m.stack_size + m.heap_size ≤ ram_size m = rounded_up (m.stack_size + m.heap_size) in omega arith
+heap_in_ram : (m : ManifestRecord) → m.heap_size ≤ ram_needed m
+heap_in_ram m = let up : m.stack_size + m.heap_size ≤ ram_needed m = rounded_up (m.stack_size + m.heap_size) in omega arith
 
 functions_by : (sfn owned : Bool) (bytes size : ℕ) → bytes ≡ size → (sfn ≡ true → owned ≡ true) → (sfn ≡ true → 48 ≤ size) → (not sfn || (owned && nat_le 48 bytes)) ≡ true
 functions_by false owned bytes size e h k = refl
@@ -78,16 +78,16 @@ fit_from : (services : List Service) (level k base : ℕ) (ms : List ManifestRec
     → Each (Fits services (front ++ (rams_from level k base ms ++ rest))) (enumerate_from k (map (partition_of level) (enumerate_from k ms)))
 fit_from services level k base [] front rest e h owned = tt
 fit_from services level k base (m ∷ ms) front rest e h owned =
-    let ram : Region = record { base = base; size = ram_size m; class = Ram (domain_at level m.rot (k + 1)) } in
-    let behind = rams_from level (k + 1) (base + ram_size m) ms ++ rest in
-    let bytes : option_map_or (λ (r : Region). r.size) (slice_get (front ++ ram ∷ behind) k) 0 ≡ ram_size m = ap (λ o. option_map_or (λ (r : Region). r.size) o 0) (get_behind front ram behind k e) in
-    let heap : m.heap_size ≤ ram_size m = heap_in_ram m in (
+    let ram : Region = record { base = base; size = ram_needed m; class = Ram (domain_at level m.rot (k + 1)) } in
+    let behind = rams_from level (k + 1) (base + ram_needed m) ms ++ rest in
+    let bytes : option_map_or (λ (r : Region). r.size) (slice_get (front ++ ram ∷ behind) k) 0 ≡ ram_needed m = ap (λ o. option_map_or (λ (r : Region). r.size) o 0) (get_behind front ram behind k e) in
+    let heap : m.heap_size ≤ ram_needed m = heap_in_ram m in (
       (
-        functions_by m.sfn _ _ (ram_size m) bytes owned.0 (λ functions. stack_in_ram m (h.0.stack_size functions)),
+        functions_by m.sfn _ _ (ram_needed m) bytes owned.0 (λ functions. stack_in_ram m (h.0.stack_size functions)),
         le-leb m.heap_size _ (omega (arith, bytes, heap)),
       ),
       subst (λ (regions : List Region). Each (Fits services regions) (enumerate_from (k + 1) (map (partition_of level) (enumerate_from (k + 1) ms)))) (append_assoc front (ram ∷ []) behind)
-          (fit_from services level (k + 1) (base + ram_size m) ms (front ++ ram ∷ []) rest (let l = length-append front (ram ∷ []) in omega arith) h.1 owned.1),
+          (fit_from services level (k + 1) (base + ram_needed m) ms (front ++ ram ∷ []) rest (let l = length-append front (ram ∷ []) in omega arith) h.1 owned.1),
     )
 
 pub models_do_fit : (p : PartsRecord) → IsParts p → models_fit (partitions_of p) (services_of p) (regions_of p) ≡ true

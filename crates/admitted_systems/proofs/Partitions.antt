@@ -10,7 +10,7 @@ use Rattle.ffm_model.specs.declared.system.Class.TheVariants.{Ram}
 use Rattle.ffm_model.specs.ManifestItems.{ManifestRecord}
 use Rattle.ffm_model.specs.PartsItems.{PartsRecord, IsParts}
 use Rattle.ffm_model.specs.WellFormed.{is_ram_in, is_ram, partitions_fit}
-use Rattle.ffm_model.specs.Layout.{ram_size, domain_at, rams_from, rams_of, non_secure_of, mmio_of, regions_of}
+use Rattle.ffm_model.specs.Layout.{ram_needed, domain_at, rams_from, rams_of, non_secure_of, mmio_of, regions_of}
 use Rattle.ffm_model.specs.Compiled.{partition_of, partitions_of}
 use Rattle.ffm_model.specs.Rules.{memory_too_large}
 use Rattle.admitted_systems.proofs.Lists.{get_behind, three, each_weaker, each_map, all_from, pairs_test, pairs_map}
@@ -27,16 +27,16 @@ rams_found : (level k base : ℕ) (ms : List ManifestRecord) (front rest : List 
     → Each (HasRam (front ++ (rams_from level k base ms ++ rest))) (map (partition_of level) (enumerate_from k ms))
 rams_found level k base [] front rest e = tt
 rams_found level k base (m ∷ ms) front rest e =
-    let ram : Region = record { base = base; size = ram_size m; class = Ram (domain_at level m.rot (k + 1)) } in
-    let behind = rams_from level (k + 1) (base + ram_size m) ms ++ rest in (
+    let ram : Region = record { base = base; size = ram_needed m; class = Ram (domain_at level m.rot (k + 1)) } in
+    let behind = rams_from level (k + 1) (base + ram_needed m) ms ++ rest in (
       own_domain (domain_at level m.rot (k + 1)) (slice_get (front ++ ram ∷ behind) k) ram (get_behind front ram behind k e) (eq-eqb _ _ refl),
       subst (λ (regions : List Region). Each (HasRam regions) (map (partition_of level) (enumerate_from (k + 1) ms))) (append_assoc front (ram ∷ []) behind)
-          (rams_found level (k + 1) (base + ram_size m) ms (front ++ ram ∷ []) rest (let l = length-append front (ram ∷ []) in omega arith)),
+          (rams_found level (k + 1) (base + ram_needed m) ms (front ++ ram ∷ []) rest (let l = length-append front (ram ∷ []) in omega arith)),
     )
 
 length_rams : (level k base : ℕ) (ms : List ManifestRecord) → length (rams_from level k base ms) ≡ length ms
 length_rams level k base [] = refl
-length_rams level k base (m ∷ ms) = ap suc (length_rams level (k + 1) (base + ram_size m) ms)
+length_rams level k base (m ∷ ms) = ap suc (length_rams level (k + 1) (base + ram_needed m) ms)
 
 -- the regions behind the RAM aren't RAM
 front_or_other : (Q : Region → Type 0) (k : ℕ) (xs ys : List Region) → Each Q ys → Each (λ e. (e.0 < k + length xs) ⊎ Q e.1) (enumerate_from k (xs ++ ys))

@@ -14,7 +14,7 @@ use Rattle.ffm_model.specs.ManifestItems.{ManifestRecord, MmioRecord, IsManifest
 use Rattle.ffm_model.specs.PartsItems.{PartsRecord, RegionRecord, IsRegion, IsParts}
 use Rattle.ffm_model.specs.Repeats.{only_if}
 use Rattle.ffm_model.specs.WellFormed.{apart, each_pair, is_nonsecure, is_ram, owner_below, regions_fit}
-use Rattle.ffm_model.specs.Layout.{Located, located_in, located_from, ram_size, rounded, rams_from, rams_of, non_secure_of, range_named, mmio_placed, mmio_items, mmio_of, regions_of, overlapping, overlaps, is_large, is_large_item, large_from, partition_ram, mmio_item, non_secure_ram, all_regions}
+use Rattle.ffm_model.specs.Layout.{Located, located_in, located_from, ram_needed, rounded, rams_from, rams_of, non_secure_of, range_named, mmio_placed, mmio_items, mmio_of, regions_of, overlapping, overlaps, is_large, is_large_item, large_from, partition_ram, mmio_item, non_secure_ram, all_regions}
 use Rattle.ffm_model.specs.Rules.{overlapping_regions, memory_too_large}
 use Rattle.admitted_systems.proofs.Lists.{three, four, append_nil, map_nil, only_if_nil, filter_nil, none_any, each_weaker, each_always, each_both, each_append, each_split, each_map, each_filter_map, all_from, Pairs, pairs_test, pairs_weaker, pairs_map, pairs_append, Across, across_cons}
 use Rattle.admitted_systems.proofs.Numbered.{each_numbered}
@@ -41,7 +41,7 @@ behind_apart r q h = or_right (r.size == 0) _ (or_right (q.size == 0) _ (or_righ
 -- ---- RAM of partitions
 
 abbrev Small : ManifestRecord → Type 0
-Small m = ram_size m ≤ 1048576
+Small m = ram_needed m ≤ 1048576
 
 pub record RamBetween (low high : ℕ) (r : Region) : Type 0 where
   pub owner : (n : ℕ) → owner_below n r.class ≡ true
@@ -54,19 +54,19 @@ rams_between : (level k base : ℕ) (ms : List ManifestRecord) → Each Small ms
 rams_between level k base [] h = tt
 rams_between level k base (m ∷ ms) h =
     let high : ℕ = base + 1048576 * length (m ∷ ms) in
-    let size : ram_size m ≤ 1048576 = h.0 in (
+    let size : ram_needed m ≤ 1048576 = h.0 in (
       record { owner = λ n. refl; secure = refl; from = le_refl base; size = size; ends = omega arith },
-      each_weaker (RamBetween (base + ram_size m) (base + ram_size m + 1048576 * length ms)) (RamBetween base (base + 1048576 * length (m ∷ ms)))
-          (λ r p. record { owner = p.owner; secure = p.secure; from = let l : base + ram_size m ≤ r.base = p.from in omega arith; size = p.size; ends = let l : r.base + r.size ≤ base + ram_size m + 1048576 * length ms = p.ends in omega arith })
-          (rams_from level (k + 1) (base + ram_size m) ms) (rams_between level (k + 1) (base + ram_size m) ms h.1),
+      each_weaker (RamBetween (base + ram_needed m) (base + ram_needed m + 1048576 * length ms)) (RamBetween base (base + 1048576 * length (m ∷ ms)))
+          (λ r p. record { owner = p.owner; secure = p.secure; from = let l : base + ram_needed m ≤ r.base = p.from in omega arith; size = p.size; ends = let l : r.base + r.size ≤ base + ram_needed m + 1048576 * length ms = p.ends in omega arith })
+          (rams_from level (k + 1) (base + ram_needed m) ms) (rams_between level (k + 1) (base + ram_needed m) ms h.1),
     )
 
 rams_in_front : (level k base : ℕ) (ms : List ManifestRecord) → Each Small ms → Pairs InFront (rams_from level k base ms)
 rams_in_front level k base [] h = tt
 rams_in_front level k base (m ∷ ms) h = (
-  each_weaker (RamBetween (base + ram_size m) (base + ram_size m + 1048576 * length ms)) (λ r. base + ram_size m ≤ r.base) (λ r p. p.from)
-      (rams_from level (k + 1) (base + ram_size m) ms) (rams_between level (k + 1) (base + ram_size m) ms h.1),
-  rams_in_front level (k + 1) (base + ram_size m) ms h.1,
+  each_weaker (RamBetween (base + ram_needed m) (base + ram_needed m + 1048576 * length ms)) (λ r. base + ram_needed m ≤ r.base) (λ r p. p.from)
+      (rams_from level (k + 1) (base + ram_needed m) ms) (rams_between level (k + 1) (base + ram_needed m) ms h.1),
+  rams_in_front level (k + 1) (base + ram_needed m) ms h.1,
 )
 
 -- ---- what is too large
@@ -78,16 +78,16 @@ none_large : (regions : List RegionRecord) (k : ℕ) (ms : List ManifestRecord) 
     → Each Small ms × Each (λ x. is_large_item regions x ≡ false) (located_from (λ m. m.mmio) k ms)
 none_large regions k [] e = (tt, tt)
 none_large regions k (m ∷ ms) e =
-    let first : (only_if (is_large (ram_size m)) (partition_ram k) ≡ []) × (map (λ x. mmio_item x.manifest x.item) (filter (is_large_item regions) (located_in k 0 m.mmio)) ++ large_from regions (k + 1) ms ≡ []) = append_nil _ _ e in
+    let first : (only_if (is_large (ram_needed m)) (partition_ram k) ≡ []) × (map (λ x. mmio_item x.manifest x.item) (filter (is_large_item regions) (located_in k 0 m.mmio)) ++ large_from regions (k + 1) ms ≡ []) = append_nil _ _ e in
     let second : (map (λ x. mmio_item x.manifest x.item) (filter (is_large_item regions) (located_in k 0 m.mmio)) ≡ []) × (large_from regions (k + 1) ms ≡ []) = append_nil _ _ first.1 in
     let rest : Each Small ms × Each (λ x. is_large_item regions x ≡ false) (located_from (λ m. m.mmio) (k + 1) ms) = none_large regions (k + 1) ms second.1 in (
-      (not_large (ram_size m) (only_if_nil _ _ first.0), rest.0),
+      (not_large (ram_needed m) (only_if_nil _ _ first.0), rest.0),
       each_append (λ x. is_large_item regions x ≡ false) (located_in k 0 m.mmio) (located_from (λ m. m.mmio) (k + 1) ms) (filter_nil (is_large_item regions) (located_in k 0 m.mmio) (map_nil _ _ second.0)) rest.1,
     )
 
 -- what the rule on sizes says
 pub record Sizes (p : PartsRecord) : Type 0 where
-  pub rams : Each (λ m. ram_size m ≤ 1048576) p.manifests
+  pub rams : Each (λ m. ram_needed m ≤ 1048576) p.manifests
   pub items : Each (λ x. is_large_item p.regions x ≡ false) (mmio_items p)
   pub non_secure : rounded p.non_secure_ram ≤ 1048576
   pub together : sum_by (λ r. r.size) (regions_of p) ≤ 16777216

@@ -135,7 +135,7 @@ stated_apart p rule =
     let same : Located ServiceRecord → Located ServiceRecord → Bool = λ x y. not (y.value.stateless_handle == 0) && (x.value.stateless_handle == y.value.stateless_handle) in
     pairs_weaker (λ x y. same x y ≡ false) (λ x y. differ (stated x) (stated y) ≡ true) (λ x y e. not_twice (stated x) (stated y) e) (services_in p) (repeated_nil same (services_in p) (map_nil _ _ rule))
 
-items_right : (ms : List ManifestRecord) → Each IsManifest ms → Each (λ x. IsService x.value) (located_from (λ m. m.services) 0 ms)
+pub items_right : (ms : List ManifestRecord) → Each IsManifest ms → Each (λ x. IsService x.value) (located_from (λ m. m.services) 0 ms)
 items_right ms h =
     item_each (λ j v. IsService v) (λ m. m.services) 0 ms
     (each_numbered (λ m. Each IsService m.services) 0 ms (each_weaker IsManifest (λ m. Each IsService m.services) (λ m r. r.services) ms h))

@@ -3,7 +3,6 @@
 #![tactic(auto)]
 
 ghost use Rattle.std.specs.Prelude.{◌≡◌, ◌==◌, true, List, [], ◌∷◌, map, Err, IsOkAnd};
-ghost use Rattle.std.specs.List.{AllByRecursion};
 ghost use Rattle.ffm_model.specs.declared.place.Refusal.{Refusal};
 ghost use Rattle.ffm_model.specs.Compiled.{services_of, system_parts, compiled};
 ghost use Rattle.ffm_model.specs.Parts.{are_numbered, do_fit, parts_of_system};
@@ -20,11 +19,10 @@ pub fn admitted_parts_fit()
     ensures numbered { (p : PartsRecord) → IsParts p → broken p ≡ [] → are_numbered (system_parts p) ≡ true }
 {}
 
-/// Where no rule is broken, each service has an index but those that clients connect to. One that
-/// clients connect to states no index; files say none for it.
+/// Where no rule is broken, each service has an index but those that clients connect to.
 #[tactic(auto, using(crate::proofs::Fit::stateless_have_indices))]
 pub fn stateless_services_have_indices()
-    ensures { (p : PartsRecord) → AllByRecursion (λ x. x.value.connection_based ≡ true → x.value.stateless_handle ≡ 0) (services_in p) → broken p ≡ [] → map (λ v. v.stateless == 0) (services_of p) ≡ map (λ x. x.value.connection_based) (services_in p) }
+    ensures { (p : PartsRecord) → IsParts p → broken p ≡ [] → map (λ v. v.stateless == 0) (services_of p) ≡ map (λ x. x.value.connection_based) (services_in p) }
 {}
 
 /// A system file gives the system of its parts exactly where no rule is broken, and otherwise the

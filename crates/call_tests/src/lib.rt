@@ -1,17 +1,11 @@
-//! What the calls of a manager answer, each over tables made for it.
+//! Calls of a manager, one after another, over tables made for them.
 //!
-//! This library has no function of its own: it is a set of tests of the public calls of other crates.
+//! This library has no function of its own: it is a test that the condition of each call is met by what the
+//! calls before it promise. What each call answers is a clause of its own, and whole runs of all calls are
+//! tests of other crates.
 #![tactic(auto)]
 
 #[cfg(test)]
-mod clients;
+mod lives;
 #[cfg(test)]
-mod doorbells;
-#[cfg(test)]
-mod handling;
-#[cfg(test)]
-mod panics;
-#[cfg(test)]
-mod services;
-#[cfg(test)]
-mod stateless;
+mod setup;

@@ -37,7 +37,7 @@ struct Worked {
     text: &'static str,
 }
 
-static WORKED: [Worked; 24] = [
+static WORKED: [Worked; 21] = [
     Worked {
         system: ONE_CLIENT,
         scenario: ASKING,
@@ -163,25 +163,6 @@ static WORKED: [Worked; 24] = [
         scenario: r#"{"scripts":[{"actor":"CLOCK","lines":["wait 0xffffffff 0x80000000","get r0 0x30000000","set_rhandle r2 1"]},{"actor":"NS","lines":["call 0x40000001 0 0 0 0 0","call 0x40000001 0 0 0 0 0"]}]}"#,
         status: 0,
         text: "p1 wait 0xffffffff 0x80000000 -> blocked\nn1 call 1073741825 0 0x00000000 0 0x00000000 0 -> blocked\np1 resume -> signals 0x00000010\np1 get 0x00000010 0x30000000 -> message 0 1536 -1 0x00000000 0 0 0 0 0 0 0 0\np1 set_rhandle 1536 0x00000001 -> panicked\nn1 resume -> value -145\nn1 call 1073741825 0 0x00000000 0 0x00000000 0 -> value -145\nn1 stop end -> done\nquiet 8\n",
-    },
-    // What is read and not carried out yet.
-    Worked {
-        system: r#"{"isolation_level":1,"manifests":[{"psa_framework_version":1.1,"name":"P","type":"PSA-ROT","priority":"LOW","entry_point":"main","stack_size":0,"services":[{"name":"R","sid":1,"non_secure_clients":false},{"name":"S","sid":1,"non_secure_clients":false,"mm_iovec":"enable"}]}]}"#,
-        scenario: "{}",
-        status: 1,
-        text: "refused 4 BadValue system /manifests/0/services/1/mm_iovec\n",
-    },
-    Worked {
-        system: ONE_CLIENT,
-        scenario: r#"{"scripts":[{"actor":"NS","lines":["wrong"]},{"actor":"VAULT","lines":[]},{"actor":"NS","lines":[]}]}"#,
-        status: 1,
-        text: "refused 4 BadValue scenario /scripts/2/actor\n",
-    },
-    Worked {
-        system: ONE_CLIENT,
-        scenario: r#"{"restarts":1}"#,
-        status: 1,
-        text: "refused 4 BadValue scenario /restarts\n",
     },
 ];
 

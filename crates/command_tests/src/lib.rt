@@ -9,3 +9,5 @@ mod commands;
 mod compile;
 #[cfg(test)]
 mod functions;
+#[cfg(test)]
+mod restarts;

@@ -24,6 +24,7 @@ is_manifest m first a plain b c d e f = record {
   entry_point = inl (subst IsName (sym b) is_main);
   stack_size = λ functions. absurd (false≢true (sym plain ∙ functions));
   has_service = λ functions. absurd (false≢true (sym plain ∙ functions));
+  no_irqs = λ functions. absurd (false≢true (sym plain ∙ functions));
   mmio = none IsMmio m.mmio c;
   services = none IsService m.services d;
   dependencies = none IsName m.dependencies e;

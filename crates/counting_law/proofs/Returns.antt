@@ -114,7 +114,7 @@ told_sound Ended e = cc
 told_sound Panicked e = cc
 
 -- another's phase
-turned-sound : (p q : ActorPhase) → Turned p q → is_sound p ≡ true → is_sound q ≡ true
+pub turned-sound : (p q : ActorPhase) → Turned p q → is_sound p ≡ true → is_sound q ≡ true
 turned-sound p q (inl e) h = ap is_sound (sym e) ∙ h
 turned-sound p q (inr (inl k)) h = told_sound q k.1
 turned-sound p q (inr (inr k)) h = ap is_sound k.1
@@ -151,7 +151,7 @@ step-waits s es st new e w h =
           (turned-fits (answers_to a es) (phase_of st.spm a) (phase_of new.spm a) (turns.others a k) (w.last a)));
     }
 
-open-phase : (q : ActorPhase → Bool) (v : Bool) → q Running ≡ v → q Ended ≡ v → (n a : ℕ) → q (get_or (replicate n Running) a Ended) ≡ v
+pub open-phase : (q : ActorPhase → Bool) (v : Bool) → q Running ≡ v → q Ended ≡ v → (n a : ℕ) → q (get_or (replicate n Running) a Ended) ≡ v
 open-phase q v running ended zero a = ended
 open-phase q v running ended (suc n) zero = running
 open-phase q v running ended (suc n) (suc a) = open-phase q v running ended n a

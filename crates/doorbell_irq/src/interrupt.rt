@@ -49,16 +49,6 @@ fn source_of_signal(system: &System, partition: ActorId, signal: u32) -> Option<
     }
 }
 
-// Whether a source of the system has a first-level handler.
-fn has_flih(system: &System, source: u32) -> bool
-    ensures { result ≡ has_flih system.now source }
-{
-    match system.sources.as_slice().get(source as usize) {
-        Some(source) => source.flih,
-        None => false,
-    }
-}
-
 // Sets the flags of a source, and then forwards its interrupts.
 fn put_forwarded(tables: &mut Tables, source: u32, flags: SourceFlags)
     ensures answer { (s : SystemSeen) → MadeFor tables.old s → spm_of tables.new ≡ with_forwarded s (spm_of tables.old) source flags }
@@ -132,7 +122,7 @@ pub fn eoi(system: &System, tables: &mut Tables, actor: ActorId, signal: u32) ->
 {
     let source = source_of_signal(system, actor, signal).ok_or(Fault)?;
     let flags = tables.source_flags(source);
-    if !flags.asserted || has_flih(system, source) {
+    if !flags.asserted || system.has_flih(source) {
         return Err(Fault);
     }
     let ended = SourceFlags {
@@ -156,7 +146,7 @@ pub fn reset(system: &System, tables: &mut Tables, actor: ActorId, signal: u32) 
 {
     let source = source_of_signal(system, actor, signal).ok_or(Fault)?;
     let flags = tables.source_flags(source);
-    if !flags.asserted || !has_flih(system, source) {
+    if !flags.asserted || !system.has_flih(source) {
         return Err(Fault);
     }
     let reset = SourceFlags {

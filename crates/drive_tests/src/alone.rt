@@ -2,7 +2,7 @@
 ghost use Rattle.std.specs.Prelude.{◌≡◌, [], true, IfOk, vec_capacity, vec_len};
 ghost use Rattle.ffm_model.specs.Passes.{IsAnswered};
 
-use ffm_model::{ActorId, Answer, Api, Call, Entry, Gate, Outcome};
+use ffm_model::{ActorId, Answer, Api, Call, Entry, Gate, Handle, Message, Outcome};
 use std::alloc::{AllocError, Global};
 use std::cell::Cell;
 use std::sync::Wait;
@@ -61,11 +61,22 @@ impl Log {
     }
 }
 
+// The message that is got: one vector each way, of four bytes.
+const MESSAGE: Message = Message {
+    kind: 0,
+    handle: Handle(5),
+    client_id: -1,
+    rhandle: 0,
+    in_size: [4, 0, 0, 0],
+    out_size: [4, 0, 0, 0],
+};
+
 fn outcome_of(call: Call) -> Outcome {
     match call {
         Call::Wait { .. } => Outcome::Blocked,
+        Call::Get { .. } => Outcome::Got(MESSAGE),
         Call::Panic => Outcome::Panicked,
-        Call::Stop { .. } => Outcome::Done,
+        Call::Reply { .. } | Call::Stop { .. } => Outcome::Done,
         _ => Outcome::Number(0),
     }
 }

@@ -41,8 +41,8 @@ abbrev pub rounded : ℕ → ℕ
 rounded n = (n + 31) / 32 * 32
 
 -- the bytes of a partition's RAM
-abbrev pub ram_size : ManifestRecord → ℕ
-ram_size m = rounded (m.stack_size + m.heap_size)
+abbrev pub ram_needed : ManifestRecord → ℕ
+ram_needed m = rounded (m.stack_size + m.heap_size)
 
 -- PSA Root of Trust and application partitions are in two domains
 abbrev pub domain_of_rot : RotType → ℕ
@@ -57,7 +57,7 @@ domain_at level rot id = if level == 1 then 1 else (if level == 2 then domain_of
 abbrev pub rams_from : ℕ → ℕ → ℕ → List ManifestRecord → List Region
 rams_from level k base [] = []
 rams_from level k base (m ∷ ms) =
-    record { base = base; size = ram_size m; class = Ram (domain_at level m.rot (k + 1)) } ∷ rams_from level (k + 1) (base + ram_size m) ms
+    record { base = base; size = ram_needed m; class = Ram (domain_at level m.rot (k + 1)) } ∷ rams_from level (k + 1) (base + ram_needed m) ms
 
 -- the RAM of all partitions
 abbrev pub rams_of : PartsRecord → List Region
@@ -126,7 +126,7 @@ is_large_item regions x = option_map_or (λ e. is_large e.1) (range_named region
 abbrev pub large_from : List RegionRecord → ℕ → List ManifestRecord → List TooLarge
 large_from regions k [] = []
 large_from regions k (m ∷ ms) =
-    only_if (is_large (ram_size m)) (partition_ram k)
+    only_if (is_large (ram_needed m)) (partition_ram k)
     ++ (map (λ x. mmio_item x.manifest x.item) (filter (is_large_item regions) (located_in k 0 m.mmio))
     ++ large_from regions (k + 1) ms)
 

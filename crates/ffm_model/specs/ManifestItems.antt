@@ -44,6 +44,8 @@ pub record IsService (s : ServiceRecord) : Type 0 where
   pub name : IsName s.name
   pub version : 0 < s.version
   pub index : s.stateless_handle ≤ 32
+  -- a service that clients connect to states none
+  pub unstated : s.connection_based ≡ true → s.stateless_handle ≡ 0
 
 -- ---- interrupts
 
@@ -92,12 +94,17 @@ IsStack sfn size = sfn ≡ true → 48 ≤ size
 abbrev pub HasService : Bool → List ServiceRecord → Type 0
 HasService sfn services = sfn ≡ true → 0 < length services
 
+-- where services are functions, there are no interrupts
+abbrev pub HasNoIrqs : Bool → List IrqRecord → Type 0
+HasNoIrqs sfn irqs = sfn ≡ true → length irqs ≡ 0
+
 pub record IsManifest (m : ManifestRecord) : Type 0 where
   pub framework : IsFramework m.framework
   pub name : IsName m.name
   pub entry_point : IsEntryPoint m.sfn m.entry_point
   pub stack_size : IsStack m.sfn m.stack_size
   pub has_service : HasService m.sfn m.services
+  pub no_irqs : HasNoIrqs m.sfn m.irqs
   pub mmio : AllByRecursion IsMmio m.mmio
   pub services : AllByRecursion IsService m.services
   pub dependencies : AllByRecursion IsName m.dependencies

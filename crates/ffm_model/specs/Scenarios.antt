@@ -25,6 +25,7 @@ use Rattle.ffm_model.specs.declared.system.System.{System}
 use Rattle.ffm_model.specs.Actors.{actor_count, kind_of, is_client}
 use Rattle.ffm_model.specs.Manifests.{source_of}
 use Rattle.ffm_model.specs.Memory.{lies_in}
+use Rattle.ffm_model.specs.SignalCalls.{has_flih}
 use Rattle.ffm_model.specs.Attributes.{◌>>=◌, refuse, or_refuse, within, placed, required, optional, list_of, list_after, list_up_to, whole_between, text_as, name_of, number_of, object_of}
 use Rattle.ffm_model.specs.Trees.{tree_of}
 
@@ -100,22 +101,18 @@ raised_source_of s d = do
   name ← source_of d
   or_refuse UNKNOWN_ACTOR (source_named s name)
 
--- the source has a first-level handler
-abbrev pub is_flih : System → ℕ → Bool
-is_flih s source = option_map_or (λ x. x.flih) (slice_get s.sources source) false
-
 -- an interrupt by its source alone; a first-level handler then answers 1
 unfoldable pub plain_raise_of : System → Data → Result RaiseItem PartRefusal
 plain_raise_of s d = do
   source ← raised_source_of s d
-  Ok (record { source = source; result = if is_flih s source then Some 1 else None })
+  Ok (record { source = source; result = if has_flih s source then Some 1 else None })
 
 -- an interrupt with the answer of its first-level handler, which the source has to have
 unfoldable pub answered_raise_of : System → Data → Result RaiseItem PartRefusal
 answered_raise_of s d = do
   source ← required (raised_source_of s) key.Source d
   answer ← required (whole_between 0 1) key.RaiseResult d
-  if is_flih s source then Ok (record { source = source; result = Some answer }) else within (step.Key key.RaiseResult) (refuse BAD_VALUE)
+  if has_flih s source then Ok (record { source = source; result = Some answer }) else within (step.Key key.RaiseResult) (refuse BAD_VALUE)
 
 -- an interrupt
 abbrev pub raise_of : System → Data → Result RaiseItem PartRefusal
@@ -145,7 +142,7 @@ bytes_of regions d = do
 -- a source of the system, and an answer, 0 or 1, exactly where it has a first-level handler
 pub record IsRaise (s : System) (x : RaiseItem) : Type 0 where
   pub source : x.source < length s.sources
-  pub handled : is_some x.result ≡ is_flih s x.source
+  pub handled : is_some x.result ≡ has_flih s x.source
   pub answer : IfSome x.result (λ answer. answer ≤ 1)
 
 -- an actor's scripts: one at least, and no more than it may have

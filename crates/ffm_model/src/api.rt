@@ -41,6 +41,15 @@ pub trait Api {
         ensures own { own self.now pass.new }
         ensures actor { actor_of pass.new ≡ actor_of pass.old }
         ensures answer { IsAnswered (actor_of pass.old) Resume result (record_of pass.old) (record_of pass.new) (is_done pass.new) };
+
+    /// Waits a while, where the pass was last answered that its actor can't go on yet. It promises
+    /// nothing: the actor may be as far as it was. By itself it doesn't wait.
+    fn rest<R: Wait>(&self, rt: &R, pass: &Self::Pass)
+        requires own { own self.now pass.now }
+    {
+        let _ = rt;
+        let _ = pass;
+    }
 }
 
 /// Asked before each event's first try.

@@ -3,6 +3,12 @@
 /// The version of the framework that `psa_framework_version` answers: 1.1.
 pub const PSA_FRAMEWORK_VERSION: u32 = 0x0101;
 
+/// What a manifest of version 1.0 is written for.
+pub const FRAMEWORK_1_0: u32 = 0x0100;
+
+/// What a manifest of version 1.1 is written for.
+pub const FRAMEWORK_1_1: u32 = 0x0101;
+
 /// What `psa_version` answers where there is no such service for the caller.
 pub const PSA_VERSION_NONE: u32 = 0;
 

@@ -51,6 +51,8 @@ pub use codes::TRACE_SYNTAX;
 pub use codes::UNKNOWN_ACTOR;
 pub use codes::UNKNOWN_DEPENDENCY;
 pub use codes::WRONG_TYPE;
+pub use constants::FRAMEWORK_1_0;
+pub use constants::FRAMEWORK_1_1;
 pub use constants::MAX_CLIENTS;
 pub use constants::MAX_CONNECTIONS;
 pub use constants::MAX_CONTEXTS;

@@ -30,7 +30,7 @@ impl Model for MmioItem {
     ghost invariant = { λ m. IsMmio (record { location = m.location; writable = m.writable }) };
 }
 
-/// A service of a partition. Its version is not 0.
+/// A service of a partition. Its version is not 0, and where clients connect to it, it states no index.
 #[derive(Debug, Drop)]
 pub struct ServiceItem {
     pub name: Name,
@@ -40,7 +40,8 @@ pub struct ServiceItem {
     pub policy: Policy,
     /// Whether clients connect to it; else they call it by a stateless handle.
     pub connection_based: bool,
-    /// The index that it states for its stateless handle, 1 to 32, or 0 for "auto".
+    /// The index that it states for its stateless handle, 1 to 32, or 0 for "auto"; 0 where clients
+    /// connect to it.
     pub stateless_handle: u32,
     /// Whether its vectors may be mapped.
     pub mm: bool,

@@ -113,7 +113,8 @@ pub struct Budget {
 /// A system whose parts fit each other: an isolation level from 1 to 3, at most 32 partitions and 16
 /// non-secure clients, services and interrupt sources with signals of their own, regions that share no
 /// byte, and one budget for each client that may use a service, in actor order and then in service
-/// order.
+/// order. No two stateless services have one index. Each heap lies in its partition's RAM, and a
+/// partition whose services are functions has a service and at least 48 bytes of RAM.
 #[derive(Drop)]
 pub struct System {
     pub level: u32,
@@ -166,6 +167,7 @@ impl System {
     ghost use Rattle.ffm_model.specs.WellFormed.{is_well_formed};
     ghost use Rattle.ffm_model.specs.Parts.{SystemParts, system_from, parts_of_system};
     ghost use Rattle.ffm_model.specs.Actors.{actor_count, counts_of, kind_of, client_id_of, service_at, stateless_at, budget_of};
+    ghost use Rattle.ffm_model.specs.SignalCalls.{has_flih};
 
     /// The system of these parts. None exactly where they don't fit each other. The services, the
     /// regions and the budgets are each fewer than 2^31.
@@ -285,6 +287,16 @@ impl System {
         match place_of_index(self.services.as_slice(), index) {
             Some(i) => Some(i as u32),
             None => None,
+        }
+    }
+
+    /// Whether an interrupt source has a first-level handler. There may be no such source.
+    pub fn has_flih(&self, source: u32) -> bool
+        ensures { result ≡ has_flih self.now source }
+    {
+        match self.sources.as_slice().get(source as usize) {
+            Some(source) => source.flih,
+            None => false,
         }
     }
 

@@ -14,17 +14,17 @@ at_place {X = X} P xs i d lt h = let Q : Option X → Type 0 = λ o. IfSome o P 
 
 -- one line more
 pub line_more : {X : Type 0} (f : X → List ℕ) (xs : List X) (i : ℕ) (d : X) (a b c : Option (List ℕ)) → i < length xs
-    → Takes a b (flat_map f (take i xs)) → IfSome (slice_get xs i) (λ x. Takes b c (f x)) → Takes a c (flat_map f (take (i + 1) xs))
+    → Takes a b (flat_map f (take i xs)) → Takes b c (f (get_or xs i d)) → Takes a c (flat_map f (take (i + 1) xs))
 line_more {X = X} f xs i d a b c lt p q =
     let x : X = get_or xs i d in
     let more : flat_map f (take (i + 1) xs) ≡ flat_map f (take i xs) ++ f x =
     ap (flat_map f) (take_more xs i d lt) ∙ (flat_map-append f (take i xs) (x ∷ []) ∙ ap (λ (t : List ℕ). flat_map f (take i xs) ++ t) (flat_map-cons f x [] ∙ append-nil (f x))) in
-    subst (λ (t : List ℕ). Takes a c t) (sym more) (Takes-then a b c _ _ p (at_place (λ (y : X). Takes b c (f y)) xs i d lt q))
+    subst (λ (t : List ℕ). Takes a c t) (sym more) (Takes-then a b c _ _ p q)
 
 -- a text that ends inside a line
 pub line_cut : {X : Type 0} (f : X → List ℕ) (xs : List X) (i : ℕ) (d : X) (last : List ℕ) (a b c : Option (List ℕ)) → i < length xs
-    → Takes a b (flat_map f (take i xs)) → IfSome (slice_get xs i) (λ x. TakesPart b c (f x)) → TakesPart a c (flat_map f xs ++ last)
-line_cut {X = X} f xs i d last a b c lt p q = part_of_first a c _ last (part_of_items f xs i d a b c lt p (at_place (λ (y : X). TakesPart b c (f y)) xs i d lt q))
+    → Takes a b (flat_map f (take i xs)) → TakesPart b c (f (get_or xs i d)) → TakesPart a c (flat_map f xs ++ last)
+line_cut {X = X} f xs i d last a b c lt p q = part_of_first a c _ last (part_of_items f xs i d a b c lt p q)
 
 -- all lines, and then the last one
 pub lines_then : {X T E : Type 0} (f : X → List ℕ) (xs : List X) (i : ℕ) (last : List ℕ) (a b c : Option (List ℕ)) (r : Result T E) → length xs ≤ i

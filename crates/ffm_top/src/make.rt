@@ -18,7 +18,7 @@ use ffm_model::{Call, Entry, Memory, Outcome, PartsError, Scenario, System, Verd
 use generated_system::{scenario_text, system_text};
 use itoa::Buffer;
 use outside_io::MemoryFiles;
-use scenario_runs::{Ran, run_in_turns};
+use scenario_runs::{Ran, run_once};
 use spm_core::Spm;
 use std::alloc::{AllocError, Global};
 use system_json::read_scenario;
@@ -135,7 +135,7 @@ fn made(alloc: Global, rounds: u32) -> Result<Ran, PartsError>
         programs,
         ..
     } = generated(alloc, rounds)?;
-    Ok(run_in_turns(alloc, system, &scenario, programs)?)
+    Ok(run_once(alloc, system, &scenario, programs)?)
 }
 
 // The report of a run of the generated system.

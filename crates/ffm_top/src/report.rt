@@ -1,21 +1,22 @@
 //! What is written at the end.
 
-ghost use Rattle.std.specs.Prelude.{◌≡◌, ◌<◌, ◌≤◌, IfSome, OnErr, OnOk, ◌+◌, drop, length, slice_get, take};
+ghost use Rattle.std.specs.Prelude.{◌≡◌, ◌<◌, ◌≤◌, OnErr, OnOk, ◌+◌, drop, length, map, take, true};
 ghost use Rattle.outside_io.specs.Count.{Rose};
 ghost use Rattle.outside_io.specs.Told.{Puts};
 ghost use Rattle.ffm_model.specs.Actors.{counts_of};
-ghost use Rattle.ffm_model.specs.TraceText.{entry_text, line, trace_text, verdict_text};
+ghost use Rattle.ffm_model.specs.TraceText.{IsActorOf, entry_text, line, trace_text, verdict_text};
 ghost use Rattle.machine_check.specs.Answers.{judgement};
+ghost use Rattle.scenario_runs.specs.Restarting.{finished, fits_counts};
 ghost use Rattle.ffm_top.specs.Replays.{judgement_status};
-ghost use Rattle.ffm_top.specs.Runs.{verdict_status};
+ghost use Rattle.ffm_top.specs.Runs.{last_status, restart_line, run_text, runs_text, verdict_status};
 ghost use Rattle.ffm_top.specs.Report.{text_of, status_of};
 
 use crate::lines::usage_line;
-use ffm_model::Verdict;
+use ffm_model::{Counts, Entry, Trace, Verdict};
+use itoa::Buffer;
 use machine_check::Checked;
 use outside_io::{Failed, Sink, put_all};
-use scenario_runs::Ran;
-use spm_core::Spm;
+use scenario_runs::Runs;
 use trace_print::{Line, print_into, print_verdict};
 
 /// What is to be written.
@@ -27,24 +28,25 @@ pub enum Report {
     Refused(Vec<u8>),
     /// A system is listed, or a generated run is summed up: this text.
     Text(Vec<u8>),
-    /// A run ended.
-    Ran(Ran),
+    /// The runs of a scenario ended.
+    Ran(Runs),
     /// A trace is judged, by this line.
     Judged { checked: Checked, line: Vec<u8> },
 }
 
-// Puts the line of the entry at a place, counted from 0. The line's own room holds it.
-fn put_entry<S: Sink>(out: &mut S, room: &mut Line, spm: &Spm, place: u32) -> Result<(), Failed>
-    requires { place < length spm.now.history }
-    ensures puts { IfSome (slice_get spm.now.history place) (λ e.
-        Puts (S.taken out.old) (S.taken out.new) result (line (entry_text (counts_of spm.now.opening.system) e))) }
+// Puts the line of an entry. The line's own room holds it.
+fn put_entry<S: Sink>(
+    out: &mut S,
+    room: &mut Line,
+    counts: Counts,
+    entry: &Entry,
+) -> Result<(), Failed>
+    requires { IsActorOf counts entry.now.actor.0 }
+    ensures puts { Puts (S.taken out.old) (S.taken out.new) result (line (entry_text counts entry.now)) }
     ensures later { S.faults out.old ≤ S.faults out.new }
     ensures failed { OnErr result (Rose (S.faults out.old) (S.faults out.new)) }
 {
-    let _length = spm.length();
-    let counts = spm.system().counts();
-    let entry = spm.entry(place + 1);
-    print_into(room, counts, &entry);
+    print_into(room, counts, entry);
     put_all(out, room.as_slice())
 }
 
@@ -59,17 +61,57 @@ fn put_verdict<S: Sink>(out: &mut S, verdict: Verdict, count: u32) -> Result<(),
 }
 
 // Puts a run's trace, line by line.
-fn put_trace<S: Sink>(out: &mut S, spm: &Spm, verdict: Verdict) -> Result<(), Failed>
-    ensures puts { Puts (S.taken out.old) (S.taken out.new) result (trace_text (counts_of spm.now.opening.system) spm.now.history verdict) }
+fn put_trace<S: Sink>(out: &mut S, counts: Counts, trace: &Trace) -> Result<(), Failed>
+    requires { fits_counts counts trace.now ≡ true }
+    ensures puts { Puts (S.taken out.old) (S.taken out.new) result (trace_text counts trace.now.entries trace.now.verdict) }
     ensures later { S.faults out.old ≤ S.faults out.new }
     ensures failed { OnErr result (Rose (S.faults out.old) (S.faults out.new)) }
 {
-    let length = spm.length();
     let mut room = Line::new();
-    for place in 0..length {
-        put_entry(out, &mut room, spm, place)?;
+    for entry in trace.entries.as_slice() {
+        put_entry(out, &mut room, counts, entry)?;
     }
-    put_verdict(out, verdict, length)
+    let count = trace.entries.len() as u32;
+    put_verdict(out, trace.verdict, count)
+}
+
+// The line before the run behind so many others. None where it is the first.
+#[tactic(auto, unfolding(crate::specs::Runs::restart_line), using(crate::proofs::RunTexts::count_length))]
+fn restart_line(count: usize) -> Line
+    ensures { result.items ≡ restart_line count }
+{
+    let mut text = Line::new();
+    if count > 0 {
+        text.append(b"restart ");
+        text.append(Buffer::new().format(count).as_bytes());
+        text.push(b'\n');
+    }
+    text
+}
+
+// Puts the trace of the run behind so many others, and the line before it.
+fn put_run<S: Sink>(out: &mut S, counts: Counts, count: usize, trace: &Trace) -> Result<(), Failed>
+    requires { fits_counts counts trace.now ≡ true }
+    ensures puts { Puts (S.taken out.old) (S.taken out.new) result (run_text counts count (finished trace.now)) }
+    ensures later { S.faults out.old ≤ S.faults out.new }
+    ensures failed { OnErr result (Rose (S.faults out.old) (S.faults out.new)) }
+{
+    let line = restart_line(count);
+    put_all(out, line.as_slice())?;
+    put_trace(out, counts, trace)
+}
+
+// Puts the traces of runs, one behind the other.
+fn put_runs<S: Sink>(out: &mut S, runs: &Runs) -> Result<(), Failed>
+    ensures puts { Puts (S.taken out.old) (S.taken out.new) result (runs_text (counts_of runs.now.system) 0 (map finished runs.now.traces.items)) }
+    ensures later { S.faults out.old ≤ S.faults out.new }
+    ensures failed { OnErr result (Rose (S.faults out.old) (S.faults out.new)) }
+{
+    let counts = runs.system.counts();
+    for (count, trace) in runs.traces.iter().enumerate() {
+        put_run(out, counts, count, trace)?;
+    }
+    Ok(())
 }
 
 // How many bytes the first line of a text has.
@@ -121,7 +163,7 @@ fn put_report<S: Sink>(out: &mut S, report: &Report) -> Result<(), Failed>
         Report::Usage => put_all(out, usage_line().as_bytes()),
         Report::Refused(line) => put_all(out, line.as_slice()),
         Report::Text(text) => put_lines(out, text.as_slice()),
-        Report::Ran(ran) => put_trace(out, &ran.spm, ran.verdict),
+        Report::Ran(runs) => put_runs(out, runs),
         Report::Judged { line, .. } => put_all(out, line.as_slice()),
     }
 }
@@ -149,6 +191,17 @@ fn verdict_status(verdict: Verdict) -> u8
     }
 }
 
+// The status of the last run.
+#[tactic(auto, using(crate::proofs::Reports::last_of))]
+fn last_status(traces: &[Trace]) -> u8
+    ensures { result ≡ last_status (map finished traces.now) }
+{
+    match traces.last() {
+        Some(trace) => verdict_status(trace.verdict),
+        None => 0,
+    }
+}
+
 fn checked_status(checked: Checked) -> u8
     ensures { result ≡ judgement_status (judgement checked) }
 {
@@ -167,7 +220,7 @@ impl Report {
             Report::Usage => 2,
             Report::Refused(_) => 1,
             Report::Text(_) => 0,
-            Report::Ran(ran) => verdict_status(ran.verdict),
+            Report::Ran(runs) => last_status(runs.traces.as_slice()),
             Report::Judged { checked, .. } => checked_status(*checked),
         }
     }

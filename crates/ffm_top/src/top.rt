@@ -73,8 +73,8 @@ fn listed(alloc: Global, system: &System) -> Result<Report, Halt>
     }
 }
 
-// The report of a run.
-#[tactic(auto, using(crate::proofs::Reports::run_due))]
+// The report of a scenario's runs.
+#[tactic(auto, using(crate::proofs::Reports::run_due, crate::proofs::Reports::last_done))]
 fn ran(alloc: Global, work: RunWork) -> Result<Report, Halt>
     requires work { IsRun work }
     requires threads { work.threads ≡ false }
@@ -84,7 +84,7 @@ fn ran(alloc: Global, work: RunWork) -> Result<Report, Halt>
     ensures memory { IsErrOf result Halt.Files → ⊥ }
 {
     match run_alone(alloc, work) {
-        Ok(ran) => Ok(Report::Ran(ran)),
+        Ok(runs) => Ok(Report::Ran(runs)),
         Err(_) => Err(Halt::Memory),
     }
 }
@@ -188,8 +188,8 @@ fn report_of<F: Files>(alloc: Global, words: &Vec<String>, files: &mut F) -> Res
     }
 }
 
-// The report of a run, with threads or without.
-#[tactic(auto, using(crate::proofs::Reports::run_due))]
+// The report of a scenario's runs, with threads or without.
+#[tactic(auto, using(crate::proofs::Reports::run_due, crate::proofs::Reports::last_done))]
 fn ran_as_asked<R: Threads + Wait + Sync, G: Gate + Sync>(
     rt: &R,
     alloc: Global,
@@ -203,7 +203,7 @@ fn ran_as_asked<R: Threads + Wait + Sync, G: Gate + Sync>(
     ensures memory { IsErrOf result Halt.Files → ⊥ }
 {
     match run_as_asked(rt, alloc, gate, work) {
-        Ok(ran) => Ok(Report::Ran(ran)),
+        Ok(runs) => Ok(Report::Ran(runs)),
         Err(_) => Err(Halt::Memory),
     }
 }
@@ -303,10 +303,10 @@ pub fn asks_threads(words: &Vec<String>) -> bool
 /// status to end with.
 ///
 /// 0: a system is listed, a run is quiet, a trace is legal, or a generated run is summed up. 4 and 5:
-/// a run is stalled, full. 6: a trace is illegal. 1: a file is refused, by the line written. 2: the
-/// words are no command, by the usage line. 7: a file that is asked for can't be read, and nothing is
-/// written. 8: the text can't be written whole. 9: no memory was found, or `clap` reads accepted
-/// words otherwise, and nothing is written.
+/// a run is stalled, full; of several runs the last one counts. 6: a trace is illegal. 1: a file is
+/// refused, by the line written. 2: the words are no command, by the usage line. 7: a file that is
+/// asked for can't be read, and nothing is written. 8: the text can't be written whole. 9: no memory
+/// was found, or `clap` reads accepted words otherwise, and nothing is written.
 pub fn ffm_alone<F: Files, S: Sink>(
     alloc: Global,
     words: &Vec<String>,
@@ -318,10 +318,11 @@ pub fn ffm_alone<F: Files, S: Sink>(
 
     // A status below 7 comes with a text that is due with it, written whole: for `compile` the
     // listing of the system, for `run` the trace of a run of the FF-M machine in which each actor's
-    // events are its script's calls with the machine's answers, in the turns of the schedule, for
-    // `replay` the judgement of the trace file's trace by that machine or the refusal of its first
-    // wrong line, and for `make` the summary of such a run of the generated system. So 6 comes exactly
-    // with `illegal N`, and N is the place that the machine gives.
+    // events are its script's calls with the machine's answers, in the turns of the schedule, and
+    // behind it, after a panic and while a restart is left, that of the run after the reset, and so
+    // on; for `replay` the judgement of the trace file's trace by that machine or the refusal of its
+    // first wrong line, and for `make` the summary of such a run of the generated system. So 6 comes
+    // exactly with `illegal N`, and N is the place that the machine gives.
     ensures due { result < 7 → IfSome (F.held files.old) (λ of.
         WritesDue (map string_bytes words.now.items) of (S.taken out.old) (S.taken out.new) result) }
 
@@ -370,10 +371,10 @@ pub fn ffm_alone<F: Files, S: Sink>(
 /// status to end with.
 ///
 /// 0: a system is listed, a run is quiet, a trace is legal, or a generated run is summed up. 4 and 5:
-/// a run is stalled, full. 6: a trace is illegal. 1: a file is refused, by the line written. 2: the
-/// words are no command, by the usage line. 7: a file that is asked for can't be read, and nothing is
-/// written. 8: the text can't be written whole. 9: no memory was found, or `clap` reads accepted
-/// words otherwise, and nothing is written.
+/// a run is stalled, full; of several runs the last one counts. 6: a trace is illegal. 1: a file is
+/// refused, by the line written. 2: the words are no command, by the usage line. 7: a file that is
+/// asked for can't be read, and nothing is written. 8: the text can't be written whole. 9: no memory
+/// was found, or `clap` reads accepted words otherwise, and nothing is written.
 pub fn ffm<R: Threads + Wait + Sync, F: Files, S: Sink, G: Gate + Sync>(
     rt: &R,
     alloc: Global,
@@ -387,8 +388,9 @@ pub fn ffm<R: Threads + Wait + Sync, F: Files, S: Sink, G: Gate + Sync>(
     // A status below 7 comes with a text that is due with it, written whole: for `compile` the
     // listing of the system, for `run` the trace of a run of the FF-M machine in which each actor's
     // events are its script's calls with the machine's answers, without `--threads` in the turns of
-    // the schedule, for `replay` the judgement of the trace file's trace by that machine or the
-    // refusal of its first wrong line, and for `make` the summary of such a run of the generated
+    // the schedule, and behind it, after a panic and while a restart is left, that of the run after
+    // the reset, and so on; for `replay` the judgement of the trace file's trace by that machine or
+    // the refusal of its first wrong line, and for `make` the summary of such a run of the generated
     // system, by a schedule. So 6 comes exactly with `illegal N`, and N is the place that the machine
     // gives.
     ensures due { result < 7 → IfSome (F.held files.old) (λ of.

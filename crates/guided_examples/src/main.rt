@@ -1,5 +1,5 @@
 //! Runs the guided examples, one after the other, and writes the trace of each behind its name. Then the trace that
-//! lies beside the example is judged.
+//! lies beside the example is judged, or refused where the scenario has restarts.
 #![tactic(auto)]
 
 use ffm_top::{asks_threads, ffm_alone};
@@ -7,7 +7,7 @@ use outside_io::{HostFiles, StdoutSink};
 use std::alloc::{AllocError, Global};
 use std::io;
 
-const EXAMPLES: [&str; 22] = [
+const EXAMPLES: [&str; 25] = [
     "two_requests",
     "rhandle",
     "version_policies",
@@ -30,6 +30,9 @@ const EXAMPLES: [&str; 22] = [
     "stateless_service",
     "firmware_1_1",
     "key_store",
+    "mapped_vectors",
+    "client_threads",
+    "flash_log",
 ];
 
 // The words of a command over an example's files.

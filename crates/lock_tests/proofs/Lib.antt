@@ -1,3 +1,2 @@
 pub mod Closures
 pub mod Threes
-pub mod Workers

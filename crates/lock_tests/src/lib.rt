@@ -4,8 +4,6 @@
 #![tactic(auto)]
 
 #[cfg(test)]
-mod driven;
-#[cfg(test)]
 mod setup;
 #[cfg(test)]
 mod turns;

@@ -10,7 +10,7 @@ use Rattle.ffm_model.specs.declared.script.Instruction.{Instruction}
 use Rattle.ffm_model.specs.declared.script.Instruction.TheVariants.{Change, JumpIf}
 use Rattle.ffm_model.specs.declared.script.Operation.TheVariants.{Add}
 use Rattle.ffm_model.specs.Memory.{ByteMap}
-use Rattle.ffm_model.specs.Restarts.{Ran}
+use Rattle.ffm_model.specs.Restarts.{FinishedRun}
 use Rattle.ffm_model.specs.ScriptRuns.{ScriptRun}
 use Rattle.ffm_model.specs.Verdicts.{verdict_of}
 use Rattle.machine_examples.specs.ScriptLines.{register, number, call}
@@ -28,11 +28,11 @@ log_script =
     ∷ []
 
 -- a run of the machine and of the script
-pub record IsLogRun (m : ByteMap) (run : Ran) : Type 0 where
+pub record IsLogRun (m : ByteMap) (run : FinishedRun) : Type 0 where
   pub ended : verdict_of log_system m 4096 run.entries ≡ Some run.verdict
   pub scripted : ScriptRun log_script run.entries
 
-abbrev pub panicked_run : Ran
+abbrev pub panicked_run : FinishedRun
 panicked_run = record {
   entries =
       entry log (Load 0x40000000 4) (Number 0)
@@ -43,7 +43,7 @@ panicked_run = record {
 }
 
 -- It finds the number that the first run left.
-abbrev pub second_run : Ran
+abbrev pub second_run : FinishedRun
 second_run = record {
   entries =
       entry log (Load 0x40000000 4) (Number 1)

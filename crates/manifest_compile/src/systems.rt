@@ -11,28 +11,13 @@ ghost use Rattle.manifest_items.specs.Seen.{seen};
 
 use crate::indices::{index_for, stated_indices};
 use ffm_model::{
-    Budget, IrqItem, List, Manifest, Name, Partition, Parts, Region, RotType, Service, ServiceItem,
-    Source, System,
+    Budget, FRAMEWORK_1_0, IrqItem, List, Manifest, Name, Partition, Parts, Region, RotType,
+    Service, ServiceItem, Source, System,
 };
 use manifest_items::{At, Services, located};
+use region_map::domain_at;
 use signal_alloc::{SignalMap, signal_of};
 use std::alloc::{AllocError, Global};
-
-/// The version of manifests whose interrupts start enabled: 1.0.
-const FIRST_FRAMEWORK: u32 = 0x0100;
-
-fn domain_at(level: u32, rot: RotType, id: u32) -> u32
-    ensures { result ≡ domain_at level rot id }
-{
-    match level {
-        1 => 1,
-        2 => match rot {
-            RotType::PsaRot => 1,
-            RotType::ApplicationRot => 2,
-        },
-        _ => id,
-    }
-}
 
 // The partition with this place. The regions begin with the RAM of the partitions, in their order.
 fn partition_of(level: u32, place: u32, manifest: &Manifest) -> Result<Partition, AllocError>
@@ -150,7 +135,7 @@ fn source_of(
         owner,
         signal: signal_of(signals, place),
         flih: item.flih,
-        enabled: framework == FIRST_FRAMEWORK,
+        enabled: framework == FRAMEWORK_1_0,
     })
 }
 

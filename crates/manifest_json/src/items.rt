@@ -1,5 +1,5 @@
 //! The items of a manifest's lists: MMIO regions, services and interrupts.
-ghost use Rattle.std.specs.Prelude.{◌≤◌, IfOk};
+ghost use Rattle.std.specs.Prelude.{◌≡◌, ◌≤◌, IfOk, true};
 ghost use Rattle.ffm_model.specs.Attributes.{optional};
 ghost use Rattle.ffm_model.specs.ManifestItems.{IsMmio, IsLocation, IsService, IsIrq};
 ghost use Rattle.ffm_model.specs.Manifests.{mmio_of, location_of, named_of, numbered_of, range_of, service_of, version_of, index_of, stateless_of, irq_of, first_irq_of, second_irq_of, since_1_1};
@@ -11,10 +11,10 @@ use crate::reader::{Reader, Text, optional, required};
 use crate::values::{
     BooleanReader, NameReader, NumberReader, SignalReader, SourceReader, object, whole,
 };
-use crate::words::{HandlingWord, MappingWord, PermissionWord, PolicyWord, VERSION_1_1};
+use crate::words::{HandlingWord, MappingWord, PermissionWord, PolicyWord};
 use ffm_model::{
-    BAD_VALUE, IrqItem, Key, Location, MAX_STATELESS, MmioItem, PathStep, Policy, ServiceItem, Sid,
-    WRONG_TYPE,
+    BAD_VALUE, FRAMEWORK_1_1, IrqItem, Key, Location, MAX_STATELESS, MmioItem, PathStep, Policy,
+    ServiceItem, Sid, WRONG_TYPE,
 };
 use serde_json::Value;
 use std::alloc::Global;
@@ -32,7 +32,7 @@ pub(crate) fn since_1_1<R: Reader>(
     ensures given { Gives result (since_1_1 framework default (optional (R.gives reader.now) default key (view tree.now))) }
     ensures kept { IfOk result (R.keeps reader.now) }
 {
-    if framework == VERSION_1_1 {
+    if framework == FRAMEWORK_1_1 {
         optional(alloc, reader, default, tree, key)
     } else {
         Ok(default)
@@ -157,6 +157,7 @@ impl Reader for IndexReader {
 fn stateless_handle(alloc: Global, connection_based: bool, tree: &Value) -> Result<u32, PartError>
     ensures given { Gives result (stateless_of connection_based (view tree.now)) }
     ensures kept { IfOk result (λ index. index ≤ 32) }
+    ensures unstated { IfOk result (λ index. connection_based ≡ true → index ≡ 0) }
 {
     if connection_based {
         Ok(0)
@@ -252,7 +253,7 @@ impl Reader for IrqReader {
     ghost keeps = { λ _. IsIrq };
 
     fn read(&self, alloc: Global, tree: &Value) -> Result<IrqItem, PartError> {
-        if self.framework == VERSION_1_1 {
+        if self.framework == FRAMEWORK_1_1 {
             irq_1_1(alloc, tree)
         } else {
             irq_1_0(alloc, tree)

@@ -1,7 +1,7 @@
 //! Manifests out of JSON trees.
 ghost use Rattle.std.specs.Prelude.{◌<◌, length, true, IfOk};
 ghost use Rattle.std.specs.List.{AllByRecursion};
-ghost use Rattle.ffm_model.specs.ManifestItems.{IsManifest, IsEntryPoint, IsStack, HasService, IsService, IsIrq};
+ghost use Rattle.ffm_model.specs.ManifestItems.{IsManifest, IsEntryPoint, IsStack, HasNoIrqs, HasService, IsService, IsIrq};
 ghost use Rattle.ffm_model.specs.Manifests.{manifest_at, manifest_of, entry_point_of, stack_of, services_of, irqs_of};
 ghost use Rattle.ffm_model.specs.Attributes.{name_of};
 ghost use Rattle.serde_json.specs.View.{view};
@@ -111,6 +111,7 @@ fn services(
 fn irqs(alloc: Global, sfn: bool, framework: u32, tree: &Value) -> Result<List<IrqItem>, PartError>
     ensures given { Gives result (irqs_of sfn framework (view tree.now)) }
     ensures kept { IfOk result (AllByRecursion IsIrq) }
+    ensures none { IfOk result (HasNoIrqs sfn) }
 {
     let reader = IrqReader { framework };
     if sfn {

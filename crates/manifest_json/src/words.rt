@@ -3,13 +3,7 @@ ghost use Rattle.ffm_model.specs.ManifestItems.{IsFramework};
 ghost use Rattle.ffm_model.specs.Manifests.{framework_text, rot_text, priority_text, policy_text, permission_text, model_text, mapping_text, handling_text};
 
 use crate::reader::Word;
-use ffm_model::{Policy, Priority, RotType};
-
-/// Version 1.0 of the framework.
-pub(crate) const VERSION_1_0: u32 = 0x0100;
-
-/// Version 1.1 of the framework.
-pub(crate) const VERSION_1_1: u32 = 0x0101;
+use ffm_model::{FRAMEWORK_1_0, FRAMEWORK_1_1, Policy, Priority, RotType};
 
 /// The version of the framework that a manifest is written for.
 #[derive(Clone, Copy)]
@@ -24,8 +18,8 @@ impl Word for FrameworkWord {
 
     fn meaning(&self, text: &str) -> Option<u32> {
         match text {
-            "1.0" => Some(VERSION_1_0),
-            "1.1" => Some(VERSION_1_1),
+            "1.0" => Some(FRAMEWORK_1_0),
+            "1.1" => Some(FRAMEWORK_1_1),
             _ => None,
         }
     }

@@ -183,9 +183,9 @@ impl Image {
         }
     }
 
-    // The bytes of a range, lent.
+    /// The bytes of a range, lent. The range is empty or lies whole in one region.
     #[tactic(auto, using(crate::proofs::Stored::stay_apart))]
-    fn bytes(&self, address: u32, len: usize) -> &[u8]
+    pub fn bytes(&self, address: u32, len: usize) -> &[u8]
         requires { is_inside address len (regions_of self.now) ≡ true }
         ensures { result.now ≡ bytes_at (byte_at self.now) address len }
     {
@@ -196,9 +196,9 @@ impl Image {
         }
     }
 
-    // Puts bytes at an address and behind it.
+    /// Puts bytes at an address and behind it. Their range is empty or lies whole in one region.
     #[tactic(auto, using(crate::proofs::Stored::stay_apart))]
-    fn store_bytes(&mut self, address: u32, bytes: &[u8])
+    pub fn store_bytes(&mut self, address: u32, bytes: &[u8])
         requires { is_inside address (length bytes.now) (regions_of self.old) ≡ true }
         ensures stored { byte_at self.new ≡ write_bytes (byte_at self.old) address bytes.now }
         ensures regions { regions_of self.new ≡ regions_of self.old }

@@ -1,5 +1,7 @@
 pub mod StepLemmas
-pub mod CallLemmas
+pub mod ContextLemmas
+pub mod ClientLemmas
+pub mod HeldLemmas
 pub mod PlanLemmas
 pub mod TurnLemmas
 pub mod ScheduleLemmas

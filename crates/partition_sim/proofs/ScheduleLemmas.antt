@@ -18,8 +18,10 @@ use Rattle.ffm_model.specs.Step.{step_on}
 use Rattle.ffm_model.specs.Verdicts.{verdict_of, verdict_at, some_enabled, some_blocked}
 use Rattle.memory_image.specs.Pieces.{byte_at}
 use Rattle.spm_core.specs.Manager.{Opening, Managed, state_after, state_of}
-use Rattle.partition_sim.specs.Standing.{Standing, Follows}
-use Rattle.partition_sim.specs.Driving.{Driving, MadeOne, PassedOne, Turned, InOrder, Underway, IsDriven, AreNew, instructions_at, first_standing}
+use Rattle.partition_sim.specs.declared.runner.Runner.{Runner}
+use Rattle.partition_sim.specs.ActorPlans.{parts_at, role_at}
+use Rattle.partition_sim.specs.Standing.{Follows}
+use Rattle.partition_sim.specs.Driving.{Driving, MadeOne, PassedOne, Turned, InOrder, Underway, IsDriven, AreNew, no_runner}
 use Rattle.partition_sim.proofs.TurnLemmas.{verdict-off}
 
 Turns-push : (s : System) (schedule : List ActorId) (st : Option State) (t : ℕ) (es : List Entry) (end u : ℕ) (e : Entry) → Turns s schedule st t es end
@@ -83,7 +85,7 @@ behind-turn schedule o old new t a false at p f some short =
       short = rw p.unchanged short;
     }
 
-pub underway-turn : (scripts : List (List (List Instruction))) (schedule : List ActorId) (o : Opening) (rs rs' : List Standing) (old new : Managed) (t a : ℕ) (made : Bool)
+pub underway-turn : (scripts : List (List (List Instruction))) (schedule : List ActorId) (o : Opening) (rs rs' : List Runner) (old new : Managed) (t a : ℕ) (made : Bool)
     → new.opening ≡ old.opening → turn_at old.opening.system schedule t ≡ a → Turned old.opening old.history a (Ok made) new.history → Driving scripts old.opening new.history rs'
     → Underway scripts schedule o old rs t → Underway scripts schedule o new rs' (t + 1)
 underway-turn scripts schedule o rs rs' old new t a made same at turned d u =
@@ -101,7 +103,7 @@ underway-turn scripts schedule o rs rs' old new t a made same at turned d u =
     }
 
 -- what a run that has its verdict gives
-driven : (scripts : List (List (List Instruction))) (schedule : List ActorId) (o : Opening) (rs : List Standing) (m : Managed) (t : ℕ)
+driven : (scripts : List (List (List Instruction))) (schedule : List ActorId) (o : Opening) (rs : List Runner) (m : Managed) (t : ℕ)
     → Underway scripts schedule o m rs t → IsSome (verdict_of m.opening.system (byte_at m.opening.memory) m.opening.limit m.history) → IsDriven scripts schedule o m.history
 driven scripts schedule o rs m t u v =
     let P : Opening → Type 0 = λ x. IsDriven scripts schedule x m.history in
@@ -122,7 +124,7 @@ schedule-turn s schedule i d below =
     rw early (ap (λ (x : ActorId). x.0) (get_or_default schedule i _ d below))
 
 -- between two rounds
-pub record InRounds (scripts : List (List (List Instruction))) (schedule : List ActorId) (o : Opening) (m : Managed) (rs : List Standing) : Type 0 where
+pub record InRounds (scripts : List (List (List Instruction))) (schedule : List ActorId) (o : Opening) (m : Managed) (rs : List Runner) : Type 0 where
   pub r : ℕ
   pub underway : Underway scripts schedule o m rs (length schedule + r * actor_count o.system)
 
@@ -132,7 +134,7 @@ Progress o began history true a = length began < length history
 Progress o began history false a = (history ≡ began) × ((b : ℕ) → b < a → enabled_in o.system (state_after o history) b ≡ false)
 
 -- in a round that began with the entries `began`, actor a comes next
-pub record InRound (scripts : List (List (List Instruction))) (schedule : List ActorId) (o : Opening) (began : List Entry) (m : Managed) (rs : List Standing) (made : Bool) (a : ℕ) : Type 0 where
+pub record InRound (scripts : List (List (List Instruction))) (schedule : List ActorId) (o : Opening) (began : List Entry) (m : Managed) (rs : List Runner) (made : Bool) (a : ℕ) : Type 0 where
   pub r : ℕ
   pub underway : Underway scripts schedule o m rs (length schedule + r * actor_count o.system + a)
   pub progress : Progress o began m.history made a
@@ -156,20 +158,20 @@ progress-next : (o : Opening) (began old new : List Entry) (made one : Bool) (a 
 progress-next o began old new made true a m h = progress-made o began old new made a m.0 m.1 h
 progress-next o began old new made false a p h = progress-passed o began old new made a p h
 
-pub rounds-start : (scripts : List (List (List Instruction))) (schedule : List ActorId) (o : Opening) (m : Managed) (rs : List Standing) (i : ℕ) → i ≡ length schedule
+pub rounds-start : (scripts : List (List (List Instruction))) (schedule : List ActorId) (o : Opening) (m : Managed) (rs : List Runner) (i : ℕ) → i ≡ length schedule
     → Underway scripts schedule o m rs i → InRounds scripts schedule o m rs
 rounds-start scripts schedule o m rs i e u =
     let P : ℕ → Type 0 = λ x. Underway scripts schedule o m rs x in
     let at : i ≡ length schedule + 0 * actor_count o.system = omega arith in
     record { r = 0; underway = subst P at u }
 
-pub round-start : (scripts : List (List (List Instruction))) (schedule : List ActorId) (o : Opening) (m : Managed) (rs : List Standing) → InRounds scripts schedule o m rs
+pub round-start : (scripts : List (List (List Instruction))) (schedule : List ActorId) (o : Opening) (m : Managed) (rs : List Runner) → InRounds scripts schedule o m rs
     → InRound scripts schedule o m.history m rs false 0
 round-start scripts schedule o m rs i =
     let P : ℕ → Type 0 = λ x. Underway scripts schedule o m rs x in
     record { r = i.r; underway = subst P (sym (add-zero (length schedule + i.r * actor_count o.system))) i.underway; progress = (refl, λ b h. absurd (omega arith)) }
 
-pub round-next : (scripts : List (List (List Instruction))) (schedule : List ActorId) (o : Opening) (began : List Entry) (rs rs' : List Standing) (old new : Managed) (made one : Bool) (a : ℕ) → a < actor_count o.system
+pub round-next : (scripts : List (List (List Instruction))) (schedule : List ActorId) (o : Opening) (began : List Entry) (rs rs' : List Runner) (old new : Managed) (made one : Bool) (a : ℕ) → a < actor_count o.system
     → new.opening ≡ old.opening → Turned old.opening old.history a (Ok one) new.history → Driving scripts old.opening new.history rs'
     → InRound scripts schedule o began old rs made a → InRound scripts schedule o began new rs' (made || one) (a + 1)
 round-next scripts schedule o began rs rs' old new made one a below same turned d i =
@@ -183,7 +185,7 @@ round-next scripts schedule o began rs rs' old new made one a below same turned 
       progress = progress-next o began old.history new.history made one a (subst T i.underway.same turned) i.progress;
     }
 
-rounds-next : (scripts : List (List (List Instruction))) (schedule : List ActorId) (o : Opening) (began : List Entry) (m : Managed) (rs : List Standing) (a : ℕ) → a ≡ actor_count o.system
+rounds-next : (scripts : List (List (List Instruction))) (schedule : List ActorId) (o : Opening) (began : List Entry) (m : Managed) (rs : List Runner) (a : ℕ) → a ≡ actor_count o.system
     → InRound scripts schedule o began m rs true a → InRounds scripts schedule o m rs
 rounds-next scripts schedule o began m rs a e i =
     let P : ℕ → Type 0 = λ x. Underway scripts schedule o m rs x in
@@ -203,7 +205,7 @@ verdict-in o history (Some x) h off =
     verdict-off (some_enabled o.system x.spm) (length history == o.limit) (some_blocked o.system x.spm) (none-from (enabled o.system x.spm) 0 (actor_count o.system) (λ b from below. off b (omega arith)))
 
 -- a round without an entry ends the run
-round-over : (scripts : List (List (List Instruction))) (schedule : List ActorId) (o : Opening) (began : List Entry) (m : Managed) (rs : List Standing) (a : ℕ) → a ≡ actor_count o.system
+round-over : (scripts : List (List (List Instruction))) (schedule : List ActorId) (o : Opening) (began : List Entry) (m : Managed) (rs : List Runner) (a : ℕ) → a ≡ actor_count o.system
     → InRound scripts schedule o began m rs false a → IsDriven scripts schedule o m.history
 round-over scripts schedule o began m rs a e i =
     let F : Opening → Type 0 = λ x. (b : ℕ) → b < a → enabled_in x.system (state_after x m.history) b ≡ false in
@@ -211,45 +213,48 @@ round-over scripts schedule o began m rs a e i =
     let count : actor_count m.opening.system ≡ a = ap (λ (x : Opening). actor_count x.system) i.underway.same ∙ sym e in
     driven scripts schedule o rs m _ i.underway (verdict-in m.opening m.history (state_of m) i.underway.is_state (λ b below. off b (omega arith)))
 
-pub over-at : (scripts : List (List (List Instruction))) (schedule : List ActorId) (o : Opening) (began : List Entry) (m : Managed) (rs : List Standing) (made : Bool) (a : ℕ) → made ≡ false → a ≡ actor_count o.system
+pub over-at : (scripts : List (List (List Instruction))) (schedule : List ActorId) (o : Opening) (began : List Entry) (m : Managed) (rs : List Runner) (made : Bool) (a : ℕ) → made ≡ false → a ≡ actor_count o.system
     → InRound scripts schedule o began m rs made a → IsDriven scripts schedule o m.history
 over-at scripts schedule o began m rs true a e k i = absurd (true≢false e)
 over-at scripts schedule o began m rs false a e k i = round-over scripts schedule o began m rs a k i
 
-pub next-at : (scripts : List (List (List Instruction))) (schedule : List ActorId) (o : Opening) (began : List Entry) (m : Managed) (rs : List Standing) (made : Bool) (a : ℕ) → made ≡ true → a ≡ actor_count o.system
+pub next-at : (scripts : List (List (List Instruction))) (schedule : List ActorId) (o : Opening) (began : List Entry) (m : Managed) (rs : List Runner) (made : Bool) (a : ℕ) → made ≡ true → a ≡ actor_count o.system
     → InRound scripts schedule o began m rs made a → InRounds scripts schedule o m rs
 next-at scripts schedule o began m rs true a e k i = rounds-next scripts schedule o began m rs a k i
 next-at scripts schedule o began m rs false a e k i = absurd (true≢false (sym e))
 
-pub longer-at : (scripts : List (List (List Instruction))) (schedule : List ActorId) (o : Opening) (began : List Entry) (m : Managed) (rs : List Standing) (made : Bool) (a : ℕ) → made ≡ true
+pub longer-at : (scripts : List (List (List Instruction))) (schedule : List ActorId) (o : Opening) (began : List Entry) (m : Managed) (rs : List Runner) (made : Bool) (a : ℕ) → made ≡ true
     → InRound scripts schedule o began m rs made a → length began < length m.history
 longer-at scripts schedule o began m rs true a e i = i.progress
 longer-at scripts schedule o began m rs false a e i = absurd (true≢false (sym e))
 
 -- ---- the start
 
-pub new-push : (count : ℕ) (rs : List Standing) (r : Standing) → ((script : List Instruction) → Follows script [] r) → AreNew count rs → AreNew (count + 1) (rs ++ r ∷ [])
-new-push count rs r new all = record {
+pub new-push : (s : System) (scripts : List (List (List Instruction))) (count : ℕ) (rs : List Runner) (r : Runner) → Follows (role_at s count) (parts_at scripts count) [] r
+    → AreNew s scripts count rs → AreNew s scripts (count + 1) (rs ++ r ∷ [])
+new-push s scripts count rs r new all = record {
   long = length-append rs (r ∷ []) ∙ ap (λ n. n + 1) all.long;
   each = λ a below. elim (cases_lt a count) [
-    | inl less ↦ (λ script.
-        let P : Standing → Type 0 = λ x. Follows script [] x in
-        subst P (sym (get_or_append_left rs (r ∷ []) first_standing a (omega (arith, all.long)))) (all.each a less script))
-    | inr more ↦ (λ script.
-        let P : Standing → Type 0 = λ x. Follows script [] x in
+    | inl less ↦ (
+        let P : Runner → Type 0 = λ x. Follows (role_at s a) (parts_at scripts a) [] x in
+        subst P (sym (get_or_append_left rs (r ∷ []) no_runner a (omega (arith, all.long)))) (all.each a less))
+    | inr more ↦ (
+        let P : Runner → Type 0 = λ x. Follows (role_at s a) (parts_at scripts a) [] x in
+        let Q : ℕ → Type 0 = λ i. Follows (role_at s i) (parts_at scripts i) [] r in
+        let here : count ≡ a = omega arith in
         let same : a ≡ length rs = omega (arith, all.long) in
-        subst P (sym (ap (λ i. get_or (rs ++ r ∷ []) i first_standing) same ∙ get_or-append_seam rs r [] first_standing)) (new script))
+        subst P (sym (ap (λ i. get_or (rs ++ r ∷ []) i no_runner) same ∙ get_or-append_seam rs r [] no_runner)) (subst Q here new))
   ];
 }
 
-pub underway-start : (scripts : List (List (List Instruction))) (schedule : List ActorId) (m : Managed) (rs : List Standing) → length scripts ≡ actor_count m.opening.system → m.history ≡ []
-    → AreNew (actor_count m.opening.system) rs → Underway scripts schedule m.opening m rs 0
+pub underway-start : (scripts : List (List (List Instruction))) (schedule : List ActorId) (m : Managed) (rs : List Runner) → length scripts ≡ actor_count m.opening.system → m.history ≡ []
+    → AreNew m.opening.system scripts (actor_count m.opening.system) rs → Underway scripts schedule m.opening m rs 0
 underway-start scripts schedule m rs long empty new = record {
   same = refl;
   driving = record {
     scripts_long = long;
     runners_long = new.long;
-    follows = λ a below. rw empty (new.each a below (instructions_at scripts a));
+    follows = λ a below. rw empty (new.each a below);
     runs = λ a below. rw empty tt;
   };
   in_order = in_order-start schedule m.opening m.history empty;

@@ -21,13 +21,18 @@ use Rattle.ffm_model.specs.Records.{entries_of, outcomes_of}
 use Rattle.ffm_model.specs.Schedule.{enabled_in}
 use Rattle.ffm_model.specs.declared.script.Instruction.{Instruction}
 use Rattle.ffm_model.specs.Plans.{Plan, PlanRun}
-use Rattle.ffm_model.specs.ScriptRuns.{only_part, script_plan}
+use Rattle.ffm_model.specs.ScriptRuns.{only_part}
+use Rattle.ffm_model.specs.Contexts.{DeskView}
 use Rattle.spm_core.specs.Manager.{Opening, IsMade, IsRefused, refusal_at, is_gone, is_resume, state_after, CallDue}
-use Rattle.partition_sim.specs.ActorPlans.{plan_at}
-use Rattle.partition_sim.specs.Standing.{Standing, Follows, Asked}
-use Rattle.partition_sim.specs.Driving.{Driving, MadeOne, PassedOne, IsOver, runner_at, instructions_at, outcomes_at, first_standing}
-use Rattle.partition_sim.proofs.StepLemmas.{asked-follows}
-use Rattle.partition_sim.proofs.PlanLemmas.{RunFrom-push, plan_at-script, plan_at-resume}
+use Rattle.partition_sim.specs.declared.runner.Runner.{Runner}
+use Rattle.partition_sim.specs.declared.runner.Runner.TheVariants as runner
+use Rattle.partition_sim.specs.ActorPlans.{Role, parts_at, plan_at, plan_of_role, role_at}
+use Rattle.partition_sim.specs.ActorPlans.Role.{holds, takes_turns}
+use Rattle.partition_sim.specs.Standing.{Follows, Asked, contexts_of, role_of}
+use Rattle.partition_sim.specs.Driving.{Driving, MadeOne, PassedOne, IsOver, runner_at, outcomes_at, no_runner}
+use Rattle.partition_sim.proofs.ClientLemmas as client
+use Rattle.partition_sim.proofs.HeldLemmas as held
+use Rattle.partition_sim.proofs.PlanLemmas.{RunFrom-push, HeldResumes, ContextsResume, plan-resume}
 
 entries-own : (a : ℕ) (es : List Entry) (e : Entry) → e.actor.0 ≡ a → entries_of a (es ++ e ∷ []) ≡ entries_of a es ++ e ∷ []
 entries-own a es e h = filter-append (λ x. x.actor.0 == a) es (e ∷ []) ∙ ap (λ b. entries_of a es ++ (if b then e ∷ [] else [])) (eq-eqb _ _ h)
@@ -42,37 +47,57 @@ outcomes-push es e = map-append (λ (x : Entry). x.outcome) es (e ∷ [])
 same_or_not : (x y : ℕ) → (x ≡ y) ⊎ (x ≢ y)
 same_or_not x y = elim (eqb_tells x y) [ inl p ↦ inl p.1 | inr p ↦ inr p.1 ]
 
+-- a runner has as many contexts as the parts of the script that it follows
+pub parts-long : (role : Role) (parts : List (List Instruction)) (os : List Outcome) (r : Runner) → Follows role parts os r → length parts ≡ contexts_of r
+parts-long takes_turns parts os (runner.Client r) f = sym (ap (λ (d : DeskView). d.count) f.desk_is)
+parts-long (holds p) parts os (runner.Partition r) f = f.0
+parts-long takes_turns parts os (runner.Partition r) f = absurd f
+parts-long (holds p) parts os (runner.Client r) f = absurd f
+
+-- and its role
+pub role-is : (role : Role) (parts : List (List Instruction)) (os : List Outcome) (r : Runner) → Follows role parts os r → role_of r ≡ role
+role-is takes_turns parts os (runner.Client r) f = refl
+role-is (holds p) parts os (runner.Partition r) f = ap holds f.1.holder_is
+role-is takes_turns parts os (runner.Partition r) f = absurd f
+role-is (holds p) parts os (runner.Client r) f = absurd f
+
+pub asked-follows : (role : Role) (parts : List (List Instruction)) (os : List Outcome) (r : Runner) → Asked role parts os r → Follows role parts os r
+asked-follows takes_turns parts os (runner.Client r) a = client.asked-follows parts os r a
+asked-follows (holds p) parts os (runner.Partition r) a = (a.0, held.asked-follows p (only_part parts) os r a.1)
+asked-follows takes_turns parts os (runner.Partition r) a = absurd a
+asked-follows (holds p) parts os (runner.Client r) a = absurd a
+
 -- what holds of each runner and of a new one at its place
-put-at : (P : ℕ → Standing → Type 0) (runners : List Standing) (a b : ℕ) (r : Standing) → a < length runners → P a r → P b (runner_at runners b)
+put-at : (P : ℕ → Runner → Type 0) (runners : List Runner) (a b : ℕ) (r : Runner) → a < length runners → P a r → P b (runner_at runners b)
     → (a ≡ b) ⊎ (a ≢ b) → P b (runner_at (slice_set runners a r) b)
 put-at P runners a b r below here there (inl e) =
-    let found : r ≡ runner_at (slice_set runners a r) b = sym (get_or-set_same runners a r first_standing below) ∙ ap (runner_at (slice_set runners a r)) e in
-    let Q : Standing → Type 0 = λ x. P b x in
+    let found : r ≡ runner_at (slice_set runners a r) b = sym (get_or-set_same runners a r no_runner below) ∙ ap (runner_at (slice_set runners a r)) e in
+    let Q : Runner → Type 0 = λ x. P b x in
     let R : ℕ → Type 0 = λ n. P n r in
     subst Q found (subst R e here)
 put-at P runners a b r below here there (inr n) =
     let other : b ≢ a = λ e. n (sym e) in
-    let Q : Standing → Type 0 = λ x. P b x in
-    subst Q (sym (get_or-set_other runners a b r first_standing other)) there
+    let Q : Runner → Type 0 = λ x. P b x in
+    subst Q (sym (get_or-set_other runners a b r no_runner other)) there
 
 -- the same runs, with another value of one runner
-driving-asked : (scripts : List (List (List Instruction))) (o : Opening) (history : List Entry) (runners : List Standing) (a : ℕ) (r : Standing) → a < actor_count o.system
-    → Driving scripts o history runners → Asked (instructions_at scripts a) (outcomes_at history a) r → Driving scripts o history (slice_set runners a r)
+driving-asked : (scripts : List (List (List Instruction))) (o : Opening) (history : List Entry) (runners : List Runner) (a : ℕ) (r : Runner) → a < actor_count o.system
+    → Driving scripts o history runners → Asked (role_at o.system a) (parts_at scripts a) (outcomes_at history a) r → Driving scripts o history (slice_set runners a r)
 driving-asked scripts o history runners a r below d asked =
-    let P : ℕ → Standing → Type 0 = λ b x. Follows (instructions_at scripts b) (outcomes_at history b) x in
+    let P : ℕ → Runner → Type 0 = λ b x. Follows (role_at o.system b) (parts_at scripts b) (outcomes_at history b) x in
     let inside : a < length runners = omega (arith, d.runners_long) in
     record {
       scripts_long = d.scripts_long;
       runners_long = length-set runners a r ∙ d.runners_long;
-      follows = λ b h. put-at P runners a b r inside (asked-follows _ _ _ asked) (d.follows b h) (same_or_not a b);
+      follows = λ b h. put-at P runners a b r inside (asked-follows _ _ _ _ asked) (d.follows b h) (same_or_not a b);
       runs = d.runs;
     }
 
-follows-made : (script : List Instruction) (es : List Entry) (e : Entry) (b : ℕ) (x : Standing) → (e.actor.0 ≡ b) ⊎ (e.actor.0 ≢ b)
-    → (e.actor.0 ≢ b → Follows script (outcomes_of (entries_of b es)) x) → (e.actor.0 ≡ b → Follows script (outcomes_of (entries_of b es) ++ e.outcome ∷ []) x)
-    → Follows script (outcomes_of (entries_of b (es ++ e ∷ []))) x
-follows-made script es e b x (inl h) other own = rw (entries-own b es e h, outcomes-push (entries_of b es) e) (own h)
-follows-made script es e b x (inr n) other own = rw (entries-other b es e n) (other n)
+follows-made : (role : Role) (parts : List (List Instruction)) (es : List Entry) (e : Entry) (b : ℕ) (x : Runner) → (e.actor.0 ≡ b) ⊎ (e.actor.0 ≢ b)
+    → (e.actor.0 ≢ b → Follows role parts (outcomes_of (entries_of b es)) x) → (e.actor.0 ≡ b → Follows role parts (outcomes_of (entries_of b es) ++ e.outcome ∷ []) x)
+    → Follows role parts (outcomes_of (entries_of b (es ++ e ∷ []))) x
+follows-made role parts es e b x (inl h) other own = rw (entries-own b es e h, outcomes-push (entries_of b es) e) (own h)
+follows-made role parts es e b x (inr n) other own = rw (entries-other b es e n) (other n)
 
 runs-made : (plan : Plan) (es : List Entry) (e : Entry) (b : ℕ) → (e.actor.0 ≡ b) ⊎ (e.actor.0 ≢ b) → PlanRun plan (entries_of b es)
     → (e.actor.0 ≡ b → e.call ≡ plan (outcomes_of (entries_of b es))) → PlanRun plan (entries_of b (es ++ e ∷ []))
@@ -80,23 +105,23 @@ runs-made plan es e b (inl h) run own = rw (entries-own b es e h) (RunFrom-push 
 runs-made plan es e b (inr n) run own = rw (entries-other b es e n) run
 
 -- an entry more
-driving-made : (scripts : List (List (List Instruction))) (o : Opening) (history : List Entry) (runners : List Standing) (a : ℕ) (r : Standing) (e : Entry) → a < actor_count o.system
+driving-made : (scripts : List (List (List Instruction))) (o : Opening) (history : List Entry) (runners : List Runner) (a : ℕ) (r : Runner) (e : Entry) → a < actor_count o.system
     → Driving scripts o history runners → e.actor.0 ≡ a → e.call ≡ plan_at o.system scripts a (outcomes_at history a)
-    → Follows (instructions_at scripts a) (outcomes_at history a ++ e.outcome ∷ []) r
+    → Follows (role_at o.system a) (parts_at scripts a) (outcomes_at history a ++ e.outcome ∷ []) r
     → Driving scripts o (history ++ e ∷ []) (slice_set runners a r)
 driving-made scripts o history runners a r e below d actor call follows =
     let inside : a < length runners = omega (arith, d.runners_long) in
     record {
       scripts_long = d.scripts_long;
       runners_long = length-set runners a r ∙ d.runners_long;
-      follows = λ b h. follows-made (instructions_at scripts b) history e b (runner_at (slice_set runners a r) b) (same_or_not e.actor.0 b)
+      follows = λ b h. follows-made (role_at o.system b) (parts_at scripts b) history e b (runner_at (slice_set runners a r) b) (same_or_not e.actor.0 b)
           (λ n.
           let other : b ≢ a = λ q. n (actor ∙ sym q) in
-          rw (get_or-set_other runners a b r first_standing other) (d.follows b h))
+          rw (get_or-set_other runners a b r no_runner other) (d.follows b h))
           (λ q.
           let same : a ≡ b = sym actor ∙ q in
-          let R : ℕ → Type 0 = λ n. Follows (instructions_at scripts n) (outcomes_at history n ++ e.outcome ∷ []) (runner_at (slice_set runners a r) n) in
-          subst R same (rw (get_or-set_same runners a r first_standing inside) follows));
+          let R : ℕ → Type 0 = λ n. Follows (role_at o.system n) (parts_at scripts n) (outcomes_at history n ++ e.outcome ∷ []) (runner_at (slice_set runners a r) n) in
+          subst R same (rw (get_or-set_same runners a r no_runner inside) follows));
       runs = λ b h. runs-made (plan_at o.system scripts b) history e b (same_or_not e.actor.0 b) (d.runs b h)
           (λ q.
           let same : a ≡ b = sym actor ∙ q in
@@ -226,38 +251,42 @@ made-one o old new a c place e m =
 -- ---- the call that was asked for
 
 -- it is the one of the actor's plan after its outcomes
-pub record IsNextOf (s : System) (scripts : List (List (List Instruction))) (history : List Entry) (a : ℕ) (c : Call) (r : Standing) : Type 0 where
+pub record IsNextOf (s : System) (scripts : List (List (List Instruction))) (history : List Entry) (a : ℕ) (c : Call) (r : Runner) : Type 0 where
   pub call : c ≡ plan_at s scripts a (outcomes_at history a)
-  pub asked : Asked (instructions_at scripts a) (outcomes_at history a) r
+  pub asked : Asked (role_at s a) (parts_at scripts a) (outcomes_at history a) r
 
-pub asked-in : (scripts : List (List (List Instruction))) (o : Opening) (history : List Entry) (runners : List Standing) (a : ℕ) (parts : List (List Instruction)) (old new : Standing) (c : Call)
+-- the actor's runner follows the script that was found at its place
+pub follows-in : (scripts : List (List (List Instruction))) (o : Opening) (history : List Entry) (runners : List Runner) (a : ℕ) (parts : List (List Instruction)) (old : Runner)
+    → a < actor_count o.system → Driving scripts o history runners → parts ≡ get_or scripts a parts → Follows (role_at o.system a) parts (outcomes_at history a) (get_or runners a old)
+follows-in scripts o history runners a parts old below d is =
+    let script : parts ≡ parts_at scripts a = get_or_read scripts a parts (omega (arith, d.scripts_long)) is [] in
+    let runner : runner_at runners a ≡ get_or runners a old = get_or_default runners a no_runner old (omega (arith, d.runners_long)) in
+    let Q : List (List Instruction) → Type 0 = λ x. Follows (role_at o.system a) x (outcomes_at history a) (get_or runners a old) in
+    let R : Runner → Type 0 = λ x. Follows (role_at o.system a) (parts_at scripts a) (outcomes_at history a) x in
+    subst Q (sym script) (subst R runner (d.follows a below))
+
+pub asked-in : (scripts : List (List (List Instruction))) (o : Opening) (history : List Entry) (runners : List Runner) (a : ℕ) (parts : List (List Instruction)) (old new : Runner) (c : Call)
     → a < actor_count o.system → Driving scripts o history runners → parts ≡ get_or scripts a parts
-    → ((os : List Outcome) → Follows (only_part parts) os (get_or runners a old) → c ≡ script_plan (only_part parts) os)
-    → ((os : List Outcome) → Follows (only_part parts) os (get_or runners a old) → Asked (only_part parts) os new)
+    → ((role : Role) (os : List Outcome) → Follows role parts os (get_or runners a old) → c ≡ plan_of_role role parts os)
+    → ((role : Role) (os : List Outcome) → Follows role parts os (get_or runners a old) → Asked role parts os new)
     → IsNextOf o.system scripts history a c new
 asked-in scripts o history runners a parts old new c below d is calls asks =
-    let script : parts ≡ get_or scripts a [] = get_or_read scripts a parts (omega (arith, d.scripts_long)) is [] in
-    let runner : runner_at runners a ≡ get_or runners a old = get_or_default runners a first_standing old (omega (arith, d.runners_long)) in
-    let P : List (List Instruction) → Type 0 = λ x. c ≡ script_plan (only_part x) (outcomes_at history a) in
-    let A : List (List Instruction) → Type 0 = λ x. Asked (only_part x) (outcomes_at history a) new in
-    let Q : List (List Instruction) → Type 0 = λ x. Follows (only_part x) (outcomes_at history a) (get_or runners a old) in
-    let R : Standing → Type 0 = λ x. Follows (instructions_at scripts a) (outcomes_at history a) x in
-    let follows : Follows (only_part parts) (outcomes_at history a) (get_or runners a old) = subst Q (sym script) (subst R runner (d.follows a below)) in
-    let planned : c ≡ script_plan (instructions_at scripts a) (outcomes_at history a) = subst P script (calls (outcomes_at history a) follows) in
-    record {
-      call = planned ∙ sym (ap (λ (f : Plan). f (outcomes_at history a)) (plan_at-script o.system scripts a));
-      asked = subst A script (asks (outcomes_at history a) follows);
-    }
+    let role : Role = role_at o.system a in
+    let script : parts ≡ parts_at scripts a = get_or_read scripts a parts (omega (arith, d.scripts_long)) is [] in
+    let P : List (List Instruction) → Type 0 = λ x. c ≡ plan_of_role role x (outcomes_at history a) in
+    let A : List (List Instruction) → Type 0 = λ x. Asked role x (outcomes_at history a) new in
+    let follows : Follows role parts (outcomes_at history a) (get_or runners a old) = follows-in scripts o history runners a parts old below d is in
+    record { call = subst P script (calls role (outcomes_at history a) follows); asked = subst A script (asks role (outcomes_at history a) follows) }
 
-pub call-is-due : (scripts : List (List (List Instruction))) (o : Opening) (history : List Entry) (a : ℕ) (c : Call) (r : Standing) → IsNextOf o.system scripts history a c r → CallDue o history a c
-call-is-due scripts o history a c r n = inl (ap is_resume n.call ∙ plan_at-resume o.system scripts a (outcomes_at history a))
+pub call-is-due : (scripts : List (List (List Instruction))) (o : Opening) (history : List Entry) (a : ℕ) (c : Call) (r : Runner) → HeldResumes → ContextsResume → IsNextOf o.system scripts history a c r → CallDue o history a c
+call-is-due scripts o history a c r held contexts n = inl (ap is_resume n.call ∙ plan-resume held contexts (role_at o.system a) (parts_at scripts a) (outcomes_at history a))
 
 -- a turn that changes nothing
-pub driving-still : (scripts : List (List (List Instruction))) (o : Opening) (old new : List Entry) (runners : List Standing) (a : ℕ) (c : Call) (r : Standing) → a < actor_count o.system
+pub driving-still : (scripts : List (List (List Instruction))) (o : Opening) (old new : List Entry) (runners : List Runner) (a : ℕ) (c : Call) (r : Runner) → a < actor_count o.system
     → Driving scripts o old runners → IsNextOf o.system scripts old a c r → new ≡ old → Driving scripts o new (slice_set runners a r)
 driving-still scripts o old new runners a c r below d n e = rw e (driving-asked scripts o old runners a r below d n.asked)
 
-pub driving-step : (scripts : List (List (List Instruction))) (o : Opening) (old new : List Entry) (runners : List Standing) (a : ℕ) (c : Call) (asked r : Standing) (place : ℕ) (e : Entry)
+pub driving-step : (scripts : List (List (List Instruction))) (o : Opening) (old new : List Entry) (runners : List Runner) (a : ℕ) (c : Call) (asked r : Runner) (place : ℕ) (e : Entry)
     → a < actor_count o.system → Driving scripts o old runners → IsNextOf o.system scripts old a c asked → IsMade o old a c place e new
-    → Follows (instructions_at scripts a) (outcomes_at old a ++ e.outcome ∷ []) r → Driving scripts o new (slice_set runners a r)
+    → Follows (role_at o.system a) (parts_at scripts a) (outcomes_at old a ++ e.outcome ∷ []) r → Driving scripts o new (slice_set runners a r)
 driving-step scripts o old new runners a c asked r place e below d n m follows = rw m.added (driving-made scripts o old runners a r e below d m.actor (m.called ∙ n.call) follows)

@@ -6,15 +6,34 @@ use Rattle.ffm_model.specs.declared.system.ActorKind.{ActorKind}
 use Rattle.ffm_model.specs.declared.system.ActorKind.TheVariants.{Partition, Client, Device}
 use Rattle.ffm_model.specs.declared.system.System.{System}
 use Rattle.ffm_model.specs.Actors.{kind_of}
+use Rattle.ffm_model.specs.Contexts.{context_plan}
+use Rattle.ffm_model.specs.Held.{Holder, holder_of}
+use Rattle.ffm_model.specs.HeldPlans.{held_plan}
 use Rattle.ffm_model.specs.Plans.{Plan}
-use Rattle.ffm_model.specs.ScriptRuns.{only_part, script_plan}
+use Rattle.ffm_model.specs.ScriptRuns.{only_part}
 
--- what an actor of a kind calls next, where its scripts are these: each kind of actor runs one script
-abbrev pub kind_plan : ActorKind → List (List Instruction) → Plan
-kind_plan Partition parts = script_plan (only_part parts)
-kind_plan Client parts = script_plan (only_part parts)
-kind_plan Device parts = script_plan (only_part parts)
+-- what an actor is to its script: a partition, which holds messages and may map their vectors, or one whose contexts take turns
+pub data Role : Type 0 where
+  holds : Holder → Role
+  takes_turns : Role
+
+-- what an actor calls next, where these are the parts of its script: a partition's script has one part; each part of a client's is a context of it
+abbrev pub plan_of_role : Role → List (List Instruction) → Plan
+plan_of_role (holds p) parts = held_plan p (only_part parts)
+plan_of_role takes_turns parts = context_plan parts
+
+-- the device has one context
+abbrev pub role_of_kind : ActorKind → Holder → Role
+role_of_kind Partition p = holds p
+role_of_kind Client p = takes_turns
+role_of_kind Device p = takes_turns
+
+abbrev pub role_at : System → ℕ → Role
+role_at s a = role_of_kind (kind_of s a) (holder_of s a)
+
+abbrev pub parts_at : List (List (List Instruction)) → ℕ → List (List Instruction)
+parts_at scripts a = get_or scripts a []
 
 -- what an actor of a system calls next
 abbrev pub plan_at : System → List (List (List Instruction)) → ℕ → Plan
-plan_at s scripts a = kind_plan (kind_of s a) (get_or scripts a [])
+plan_at s scripts a = plan_of_role (role_at s a) (parts_at scripts a)

@@ -1,49 +1,53 @@
 -- What a scheduled run keeps, turn after turn, and what it gives.
 -- Source: this simulator's.
-use Rattle.std.specs.Prelude.{ℕ, ◌≡◌, ◌<◌, ◌≤◌, Bool, true, false, List, [], ◌∷◌, ◌++◌, length, get_or, Some, IsSome, Result, Ok, Err}
+use Rattle.std.specs.Prelude.{ℕ, ◌≡◌, ◌≢◌, ◌<◌, ◌≤◌, Bool, true, false, List, [], ◌∷◌, ◌++◌, length, get_or, Some, IsSome, Result, Ok, Err}
 use Rattle.ffm_model.specs.declared.machine.ActorId.{ActorId}
 use Rattle.ffm_model.specs.declared.machine.Entry.{Entry}
 use Rattle.ffm_model.specs.declared.machine.Outcome.{Outcome}
 use Rattle.ffm_model.specs.declared.script.Instruction.{Instruction}
-use Rattle.ffm_model.specs.Actors.{actor_count}
+use Rattle.ffm_model.specs.declared.system.ActorKind.{ActorKind}
+use Rattle.ffm_model.specs.declared.system.System.{System}
+use Rattle.ffm_model.specs.Actors.{actor_count, kind_of}
 use Rattle.ffm_model.specs.Records.{entries_of, outcomes_of}
 use Rattle.ffm_model.specs.Schedule.{Scheduled, Turns, enabled_in, turn_at}
 use Rattle.ffm_model.specs.Plans.{PlanRun}
-use Rattle.ffm_model.specs.ScriptRuns.{only_part, start}
 use Rattle.ffm_model.specs.State.{opening}
 use Rattle.ffm_model.specs.Verdicts.{verdict_of}
 use Rattle.memory_image.specs.Pieces.{byte_at}
 use Rattle.spm_core.specs.Manager.{Opening, Managed, state_after}
 use Rattle.partition_sim.specs.declared.scheduled.Over.{Over}
-use Rattle.partition_sim.specs.ActorPlans.{plan_at}
-use Rattle.partition_sim.specs.Standing.{Standing, Follows}
+use Rattle.partition_sim.specs.declared.runner.Runner.{Runner}
+use Rattle.partition_sim.specs.declared.runner.Runner.TheVariants.{Client}
+use Rattle.partition_sim.specs.ActorPlans.{parts_at, plan_at, role_at}
+use Rattle.partition_sim.specs.Standing.{Follows}
 
-abbrev pub first_standing : Standing
-first_standing = record { point = start; ran = 0; waiting = false; after = 0 }
+-- only a non-secure client has several contexts
+abbrev pub HaveContexts : System → List (List (List Instruction)) → Type 0
+HaveContexts s scripts = (a : ℕ) → a < actor_count s → kind_of s a ≢ ActorKind.Client → length (parts_at scripts a) ≡ 1
 
-abbrev pub runner_at : List Standing → ℕ → Standing
-runner_at runners a = get_or runners a first_standing
+-- stands for a runner that isn't there
+abbrev pub no_runner : Runner
+no_runner = Client (record { contexts = []; desk = record { count = 0; turn = 0 }; caller = 0; waiting = false })
 
--- the instructions that an actor's runner is given
-abbrev pub instructions_at : List (List (List Instruction)) → ℕ → List Instruction
-instructions_at scripts a = only_part (get_or scripts a [])
+abbrev pub runner_at : List Runner → ℕ → Runner
+runner_at runners a = get_or runners a no_runner
 
 -- the outcomes that an actor was answered
 abbrev pub outcomes_at : List Entry → ℕ → List Outcome
 outcomes_at history a = outcomes_of (entries_of a history)
 
--- runners that have seen nothing
-pub record AreNew (count : ℕ) (runners : List Standing) : Type 0 where
+-- runners of the first actors, that have seen nothing
+pub record AreNew (s : System) (scripts : List (List (List Instruction))) (count : ℕ) (runners : List Runner) : Type 0 where
   pub long : length runners ≡ count
-  pub each : (a : ℕ) → a < count → (script : List Instruction) → Follows script [] (runner_at runners a)
+  pub each : (a : ℕ) → a < count → Follows (role_at s a) (parts_at scripts a) [] (runner_at runners a)
 
 -- ---- one turn
 
 -- each runner has seen its actor's outcomes, and each actor's entries are a run of its plan
-pub record Driving (scripts : List (List (List Instruction))) (o : Opening) (history : List Entry) (runners : List Standing) : Type 0 where
+pub record Driving (scripts : List (List (List Instruction))) (o : Opening) (history : List Entry) (runners : List Runner) : Type 0 where
   pub scripts_long : length scripts ≡ actor_count o.system
   pub runners_long : length runners ≡ actor_count o.system
-  pub follows : (a : ℕ) → a < actor_count o.system → Follows (instructions_at scripts a) (outcomes_at history a) (runner_at runners a)
+  pub follows : (a : ℕ) → a < actor_count o.system → Follows (role_at o.system a) (parts_at scripts a) (outcomes_at history a) (runner_at runners a)
   pub runs : (a : ℕ) → a < actor_count o.system → PlanRun (plan_at o.system scripts a) (entries_of a history)
 
 -- an enabled actor made an entry
@@ -80,7 +84,7 @@ pub record InOrder (schedule : List ActorId) (o : Opening) (history : List Entry
   pub passed : (w : ℕ) → end ≤ w → w < t → enabled_in o.system (state_after o history) (turn_at o.system schedule w) ≡ false
 
 -- the run of a manager, which began with this opening, comes to turn t
-pub record Underway (scripts : List (List (List Instruction))) (schedule : List ActorId) (o : Opening) (m : Managed) (runners : List Standing) (t : ℕ) : Type 0 where
+pub record Underway (scripts : List (List (List Instruction))) (schedule : List ActorId) (o : Opening) (m : Managed) (runners : List Runner) (t : ℕ) : Type 0 where
   pub same : m.opening ≡ o
   pub driving : Driving scripts m.opening m.history runners
   pub in_order : InOrder schedule m.opening m.history t

@@ -1,4 +1,6 @@
 pub mod ActorPlans
+pub mod Clients
+pub mod Partitions
 pub mod Standing
 pub mod Driving
 pub mod Workers

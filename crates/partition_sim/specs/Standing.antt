@@ -1,38 +1,34 @@
--- Where a runner stands, and when it is in step with a script.
+-- When a runner is in step with the script of its actor.
 -- Source: this simulator's.
-use Rattle.std.specs.Prelude.{ℕ, ◌≡◌, ◌-◌, List, Bool}
+use Rattle.std.specs.Prelude.{ℕ, ◌≡◌, List, length}
 use Rattle.ffm_model.specs.declared.machine.Outcome.{Outcome}
 use Rattle.ffm_model.specs.declared.script.Instruction.{Instruction}
-use Rattle.ffm_model.specs.Records.{ends_blocked}
-use Rattle.ffm_model.specs.ScriptRuns.{Point, most_lines, local_steps, arrived, point_after, place_behind}
+use Rattle.ffm_model.specs.ScriptRuns.{only_part}
+use Rattle.partition_sim.specs.declared.runner.Runner.{Runner}
+use Rattle.partition_sim.specs.declared.runner.Runner.TheVariants.{Client, Partition}
+use Rattle.partition_sim.specs.ActorPlans.{Role}
+use Rattle.partition_sim.specs.ActorPlans.Role.{holds, takes_turns}
+use Rattle.partition_sim.specs.Clients.{AskedAll, FollowsAll}
+use Rattle.partition_sim.specs.Partitions.{AskedHeld, FollowsHeld}
 
--- what contracts see of a runner: its point, how many local lines ran since the last event, whether a call waits for its return, and where the script goes on after the call
-pub record Standing : Type 0 where
-  pub point : Point
-  pub ran : ℕ
-  pub waiting : Bool
-  pub after : ℕ
+-- what the actor of a runner is to its script
+abbrev pub role_of : Runner → Role
+role_of (Client r) = takes_turns
+role_of (Partition r) = holds r.holder
 
--- ---- told by the point where the script goes on after the last event
+-- how many parts a runner's script has: one for each context
+abbrev pub contexts_of : Runner → ℕ
+contexts_of (Client r) = r.desk.count
+contexts_of (Partition r) = 1
 
--- the runner is on the way from there to the next call
-pub record Reaches (script : List Instruction) (p : Point) (r : Standing) : Type 0 where
-  pub way : local_steps script (most_lines - r.ran) r.point ≡ arrived script p
+-- the runner of an actor of this role has seen these outcomes of its calls, and runs to the next one
+abbrev pub Follows : Role → List (List Instruction) → List Outcome → Runner → Type 0
+Follows takes_turns parts outcomes (Client r) = FollowsAll parts outcomes r
+Follows (holds p) parts outcomes (Partition r) = (length parts ≡ 1) × FollowsHeld p (only_part parts) outcomes r
+Follows _ parts outcomes r = ⊥
 
--- it stands at that call
-pub record AtCall (script : List Instruction) (p : Point) (r : Standing) : Type 0 where
-  pub here : r.point ≡ arrived script p
-  pub stays : local_steps script (most_lines - r.ran) r.point ≡ r.point
-  pub after : r.after ≡ place_behind script r.point.place
-
--- ---- told by the outcomes of the script's calls
-
--- the runner has seen these outcomes, and runs to the call behind them
-pub record Follows (script : List Instruction) (outcomes : List Outcome) (r : Standing) : Type 0 where
-  pub waits : r.waiting ≡ ends_blocked outcomes
-  pub reaches : Reaches script (point_after script outcomes) r
-
--- it has seen them, and stands at the call behind them
-pub record Asked (script : List Instruction) (outcomes : List Outcome) (r : Standing) : Type 0 where
-  pub waits : r.waiting ≡ ends_blocked outcomes
-  pub at_call : AtCall script (point_after script outcomes) r
+-- it has seen them, and stands at the next call
+abbrev pub Asked : Role → List (List Instruction) → List Outcome → Runner → Type 0
+Asked takes_turns parts outcomes (Client r) = AskedAll parts outcomes r
+Asked (holds p) parts outcomes (Partition r) = (length parts ≡ 1) × AskedHeld p (only_part parts) outcomes r
+Asked _ parts outcomes r = ⊥

@@ -1,8 +1,13 @@
-//! Runs scripts: what each calls next, all of them in turns over a manager, and some of them by
-//! workers over a manager that is shared.
+//! Runs scripts: what each actor calls next, all of them in turns over a manager, and some of them
+//! by workers over a manager that is shared.
 #![tactic(auto)]
 
 mod calls;
+mod client;
+mod context;
+mod held_lines;
+mod lines;
+mod partition;
 mod runner;
 mod scheduled;
 mod workers;

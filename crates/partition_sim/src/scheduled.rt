@@ -8,10 +8,11 @@ ghost use Rattle.ffm_model.specs.Schedule.{Scheduled};
 ghost use Rattle.ffm_model.specs.Verdicts.{verdict_of};
 ghost use Rattle.memory_image.specs.Pieces.{byte_at};
 ghost use Rattle.partition_sim.specs.ActorPlans.{plan_at};
-ghost use Rattle.partition_sim.specs.Driving.{AreNew, Driving, IsDriven, Turned, Underway};
+ghost use Rattle.partition_sim.specs.Driving.{AreNew, Driving, HaveContexts, IsDriven, Turned, Underway};
 
 use crate::runner::Runner;
-use ffm_model::{ActorId, Answer, List, Memory, Script};
+use actor_plans::plans_resume_behind_blocked;
+use ffm_model::{ActorId, Answer, List, Memory, Script, System};
 use spm_core::Spm;
 use std::alloc::Global;
 
@@ -33,6 +34,7 @@ fn take_turn(
     ensures driving { Driving scripts.now spm.old.opening spm.new.history runners.new }
     ensures turned { Turned spm.old.opening spm.old.history actor.0 result spm.new.history }
 {
+    plans_resume_behind_blocked();
     let at = actor.0 as usize;
     let runner = &mut runners[at];
     let call = runner.next(&scripts[at]);
@@ -82,19 +84,25 @@ fn run_turns(
     }
 }
 
-fn new_runners(alloc: Global, count: u32) -> Result<Vec<Runner>, Memory>
-    ensures { IfOk result (λ v. AreNew count v.items) }
+// A runner for each actor, with as many contexts as its script has parts.
+fn new_runners(alloc: Global, system: &System, scripts: &[Script]) -> Result<Vec<Runner>, Memory>
+    requires count { length scripts.now ≡ actor_count system.now }
+    requires contexts { HaveContexts system.now scripts.now }
+    ensures { IfOk result (λ v. AreNew system.now scripts.now (actor_count system.now) v.items) }
 {
     let mut runners = Vec::new(alloc);
-    for i in 0..count {
-        runners.push(Runner::new())?;
+    for a in 0..system.actor_count() {
+        let script = &scripts[a as usize];
+        let contexts = script.parts.len() as u32;
+        runners.push(Runner::new(system, ActorId(a), contexts))?;
     }
     Ok(runners)
 }
 
 /// Runs the scripts, one for each actor, in turns: those of the schedule, then all actors round and
 /// round. In its turn an enabled actor makes one event, and an actor that isn't enabled is passed.
-/// The run ends when no actor is enabled or the limit is reached.
+/// The run ends when no actor is enabled or the limit is reached. The contexts of a non-secure client
+/// are the parts of its script, up to eight; the script of every other actor has one part.
 ///
 /// All memory is taken before the first event. Err where none was found; the manager is then as it
 /// was.
@@ -105,6 +113,7 @@ pub fn drive_scheduled(
     schedule: &List<ActorId>,
 ) -> Result<(), Memory>
     requires scripts { length scripts.now ≡ actor_count spm.old.opening.system }
+    requires contexts { HaveContexts spm.old.opening.system scripts.now }
     requires known { All (λ a. a.0 < actor_count spm.old.opening.system) schedule.now }
     requires empty { spm.old.history ≡ [] }
     ensures opening { spm.new.opening ≡ spm.old.opening }
@@ -120,7 +129,7 @@ pub fn drive_scheduled(
     ensures err { OnErr result (spm.new ≡ spm.old) }
 {
     let count = spm.actor_count();
-    let mut runners = new_runners(alloc, count)?;
+    let mut runners = new_runners(alloc, spm.system(), scripts.as_slice())?;
     run_turns(
         spm,
         runners.as_mut_slice(),

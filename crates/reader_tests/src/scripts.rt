@@ -2,7 +2,7 @@
 //! of a device.
 
 use ffm_model::{
-    ActorKind, CallName, Comparison, Instruction, Key, Lines, List, Memory, Name, Operand,
+    ActorKind, CallName, Comparison, Instruction, Key, Lines, List, MapName, Memory, Name, Operand,
     Operation, PathStep, RaiseItem, ReadError, Root, SCRIPT_SYNTAX,
 };
 use script_asm::{assemble, device_script};
@@ -85,6 +85,25 @@ const CALLS: [(&str, &str, bool); 22] = [
     ("panic", "panic 0", false),
 ];
 
+// Scripts of partitions with lines of mapped vectors, each with its first wrong line where it has one.
+const MAPS: [(&str, Option<u32>); 12] = [
+    (
+        "map_in r2 0\nmap_out r2 3\nunmap_in r2 0\nunmap_out r2 3 8",
+        None,
+    ),
+    ("map_in 1536 r1", None),
+    ("unmap_out r1 r2 r3", None),
+    ("end\nmap_in r2", Some(1)),
+    ("end\nmap_in r2 0 4", Some(1)),
+    ("map_out", Some(0)),
+    ("map_out r2 0 4", Some(0)),
+    ("unmap_in r2", Some(0)),
+    ("unmap_in r2 0 4", Some(0)),
+    ("end\nend\nunmap_out r2 0", Some(2)),
+    ("unmap_out r2 0 4 4", Some(0)),
+    ("map_in r2 r16", Some(0)),
+];
+
 fn lines_of(alloc: Global, text: &str) -> Result<Lines, Memory> {
     let mut lines = Vec::new(alloc);
     for line in text.split('\n') {
@@ -145,6 +164,26 @@ fn calls_of_kinds(rt: HostRuntime) -> Result<(), Fail> {
 }
 
 #[test]
+fn vectors_of_partitions(rt: HostRuntime) -> Result<(), Fail> {
+    for (text, wrong) in &MAPS {
+        let found = first_wrong(&rt, rt.alloc(), ActorKind::Partition, text)?;
+        assert_eq!(rt; found, *wrong, "{text:?}");
+    }
+    for kind in [ActorKind::Client, ActorKind::Device] {
+        for line in [
+            "map_in r2 0",
+            "unmap_in r2 0",
+            "map_out r2 0",
+            "unmap_out r2 0 4",
+        ] {
+            let found = first_wrong(&rt, rt.alloc(), kind, line)?;
+            assert_eq!(rt; found, Some(0), "{kind:?} {line:?}");
+        }
+    }
+    Ok(())
+}
+
+#[test]
 fn no_line_raises(rt: HostRuntime) -> Result<(), Fail> {
     for kind in [ActorKind::Partition, ActorKind::Client, ActorKind::Device] {
         for text in ["end\nraise 0", "end\nfire 0 1"] {
@@ -160,6 +199,29 @@ fn make_one(name: CallName, number: u32) -> Instruction {
     let mut operands = [Operand::Number(0); 6];
     operands[0] = Operand::Number(number);
     Instruction::Make { name, operands }
+}
+
+#[test]
+fn instructions_that_map(rt: HostRuntime) -> Result<(), Fail> {
+    let lines = lines_of(rt.alloc(), "map_in r2 1\nunmap_out 0x600 r3 8")?;
+    assert!(rt; lines.len() < 10);
+    let script = assemble(rt.alloc(), &lines, ActorKind::Partition, 0)?;
+    let expected = [
+        Instruction::Map {
+            name: MapName::MapIn,
+            operands: [Operand::Register(2), Operand::Number(1), Operand::Number(0)],
+        },
+        Instruction::Map {
+            name: MapName::UnmapOut,
+            operands: [
+                Operand::Number(1536),
+                Operand::Register(3),
+                Operand::Number(8),
+            ],
+        },
+    ];
+    assert_eq!(rt; script.instructions(), expected.as_slice());
+    Ok(())
 }
 
 #[test]

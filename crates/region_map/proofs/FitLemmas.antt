@@ -5,7 +5,7 @@ use Rattle.std.proofs.lemmas.Bool.Decides.{nat_tests}
 use Rattle.ffm_model.specs.declared.constants.TheConstants.{MAX_REGION_BYTES, MAX_IMAGE_BYTES}
 use Rattle.ffm_model.specs.PartsItems.{PartsRecord}
 use Rattle.ffm_model.specs.Repeats.{only_if}
-use Rattle.ffm_model.specs.Layout.{mmio_of, regions_of, ram_size, rounded, is_large, large_from, too_large, non_secure_ram, all_regions}
+use Rattle.ffm_model.specs.Layout.{mmio_of, regions_of, ram_needed, rounded, is_large, large_from, too_large, non_secure_ram, all_regions}
 use Rattle.region_map.specs.declared.place.Placed.{Placed}
 use Rattle.region_map.specs.Placements.{located_of}
 use Rattle.region_map.proofs.SizeLemmas.{sum_regions}
@@ -25,7 +25,7 @@ rounded_up : (n : ℕ) → n ≤ rounded n
 rounded_up n = omega arith
 
 -- the RAM of all partitions fits the image
-pub ram_fits : (p : PartsRecord) (xs : List Placed) → map located_of xs ≡ mmio_of p → too_large p ≡ [] → sum_by ram_size p.manifests ≤ 16777216
+pub ram_fits : (p : PartsRecord) (xs : List Placed) → map located_of xs ≡ mmio_of p → too_large p ≡ [] → sum_by ram_needed p.manifests ≤ 16777216
 ram_fits p xs placed fits =
     let ends = both_empty (only_if (is_large (rounded p.non_secure_ram)) non_secure_ram) _ (both_empty (large_from p.regions 0 p.manifests) _ fits).1 in
     let all = at_most _ MAX_IMAGE_BYTES (not_kept (nat_lt MAX_IMAGE_BYTES (sum_by (λ r. r.size) (regions_of p))) all_regions ends.1) in

@@ -9,7 +9,7 @@ use Rattle.std.proofs.lemmas.Bool.Decides.{nat_tests}
 use Rattle.std.proofs.lemmas.List.Sums.{sum_by-cons}
 use Rattle.ffm_model.specs.declared.system.Region.{Region}
 use Rattle.ffm_model.specs.ManifestItems.{ManifestRecord}
-use Rattle.ffm_model.specs.Layout.{ram_size, rams_from}
+use Rattle.ffm_model.specs.Layout.{ram_needed, rams_from}
 use Rattle.ffm_model.specs.WellFormed.{apart}
 use Rattle.region_map.specs.Overlaps.{extent, IsDisjoint, MeetsNone}
 use Rattle.region_map.proofs.Numbers.{not_above, not_below}
@@ -21,12 +21,12 @@ two_parts b s t x some = grind (arith, nat_tests)
 
 -- the RAM of all partitions is one piece
 pub rams_meet : (level k base : ℕ) (ms : List ManifestRecord) (x : Region) → 0 < x.size
-    → list_any (λ r. not (apart r x)) (rams_from level k base ms) ≡ not (apart (extent base (sum_by ram_size ms)) x)
+    → list_any (λ r. not (apart r x)) (rams_from level k base ms) ≡ not (apart (extent base (sum_by ram_needed ms)) x)
 rams_meet level k base [] x some = refl
 rams_meet level k base (m ∷ ms) x some =
-    ap (λ b. not (apart (extent base (ram_size m)) x) || b) (rams_meet level (k + 1) (base + ram_size m) ms x some)
-    ∙ two_parts base (ram_size m) (sum_by ram_size ms) x some
-    ∙ ap (λ n. not (apart (extent base n) x)) (sym (sum_by-cons ram_size m ms))
+    ap (λ b. not (apart (extent base (ram_needed m)) x) || b) (rams_meet level (k + 1) (base + ram_needed m) ms x some)
+    ∙ two_parts base (ram_needed m) (sum_by ram_needed ms) x some
+    ∙ ap (λ n. not (apart (extent base n) x)) (sym (sum_by-cons ram_needed m ms))
 
 -- ---- earlier regions
 

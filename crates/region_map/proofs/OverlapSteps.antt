@@ -10,7 +10,7 @@ use Rattle.ffm_model.specs.declared.constants.TheConstants.{RAM_BASE}
 use Rattle.ffm_model.specs.declared.system.Region.{Region}
 use Rattle.ffm_model.specs.PartsItems.{PartsRecord}
 use Rattle.ffm_model.specs.Repeats.{first, only_if}
-use Rattle.ffm_model.specs.Layout.{Located, ram_size, rounded, rams_of, non_secure_of, overlapping}
+use Rattle.ffm_model.specs.Layout.{Located, ram_needed, rounded, rams_of, non_secure_of, overlapping}
 use Rattle.ffm_model.specs.WellFormed.{apart}
 use Rattle.region_map.specs.declared.place.Placed.{Placed}
 use Rattle.region_map.specs.Placements.{located_of}
@@ -25,12 +25,12 @@ meets_one x rs = list_any (λ r. not (apart r x)) rs
 abbrev pub front : PartsRecord → List Region
 front p = rams_of p ++ non_secure_of p ∷ []
 
-front_meets : (p : PartsRecord) (ram non_secure : ℕ) (x : Region) → 0 < x.size → ram ≡ sum_by ram_size p.manifests → non_secure ≡ rounded p.non_secure_ram
+front_meets : (p : PartsRecord) (ram non_secure : ℕ) (x : Region) → 0 < x.size → ram ≡ sum_by ram_needed p.manifests → non_secure ≡ rounded p.non_secure_ram
     → meets_one x (front p) ≡ meets_ram ram non_secure x
 front_meets p ram non_secure x some is others =
     list_any-append (λ r. not (apart r x)) (rams_of p) (non_secure_of p ∷ [])
     ∙ ap (λ b. b || (not (apart (non_secure_of p) x) || false)) (rams_meet p.level 0 RAM_BASE p.manifests x some)
-    ∙ ap (λ b. not (apart (extent RAM_BASE (sum_by ram_size p.manifests)) x) || b) (or-false (not (apart (non_secure_of p) x)))
+    ∙ ap (λ b. not (apart (extent RAM_BASE (sum_by ram_needed p.manifests)) x) || b) (or-false (not (apart (non_secure_of p) x)))
     ∙ ap (λ n. meets_ram n (rounded p.non_secure_ram) x) (sym is)
     ∙ ap (λ n. meets_ram ram n x) (sym others)
 
@@ -47,14 +47,14 @@ neither true b h k = cc
 neither false b h k = k
 
 pub meets_front : (p : PartsRecord) (ram non_secure : ℕ) (m : BTreeMap ℕ ℕ) (rs : List Region) (x : Region) → Holds m rs → 0 < x.size
-    → ram ≡ sum_by ram_size p.manifests → non_secure ≡ rounded p.non_secure_ram
+    → ram ≡ sum_by ram_needed p.manifests → non_secure ≡ rounded p.non_secure_ram
     → (meets_ram ram non_secure x ≡ true) ⊎ MeetsSome m x → meets_one x (front p ++ rs) ≡ true
 meets_front p ram non_secure m rs x holds some is others hit =
     both p rs x ∙ either (meets_one x (front p)) (meets_one x rs)
     (⊎_elim (λ (h : meets_ram ram non_secure x ≡ true). inl (front_meets p ram non_secure x some is others ∙ h)) (λ (h : MeetsSome m x). inr (meets_some m rs x holds some h)) hit)
 
 pub misses_front : (p : PartsRecord) (ram non_secure : ℕ) (m : BTreeMap ℕ ℕ) (rs : List Region) (x : Region) → Holds m rs → 0 < x.size
-    → ram ≡ sum_by ram_size p.manifests → non_secure ≡ rounded p.non_secure_ram
+    → ram ≡ sum_by ram_needed p.manifests → non_secure ≡ rounded p.non_secure_ram
     → meets_ram ram non_secure x ≡ false → MeetsNone m x → meets_one x (front p ++ rs) ≡ false
 misses_front p ram non_secure m rs x holds some is others miss none =
     both p rs x ∙ neither (meets_one x (front p)) (meets_one x rs) (front_meets p ram non_secure x some is others ∙ miss) (meets_none m rs x holds none)

@@ -13,7 +13,7 @@ use Rattle.ffm_model.specs.declared.system.Class.TheVariants.{Ram, Mmio}
 use Rattle.ffm_model.specs.ManifestItems.{ManifestRecord, MmioRecord}
 use Rattle.ffm_model.specs.PartsItems.{PartsRecord, RegionRecord}
 use Rattle.ffm_model.specs.Repeats.{first, only_if}
-use Rattle.ffm_model.specs.Layout.{Located, domain_at, located_in, located_from, range_named, mmio_placed, mmio_of, rams_from, rams_of, non_secure_of, regions_of, ram_size, rounded, is_large, is_large_item, large_from, too_large, TooLarge, partition_ram, mmio_item, non_secure_ram, all_regions}
+use Rattle.ffm_model.specs.Layout.{Located, domain_at, located_in, located_from, range_named, mmio_placed, mmio_of, rams_from, rams_of, non_secure_of, regions_of, ram_needed, rounded, is_large, is_large_item, large_from, too_large, TooLarge, partition_ram, mmio_item, non_secure_ram, all_regions}
 use Rattle.manifest_items.specs.Seen.{spot}
 use Rattle.region_map.specs.declared.place.Placed.{Placed}
 use Rattle.region_map.specs.declared.error.LayoutError.{LayoutError}
@@ -145,12 +145,12 @@ first_large regions k (m ∷ ms) =
 
 -- ---- all regions
 
-pub sum_rams : (level k base : ℕ) (ms : List ManifestRecord) → sum_by (λ r. r.size) (rams_from level k base ms) ≡ sum_by ram_size ms
+pub sum_rams : (level k base : ℕ) (ms : List ManifestRecord) → sum_by (λ r. r.size) (rams_from level k base ms) ≡ sum_by ram_needed ms
 sum_rams level k base [] = refl
 sum_rams level k base (m ∷ ms) =
-    sum_by-cons (λ (r : Region). r.size) (record { base = base; size = ram_size m; class = Ram (domain_at level m.rot (k + 1)) }) (rams_from level (k + 1) (base + ram_size m) ms)
-    ∙ ap (λ n. ram_size m + n) (sum_rams level (k + 1) (base + ram_size m) ms)
-    ∙ sym (sum_by-cons ram_size m ms)
+    sum_by-cons (λ (r : Region). r.size) (record { base = base; size = ram_needed m; class = Ram (domain_at level m.rot (k + 1)) }) (rams_from level (k + 1) (base + ram_needed m) ms)
+    ∙ ap (λ n. ram_needed m + n) (sum_rams level (k + 1) (base + ram_needed m) ms)
+    ∙ sym (sum_by-cons ram_needed m ms)
 
 sum_placed : (xs : List Placed) → sum_by (λ r. r.size) (map (λ (x : Located Region). x.value) (map located_of xs)) ≡ sum_by (λ x. x.region.size) xs
 sum_placed [] = refl
@@ -160,12 +160,12 @@ sum_placed (x ∷ xs) =
     ∙ sym (sum_by-cons (λ (y : Placed). y.region.size) x xs)
 
 pub sum_regions : (p : PartsRecord) (xs : List Placed) → map located_of xs ≡ mmio_of p
-    → sum_by (λ r. r.size) (regions_of p) ≡ sum_by ram_size p.manifests + rounded p.non_secure_ram + sum_by (λ x. x.region.size) xs
+    → sum_by (λ r. r.size) (regions_of p) ≡ sum_by ram_needed p.manifests + rounded p.non_secure_ram + sum_by (λ x. x.region.size) xs
 sum_regions p xs placed =
     let size : Region → ℕ = λ r. r.size in
     let rest : List Region = map (λ (x : Located Region). x.value) (mmio_of p) in
     let tail : sum_by size rest ≡ sum_by (λ x. x.region.size) xs = ap (λ (t : List (Located Region)). sum_by size (map (λ (x : Located Region). x.value) t)) (sym placed) ∙ sum_placed xs in
-    let rams : sum_by size (rams_of p) ≡ sum_by ram_size p.manifests = sum_rams p.level 0 RAM_BASE p.manifests in
+    let rams : sum_by size (rams_of p) ≡ sum_by ram_needed p.manifests = sum_rams p.level 0 RAM_BASE p.manifests in
     let head : sum_by size (non_secure_of p ∷ rest) ≡ rounded p.non_secure_ram + sum_by size rest = sum_by-cons size (non_secure_of p) rest in
     let all : sum_by size (regions_of p) ≡ sum_by size (rams_of p) + sum_by size (non_secure_of p ∷ rest) = sum_by-append size (rams_of p) (non_secure_of p ∷ rest) in
     omega arith
@@ -186,7 +186,7 @@ by_three None false false = refl
 
 pub first_too_large_is : (p : PartsRecord) (xs : List Placed) → map located_of xs ≡ mmio_of p
     → first (too_large p) ≡ chosen (earlier_of (position_from has_large_ram 0 p.manifests) (option_map spot (find is_large_region (map located_of xs))))
-    (is_large (rounded p.non_secure_ram)) (nat_lt MAX_IMAGE_BYTES (sum_by ram_size p.manifests + rounded p.non_secure_ram + sum_by (λ x. x.region.size) xs))
+    (is_large (rounded p.non_secure_ram)) (nat_lt MAX_IMAGE_BYTES (sum_by ram_needed p.manifests + rounded p.non_secure_ram + sum_by (λ x. x.region.size) xs))
 first_too_large_is p xs placed =
     let low : List TooLarge = large_from p.regions 0 p.manifests in
     let a : Bool = is_large (rounded p.non_secure_ram) in
@@ -232,10 +232,10 @@ told_some p xs found f some =
 -- nothing was found in the manifests: a and b tell of non-secure RAM and of all together
 pub told_none : (p : PartsRecord) (xs : List Placed) (found : Option LayoutError) (non_secure : ℕ) (a b : Bool) → Finds p xs found → is_some found ≡ false
     → non_secure ≡ rounded p.non_secure_ram → is_large non_secure ≡ a
-    → nat_lt MAX_IMAGE_BYTES (sum_by ram_size p.manifests + non_secure + sum_by (λ x. x.region.size) xs) ≡ b
+    → nat_lt MAX_IMAGE_BYTES (sum_by ram_needed p.manifests + non_secure + sum_by (λ x. x.region.size) xs) ≡ b
     → option_map large_error (chosen None a b) ≡ option_map large_error (first (too_large p))
 told_none p xs found non_secure a b f none same is_a is_b =
     ap (λ t. option_map large_error (chosen None t b)) (sym is_a)
     ∙ ap (λ t. option_map large_error (chosen None (is_large non_secure) t)) (sym is_b)
-    ∙ ap (λ n. option_map large_error (chosen None (is_large n) (nat_lt MAX_IMAGE_BYTES (sum_by ram_size p.manifests + n + sum_by (λ x. x.region.size) xs)))) same
+    ∙ ap (λ n. option_map large_error (chosen None (is_large n) (nat_lt MAX_IMAGE_BYTES (sum_by ram_needed p.manifests + n + sum_by (λ x. x.region.size) xs)))) same
     ∙ ap (option_map large_error) (sym (chosen_none _ _ _ (ap is_some (sym f.is) ∙ none)) ∙ sym (first_too_large_is p xs f.placed))

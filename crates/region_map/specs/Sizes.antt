@@ -3,11 +3,11 @@
 use Rattle.std.specs.Prelude.{ℕ, nat_le, Bool, Option, Some, None, if◌then◌else◌}
 use Rattle.ffm_model.specs.declared.system.Region.{Region}
 use Rattle.ffm_model.specs.ManifestItems.{ManifestRecord}
-use Rattle.ffm_model.specs.Layout.{Located, TooLarge, partition_ram, mmio_item, is_large, ram_size}
+use Rattle.ffm_model.specs.Layout.{Located, TooLarge, partition_ram, mmio_item, is_large, ram_needed}
 
 -- the RAM of the manifest's partition is too large
 abbrev pub has_large_ram : ManifestRecord → Bool
-has_large_ram m = is_large (ram_size m)
+has_large_ram m = is_large (ram_needed m)
 
 -- the region is too large
 abbrev pub is_large_region : Located Region → Bool

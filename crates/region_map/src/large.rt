@@ -10,7 +10,7 @@ ghost use Rattle.region_map.specs.Sizes.{has_large_ram, is_large_region, earlier
 
 use crate::error::LayoutError;
 use crate::place::Placed;
-use crate::ram::{ram_size, ram_total, rounded};
+use crate::ram::{ram_needed, ram_total, rounded};
 use ffm_model::{MAX_IMAGE_BYTES, MAX_REGION_BYTES, Manifest, Parts};
 
 fn is_large(size: u64) -> bool
@@ -25,7 +25,7 @@ fn first_large_ram(manifests: &[Manifest]) -> Option<u32>
     ensures { result ≡ position_from has_large_ram 0 manifests.now }
 {
     for (place, manifest) in manifests.iter().enumerate() {
-        if is_large(ram_size(manifest)) {
+        if is_large(ram_needed(manifest)) {
             return Some(place as u32);
         }
     }

@@ -13,3 +13,4 @@ mod ram;
 
 pub use error::LayoutError;
 pub use layout::lay_out;
+pub use ram::domain_at;

@@ -7,8 +7,6 @@ use denote.Struct.Tuple.{TupleAt, type_at}
 use denote.Param.Send.{IsSend, sendable}
 use denote.Param.SendFields.{declared_send, as_row_send}
 use Rattle.ffm_model.proofs.list.List.TheSendSync as list
-use Rattle.ffm_model.proofs.script.Script.TheSendSync as script
-use Rattle.partition_sim.proofs.runner.Runner.TheSendSync as runner
 use Rattle.partition_sim.proofs.workers.Worker.TheSendSync as worker
 use Rattle.ffm_model.specs.contracts.list.List as list_row
 use Rattle.partition_sim.specs.contracts.workers.Worker as worker_row
@@ -16,7 +14,7 @@ use Rattle.spm_lock.specs.contracts.pass.Pass as pass_row
 use Rattle.spm_lock.proofs.Crossing.{pass_crosses}
 
 pub crew_crosses : IsSend (list_row.the_row (worker_row.the_row pass_row.the_row))
-crew_crosses = search (sendable, list.the_send, worker.the_send, pass_crosses, runner.the_send, script.the_send)
+crew_crosses = search (sendable, list.the_send, worker.the_send, pass_crosses)
 
 pub two_cross : (name : Sym) (A B : RattleType) → IsSend A → IsSend B → IsSend (TupleAt name (A ∷ B ∷ []))
 two_cross name A B a b = declared_send (type_at name (A ∷ B ∷ [])) (as_row_send (row_field A) a, (as_row_send (row_field B) b, tt))

@@ -23,7 +23,8 @@ use Rattle.counting_law.proofs.Parts.{same_or_not}
 use Rattle.counting_law.proofs.Resume.{times}
 use Rattle.counting_law.proofs.Steps.{step-is, step-kind}
 use Rattle.counting_law.proofs.Runs.{step-keeps, run-has, opening-balanced}
-use Rattle.counting_law.proofs.Turns.{Turned, Turns, is_told, is_sound, kinds-turn}
+use Rattle.counting_law.proofs.Returns.{open-phase, turned-sound}
+use Rattle.counting_law.proofs.Turns.{Turned, Turns, is_sound, kinds-turn}
 use Rattle.spm_core.specs.Manager.{Opening, is_gone, is_actor_gone, state_after}
 use Rattle.spm_core.proofs.Kept.{some-enabled}
 use Rattle.spm_lock.specs.Histories.{IsRun, Begins}
@@ -35,20 +36,6 @@ use Rattle.spm_lock.specs.Passes.{has_verdict, IsDoneAt}
 record Sound (s : System) (st : State) : Type 0 where
   pub balanced : Balanced s (times st.handles_given) st.spm
   pub sound : (a : ℕ) → is_sound (phase_of st.spm a) ≡ true
-
-told-sound : (p : ActorPhase) → is_told p ≡ true → is_sound p ≡ true
-told-sound (Ready o) e = e
-told-sound (Connected c) e = refl
-told-sound Running e = cc
-told-sound Blocked e = cc
-told-sound (Waiting mask) e = cc
-told-sound Ended e = cc
-told-sound Panicked e = cc
-
-turned-sound : (p q : ActorPhase) → Turned p q → is_sound p ≡ true → is_sound q ≡ true
-turned-sound p q (inl e) h = ap is_sound (sym e) ∙ h
-turned-sound p q (inr (inl k)) h = told-sound q k.1
-turned-sound p q (inr (inr k)) h = ap is_sound k.1
 
 turned-gone : (p q : ActorPhase) → Turned p q → is_gone p ≡ true → is_gone q ≡ true
 turned-gone p q (inl e) h = ap is_gone (sym e) ∙ h
@@ -98,14 +85,9 @@ step-turns s st new e w h =
           (λ k. turned-gone _ _ (turns.others x k) gone)),
     )
 
-open-sound : (n a : ℕ) → is_sound (get_or (replicate n Running) a Ended) ≡ true
-open-sound zero a = refl
-open-sound (suc n) zero = refl
-open-sound (suc n) (suc a) = open-sound n a
-
 run-sound : (s : System) (m : ByteMap) (es : List Entry) (st : State) → after s m es ≡ Some st → Sound s st
 run-sound s m es st h =
-    run-has s m (λ xs x. Sound s x) (record { balanced = opening-balanced s; sound = λ a. open-sound (actor_count s) a }) (λ xs x new e w k. (step-turns s x new e w k).0) es st h
+    run-has s m (λ xs x. Sound s x) (record { balanced = opening-balanced s; sound = λ a. open-phase is_sound true refl refl (actor_count s) a }) (λ xs x new e w k. (step-turns s x new e w k).0) es st h
 
 -- ---- the entries behind a front
 

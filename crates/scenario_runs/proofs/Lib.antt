@@ -2,5 +2,7 @@ pub mod Crews
 pub mod Crossing
 pub mod Ends
 pub mod Programs
+pub mod RunsLemmas
 pub mod Tested
 pub mod Threaded
+pub mod Unmapped

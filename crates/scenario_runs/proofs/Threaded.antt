@@ -9,12 +9,11 @@ use Rattle.ffm_model.specs.declared.system.System.{System}
 use Rattle.ffm_model.specs.Actors.{actor_count}
 use Rattle.ffm_model.specs.Memory.{ByteMap, opening_memory}
 use Rattle.ffm_model.specs.Names.{names}
-use Rattle.ffm_model.specs.Plans.{Plan, PlanRun}
+use Rattle.ffm_model.specs.Plans.{PlanRun}
 use Rattle.ffm_model.specs.Records.{entries_of}
 use Rattle.ffm_model.specs.Verdicts.{verdict_of}
 use Rattle.memory_image.specs.Pieces.{byte_at}
 use Rattle.partition_sim.specs.ActorPlans.{plan_at}
-use Rattle.partition_sim.proofs.PlanLemmas.{plan_at-script}
 use Rattle.spm_core.specs.Manager.{Opening, Managed}
 use Rattle.spm_lock.specs.Histories.{IsRun}
 use Rattle.spm_lock.specs.Passes.{SharedView, PassView, ArePasses, IsDoneAt, Keeps, has_verdict, record_of}
@@ -22,7 +21,8 @@ use Rattle.headline_law.proofs.Kept.{run_keeps}
 use Rattle.actor_programs.specs.declared.program.Program.TheVariants.{Plain}
 use Rattle.scenario_runs.specs.Runs.{RanBy}
 use Rattle.scenario_runs.proofs.Programs.{plain_run}
-use Rattle.scenario_runs.specs.Threads.{Crew, CrewedBy, AreDoneBy}
+use Rattle.scenario_runs.specs.declared.threads.Start.{Start}
+use Rattle.scenario_runs.specs.Threads.{Crew, CrewedBy, AreDoneBy, StartsFrom}
 use Rattle.actor_programs.specs.Programs.{Parts}
 use Rattle.scenario_runs.proofs.Crews.{IsDriven, driven_long, driven_is, at_each}
 use Rattle.scenario_runs.proofs.Ends.{DoneInFront, ended}
@@ -34,15 +34,15 @@ pub record GaveBack (s : SharedView) (scripts : List Parts) (y : Managed) : Type
   pub within : length y.history ≤ y.opening.limit
   pub driven : (a : ℕ) → a < actor_count s.opening.system → (p : PassView) × IsDriven s scripts a p × Keeps y.history p
 
-pub gave_back : (s : SharedView) (passes after : List PassView) (scripts : List Parts) (crews : List Crew) (y : Managed) → ArePasses s passes → CrewedBy s passes scripts crews → AreDoneBy s crews after
+pub gave_back : (s : SharedView) (passes after : List PassView) (scripts : List Parts) (xs : List Start) (crews : List Crew) (y : Managed) → ArePasses s passes → StartsFrom s.opening.system 0 scripts xs → CrewedBy s passes xs crews → AreDoneBy s crews after
     → y.opening ≡ s.opening → IsRun s.opening y.history → ((k : ℕ) (p : PassView) → slice_get after k ≡ Some p → Keeps y.history p) → length y.history ≤ y.opening.limit → GaveBack s scripts y
-gave_back s passes after scripts crews y are crewed done opening run fronts within = record {
+gave_back s passes after scripts xs crews y are starts crewed done opening run fronts within = record {
   opening_is = opening;
   run = run;
   within = within;
   driven = λ a lt.
-      let it = at_each (actor_count s.opening.system) after a (driven_long s passes after scripts crews crewed done ∙ are.all) lt in
-      (it.0, driven_is s passes after scripts crews are crewed done a it.0 it.1, fronts a it.0 it.1);
+      let it = at_each (actor_count s.opening.system) after a (driven_long s passes after xs crews crewed done ∙ are.all) lt in
+      (it.0, driven_is s passes after scripts xs crews are starts crewed done a it.0 it.1, fronts a it.0 it.1);
 }
 
 -- the run has a verdict
@@ -75,7 +75,7 @@ ran_with_threads system memory c scripts s y v made bytes g named verdict =
     λ a lt.
     let it = g.driven a (subst (λ (o : Opening). a < actor_count o.system) (sym made) lt) in
     let entries : entries_of a y.history ≡ record_of it.0 = ap (λ (n : ℕ). entries_of n y.history) (sym it.1.actor) ∙ it.2.own in
-    subst (λ (f : Plan). PlanRun f (entries_of a y.history)) (sym (plan_at-script system scripts a)) (subst (PlanRun _) (sym entries) it.1.runs) in
+    subst (PlanRun (plan_at system scripts a)) (sym entries) (subst (λ (o : Opening). PlanRun (plan_at o.system scripts a) (record_of it.0)) made it.1.runs) in
     subst (λ (m : ByteMap). RanBy system m c (map Plain scripts) true y.history v) bytes (record {
       is_run = subst (λ (o : Opening). IsRun o y.history) made g.run;
       kept = run_keeps _ _ _ (subst (λ (o : Opening). IsRun o y.history) made g.run);

@@ -1,2 +1,3 @@
+pub mod Restarting
 pub mod Runs
 pub mod Threads

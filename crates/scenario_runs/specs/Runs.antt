@@ -5,7 +5,7 @@ use Rattle.ffm_model.specs.declared.machine.Entry.{Entry}
 use Rattle.ffm_model.specs.declared.machine.Verdict.{Verdict}
 use Rattle.ffm_model.specs.declared.scenario.Scenario.{Scenario}
 use Rattle.ffm_model.specs.declared.system.System.{System}
-use Rattle.ffm_model.specs.Actors.{actor_count, kind_of}
+use Rattle.ffm_model.specs.Actors.{actor_count}
 use Rattle.ffm_model.specs.Memory.{ByteMap}
 use Rattle.ffm_model.specs.Names.{names}
 use Rattle.ffm_model.specs.Plans.{PlanRun}
@@ -16,12 +16,12 @@ use Rattle.ffm_model.specs.Step.{Run}
 use Rattle.ffm_model.specs.Verdicts.{verdict_of}
 use Rattle.actor_programs.specs.declared.program.Program.{Program}
 use Rattle.actor_programs.specs.declared.program.Program.TheVariants.{Plain, Functions}
-use Rattle.partition_sim.specs.ActorPlans.{kind_plan}
+use Rattle.partition_sim.specs.ActorPlans.{plan_of_role, role_at}
 use Rattle.headline_law.specs.Promises.{KeepsHeadline}
 
 -- an actor's entries are a run of its program: the calls of the plan that its script gives, or rounds of its functions
 abbrev pub ProgramRun : System → ℕ → Program → List Entry → Type 0
-ProgramRun s a (Plain parts) es = PlanRun (kind_plan (kind_of s a) parts) es
+ProgramRun s a (Plain parts) es = PlanRun (plan_of_role (role_at s a) parts) es
 ProgramRun s a (Functions functions) es = SfnRun (sfn_partition s a functions) es
 
 -- a trace that a scenario's run of a system may have, with threads or without, where it begins with the memory m

@@ -1,15 +1,18 @@
 -- Crews of workers that threads drive, and what comes back of them. A crew has one worker.
 -- Source: this simulator's.
-use Rattle.std.specs.Prelude.{◌≡◌, ℕ, Bool, true, false, List, [], ◌∷◌, ◌++◌, length, map}
+use Rattle.std.specs.Prelude.{◌≡◌, ℕ, ◌+◌, Bool, true, false, List, [], ◌∷◌, ◌++◌, length, map}
 use Rattle.std.specs.List.{All, AllByRecursion}
 use Rattle.ffm_model.specs.Plans.{PlanRun}
-use Rattle.ffm_model.specs.ScriptRuns.{only_part, script_plan}
+use Rattle.ffm_model.specs.declared.system.System.{System}
 use Rattle.partition_sim.specs.declared.workers.Worker.{Worker}
-use Rattle.partition_sim.specs.Workers.{IsFresh, IsFinished, actors_of, scripts_of}
+use Rattle.partition_sim.specs.ActorPlans.{Role, plan_of_role, role_at}
+use Rattle.partition_sim.specs.Standing.{Follows, role_of}
+use Rattle.partition_sim.specs.Workers.{IsFresh, IsFinished, actors_of, roles_of, scripts_of}
 use Rattle.spm_lock.specs.Passes.{SharedView, PassView, IsOwn, IsDone, record_of}
 use Rattle.scenario_runs.specs.declared.threads.Progress.{Progress}
 use Rattle.scenario_runs.specs.declared.threads.Progress.TheVariants as progress
 use Rattle.scenario_runs.specs.declared.threads.Seat.{Seat}
+use Rattle.scenario_runs.specs.declared.threads.Start.{Start}
 use Rattle.actor_programs.specs.Programs.{Parts}
 
 abbrev pub Crew : Type 0
@@ -35,17 +38,28 @@ AreNewCrews s crews = AllByRecursion (IsNewCrew s) crews
 abbrev pub AreUnused : SharedView → List PassView → Type 0
 AreUnused s passes = AllByRecursion (λ p. IsOwn s p × (record_of p ≡ [])) passes
 
--- a new crew for each pass and script, in order
-abbrev pub CrewedBy : SharedView → List PassView → List Parts → List Crew → Type 0
+-- its runner has seen no outcome of its script
+abbrev pub IsStart : Start → Type 0
+IsStart x = Follows (role_of x.runner) x.script [] x.runner
+
+-- what each actor from a on begins with, in order: its script, with a runner of its role
+abbrev pub StartsFrom : System → ℕ → List Parts → List Start → Type 0
+StartsFrom s a [] [] = Unit {0}
+StartsFrom s a (script ∷ scripts) (x ∷ xs) = (x.script ≡ script) × (role_of x.runner ≡ role_at s a) × IsStart x × StartsFrom s (a + 1) scripts xs
+StartsFrom s a _ _ = ⊥
+
+-- a new crew for each pass and start, in order
+abbrev pub CrewedBy : SharedView → List PassView → List Start → List Crew → Type 0
 CrewedBy s [] [] [] = Unit {0}
-CrewedBy s (p ∷ ps) (script ∷ scripts) (crew ∷ crews) =
-    (actors_in crew ≡ p.actor ∷ []) × (scripts_of crew ≡ script ∷ []) × IsNewCrew s crew × CrewedBy s ps scripts crews
+CrewedBy s (p ∷ ps) (x ∷ xs) (crew ∷ crews) =
+    (actors_in crew ≡ p.actor ∷ []) × (scripts_of crew ≡ x.script ∷ []) × (roles_of crew ≡ role_of x.runner ∷ []) × IsNewCrew s crew × CrewedBy s ps xs crews
 CrewedBy s _ _ _ = ⊥
 
--- the workers are of the same actors and scripts, in order
+-- the workers are of the same actors, scripts and roles, in order
 pub record SameWorkers (before after : Crew) : Type 0 where
   pub actors : actors_in after ≡ actors_in before
   pub scripts : scripts_of after ≡ scripts_of before
+  pub roles : roles_of after ≡ roles_of before
 
 -- what a thread gives back of a crew: driven until each worker is finished, or as it was handed in
 pub record IsTrip (s : SharedView) (before : Crew) (drove : Bool) (after : Crew) : Type 0 where
@@ -53,13 +67,15 @@ pub record IsTrip (s : SharedView) (before : Crew) (drove : Bool) (after : Crew)
   pub finished : drove ≡ true → AllFinished s after
   pub kept : drove ≡ false → after ≡ before
 
--- the pass of the crew's actor, which makes no further event, and was answered a run of its script's plan
+-- the pass of the crew's actor, which makes no further event, and was answered a run of the plan that its role has with its script
 pub record IsDoneBy (s : SharedView) (crew : Crew) (p : PassView) : Type 0 where
   pub own : IsOwn s p
   pub actor_is : actors_in crew ≡ p.actor ∷ []
   pub script : Parts
   pub script_is : scripts_of crew ≡ script ∷ []
-  pub runs : PlanRun (script_plan (only_part script)) (record_of p)
+  pub role : Role
+  pub role_is : roles_of crew ≡ role ∷ []
+  pub runs : PlanRun (plan_of_role role script) (record_of p)
   pub done : IsDone p
 
 -- such a pass for each crew, in order

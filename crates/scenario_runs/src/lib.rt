@@ -1,9 +1,11 @@
-//! Runs of a scenario's programs over a system: in the turns of its schedule, or with a thread for
-//! each actor.
+//! Runs of a scenario's programs over a system: in the turns of its schedule, again after a panic
+//! while a restart is left, or with a thread for each actor.
 #![tactic(auto)]
 
+mod restarting;
 mod scheduled;
 mod threads;
 
-pub use scheduled::{Ran, opening_image, run_in_turns};
+pub use restarting::{Runs, run_in_turns};
+pub use scheduled::{Ran, opening_image, run_once};
 pub use threads::run_in_threads;

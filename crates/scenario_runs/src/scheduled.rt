@@ -8,8 +8,10 @@ ghost use Rattle.ffm_model.specs.Memory.{opening_memory};
 ghost use Rattle.memory_image.specs.Pieces.{byte_at, regions_of, ranges_of};
 ghost use Rattle.actor_programs.specs.Programs.{ArePrograms};
 ghost use Rattle.actor_programs.specs.declared.program.Program.TheVariants.{Plain};
+ghost use Rattle.partition_sim.specs.Driving.{HaveContexts};
 ghost use Rattle.scenario_runs.specs.Runs.{RanBy};
 
+use actor_plans::scripts_that_map_nothing;
 use actor_programs::{Program, scripts_of};
 use ffm_model::{List, Memory, Scenario, Script, System, Verdict};
 use memory_image::Image;
@@ -40,21 +42,24 @@ pub fn opening_image(alloc: Global, system: &System, scenario: &Scenario) -> Res
     Image::new(alloc, &system.regions, &scenario.memory)
 }
 
-// The run of scripts, one for each actor, over a system.
+/// The run of scripts, one for each actor, over a system from this memory, in the turns of the
+/// scenario's schedule. Memory where no memory was found.
 #[tactic(auto, using(headline_law::proofs::Kept::run_keeps, crate::proofs::Programs::plain_run))]
-fn run(
+pub(crate) fn run_from(
     alloc: Global,
     system: System,
+    memory: Image,
     scenario: &Scenario,
     scripts: &List<Script>,
 ) -> Result<Ran, Memory>
     requires scenario { IsScenarioOf system scenario.now }
     requires scripts { length scripts.now ≡ actor_count system }
-    ensures system { IfOk result (λ ran. ran.spm.opening.system ≡ system) }
-    ensures ran { IfOk result (λ ran. RanBy system (opening_memory scenario.now.memory) scenario.now (map Plain scripts.now) false ran.spm.history ran.verdict) }
+    requires contexts { HaveContexts system scripts.now }
+    requires regions { regions_of memory ≡ ranges_of system.regions }
+    ensures opening { IfOk result (λ ran. ran.spm.opening ≡ record { system = system; memory = memory; limit = scenario.now.limit }) }
+    ensures ran { IfOk result (λ ran. RanBy system (byte_at memory) scenario.now (map Plain scripts.now) false ran.spm.history ran.verdict) }
 {
-    let image = opening_image(alloc, &system, scenario)?;
-    let mut spm = Spm::new(alloc, system, image, scenario.limit)?;
+    let mut spm = Spm::new(alloc, system, memory, scenario.limit)?;
     drive_scheduled(alloc, &mut spm, scripts, &scenario.schedule)?;
     let _length = spm.length();
     match spm.verdict() {
@@ -63,9 +68,9 @@ fn run(
     }
 }
 
-/// The run of programs, one for each actor, over a system, in the turns of the scenario's schedule.
-/// Memory where no memory was found.
-pub fn run_in_turns(
+/// The first run of programs, one for each actor, over a system, in the turns of the scenario's
+/// schedule. None follows it, whatever restarts the scenario has. Memory where no memory was found.
+pub fn run_once(
     alloc: Global,
     system: System,
     scenario: &Scenario,
@@ -77,6 +82,8 @@ pub fn run_in_turns(
     ensures system { IfOk result (λ ran. ran.spm.opening.system ≡ system) }
     ensures ran { IfOk result (λ ran. RanBy system (opening_memory scenario.now.memory) scenario.now programs false ran.spm.history ran.verdict) }
 {
+    scripts_that_map_nothing();
     let scripts = scripts_of(alloc, &system, programs)?;
-    run(alloc, system, scenario, &scripts)
+    let memory = opening_image(alloc, &system, scenario)?;
+    run_from(alloc, system, memory, scenario, &scripts)
 }

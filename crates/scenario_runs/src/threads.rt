@@ -4,18 +4,23 @@
 //! thread of its own; those for which no thread can be started are driven together by the caller.
 ghost use Rattle.std.specs.Thread.{IsSync};
 ghost use Rattle.std.specs.Prelude.{◌≡◌, ◌≤◌, ◌<◌, [], ◌∷◌, ◌++◌, IfOk, false, true, length, map, vec_capacity};
+ghost use Rattle.std.specs.List.{AllByRecursion};
 ghost use Rattle.ffm_model.specs.Actors.{actor_count};
 ghost use Rattle.ffm_model.specs.Memory.{opening_memory};
 ghost use Rattle.ffm_model.specs.Scenarios.{IsScenarioOf};
 ghost use Rattle.actor_programs.specs.Programs.{ArePrograms};
 ghost use Rattle.actor_programs.specs.declared.program.Program.TheVariants.{Plain};
+ghost use Rattle.partition_sim.specs.Driving.{HaveContexts};
 ghost use Rattle.spm_lock.specs.Passes.{IsOwn, record_of};
+ghost use Rattle.scenario_runs.specs.Restarting.{AreRuns, finished};
 ghost use Rattle.scenario_runs.specs.Runs.{RanBy};
-ghost use Rattle.scenario_runs.specs.Threads.{AllFresh, AllFinished, AreNewCrews, AreDoneBy, AreSeats, AreUnused, CrewedBy, IsDoneBy, IsNewCrew, IsSeat, IsTrip, Crew as Workers, SameWorkers, crews_in, left_of, waiting};
+ghost use Rattle.scenario_runs.specs.Threads.{AllFresh, AllFinished, AreNewCrews, AreDoneBy, AreSeats, AreUnused, CrewedBy, IsDoneBy, IsNewCrew, IsSeat, IsStart, IsTrip, Crew as Workers, SameWorkers, StartsFrom, crews_in, left_of, waiting};
 
+use crate::restarting::{Runs, alone};
 use crate::scheduled::{Ran, opening_image};
+use actor_plans::scripts_that_map_nothing;
 use actor_programs::{Program, scripts_of};
-use ffm_model::{Gate, List, Memory, Scenario, Script, System};
+use ffm_model::{ActorId, Gate, List, Memory, Scenario, Script, System};
 use partition_sim::{Runner, Worker, drive};
 use spm_core::Spm;
 use spm_lock::{Pass, Shared};
@@ -28,6 +33,13 @@ use std::thread::{Promise, PromisedHandle, Threads};
 use std::vec::IntoIter;
 
 type Crew = List<Worker<Pass>>;
+
+/// What an actor begins with: its script, and a runner for it.
+#[derive(Drop)]
+pub struct Start {
+    runner: Runner,
+    script: Script,
+}
 
 /// What a thread is to give back of a crew of this manager.
 #[derive(Drop)]
@@ -60,14 +72,31 @@ pub struct Seat {
     progress: Progress,
 }
 
+// What each actor begins with, by its script.
+fn starts_of(alloc: Global, system: &System, scripts: List<Script>) -> Result<List<Start>, Memory>
+    requires count { length scripts ≡ actor_count system.now }
+    requires contexts { HaveContexts system.now scripts }
+    ensures { IfOk result (λ starts. StartsFrom system.now 0 scripts starts) }
+{
+    let mut starts = Vec::new(alloc);
+    let mut left = scripts.into_vec().into_iter();
+    for a in 0..system.actor_count() {
+        let script = left.next().unwrap();
+        let runner = Runner::new(system, ActorId(a), script.parts.len() as u32);
+        starts.push(Start { runner, script })?;
+    }
+    Ok(List::of(starts))
+}
+
 // The crew of one actor.
-fn crew_of(alloc: Global, shared: &Shared, pass: Pass, script: Script) -> Result<Crew, Memory>
+fn crew_of(alloc: Global, shared: &Shared, pass: Pass, start: Start) -> Result<Crew, Memory>
     requires own { IsOwn shared.now pass }
     requires new { record_of pass ≡ [] }
-    ensures { IfOk result (λ crew. CrewedBy shared.now (pass ∷ []) (script ∷ []) (crew ∷ [])) }
+    requires start { IsStart start }
+    ensures { IfOk result (λ crew. CrewedBy shared.now (pass ∷ []) (start ∷ []) (crew ∷ [])) }
 {
     let mut crew = Vec::with_capacity(alloc, 1)?;
-    crew.push_reserved(Worker::new(pass, Runner::new(), script));
+    crew.push_reserved(Worker::new(pass, start.runner, start.script));
     Ok(List::of(crew))
 }
 
@@ -76,17 +105,18 @@ fn crews_of(
     alloc: Global,
     shared: &Shared,
     passes: List<Pass>,
-    scripts: List<Script>,
+    starts: List<Start>,
 ) -> Result<Vec<Crew>, Memory>
-    requires count { length passes ≡ length scripts }
+    requires count { length passes ≡ length starts }
     requires passes { AreUnused shared.now passes }
-    ensures { IfOk result (λ crews. CrewedBy shared.now passes scripts crews.items) }
+    requires starts { AllByRecursion IsStart starts }
+    ensures { IfOk result (λ crews. CrewedBy shared.now passes starts crews.items) }
 {
     let mut crews = Vec::with_capacity(alloc, passes.len())?;
-    let mut left = scripts.into_vec().into_iter();
+    let mut left = starts.into_vec().into_iter();
     for pass in passes.into_vec() {
-        let script = left.next().unwrap();
-        crews.push_reserved(crew_of(alloc, shared, pass, script)?);
+        let start = left.next().unwrap();
+        crews.push_reserved(crew_of(alloc, shared, pass, start)?);
     }
     Ok(crews)
 }
@@ -296,13 +326,15 @@ fn run_scripts<R: Threads + Wait + Sync, G: Gate + Sync>(
 ) -> Result<Ran, Memory>
     requires scenario { IsScenarioOf system scenario.now }
     requires scripts { length scripts ≡ actor_count system }
+    requires contexts { HaveContexts system scripts }
     ensures system { IfOk result (λ ran. ran.spm.opening.system ≡ system) }
     ensures ran { IfOk result (λ ran. RanBy system (opening_memory scenario.now.memory) scenario.now (map Plain scripts) true ran.spm.history ran.verdict) }
 {
     let image = opening_image(alloc, &system, scenario)?;
+    let starts = starts_of(alloc, &system, scripts)?;
     let spm = Spm::new(alloc, system, image, scenario.limit)?;
     let (shared, passes) = Shared::new(alloc, spm)?;
-    let crews = crews_of(alloc, &shared, passes, scripts)?;
+    let crews = crews_of(alloc, &shared, passes, starts)?;
     let passes = drive_crews(rt, alloc, &shared, gate, crews)?;
     let spm = shared.finish(passes);
     let _length = spm.length();
@@ -313,7 +345,8 @@ fn run_scripts<R: Threads + Wait + Sync, G: Gate + Sync>(
 }
 
 /// The run of programs, one for each actor, over a system, each in a thread of its own; where no
-/// thread can be started, the caller drives what is left. The schedule isn't used.
+/// thread can be started, the caller drives what is left. The schedule isn't used, and no run follows,
+/// whatever restarts the scenario has.
 ///
 /// Memory where no memory was found; no thread was started then.
 pub fn run_in_threads<R: Threads + Wait + Sync, G: Gate + Sync>(
@@ -323,13 +356,15 @@ pub fn run_in_threads<R: Threads + Wait + Sync, G: Gate + Sync>(
     system: System,
     scenario: &Scenario,
     programs: List<Program>,
-) -> Result<Ran, Memory>
+) -> Result<Runs, Memory>
     requires scenario { IsScenarioOf system scenario.now }
     requires programs { length programs ≡ actor_count system }
     requires fit { ArePrograms system programs }
-    ensures system { IfOk result (λ ran. ran.spm.opening.system ≡ system) }
-    ensures ran { IfOk result (λ ran. RanBy system (opening_memory scenario.now.memory) scenario.now programs true ran.spm.history ran.verdict) }
+    ensures system { IfOk result (λ runs. runs.system ≡ system) }
+    ensures ran { IfOk result (λ runs. AreRuns system scenario.now programs true 0 (map finished runs.traces.items)) }
 {
+    scripts_that_map_nothing();
     let scripts = scripts_of(alloc, &system, programs)?;
-    run_scripts(rt, alloc, gate, system, scenario, scripts)
+    let ran = run_scripts(rt, alloc, gate, system, scenario, scripts)?;
+    Ok(alone(alloc, ran)?)
 }

@@ -9,8 +9,8 @@ use Rattle.ffm_model.specs.declared.script.Operand.TheVariants.{Number}
 use Rattle.script_asm.specs.Lines.{filled}
 
 abbrev pub raised : ℕ → Option ℕ → Instruction
-raised source None = Make name.Raise (filled (Number source ∷ []))
-raised source (Some answer) = Make name.Fire (filled (Number source ∷ Number answer ∷ []))
+raised source None = Make name.Raise (filled 6 (Number source ∷ []))
+raised source (Some answer) = Make name.Fire (filled 6 (Number source ∷ Number answer ∷ []))
 
 -- an interrupt of the source at that place: raised, or fired with the answer of its first-level handler
 abbrev pub raise : RaiseItem → Instruction

@@ -16,19 +16,15 @@ use Rattle.ffm_model.specs.declared.script.Operation.{Operation}
 use Rattle.ffm_model.specs.declared.script.Comparison.{Comparison}
 use Rattle.ffm_model.specs.declared.script.CallName.{CallName}
 use Rattle.ffm_model.specs.declared.script.CallName.TheVariants as name
+use Rattle.ffm_model.specs.declared.script.MapName.{MapName}
 use Rattle.script_asm.specs.declared.first_words.Head.{Head}
 use Rattle.script_asm.specs.declared.first_words.Head.TheVariants as head
 use Rattle.ffm_model.specs.declared.script.Instruction.{Instruction}
-use Rattle.ffm_model.specs.declared.script.Instruction.TheVariants.{Change, Jump, JumpIf, Make}
+use Rattle.ffm_model.specs.declared.script.Instruction.TheVariants.{Change, Jump, JumpIf, Make, Map}
+use Rattle.ffm_model.specs.Binding.{◌>>=◌}
 use Rattle.ffm_model.specs.Reading.{Stop, refused_at}
 use Rattle.script_asm.specs.Words.{Word, words_of, register_of, operand_of, head_of}
 use Rattle.ffm_model.specs.Texts.{is_name}
-
--- `x ← o` in a `do` goes on with the value that is there, and gives nothing where there is none
-infixl 10 ◌>>=◌
-abbrev pub ◌>>=◌ : {A B : Type 0} → Option A → (A → Option B) → Option B
-None >>= f = None
-(Some x) >>= f = f x
 
 -- ---- lines
 
@@ -97,13 +93,19 @@ has_line Client name.Stop = true
 has_line Client _ = false
 has_line Device _ = true
 
+-- vectors are mapped by partitions alone
+abbrev pub may_map : ActorKind → Bool
+may_map Partition = true
+may_map Client = false
+may_map Device = false
+
 unfoldable pub operands_of : List Word → Option (List Operand)
 operands_of [] = Some []
 operands_of (w ∷ ws) = option_and_then (λ x. option_map (λ xs. x ∷ xs) (operands_of ws)) (operand_of w)
 
--- six operands, the unused ones 0
-abbrev pub filled : List Operand → List Operand
-filled xs = xs ++ replicate (6 - length xs) (Number 0)
+-- so many operands, the unused ones 0
+abbrev pub filled : ℕ → List Operand → List Operand
+filled room xs = xs ++ replicate (room - length xs) (Number 0)
 
 -- exactly one word, two words, three words
 abbrev pub one_word : List Word → Option Word
@@ -145,13 +147,19 @@ jump_if_of c all ws = do
 -- so many values: a call line
 abbrev pub make_of : ActorKind → CallName → ℕ → List Word → Option Instruction
 make_of kind n count ws =
-    if has_line kind n && (length ws == count) then option_map (λ xs. Make n (filled xs)) (operands_of ws) else None
+    if has_line kind n && (length ws == count) then option_map (λ xs. Make n (filled 6 xs)) (operands_of ws) else None
+
+-- so many values: a line that maps or unmaps a vector
+abbrev pub map_of : ActorKind → MapName → ℕ → List Word → Option Instruction
+map_of kind n count ws =
+    if may_map kind && (length ws == count) then option_map (λ xs. Map n (filled 3 xs)) (operands_of ws) else None
 
 abbrev pub instruction_at : ActorKind → List Line → Head → List Word → Option Instruction
 instruction_at kind all (head.Change o) ws = change_of o ws
 instruction_at kind all head.Jump ws = jump_of all ws
 instruction_at kind all (head.JumpIf c) ws = jump_if_of c all ws
 instruction_at kind all (head.Make n count) ws = make_of kind n count ws
+instruction_at kind all (head.Map n count) ws = map_of kind n count ws
 
 -- the instruction of these words in a script of these lines; nothing where they are wrong
 unfoldable pub instruction_of : ActorKind → List Line → List Word → Option Instruction

@@ -10,8 +10,9 @@ use Rattle.ffm_model.specs.declared.script.Operand.TheVariants.{Register, Number
 use Rattle.ffm_model.specs.declared.script.Operation.TheVariants.{Set, Add, Sub, And, Or, Xor}
 use Rattle.ffm_model.specs.declared.script.Comparison.TheVariants.{Equal, Different, Less}
 use Rattle.ffm_model.specs.declared.script.CallName.TheVariants as name
+use Rattle.ffm_model.specs.declared.script.MapName.TheVariants as vector
 use Rattle.script_asm.specs.declared.first_words.Head.{Head}
-use Rattle.script_asm.specs.declared.first_words.Head.TheVariants.{Change, Jump, JumpIf, Make}
+use Rattle.script_asm.specs.declared.first_words.Head.TheVariants.{Change, Jump, JumpIf, Make, Map}
 use Rattle.ffm_model.specs.Texts.{hex_number}
 
 abbrev pub Word : Type 0
@@ -73,7 +74,7 @@ operand_of w = if slice_index w 0 == 114 then option_map Register (register_of w
 abbrev pub asks : Word → Head → Word × Head
 asks word head = (word, head)
 
--- each first word with what it asks for; a call with the number of its operands, which stand in the order of the call's fields
+-- each first word with what it asks for; a call with the number of its operands, which stand in the order of the call's fields; a line of a mapped vector with the number of its own: handle, index, length
 unfoldable pub first_words : List (Word × Head)
 first_words =
     asks (codes "set") (Change Set)
@@ -108,7 +109,11 @@ first_words =
     ∷ (asks (codes "load") (Make name.Load 2)
     ∷ (asks (codes "store") (Make name.Store 3)
     ∷ (asks (codes "end") (Make name.Stop 0)
-    ∷ [])))))))))))))))))))))))))))))))
+    ∷ (asks (codes "map_in") (Map vector.MapIn 2)
+    ∷ (asks (codes "unmap_in") (Map vector.UnmapIn 2)
+    ∷ (asks (codes "map_out") (Map vector.MapOut 2)
+    ∷ (asks (codes "unmap_out") (Map vector.UnmapOut 3)
+    ∷ [])))))))))))))))))))))))))))))))))))
 
 -- what a word asks for by a table
 abbrev pub look_up : List (Word × Head) → Word → Option Head

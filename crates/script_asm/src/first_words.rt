@@ -4,18 +4,20 @@ ghost use Rattle.std.specs.List.{list_all};
 ghost use Rattle.script_asm.specs.Words.{head_of, look_up};
 ghost use Rattle.script_asm.specs.Operands.{has_room, HasRoom};
 
-use ffm_model::{CallName, Comparison, Operation};
+use ffm_model::{CallName, Comparison, MapName, Operation};
 
-/// What the first word of a line asks for; a call with the number of its operands.
+/// What the first word of a line asks for; a call, and what is done with a vector, with the number of
+/// its operands.
 #[derive(Clone, Copy, Debug, PartialEq, Eq)]
 pub enum Head {
     Change(Operation),
     Jump,
     JumpIf(Comparison),
     Make(CallName, usize),
+    Map(MapName, usize),
 }
 
-const FIRST_WORDS: [(&str, Head); 32] = [
+const FIRST_WORDS: [(&str, Head); 36] = [
     ("set", Head::Change(Operation::Set)),
     ("add", Head::Change(Operation::Add)),
     ("sub", Head::Change(Operation::Sub)),
@@ -51,6 +53,10 @@ const FIRST_WORDS: [(&str, Head); 32] = [
     ("load", Head::Make(CallName::Load, 2)),
     ("store", Head::Make(CallName::Store, 3)),
     ("end", Head::Make(CallName::Stop, 0)),
+    ("map_in", Head::Map(MapName::MapIn, 2)),
+    ("unmap_in", Head::Map(MapName::UnmapIn, 2)),
+    ("map_out", Head::Map(MapName::MapOut, 2)),
+    ("unmap_out", Head::Map(MapName::UnmapOut, 3)),
 ];
 
 fn head_in(table: &[(&'static str, Head)], word: &[u8]) -> Option<Head>

@@ -1,22 +1,22 @@
 //! The instruction of a line's words.
 ghost use Rattle.std.specs.Prelude.{◌≡◌, ◌≤◌, ℕ, IfSome, length, map, option_map, sum_by};
 ghost use Rattle.std.specs.List.{AllByRecursion};
-ghost use Rattle.script_asm.specs.Lines.{change_of, filled, has_line, instruction_of, jump_if_of, jump_of, make_of, one_word, operands_of, three_words, two_words, width};
+ghost use Rattle.script_asm.specs.Lines.{change_of, filled, has_line, instruction_of, jump_if_of, jump_of, make_of, map_of, may_map, one_word, operands_of, three_words, two_words, width};
 ghost use Rattle.ffm_model.specs.Scripts.{FitsIn, IsOperand};
 ghost use Rattle.script_asm.specs.Views.{lines_view};
 
 use crate::first_words::{Head, head_of};
 use crate::labels::LabelledLines;
 use crate::words::{operand_of, register_of};
-use ffm_model::{ActorKind, CallName, Comparison, Instruction, Operand, Operation};
+use ffm_model::{ActorKind, CallName, Comparison, Instruction, MapName, Operand, Operation};
 
 #[tactic(auto, unfolding(crate::specs::Lines::operands_of))]
-fn operands_of(words: &[&[u8]]) -> Option<[Operand; 6]>
-    requires { length words.now ≤ 6 }
-    ensures gives { result ≡ option_map filled (operands_of (map (λ w. w.now) words.now)) }
+fn operands_of<const N: usize>(words: &[&[u8]]) -> Option<[Operand; N]>
+    requires { length words.now ≤ N }
+    ensures gives { result ≡ option_map (filled N) (operands_of (map (λ w. w.now) words.now)) }
     ensures each { IfSome result (AllByRecursion IsOperand) }
 {
-    let mut operands = [Operand::Number(0); 6];
+    let mut operands = [Operand::Number(0); N];
     for (i, word) in words.iter().enumerate() {
         operands[i] = operand_of(word)?;
     }
@@ -43,6 +43,13 @@ fn has_line(kind: ActorKind, name: CallName) -> bool
         ),
         ActorKind::Device => true,
     }
+}
+
+// Whether a script of this kind may map vectors.
+fn may_map(kind: ActorKind) -> bool
+    ensures { result ≡ may_map kind }
+{
+    matches!(kind, ActorKind::Partition)
 }
 
 /// The word of a list of just one.
@@ -125,6 +132,18 @@ fn make_of(kind: ActorKind, name: CallName, count: usize, words: &[&[u8]]) -> Op
     Some(Instruction::Make { name, operands })
 }
 
+fn map_of(kind: ActorKind, name: MapName, count: usize, words: &[&[u8]]) -> Option<Instruction>
+    requires { count ≤ 3 }
+    ensures gives { result ≡ map_of kind name count (map (λ w. w.now) words.now) }
+    ensures fits { (count : ℕ) → IfSome result (FitsIn count) }
+{
+    if !may_map(kind) || words.len() != count {
+        return None;
+    }
+    let operands = operands_of(words)?;
+    Some(Instruction::Map { name, operands })
+}
+
 /// The instruction of these words in a script of these lines; None where they are wrong.
 #[tactic(auto, unfolding(crate::specs::Lines::instruction_of))]
 pub fn instruction_of(
@@ -141,5 +160,6 @@ pub fn instruction_of(
         Head::Jump => jump_of(lines, words),
         Head::JumpIf(comparison) => jump_if_of(comparison, lines, words),
         Head::Make(name, count) => make_of(kind, name, count, words),
+        Head::Map(name, count) => map_of(kind, name, count, words),
     }
 }

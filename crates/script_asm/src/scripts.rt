@@ -135,9 +135,10 @@ pub fn line_refusal(alloc: Global, number: u32, line: u32) -> Result<Refusal, Al
 /// scenario file, from 0.
 ///
 /// The first line that is no line of such a script is refused at its place, with the code
-/// SCRIPT_SYNTAX: a first word that begins no line, a call that this kind of actor doesn't have,
-/// operands of a wrong number or form, a label that stands before it too, and a jump to a label
-/// that isn't there. Memory where no memory was found.
+/// SCRIPT_SYNTAX: a first word that begins no line, a call that this kind of actor doesn't have, in
+/// any but a partition's script `map_in`, `unmap_in`, `map_out` and `unmap_out`, operands of a wrong
+/// number or form, a label that stands before it too, and a jump to a label that isn't there. Memory
+/// where no memory was found.
 pub fn assemble(
     alloc: Global,
     lines: &Lines,

@@ -1,11 +1,12 @@
 -- The functions of an SFN partition, from the lines of its script.
--- Source: FF-M 1.1, the SFN model; the lines are this simulator's script language. Functions have neither r14 and r15 nor the calls that the loop of their partition makes.
-use Rattle.std.specs.Prelude.{ℕ, ◌+◌, ◌==◌, nat_lt, List, [], ◌∷◌, ◌++◌, Bool, true, false, ◌&&◌, Option, Some, None, option_and_then, Result, Ok, Err, is_some, if◌then◌else◌, codes, position, take}
+-- Source: FF-M 1.1, the SFN model; the lines, and how many a script may have, are this simulator's script language. Functions have neither r14 and r15, nor the calls that the loop of their partition makes, nor the lines of mapped vectors.
+use Rattle.std.specs.Prelude.{ℕ, ◌+◌, ◌==◌, nat_lt, nat_le, min, List, [], ◌∷◌, ◌++◌, length, Bool, true, false, ◌&&◌, Option, Some, None, option_and_then, Result, Ok, Err, is_some, if◌then◌else◌, codes, position, take}
 use Rattle.std.specs.List.{list_all, list_any}
 use Rattle.std.specs.Option.{ok_or, option_map, option_map_or}
 use Rattle.std.specs.Result.{result_map_both}
 use Rattle.std.specs.Str.{bytes_eq}
 use Rattle.ffm_model.specs.declared.codes.TheConstants.{SCRIPT_SYNTAX}
+use Rattle.ffm_model.specs.declared.constants.TheConstants.{MAX_SCRIPT_LINES}
 use Rattle.ffm_model.specs.declared.system.System.{System}
 use Rattle.ffm_model.specs.declared.system.ActorKind.TheVariants.{Partition}
 use Rattle.ffm_model.specs.declared.script.Operand.{Operand}
@@ -93,6 +94,11 @@ functions_below s a above (x ∷ xs) = do
 unfoldable pub functions_of : System → ℕ → List Line → Result (List SfnFunction) ℕ
 functions_of s a lines = option_map_or Err (position is_used (before lines)) (functions_below s a [] (sections 0 lines))
 
+-- of more lines than a script may have, the line behind as many is wrong, unless an earlier one is
+abbrev pub limited : ℕ → Result (List SfnFunction) ℕ → Result (List SfnFunction) ℕ
+limited count (Ok functions) = if nat_le count MAX_SCRIPT_LINES then Ok functions else Err MAX_SCRIPT_LINES
+limited count (Err line) = Err (min line MAX_SCRIPT_LINES)
+
 -- ---- refusals
 
 abbrev pub functions_or_refusal : ℕ → Result (List SfnFunction) ℕ → Result (List SfnFunction) Stop
@@ -101,4 +107,4 @@ functions_or_refusal number (Err line) = Err (refused_at SCRIPT_SYNTAX (line_pla
 
 -- what comes of the lines of the script with this number: the functions of the partition, or the refusal of its first wrong line
 abbrev pub functions_read : System → ℕ → ℕ → List (List ℕ) → Result (List SfnFunction) Stop
-functions_read s a number texts = functions_or_refusal number (functions_of s a (lines_of texts))
+functions_read s a number texts = functions_or_refusal number (limited (length texts) (functions_of s a (lines_of texts)))

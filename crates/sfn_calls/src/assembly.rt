@@ -8,13 +8,15 @@ ghost use Rattle.ffm_model.specs.SfnScripts.{IsFunction, IsSfnScript};
 ghost use Rattle.script_asm.specs.Lines.{lines_of};
 ghost use Rattle.script_asm.specs.Made.{Gives};
 ghost use Rattle.script_asm.specs.Views.{lines_view};
-ghost use Rattle.sfn_calls.specs.FunctionLines.{function_of, functions_below, functions_of, functions_read, has_function, own_service, service_of_head};
+ghost use Rattle.sfn_calls.specs.FunctionLines.{function_of, functions_below, functions_of, functions_read, has_function, limited, own_service, service_of_head};
 ghost use Rattle.sfn_calls.specs.SectionViews.{section_view};
 ghost use Rattle.sfn_calls.specs.Sections.{sections};
 
 use crate::functions::instructions_of;
 use crate::sections::{Section, section_at, used_before};
-use ffm_model::{Lines, List, Name, ReadError, Service, SfnFunction, SfnScript, System};
+use ffm_model::{
+    Lines, List, MAX_SCRIPT_LINES, Name, ReadError, Service, SfnFunction, SfnScript, System,
+};
 use script_asm::{Line, LineError, labelled_lines, line_refusal, lines_of};
 use std::alloc::{AllocError, AllocFailed, Global};
 
@@ -94,9 +96,9 @@ fn functions_of_sections<'a>(
     lines: &[Line<'a>],
 ) -> Result<Vec<SfnFunction>, LineError>
     requires lines { lines_view lines.now ≡ lines_of texts.now }
-    requires few { length lines.now ≤ MAX_SCRIPT_LINES }
+    requires few { length lines.now < 2 ^ 31 }
     ensures gives { Gives (λ v. v.items) result (functions_below system.now partition [] (sections 0 (lines_view lines.now))) }
-    ensures kept { IfOk result (λ v. IsSfnScript v.items) }
+    ensures kept { IfOk result (λ v. length lines.now ≤ MAX_SCRIPT_LINES → IsSfnScript v.items) }
 {
     let mut functions = Vec::new(alloc);
     for at in 0..lines.len() {
@@ -116,15 +118,39 @@ fn functions_of(
     system: &System,
     partition: u32,
 ) -> Result<Vec<SfnFunction>, LineError>
-    requires { length texts.now ≤ MAX_SCRIPT_LINES }
+    requires { length texts.now < 2 ^ 31 }
     ensures gives { Gives (λ v. v.items) result (functions_of system.now partition (lines_of texts.now)) }
-    ensures kept { IfOk result (λ v. IsSfnScript v.items) }
+    ensures kept { IfOk result (λ v. length texts.now ≤ MAX_SCRIPT_LINES → IsSfnScript v.items) }
 {
     let lines = lines_of(alloc, texts)?;
     if let Some(line) = used_before(lines.as_slice()) {
         return Err(LineError::Wrong(line as u32));
     }
     functions_of_sections(alloc, system, partition, texts, lines.as_slice())
+}
+
+// The functions of no more lines than a script may have.
+fn limited(
+    alloc: Global,
+    texts: &[Name],
+    system: &System,
+    partition: u32,
+) -> Result<Vec<SfnFunction>, LineError>
+    requires { length texts.now < 2 ^ 31 }
+    ensures gives { Gives (λ v. v.items) result (limited (length texts.now) (functions_of system.now partition (lines_of texts.now))) }
+    ensures kept { IfOk result (λ v. IsSfnScript v.items) }
+{
+    match functions_of(alloc, texts, system, partition) {
+        Ok(functions) => {
+            if texts.len() <= MAX_SCRIPT_LINES as usize {
+                Ok(functions)
+            } else {
+                Err(LineError::Wrong(MAX_SCRIPT_LINES))
+            }
+        }
+        Err(LineError::Wrong(line)) => Err(LineError::Wrong(line.min(MAX_SCRIPT_LINES))),
+        Err(LineError::Memory) => Err(LineError::Memory),
+    }
 }
 
 /// The functions of these lines, for a partition of the system whose model is SFN. `partition` is its
@@ -137,8 +163,9 @@ fn functions_of(
 /// The first wrong line is refused at its place, with the code SCRIPT_SYNTAX: before the first head
 /// any line but a blank one or a comment, a head that names no own service or one that has a function
 /// above, what is wrong in a partition's script, a register or operand `r14` or `r15`, and the calls
-/// `wait`, `get`, `reply`, `clear`, `eoi`, `irq_enable`, `irq_disable`, `reset_signal` and `end`.
-/// Memory where no memory was found.
+/// `wait`, `get`, `reply`, `clear`, `eoi`, `irq_enable`, `irq_disable`, `reset_signal` and `end`, the
+/// lines `map_in`, `unmap_in`, `map_out` and `unmap_out`, and the line at place 4,096, since a script
+/// has at most so many lines. Memory where no memory was found.
 pub fn assemble_sfn(
     alloc: Global,
     lines: &Lines,
@@ -146,10 +173,10 @@ pub fn assemble_sfn(
     partition: u32,
     number: u32,
 ) -> Result<SfnScript, ReadError>
-    requires { length lines.now ≤ MAX_SCRIPT_LINES }
+    requires { length lines.now < 2 ^ 31 }
     ensures read { Reads (λ s. s) result (functions_read system.now partition number lines.now) }
 {
-    match functions_of(alloc, lines.as_slice(), system, partition) {
+    match limited(alloc, lines.as_slice(), system, partition) {
         Ok(functions) => Ok(SfnScript {
             functions: List::of(functions),
         }),

@@ -194,6 +194,19 @@ impl Spm {
         &self.system
     }
 
+    /// The system and the events, without the memory and the tables, which are let go.
+    pub fn into_run(self) -> (System, Vec<Entry>)
+        ensures system { result.0 ≡ self.opening.system }
+        ensures history { result.1.items ≡ self.history }
+    {
+        let Spm {
+            system,
+            history,
+            ..
+        } = self;
+        (system, history)
+    }
+
     /// The number of actors: at most 32 partitions, 16 non-secure clients and a device.
     pub fn actor_count(&self) -> u32
         ensures exact { result ≡ actor_count self.now.opening.system }

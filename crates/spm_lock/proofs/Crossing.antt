@@ -13,6 +13,7 @@ use Rattle.ffm_model.proofs.machine.ActorId.TheSendSync as actor
 use Rattle.ffm_model.proofs.machine.Entry.TheSendSync as entry
 use Rattle.memory_image.proofs.image.Image.TheSendSync as image
 use Rattle.spm_tables.proofs.tables.Tables.TheSendSync as tables
+use Rattle.spm_lock.proofs.waiting.WaitingRoom.TheSendSync as room
 use Rattle.std.specs.contracts.option.Option as slot
 use Rattle.std.specs.contracts.boxed.Box as boxed_row
 use Rattle.std.specs.contracts.alloc.Global as global_row
@@ -42,4 +43,4 @@ pass_crosses = view_send _ _ _ _ _ (declared_send pass_fields.the_type (search (
 
 -- a shared manager may be lent to other threads
 pub shared_crosses : IsSync shared.the_row
-shared_crosses = view_sync _ _ _ _ _ (declared_sync shared_fields.the_type (search (sendable, table.the_sync, slot_crosses, global.the_sync, global.the_send, frees.the_frees), tt))
+shared_crosses = view_sync _ _ _ _ _ (declared_sync shared_fields.the_type (search (sendable, table.the_sync, slot_crosses, global.the_sync, global.the_send, frees.the_frees), (search (sendable, room.the_sync), tt)))

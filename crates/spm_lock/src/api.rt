@@ -29,4 +29,8 @@ impl Api for Shared {
     fn resume<R: Wait>(&self, rt: &R, pass: &mut Pass) -> Answer {
         Shared::resume(self, rt, pass)
     }
+
+    fn rest<R: Wait>(&self, rt: &R, pass: &Pass) {
+        Shared::rest(self, rt, pass);
+    }
 }

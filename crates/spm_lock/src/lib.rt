@@ -11,6 +11,7 @@ mod shared;
 mod table;
 mod turn;
 mod view;
+mod waiting;
 
 pub use pass::Pass;
 pub use shared::Shared;

@@ -11,6 +11,7 @@ ghost use Rattle.spm_lock.specs.Passes.{IsOwn, IsTurn, ArePasses, AreNew, Keeps,
 use crate::pass::Pass;
 use crate::table::{Come, JoinPass, LENGTH, SplitPass, TurnSeat, TurnTable};
 use crate::turn::take_turn;
+use crate::waiting::WaitingRoom;
 use ffm_model::{ActorId, Answer, Call, List, Memory, Outcome};
 use spm_core::Spm;
 use std::alloc::Global;
@@ -24,6 +25,7 @@ use std::sync::Wait;
 #[derive(Drop)]
 pub struct Shared {
     table: TurnTable,
+    room: WaitingRoom,
 }
 
 impl Model for Shared {
@@ -48,6 +50,7 @@ impl Shared {
     {
         let count = spm.actor_count();
         let start = Snapshot::of(&spm);
+        let room = WaitingRoom::for_actors(alloc, count)?;
         let mut passes = Vec::with_capacity(alloc, count as usize)?;
         let mut slots = Vec::with_capacity(alloc, 1)?;
         slots.push_reserved(Some(Box::new(alloc, spm)?));
@@ -57,7 +60,7 @@ impl Shared {
         for n in 0..count {
             passes.push_reserved(next_pass(&table, &mut source, ActorId(n)));
         }
-        Ok((Shared { table }, List::of(passes)))
+        Ok((Shared { table, room }, List::of(passes)))
     }
 
     /// Makes a call of the pass's actor, or says why it isn't made. It may wait for the turn.
@@ -93,6 +96,14 @@ impl Shared {
         self.turn(rt, pass, Call::Resume)
     }
 
+    /// Waits where the pass was last answered `NotYet`, until another answer may be due: its actor can
+    /// go on or is gone, or the run has ended. It promises nothing.
+    pub fn rest<R: Wait>(&self, rt: &R, pass: &Pass)
+        requires own { IsOwn self.now pass.now }
+    {
+        self.room.rest(rt, pass.actor);
+    }
+
     // The call is `Resume` exactly where the pass is pending.
     fn turn<R: Wait>(&self, rt: &R, pass: &mut Pass, call: Call) -> Answer
         requires own { IsOwn self.now pass.old }
@@ -102,7 +113,14 @@ impl Shared {
         ensures turns { pass.new.turns ≡ pass.old.turns + 1 }
         ensures turn { IsTurn self.now.opening pass.old.actor pass.old.front call result pass.new.front }
     {
-        let answer = take_turn(rt, &self.table, &mut pass.seat, pass.actor, call);
+        let answer = take_turn(
+            rt,
+            &self.table,
+            &self.room,
+            &mut pass.seat,
+            pass.actor,
+            call,
+        );
         if let Answer::Made { entry, .. } = answer {
             pass.pending = is_blocked(entry.outcome);
         }
@@ -117,7 +135,7 @@ impl Shared {
         ensures run { IsRun self.opening result.history }
         ensures fronts { (k : ℕ) (p : PassView) → slice_get passes k ≡ Some p → Keeps result.history p }
     {
-        let Shared { table } = self;
+        let Shared { table, .. } = self;
         let mut target = table.shared.load_new_seat::<Come>(LENGTH).1;
         for pass in passes.into_vec() {
             take_in(&table, &mut target, pass);

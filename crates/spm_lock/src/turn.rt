@@ -7,27 +7,19 @@ ghost use Rattle.spm_lock.specs.declared.view.Stage.TheVariants.{Idle};
 ghost use Rattle.spm_lock.specs.Passes.{IsIdle, IsTurn, HasTurn, HasStepped, front, turns};
 
 use crate::table::{Count, DRAWN, Draw, LENGTH, Look, SERVED, Serve, TurnSeat, TurnTable};
+use crate::waiting::WaitingRoom;
 use ffm_model::{ActorId, Answer, Call};
 use spm_core::Spm;
-use std::hint;
 use std::sync::Wait;
 
-// How often a waiter looks before it parks.
-const LOOKS: u32 = 200;
-
-// Waits until the number that is served may have changed: a moment, and after many looks parked.
-fn await_change<R: Wait>(rt: &R, table: &TurnTable, served: u64, looks: u32)
-    requires { table.now.shared.table_id.words ≡ 3 }
-{
-    if looks < LOOKS {
-        hint::spin_loop();
-    } else {
-        table.shared.park(rt, SERVED, (served & 0xffff_ffff) as u32);
-    }
-}
-
 // Draws a ticket and waits until it is served.
-fn seize<R: Wait>(rt: &R, table: &TurnTable, seat: &mut TurnSeat, actor: ActorId)
+fn seize<R: Wait>(
+    rt: &R,
+    table: &TurnTable,
+    room: &WaitingRoom,
+    seat: &mut TurnSeat,
+    actor: ActorId,
+)
     requires table { (table.now.shared.table_id.words ≡ 3) × (table.now.shared.table_id.slots ≡ 1) }
     requires seat { (seat.old.table_id ≡ table.now.shared.table_id) × IsIdle actor.0 seat.old.me }
     ensures table { seat.new.table_id ≡ seat.old.table_id }
@@ -40,7 +32,7 @@ fn seize<R: Wait>(rt: &R, table: &TurnTable, seat: &mut TurnSeat, actor: ActorId
         if served == ticket {
             return;
         }
-        await_change(rt, table, served, looks);
+        room.await_change(rt, table, served, looks);
         looks = looks.saturating_add(1);
     }
     unreachable!()
@@ -68,13 +60,13 @@ fn give_back(
     }
     drop(table.shared.exchange(seat, 0, slot));
     table.shared.fetch_add::<Serve>(seat, SERVED, 1);
-    table.shared.wake_all(SERVED);
 }
 
 // One turn of an idle pass.
 pub(crate) fn take_turn<R: Wait>(
     rt: &R,
     table: &TurnTable,
+    room: &WaitingRoom,
     seat: &mut TurnSeat,
     actor: ActorId,
     call: Call,
@@ -87,9 +79,12 @@ pub(crate) fn take_turn<R: Wait>(
     ensures turns { turns seat.new.me ≡ turns seat.old.me + 1 }
     ensures turn { IsTurn seat.old.me.0.start.opening actor.0 (front seat.old.me) call result (front seat.new.me) }
 {
-    seize(rt, table, seat, actor);
+    room.enter(rt, table);
+    seize(rt, table, room, seat, actor);
     let mut manager = table.shared.exchange(seat, 0, None).unwrap();
     let answer = manager.step(actor, call);
+    let due = room.told(&manager, actor, answer);
     give_back(table, seat, actor, manager, answer);
+    room.call(table, due);
     answer
 }

@@ -2,7 +2,7 @@
 ghost use Rattle.std.specs.Prelude.{◌≡◌, ◌<◌, IfOk, IfSome, length, position};
 ghost use Rattle.std.specs.Str.{bytes_eq};
 ghost use Rattle.serde_json.specs.View.{view};
-ghost use Rattle.ffm_model.specs.Scenarios.{source_named, raised_source_of, is_flih, plain_raise_of, answered_raise_of, raise_of, IsRaise};
+ghost use Rattle.ffm_model.specs.Scenarios.{source_named, raised_source_of, plain_raise_of, answered_raise_of, raise_of, IsRaise};
 ghost use Rattle.manifest_json.specs.Gives.{Gives};
 
 use ffm_model::{BAD_VALUE, Key, PathStep, RaiseItem, Source, System, UNKNOWN_ACTOR};
@@ -48,16 +48,6 @@ impl Reader for RaisedSourceReader<'_> {
     }
 }
 
-/// Whether a source has a first-level handler.
-fn is_flih(system: &System, source: u32) -> bool
-    ensures { result ≡ is_flih system.now source }
-{
-    match system.sources.as_slice().get(source as usize) {
-        Some(source) => source.flih,
-        None => false,
-    }
-}
-
 /// An interrupt by its source alone. A first-level handler then asks for its signal.
 #[tactic(auto, unfolding(ffm_model::specs::Scenarios::plain_raise_of))]
 fn plain_raise(alloc: Global, system: &System, tree: &Value) -> Result<RaiseItem, PartError>
@@ -65,7 +55,7 @@ fn plain_raise(alloc: Global, system: &System, tree: &Value) -> Result<RaiseItem
     ensures kept { IfOk result (IsRaise system.now) }
 {
     let source = RaisedSourceReader { system }.read(alloc, tree)?;
-    let result = if is_flih(system, source) {
+    let result = if system.has_flih(source) {
         Some(1)
     } else {
         None
@@ -82,7 +72,7 @@ fn answered_raise(alloc: Global, system: &System, tree: &Value) -> Result<RaiseI
     let answers = WholeReader { least: 0, most: 1 };
     let source = required(alloc, &RaisedSourceReader { system }, tree, Key::Source)?;
     let answer = required(alloc, &answers, tree, Key::RaiseResult)?;
-    if !is_flih(system, source) {
+    if !system.has_flih(source) {
         let step = PathStep::Key(Key::RaiseResult);
         return Err(refused_at(alloc, step, BAD_VALUE));
     }

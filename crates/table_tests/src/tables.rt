@@ -4,9 +4,9 @@ ghost use Rattle.std.specs.Prelude.{◌≡◌, false};
 
 use ffm_model::{ActorId, ActorPhase, ConnPhase, Handle, PSA_DOORBELL, SourceFlags, Span, Vectors};
 use object_pools::Slot;
-use sample_systems::{extended, system_of};
+use sample_systems::system_of;
 use spm_tables::{MessageItem, Tables};
-use std::alloc::Global;
+use std::alloc::{AllocError, Global};
 use std::process::Abort;
 use std::test::Fail;
 
@@ -232,21 +232,38 @@ fn messages_of_no_connection(rt: HostRuntime) -> Result<(), Fail> {
     Ok(())
 }
 
-// A partition with three services, a partition that may use two of them, one that may use one, and a client of all.
-const SHARED: &str = r#"{"isolation_level":3,"manifests":[
-{"psa_framework_version":1.0,"name":"VAULT","type":"APPLICATION-ROT",
-"priority":"NORMAL","entry_point":"main","stack_size":"0x400",
-"services":[{"name":"CLOCK","sid":"0x40","non_secure_clients":true},
-{"name":"METER","sid":"0x41","non_secure_clients":true},
-{"name":"KEYS","sid":"0x42","non_secure_clients":true}]},
-{"psa_framework_version":1.0,"name":"APP","type":"APPLICATION-ROT",
-"priority":"NORMAL","entry_point":"main","stack_size":"0x400",
-"dependencies":["CLOCK","METER"]},
-{"psa_framework_version":1.0,"name":"SPY","type":"APPLICATION-ROT",
-"priority":"NORMAL","entry_point":"main","stack_size":"0x400",
-"dependencies":["METER"]}],
-"non_secure_ram":"0x1000","clients":["NS"],
-"connections":[{"client":"NS","service":"KEYS","count":5}]}"#;
+// A service of a partition, which clients connect to, or which has this index where it isn't 0.
+fn service(alloc: Global, name: &str, sid: u32, index: u32) -> Result<String, AllocError> {
+    let more = if index == 0 {
+        String::new(alloc)
+    } else {
+        format!(in alloc; r#","connection_based":false,"stateless_handle":{index}"#)?
+    };
+    format!(in alloc; r#"{{"name":"{name}","sid":{sid},"non_secure_clients":true{more}}}"#)
+}
+
+// A partition with three services, a partition that may use two of them, one that may use one, and a client of all,
+// which may have five connections to the last where clients connect to it.
+fn shared(alloc: Global, indices: [u32; 3]) -> Result<String, AllocError> {
+    let clock = service(alloc, "CLOCK", 0x40, indices[0])?;
+    let meter = service(alloc, "METER", 0x41, indices[1])?;
+    let keys = service(alloc, "KEYS", 0x42, indices[2])?;
+    let connections = if indices[2] == 0 {
+        r#"{"client":"NS","service":"KEYS","count":5}"#
+    } else {
+        ""
+    };
+    format!(in alloc;
+        r#"{{"isolation_level":3,"manifests":[
+{{"psa_framework_version":1.1,"name":"VAULT","type":"APPLICATION-ROT",
+"priority":"NORMAL","entry_point":"main","stack_size":"0x400","services":[{clock},{meter},{keys}]}},
+{{"psa_framework_version":1.0,"name":"APP","type":"APPLICATION-ROT",
+"priority":"NORMAL","entry_point":"main","stack_size":"0x400","dependencies":["CLOCK","METER"]}},
+{{"psa_framework_version":1.0,"name":"SPY","type":"APPLICATION-ROT",
+"priority":"NORMAL","entry_point":"main","stack_size":"0x400","dependencies":["METER"]}}],
+"non_secure_ram":"0x1000","clients":["NS"],"connections":[{connections}]}}"#
+    )
+}
 
 #[test]
 fn sizes_of_pools(rt: HostRuntime) -> Result<(), Fail> {
@@ -257,8 +274,7 @@ fn sizes_of_pools(rt: HostRuntime) -> Result<(), Fail> {
         ([1, 32, 0], 5, 8),
         ([3, 2, 1], 0, 3),
     ] {
-        let system = extended(system_of(rt.alloc(), SHARED)?, &indices, &[]);
-        let system = system.ok_or("the parts don't fit")?;
+        let system = system_of(rt.alloc(), &shared(rt.alloc(), indices)?)?;
         let tables = Tables::new(rt.alloc(), &system)?;
         assert_eq!(rt; tables.connections().size(), connections);
         assert_eq!(rt; tables.messages().size(), messages, "{indices:?}");

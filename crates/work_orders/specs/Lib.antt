@@ -1,4 +1,3 @@
 pub mod Words
-pub mod Later
 pub mod Work
 pub mod View

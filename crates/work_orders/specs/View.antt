@@ -1,6 +1,6 @@
 -- The code's work as contracts see it, and what it keeps.
 -- Source: this simulator's.
-use Rattle.std.specs.Prelude.{◌≡◌, Bool, false, length}
+use Rattle.std.specs.Prelude.{◌≡◌, Bool, true, false, length}
 use Rattle.ffm_model.specs.Actors.{actor_count}
 use Rattle.ffm_model.specs.Scenarios.{IsScenarioOf}
 use Rattle.actor_programs.specs.Programs.{ArePrograms}
@@ -21,9 +21,12 @@ abbrev pub threads_of : code.Work → Bool
 threads_of (code_work.Run run) = run.threads
 threads_of _ = false
 
--- a scenario of the system, and a program for each actor
-abbrev pub IsRun : RunWork → Type 0
-IsRun run = IsScenarioOf run.system run.scenario × (length run.programs ≡ actor_count run.system) × ArePrograms run.system run.programs
+-- a scenario of the system, without restarts where it is for a run with threads, and a program for each actor
+pub record IsRun (run : RunWork) : Type 0 where
+  pub scenario : IsScenarioOf run.system run.scenario
+  pub single : run.threads ≡ true → run.scenario.restarts ≡ 0
+  pub programs : length run.programs ≡ actor_count run.system
+  pub fit : ArePrograms run.system run.programs
 
 -- a scenario of the system
 abbrev pub IsReplay : ReplayWork → Type 0

@@ -1,19 +1,21 @@
 -- The work that an order asks for: what is read of the files, in which order, until the first refusal.
 -- Source: this simulator's order of work: the system file and its manifests, the compiler, the scenario, its programs, the trace.
-use Rattle.std.specs.Prelude.{ℕ, Bool, List, [], Ok}
+use Rattle.std.specs.Prelude.{ℕ, nat_lt, Bool, true, ◌&&◌, List, [], ◌∷◌, Result, Ok, Err, if◌then◌else◌}
+use Rattle.ffm_model.specs.declared.codes.TheConstants.{BAD_VALUE}
 use Rattle.ffm_model.specs.declared.constants.TheConstants.{MAX_FILE_BYTES}
+use Rattle.ffm_model.specs.declared.key.Key.TheVariants as key
+use Rattle.ffm_model.specs.declared.place.PathStep.TheVariants as step
 use Rattle.ffm_model.specs.declared.place.Place.{Place}
 use Rattle.ffm_model.specs.declared.place.Root.TheVariants as root
 use Rattle.ffm_model.specs.declared.scenario.Scenario.{Scenario}
 use Rattle.ffm_model.specs.declared.system.System.{System}
-use Rattle.ffm_model.specs.Reading.{Contents, Reading, Stop, ◌>>=◌, asks_nothing, file_at}
+use Rattle.ffm_model.specs.Reading.{Contents, Reading, Stop, refused, ◌>>=◌, asks_nothing, file_at}
 use Rattle.ffm_model.specs.Scenarios.{scenario_in}
 use Rattle.ffm_model.specs.Systems.{system_of, stopped}
 use Rattle.ffm_model.specs.Compiled.{compiled}
 use Rattle.actor_programs.specs.declared.program.Program.{Program}
 use Rattle.actor_programs.specs.Programs.{programs_of}
 use Rattle.work_orders.specs.declared.limits.TheConstants.{MAX_TRACE_BYTES}
-use Rattle.work_orders.specs.Later.{later_in_manifests, unless_later, carried_out}
 use Rattle.work_orders.specs.Words.{Order, compile, run, replay, make}
 
 -- ---- files
@@ -31,7 +33,7 @@ trace_place = record { root = root.Trace; steps = [] }
 unfoldable pub system_in : Contents → List ℕ → Reading System
 system_in of bytes = do
   parts ← system_of of bytes
-  asks_nothing (unless_later root.System (later_in_manifests 0 parts.manifests) (compiled parts))
+  asks_nothing (compiled parts)
 
 -- the system of a system file
 unfoldable pub system_at : Contents → List ℕ → Reading System
@@ -43,7 +45,14 @@ system_at of name = do
 unfoldable pub scenario_at : Contents → System → List ℕ → Reading Scenario
 scenario_at of s name = do
   bytes ← file_at of scenario_place MAX_FILE_BYTES name
-  asks_nothing (carried_out (stopped (scenario_in s bytes)))
+  asks_nothing (stopped (scenario_in s bytes))
+
+-- the scenario, for one run alone or for as many as it allows: restarts are refused where there is to be one run
+abbrev pub scenario_for : Bool → Scenario → Result Scenario Stop
+scenario_for single c =
+    if single && nat_lt 0 c.restarts
+    then Err (refused (record { code = BAD_VALUE; place = record { root = root.Scenario; steps = step.Key key.Restarts ∷ [] }; cycle = [] }))
+    else Ok c
 
 -- ---- work
 
@@ -55,12 +64,13 @@ pub data Work : Type 0 where
   replay_of : System → Scenario → List ℕ → Work
   make_of : ℕ → Work
 
--- the scenario's run of a system
+-- the scenario's runs of a system; with threads there is one
 unfoldable pub run_in : Contents → Bool → System → List ℕ → Reading Work
 run_in of threads s scenario = do
   c ← scenario_at of s scenario
   programs ← asks_nothing (programs_of s c)
-  asks_nothing (Ok (run_of threads s c programs))
+  runs ← asks_nothing (scenario_for threads c)
+  asks_nothing (Ok (run_of threads s runs programs))
 
 -- the listing of a system
 unfoldable pub list_in : Contents → List ℕ → Reading Work
@@ -68,7 +78,7 @@ list_in of system = do
   s ← system_at of system
   asks_nothing (Ok (listing_of s))
 
--- the scenario's run of a system, from their files
+-- the scenario's runs of a system, from their files
 unfoldable pub run_at : Contents → Bool → List ℕ → List ℕ → Reading Work
 run_at of threads system scenario = do
   s ← system_at of system
@@ -80,12 +90,13 @@ trace_in of s c trace = do
   bytes ← file_at of trace_place MAX_TRACE_BYTES trace
   asks_nothing (Ok (replay_of s c bytes))
 
--- a trace for a system; the scenario's programs are read before it, and not used
+-- a trace for a system, which is of one run; the scenario's programs are read before it, and not used
 unfoldable pub replay_in : Contents → System → List ℕ → List ℕ → Reading Work
 replay_in of s scenario trace = do
   c ← scenario_at of s scenario
   programs ← asks_nothing (programs_of s c)
-  trace_in of s c trace
+  single ← asks_nothing (scenario_for true c)
+  trace_in of s single trace
 
 -- a trace for a system and a scenario, from their files
 unfoldable pub replay_at : Contents → List ℕ → List ℕ → List ℕ → Reading Work

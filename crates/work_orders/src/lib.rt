@@ -3,7 +3,6 @@
 #![tactic(auto)]
 
 mod command_line;
-mod later;
 mod limits;
 mod words;
 mod work;

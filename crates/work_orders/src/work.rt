@@ -1,31 +1,27 @@
 //! What a command and its files ask to be done.
 
-ghost use Rattle.std.specs.Prelude.{◌≡◌, ◌≤◌, [], Ok, false, IfOk, IfErr, IfSome, IsErrOf, length};
+ghost use Rattle.std.specs.Prelude.{◌≡◌, ◌≤◌, [], Ok, false, true, IfOk, IfErr, IfSome, IsErrOf, length};
 ghost use Rattle.outside_io.specs.Count.{Rose};
 ghost use Rattle.ffm_model.specs.Reading.{Gives, Reads, file_at};
-ghost use Rattle.ffm_model.specs.Compiled.{compiled};
-ghost use Rattle.ffm_model.specs.Scenarios.{IsScenarioOf, scenario_in};
-ghost use Rattle.ffm_model.specs.Systems.{stopped};
-ghost use Rattle.work_orders.specs.Later.{carried_out, later_in_manifests, unless_later};
+ghost use Rattle.ffm_model.specs.Scenarios.{IsScenarioOf};
 ghost use Rattle.work_orders.specs.Words.{has_threads, order};
-ghost use Rattle.work_orders.specs.Work.{system_in, system_at, scenario_at, run_in, list_in, run_at, trace_in, replay_in, replay_at, work_of};
+ghost use Rattle.work_orders.specs.Work.{system_in, system_at, scenario_at, scenario_for, run_in, list_in, run_at, trace_in, replay_in, replay_at, work_of};
 ghost use Rattle.work_orders.specs.View.{work, IsWork, threads_of};
 
-use crate::later::{bad_value, later_in_manifests, later_in_scenario};
 use crate::limits::MAX_TRACE_BYTES;
 use crate::words::Command;
 use actor_programs::{Program, programs_of};
 use ffm_model::{
-    FILE_TOO_LONG, List, MAX_FILE_BYTES, Parts, PartsError, Place, ReadError, Refusal, Root,
-    Scenario, System,
+    BAD_VALUE, FILE_TOO_LONG, Key, List, MAX_FILE_BYTES, PartsError, PathStep, Place, ReadError,
+    Refusal, Root, Scenario, System,
 };
 use manifest_compile::compile;
 use outside_io::{FileError, Files};
 use std::alloc::Global;
 use system_json::{read_scenario, read_system};
 
-/// A run of a scenario's programs, one for each actor, over a system, with a thread for each or
-/// without.
+/// The runs of a scenario's programs, one for each actor, over a system: one with a thread for each
+/// actor, or without threads as many as the scenario's restarts allow.
 #[derive(Drop)]
 pub struct RunWork {
     pub threads: bool,
@@ -68,6 +64,20 @@ fn too_long(alloc: Global, root: Root) -> Refusal
     }
 }
 
+// The refusal of what stands at these steps of a file, as a bad value.
+fn bad_value(alloc: Global, root: Root, steps: Vec<PathStep>) -> Refusal
+    ensures { result ≡ record { code = BAD_VALUE; place = record { root = root; steps = steps.items }; cycle = [] } }
+{
+    Refusal {
+        code: BAD_VALUE,
+        place: Place {
+            root,
+            steps: List::of(steps),
+        },
+        cycle: List::of(Vec::new(alloc)),
+    }
+}
+
 // The bytes of a file.
 fn bytes_of<F: Files>(
     alloc: Global,
@@ -90,28 +100,6 @@ fn bytes_of<F: Files>(
     }
 }
 
-// The system that the parts of a system file make.
-fn compiled(alloc: Global, parts: &Parts) -> Result<System, ReadError>
-    ensures { Reads (λ s. s) result (unless_later Root.System (later_in_manifests 0 parts.now.manifests) (compiled parts.now)) }
-{
-    match later_in_manifests(alloc, 0, parts.manifests.as_slice())? {
-        Some(steps) => Err(ReadError::Refused(bad_value(alloc, Root::System, steps))),
-        None => compile(alloc, parts),
-    }
-}
-
-// The scenario of a scenario file's bytes.
-fn scenario_in(alloc: Global, bytes: &[u8], system: &System) -> Result<Scenario, ReadError>
-    ensures reads { Reads (λ c. c) result (carried_out (stopped (scenario_in system.now bytes.now))) }
-    ensures kept { IfOk result (IsScenarioOf system.now) }
-{
-    let scenario = read_scenario(alloc, bytes, system)?;
-    match later_in_scenario(alloc, &scenario)? {
-        Some(steps) => Err(ReadError::Refused(bad_value(alloc, Root::Scenario, steps))),
-        None => Ok(scenario),
-    }
-}
-
 /// The system of a system file's bytes.
 #[tactic(auto, unfolding(crate::specs::Work::system_in), using(ffm_model::proofs::ReadingLemmas::after_ok, ffm_model::proofs::ReadingLemmas::after_err))]
 pub fn system_in<F: Files>(alloc: Global, files: &mut F, bytes: &[u8]) -> Result<System, PartsError>
@@ -121,7 +109,7 @@ pub fn system_in<F: Files>(alloc: Global, files: &mut F, bytes: &[u8]) -> Result
     ensures failed { IsErrOf result PartsError.ReadFault → Rose (F.faults files.old) (F.faults files.new) }
 {
     let parts = read_system(alloc, bytes, files)?;
-    Ok(compiled(alloc, &parts)?)
+    Ok(compile(alloc, &parts)?)
 }
 
 // The system of a system file.
@@ -151,10 +139,23 @@ fn scenario_at<F: Files>(
     ensures kept { IfOk result (IsScenarioOf system.now) }
 {
     let bytes = bytes_of(alloc, files, Root::Scenario, MAX_FILE_BYTES, name)?;
-    Ok(scenario_in(alloc, &bytes, system)?)
+    Ok(read_scenario(alloc, &bytes, system)?)
 }
 
-// The scenario's run of a system.
+// The scenario, for one run alone or for as many as it allows.
+fn scenario_for(alloc: Global, single: bool, scenario: Scenario) -> Result<Scenario, ReadError>
+    ensures reads { Reads (λ c. c) result (scenario_for single scenario) }
+    ensures same { IfOk result (λ c. c ≡ scenario) }
+    ensures restarts { single ≡ true → IfOk result (λ c. c.restarts ≡ 0) }
+{
+    if single && scenario.restarts > 0 {
+        let steps = vec![in alloc; PathStep::Key(Key::Restarts)]?;
+        return Err(ReadError::Refused(bad_value(alloc, Root::Scenario, steps)));
+    }
+    Ok(scenario)
+}
+
+// The scenario's runs of a system.
 #[tactic(auto, unfolding(crate::specs::Work::run_in), using(ffm_model::proofs::ReadingLemmas::after_ok, ffm_model::proofs::ReadingLemmas::after_err))]
 fn run_in<F: Files>(
     alloc: Global,
@@ -172,6 +173,7 @@ fn run_in<F: Files>(
 {
     let scenario = scenario_at(alloc, files, &system, name)?;
     let programs = programs_of(alloc, &system, &scenario)?;
+    let scenario = scenario_for(alloc, threads, scenario)?;
     Ok(Work::Run(RunWork {
         threads,
         system,
@@ -194,7 +196,7 @@ fn list_in<F: Files>(alloc: Global, files: &mut F, name: &str) -> Result<Work, P
     Ok(Work::Listing(system))
 }
 
-// The scenario's run of a system, from their files.
+// The scenario's runs of a system, from their files.
 #[tactic(auto, unfolding(crate::specs::Work::run_at), using(ffm_model::proofs::ReadingLemmas::after_ok, ffm_model::proofs::ReadingLemmas::after_err))]
 fn run_at<F: Files>(
     alloc: Global,
@@ -239,8 +241,8 @@ fn trace_in<F: Files>(
     }))
 }
 
-// A trace for a system, from the files of the scenario and the trace. The programs are read and not
-// used.
+// A trace for a system, which is of one run, from the files of the scenario and the trace. The
+// programs are read and not used.
 #[tactic(auto, unfolding(crate::specs::Work::replay_in), using(ffm_model::proofs::ReadingLemmas::after_ok, ffm_model::proofs::ReadingLemmas::after_err))]
 fn replay_in<F: Files>(
     alloc: Global,
@@ -258,6 +260,7 @@ fn replay_in<F: Files>(
 {
     let scenario = scenario_at(alloc, files, &system, scenario)?;
     let _programs = programs_of(alloc, &system, &scenario)?;
+    let scenario = scenario_for(alloc, true, scenario)?;
     trace_in(alloc, files, system, scenario, trace)
 }
 

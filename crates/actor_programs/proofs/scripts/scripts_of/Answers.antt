@@ -1,4 +1,4 @@
-use Rattle.std.proofs.Common.{ℕ, ◌≡◌, ◌∷◌, [], ◌++◌, ◌∙◌, append_assoc, append-nil, length, length-append, refl, ap, sym, subst, arith, rules}
+use Rattle.std.proofs.Common.{◌∷◌, [], ◌++◌, ◌∙◌, append_assoc, length, length-append, ap, sym, subst, arith, rules}
 use Rattle.actor_programs.specs.Programs.{AreScriptsOf}
 use Rattle.ffm_model.proofs.ActorLemmas.{actor_count_le}
 use Rattle.actor_programs.proofs.ProgramLemmas.{all-yielded, scripts-more}

@@ -1,14 +1,18 @@
-use Rattle.partition_sim.proofs.TurnLemmas.{call-is-due, asked-in, driving-still, driving-step, passed-gone, passed-not_yet, over-over, over-full, made-one}
+use Rattle.partition_sim.proofs.TurnLemmas.{call-is-due, follows-in, parts-long, asked-in, driving-still, driving-step, passed-gone, passed-not_yet, over-over, over-full, made-one}
 use Rattle.partition_sim.proofs.scheduled.take_turn.Goals as goal
+
+pub next-call-requires : goal.next-call-requires
+next-call-requires c =
+    parts-long _ _ _ _ (follows-in _ _ _ _ _ _ _ c.requires.exists c.requires.driving c.index-scripts-at.is)
 
 pub step-requires-clause-due : goal.step-requires-clause-due
 step-requires-clause-due c =
-    call-is-due c.args.scripts.now c.args.spm.now.opening _ _ _ _ (asked-in _ _ _ _ _ _ _ _ _ c.requires.exists c.requires.driving c.index-scripts-at.is c.next-call.ensures.call c.next-call.ensures.asked)
+    call-is-due c.args.scripts.now c.args.spm.now.opening _ _ _ _ c.plans_resume_behind_blocked.ensures.held c.plans_resume_behind_blocked.ensures.contexts (asked-in _ _ _ _ _ _ _ _ _ c.requires.exists c.requires.driving c.index-scripts-at.is c.next-call.ensures.call c.next-call.ensures.asked)
 
 pub returns-in-Made-clause-driving : goal.returns-in-Made-clause-driving
 returns-in-Made-clause-driving c =
     let n = asked-in _ _ _ _ _ _ _ _ _ c.requires.exists c.requires.driving c.index-scripts-at.is c.next-call.ensures.call c.next-call.ensures.asked in
-    driving-step _ _ _ _ _ _ _ _ _ _ _ c.requires.exists c.requires.driving n c.in-Made.ensures.answer (c.after.ensures.follows _ _ n.asked)
+    driving-step _ _ _ _ _ _ _ _ _ _ _ c.requires.exists c.requires.driving n c.in-Made.ensures.answer (c.after.ensures.follows _ _ _ n.asked)
 
 pub returns-in-Made-clause-turned : goal.returns-in-Made-clause-turned
 returns-in-Made-clause-turned c = (c.in-Made.entry, made-one _ _ _ _ _ _ _ c.in-Made.ensures.answer)

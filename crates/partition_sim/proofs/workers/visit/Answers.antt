@@ -1,9 +1,14 @@
 use Rattle.std.proofs.Common.{refl}
-use Rattle.partition_sim.proofs.WorkerLemmas.{script-due, good-made}
+use Rattle.partition_sim.proofs.TurnLemmas.{parts-long}
+use Rattle.partition_sim.proofs.WorkerLemmas.{plan-due, good-made}
 use Rattle.partition_sim.proofs.workers.visit.Goals as goal
 
+pub next-call-requires : goal.next-call-requires
+next-call-requires g c = parts-long _ _ _ _ c.requires.good.follows
+
 pub ask-requires-clause-due : goal.ask-requires-clause-due
-ask-requires-clause-due g c = script-due _ (g.A.Api.record_of c.args.worker.now.pass) _ (c.next-call.ensures.call _ c.requires.good.follows)
+ask-requires-clause-due g c =
+    plan-due c.plans_resume_behind_blocked.ensures.held c.plans_resume_behind_blocked.ensures.contexts _ _ (g.A.Api.record_of c.args.worker.now.pass) _ (c.next-call.ensures.call _ _ c.requires.good.follows)
 
 pub returns-in-Made-clause-good : goal.returns-in-Made-clause-good
 returns-in-Made-clause-good g c =

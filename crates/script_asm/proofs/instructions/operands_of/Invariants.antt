@@ -7,9 +7,9 @@ use Rattle.script_asm.proofs.SlotLemmas.{with_front}
 use Rattle.script_asm.proofs.instructions.operands_of.Given as goal
 
 abbrev pub invariant-loop-i : goal.invariant-loop-i
-invariant-loop-i l = record {
-  long : length l.operands ≡ 6;
+invariant-loop-i g l = record {
+  long : length l.operands ≡ g.row.N;
   each : AllByRecursion IsOperand l.operands;
-  unused : drop l.i l.operands ≡ replicate (6 - l.i) (Number 0);
+  unused : drop l.i l.operands ≡ replicate (g.row.N - l.i) (Number 0);
   rest : with_front (take l.i l.operands) (operands_of (map (λ w. w.now) (drop l.i l.words))) ≡ operands_of (map (λ w. w.now) l.words);
 }

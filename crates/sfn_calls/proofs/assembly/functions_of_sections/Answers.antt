@@ -8,7 +8,7 @@ use Rattle.sfn_calls.proofs.AssemblyLemmas.{below-next, below-wrong, below-end, 
 use Rattle.sfn_calls.proofs.assembly.functions_of_sections.Goals as goal
 
 pub loop-at-init : goal.loop-at-init
-loop-at-init c = rw c.new-functions.ensures.items (record { rest = refl; kept = kept-start })
+loop-at-init c = rw c.new-functions.ensures.items (record { rest = refl; kept = λ few. kept-start })
 
 pub returns-in_err-function-clause-gives : goal.returns-in_err-function-clause-gives
 returns-in_err-function-clause-gives c =
@@ -24,7 +24,7 @@ loop-at-preserved c =
       rest = below-next c.args.system.now c.args.partition c.loop-at.functions.items (section_view c.in-Some.section) _ c.in_ok-function.function
           (ap (λ (fs : List SfnFunction). function_of c.args.system.now c.args.partition fs (section_view c.in-Some.section)) (sym c.as_slice.ensures.value) ∙ c.in_ok-function.ensures.gives)
           ∙ (ap (functions_below c.args.system.now c.args.partition c.loop-at.functions.items) (sym c.in-Some.ensures.gives) ∙ c.loop-at.invariant.rest);
-      kept = kept-next c.loop-at.functions.items c.in_ok-function.function c.loop-at.invariant.kept (rw (← c.as_slice.ensures.value) c.in_ok-function.ensures.fresh) c.in_ok-function.ensures.function
+      kept = λ few. kept-next c.loop-at.functions.items c.in_ok-function.function (c.loop-at.invariant.kept few) (rw (← c.as_slice.ensures.value) c.in_ok-function.ensures.fresh) c.in_ok-function.ensures.function
           (omega (arith, c.in-Some.ensures.within, c.in_ok-function.ensures.short));
     })
 

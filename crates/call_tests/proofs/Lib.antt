@@ -1,2 +1,0 @@
-mod IdleStates
-mod AskedLemmas

@@ -1,0 +1,11 @@
+use Rattle.std.proofs.Common.{sym, subst}
+use Rattle.std.specs.Prelude.{All}
+use Rattle.std.proofs.lemmas.List.Elements.{All-nil}
+use Rattle.ffm_model.specs.State.{SpmState}
+use Rattle.memory_image.specs.Pieces.{regions_of}
+use Rattle.message_vectors.specs.Vectors.{AreWithin}
+use Rattle.call_tests.proofs.lives.asks_for_a_connection.Goals as goal
+
+pub asked_once-done-requires-clause-vectors : goal.asked_once-done-requires-clause-vectors
+asked_once-done-requires-clause-vectors g c =
+    subst (λ (b : SpmState). All (λ m. AreWithin (regions_of c.in_ok-image.image) m.vectors) b.messages) (sym c.in_ok-tables.ensures.state) (All-nil (λ m. AreWithin (regions_of c.in_ok-image.image) m.vectors))

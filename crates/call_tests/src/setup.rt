@@ -1,0 +1,59 @@
+//! What the calls are made on: tables at their start and an image, of a system of one partition and one client.
+ghost use Rattle.std.specs.Prelude.{◌≡◌, ◌+◌, ◌≤◌, IfOk, IsTrue};
+ghost use Rattle.ffm_model.specs.State.{opening_spm, phase_of};
+ghost use Rattle.counting_law.specs.Objects.{ObjectsFit};
+ghost use Rattle.memory_image.specs.Pieces.{ranges_of, regions_of};
+ghost use Rattle.spm_tables.specs.TablesView.{MadeFor, spm_of};
+
+use ffm_model::{ActorId, ActorPhase, Bytes, List, System};
+use memory_image::{Image, open_within};
+use spm_tables::Tables;
+use std::alloc::Global;
+use std::process::Abort;
+use std::test::Fail;
+
+pub(crate) const VAULT: ActorId = ActorId(0);
+
+pub(crate) const CLIENT: ActorId = ActorId(1);
+
+// A strict service, a relaxed one, and one that is for partitions alone; a connection of the client to each of the first two.
+pub(crate) const SYSTEM: &str = r#"{"isolation_level":3,"manifests":[
+{"psa_framework_version":1.0,"name":"VAULT","type":"APPLICATION-ROT",
+"priority":"NORMAL","entry_point":"main","stack_size":"0x400",
+"services":[{"name":"STRICT","sid":"0x40","non_secure_clients":true,"version":2},
+{"name":"RELAXED","sid":"0x41","non_secure_clients":true,"version":3,"version_policy":"RELAXED"},
+{"name":"SECURE","sid":"0x42","non_secure_clients":false}]}],
+"non_secure_ram":"0x400","clients":["NS"]}"#;
+
+pub(crate) fn runs(tables: &Tables, actor: ActorId) -> bool
+    ensures { IsTrue result → phase_of (spm_of tables.now) actor.0 ≡ ActorPhase.Running }
+{
+    matches!(tables.phase(actor), ActorPhase::Running)
+}
+
+// Tables at their start.
+pub(crate) fn ready(rt: &impl Abort, alloc: Global, system: &System) -> Result<Tables, Fail>
+    ensures made { IfOk result (λ t. MadeFor t system.now) }
+    ensures state { IfOk result (λ t. spm_of t ≡ opening_spm system.now) }
+    ensures fits { IfOk result (λ t. ObjectsFit system.now (spm_of t)) }
+    ensures few_connections { IfOk result (λ t. t.linked.takes + 256 ≤ 1048575) }
+    ensures few_messages { IfOk result (λ t. t.waiting.takes + 256 ≤ 1048575) }
+{
+    let tables = Tables::new(alloc, system)?;
+    assert!(rt; tables.messages().takes() < 1000);
+    Ok(tables)
+}
+
+// The descriptors of a vector of the client, and of one in the partition's RAM.
+pub(crate) fn image_of(rt: &impl Abort, alloc: Global, system: &System) -> Result<Image, Fail>
+    ensures { IfOk result (λ image. regions_of image ≡ ranges_of system.now.regions) }
+{
+    let descriptors = Bytes {
+        address: 0x2000_0000,
+        content: List::of(b"\0\x01\0\x20\x04\0\0\0\0\0\0\x30\x04\0\0\0".to_vec(alloc)?),
+    };
+    let opening = vec![in alloc; descriptors]?;
+    assert!(rt; open_within(system.regions.as_slice(), opening.as_slice()));
+    assert!(rt; system.regions.len() < 2147483648);
+    Ok(Image::new(alloc, &system.regions, &List::of(opening))?)
+}

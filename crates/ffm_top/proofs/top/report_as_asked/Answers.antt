@@ -1,0 +1,11 @@
+use Rattle.work_orders.specs.View.{work}
+use Rattle.work_orders.specs.Words.{order}
+use Rattle.work_orders.specs.Work.{work_of}
+use Rattle.ffm_top.proofs.Valid.{due_by, valid_by}
+use Rattle.ffm_top.proofs.top.report_as_asked.Goals as goal
+
+pub returns-in-Ok-clause-due : goal.returns-in-Ok-clause-due
+returns-in-Ok-clause-due g c = due_by _ (λ of. work_of of (order c.args.command)) (work c.in-Ok.work) _ c.in-Ok.ensures.gives c.done_as_asked.ensures.due
+
+pub returns-in-Ok-clause-valid : goal.returns-in-Ok-clause-valid
+returns-in-Ok-clause-valid g c = valid_by _ (λ of. work_of of (order c.args.command)) (work c.in-Ok.work) _ c.in-Ok.ensures.gives c.done_as_asked.ensures.valid

@@ -1,0 +1,12 @@
+mod Changes
+mod Tables
+mod Messages
+mod Fits
+mod Own
+mod Lines
+mod Kept
+mod Ranges
+mod Copies
+mod Once
+mod Lengths
+mod Events

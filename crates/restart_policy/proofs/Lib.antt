@@ -1,0 +1,2 @@
+pub mod Panics
+pub mod Resets
