@@ -5,9 +5,11 @@
 
 Makes a system of 16 partitions with a service each and 16 clients, each of which sends requests with
 a vector of four bytes each way to its own service without end, and runs it for 65,536, 131,072 and
-262,144 events, several times each, into a file; then the trace is judged as often, and then the same runs
-are made with a thread for each actor. Prints one row for each command: the events, the bytes of the trace, the least and the middle time in milliseconds, the
-most memory in MB, and the last line. At the end it times the largest generated run in the same way."""
+262,144 events, several times each, into a file; then the trace is judged and audited as often, and then the
+same runs are made with a thread for each actor. Prints one row for each command: the events, the bytes of the
+trace, the least and the middle time in milliseconds, the most memory in MB, and the last line. At the end it
+times the judging and auditing of the longest run where the first partition also has 15 MiB of registers, so that
+the memory of all regions is near its limit (rows replay+ and audit+), and then the largest generated run."""
 
 import argparse
 import json
@@ -17,6 +19,8 @@ import tempfile
 import time
 
 ACTORS = 16
+# MMIO regions of 1 MiB each, for a memory near the limit of 16 MiB
+LARGE_REGIONS = 15
 EVENTS = (65_536, 131_072, 262_144)
 
 
@@ -24,7 +28,9 @@ def hexadecimal(number):
     return f"0x{number:08x}"
 
 
-def system():
+def system(large=0):
+    """The system, whose first partition has so many MMIO regions of 1 MiB."""
+    names = [f"R{i}" for i in range(large)]
     manifests = [
         {
             "psa_framework_version": "1.0",
@@ -37,7 +43,12 @@ def system():
         }
         for i in range(1, ACTORS + 1)
     ]
-    return {"isolation_level": 3, "manifests": manifests, "clients": [f"N{i}" for i in range(1, ACTORS + 1)]}
+    manifests[0]["mmio_regions"] = [{"name": name, "permission": "READ-WRITE"} for name in names]
+    regions = [
+        {"name": name, "base": hexadecimal(0x40000000 + 0x100000 * i), "size": "0x100000"} for i, name in enumerate(names)
+    ]
+    clients = [f"N{i}" for i in range(1, ACTORS + 1)]
+    return {"isolation_level": 3, "manifests": manifests, "clients": clients, "regions": regions}
 
 
 def client_lines(i, base):
@@ -116,9 +127,17 @@ def main():
             ran = timed([options.program, "run", *files[:2]], files[2], options.repeats)
             size = os.path.getsize(files[2])
             row("run", events, size, ran)
-            row("replay", events, size, timed([options.program, "replay", *files], judged, options.repeats))
+            for word in ("replay", "audit"):
+                row(word, events, size, timed([options.program, word, *files], judged, options.repeats))
             threaded = timed([options.program, "run", "--threads", *files[:2]], files[2], options.repeats)
             row("threads", events, os.path.getsize(files[2]), threaded)
+        with open(files[0], "w", encoding="utf-8") as file:
+            json.dump(system(LARGE_REGIONS), file)
+        with open(files[2], "wb") as file:
+            subprocess.run([options.program, "run", *files[:2]], stdout=file, check=False)
+        for word in ("replay", "audit"):
+            large = timed([options.program, word, *files], judged, options.repeats)
+            row(f"{word}+", EVENTS[-1], os.path.getsize(files[2]), large)
         made = timed([options.program, "make", "2000"], judged, options.repeats)
         row("make", int(made[2].split()[3]), 0, made)
 

@@ -1,12 +1,15 @@
 #!/usr/bin/env python3
-"""Compares the copies of the examples: those that a reader sees in examples/, and those that the gate runs.
+"""Compares the copies of the examples: those that a reader sees in examples/, and those that the gate runs. The
+judgements and audits that the gate wants of the guided ones are compared with those of the plain machine.
 
     python3 tools/examples_agree.py
 
-Run at the top of the repository. Prints each file that differs, and ends with the status 1 where one does."""
+Run at the top of the repository. Prints each text that differs, and ends with the status 1 where one does."""
 
 import pathlib
 import sys
+
+import plain_machine
 
 EXAMPLES = pathlib.Path("examples")
 CRATES = pathlib.Path("crates")
@@ -14,21 +17,33 @@ STORED = CRATES / "guided_examples"
 
 
 def guided():
-    """The names of the guided examples with their traces, as the stored run has them."""
-    traces, name = {}, None
+    """The names of the guided examples, each with its trace, judgement and audit, as the stored run has them."""
+    texts, name = {}, None
     for line in (STORED / "stdout").read_text().splitlines(keepends=True):
         if " " not in line:
             name = line.strip()
-            traces[name] = ""
-        elif not line.startswith(("status ", "legal ", "refused ")):
-            traces[name] += line
-    return traces
+            texts[name] = [""]
+        elif line.startswith("status "):
+            texts[name].append("")
+        else:
+            texts[name][-1] += line
+    return {name: found[:3] for name, found in texts.items()}
+
+
+def plain(name, audits):
+    """What the plain machine says of an example's trace."""
+    files = [EXAMPLES / name / file for file in ("system.json", "scenario.json", "trace.txt")]
+    return plain_machine.answer_of_files(*files, audits)[1] + "\n"
 
 
 def pairs():
     """Pairs of texts that have to be the same, each with what it is."""
-    for name, trace in guided().items():
+    for name, (trace, judgement, audit) in guided().items():
         yield f"{name}/trace.txt", (EXAMPLES / name / "trace.txt").read_text(), trace
+        yield f"{name}, judged by the plain machine,", plain(name, audits=False), judgement
+        yield f"{name}, audited by the plain machine,", plain(name, audits=True), audit
+        if (EXAMPLES / name / "audit.txt").exists():
+            yield f"{name}/audit.txt", (EXAMPLES / name / "audit.txt").read_text(), audit
         for file in ("system.json", "scenario.json", "trace.txt"):
             yield f"{name}/{file}", (EXAMPLES / name / file).read_text(), (STORED / "data" / f"{name}_{file}").read_text()
     for folder, crate in (("first", "ffm"), ("firmware", "firmware_listing")):

@@ -1,15 +1,18 @@
 #!/usr/bin/env python3
-"""A plain reading of the machine, to compare `ffm replay` with.
+"""A plain reading of the machine, to compare `ffm replay` and `ffm audit` with.
 
     python3 tools/plain_machine.py SYSTEM SCENARIO TRACE
+    python3 tools/plain_machine.py audit SYSTEM SCENARIO TRACE
 
-Prints what `ffm replay` has to print for these files, and ends with the status that it has to give.
+Prints what `ffm replay`, or `ffm audit`, has to print for these files, and ends with the status that it has to
+give.
 
 This is a model for readers. It is written from the rules of the calls alone and shares nothing with the
 program: one list of connections, one list of messages in order of arrival, and a map of bytes; signals are
 computed where they are asked for. It takes system files and scenario files that hold by the rules of the
-formats, and doesn't look for what is wrong with others. Traces it reads exactly, as the program has to.
-Manifests may be of 1.0 and of 1.1.
+formats, and doesn't look for what is wrong with others, but for `restarts`. Traces it reads exactly, as the program
+has to. Manifests may be of 1.0 and of 1.1. What an entry changed it finds by comparing the whole memory before it
+with that behind it.
 
 An actor is numbered from 0: the partitions, then the clients, then the device. A call is its word in the
 trace with its numbers behind it, as `("connect", 64, 1)`, and so is an outcome, as `("value", -130)`. An
@@ -81,12 +84,13 @@ class Source:
 @dataclass
 class System:
     """`ram` and `mmio` say for each actor which regions it reaches: (base, size) and (base, size, writable).
-    `budgets` says for each permitted pair of an actor and a service how many connections are declared; none
-    are for a stateless service."""
+    `own_ram` is the region that is a partition's own, and for a client the non-secure one. `budgets` says for each
+    permitted pair of an actor and a service how many connections are declared; none are for a stateless service."""
     partitions: int
     clients: int
     services: list
     sources: list
+    own_ram: list
     ram: list
     mmio: list
     budgets: dict
@@ -127,16 +131,21 @@ def domains(level, manifests):
     return [i + 1 for i in range(len(manifests))]
 
 
-def layout(tree, manifests):
-    """The regions of each actor's RAM, and the device registers of each partition."""
-    rams, base = [], SECURE_RAM
+def own_regions(tree, manifests):
+    """The RAM of each partition, and for each client the non-secure RAM."""
+    own, base = [], SECURE_RAM
     for manifest in manifests:
         size = rounded(number(manifest["stack_size"]) + number(manifest.get("heap_size", 0)))
-        rams.append((base, size))
+        own.append((base, size))
         base += size
+    return own + [(NON_SECURE_RAM, rounded(number(tree.get("non_secure_ram", 65536)))) for _ in tree.get("clients", [])]
+
+
+def layout(tree, manifests, own):
+    """The regions of each actor's RAM, and the device registers of each partition."""
     domain = domains(tree["isolation_level"], manifests)
-    ram = [[rams[k] for k in range(len(rams)) if domain[k] == domain[i]] for i in range(len(rams))]
-    ram += [[(NON_SECURE_RAM, rounded(number(tree.get("non_secure_ram", 65536))))] for _ in tree.get("clients", [])]
+    ram = [[own[k] for k in range(len(domain)) if domain[k] == domain[i]] for i in range(len(domain))]
+    ram += [[region] for region in own[len(domain) :]]
 
     named = {}
     for region in tree.get("regions", []):
@@ -218,8 +227,9 @@ def read_system(path):
         for place, (name, clients) in enumerate(permitted(tree, manifests).items())
         for client in clients
     }
-    ram, mmio = layout(tree, manifests)
-    return System(len(manifests), len(tree.get("clients", [])), services, read_sources(manifests), ram, mmio, budgets)
+    own = own_regions(tree, manifests)
+    ram, mmio = layout(tree, manifests, own)
+    return System(len(manifests), len(tree.get("clients", [])), services, read_sources(manifests), own, ram, mmio, budgets)
 
 
 def read_scenario(path):
@@ -731,6 +741,29 @@ def judged(system, memory, limit, entries, verdict):
     return None if machine.verdict(len(entries), limit) == verdict else len(entries) + 1
 
 
+def changed_bytes(before, behind):
+    """The addresses at which two memories differ."""
+    return {address for address in before.keys() | behind.keys() if before.get(address, 0) != behind.get(address, 0)}
+
+
+def outside_own_ram(system, actor, addresses):
+    """Those that don't lie in the actor's own RAM; a device has none."""
+    own = system.own_ram[actor : actor + 1]
+    return {address for address in addresses if not any(lies_in(address, 1, region) for region in own)}
+
+
+def changes(system, memory, entries):
+    """For each entry of a run that changed a byte, its place, the least address, the number of bytes, and the least
+    address outside of the actor's own RAM, or None."""
+    machine = Machine(system, memory)
+    for place, entry in enumerate(entries, 1):
+        before = dict(machine.memory)
+        machine.step(entry)
+        addresses = changed_bytes(before, machine.memory)
+        if addresses:
+            yield place, min(addresses), len(addresses), min(outside_own_ram(system, entry[0], addresses), default=None)
+
+
 # The text of a trace
 
 
@@ -782,8 +815,12 @@ def read_trace(system, text):
     return len(lines) + 1 if rest or verdict is None else (entries, verdict)
 
 
-def replay(system, scenario, text):
-    """What `ffm replay` answers: the status and the line."""
+def change_line(place, lowest, count, outside):
+    return f"{place} 0x{lowest:08x} {count} " + ("-" if outside is None else f"0x{outside:08x}")
+
+
+def answer(system, scenario, text, audits):
+    """What `ffm replay`, or where it `audits` `ffm audit`, answers: the status and the text."""
     if len(text) > MAXIMUM_TRACE:
         return 1, "refused 23 FileTooLong trace"
     trace = read_trace(system, text)
@@ -792,13 +829,26 @@ def replay(system, scenario, text):
     limit, memory = scenario
     entries, verdict = trace
     place = judged(system, memory, limit, entries, verdict)
-    return (0, f"legal {len(entries)}") if place is None else (6, f"illegal {place}")
+    right = "clean" if audits else "legal"
+    line = f"{right} {len(entries)}" if place is None else f"illegal {place}"
+    legal = entries if place is None else entries[: place - 1]
+    lines = [change_line(*change) for change in changes(system, memory, legal)] if audits else []
+    return 0 if place is None else 6, "\n".join([*lines, line])
+
+
+def answer_of_files(system, scenario, trace, audits):
+    """The same for the files of these names. A scenario with restarts has several runs, and a trace is of one."""
+    if json.loads(pathlib.Path(scenario).read_text()).get("restarts", 0) > 0:
+        return 1, "refused 4 BadValue scenario /restarts"
+    return answer(read_system(system), read_scenario(scenario), pathlib.Path(trace).read_bytes(), audits)
 
 
 def main():
-    system, scenario, trace = sys.argv[1:]
-    status, line = replay(read_system(system), read_scenario(scenario), pathlib.Path(trace).read_bytes())
-    print(line)
+    *word, system, scenario, trace = sys.argv[1:]
+    if word not in ([], ["audit"]):
+        sys.exit("usage: plain_machine.py [audit] SYSTEM SCENARIO TRACE")
+    status, text = answer_of_files(system, scenario, trace, audits=bool(word))
+    print(text)
     sys.exit(status)
 
 

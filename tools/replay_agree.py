@@ -1,7 +1,7 @@
 #!/usr/bin/env python3
-"""Compares `ffm replay` with the plain machine, on altered traces and on runs made at random.
+"""Compares `ffm replay`, or `ffm audit`, with the plain machine, on altered traces and on runs made at random.
 
-    python3 tools/replay_agree.py --cmd crates/ffm/out/ffm [--examples examples] [--count N] [--walks N]
+    python3 tools/replay_agree.py --cmd crates/ffm/out/ffm [--audit] [--examples examples] [--count N] [--walks N]
 
 Takes the trace of each example and of some systems that stand below, and alters it: numbers, words, lines,
 layout, verdict, bytes, prefixes, the event limit, and single calls with the answer that the plain machine
@@ -563,8 +563,10 @@ def altered_walk(case, chance):
 
 
 class Comparer:
-    def __init__(self, program, work):
-        self.program, self.work, self.own = program, work, threading.local()
+    """Asks the program and the plain machine; `audits` says whether for audits or for judgements."""
+
+    def __init__(self, program, audits, work):
+        self.program, self.audits, self.work, self.own = program, audits, work, threading.local()
 
     def place(self):
         """A file of this thread's own."""
@@ -575,7 +577,7 @@ class Comparer:
     def answer(self, trial):
         place = self.place()
         place.write_bytes(trial.text)
-        words = [self.program, "replay", "system.json", trial.case.scenario, place]
+        words = [self.program, "audit" if self.audits else "replay", "system.json", trial.case.scenario, place]
         try:
             run = subprocess.run(words, cwd=trial.case.folder, capture_output=True, timeout=TIMEOUT)
         except subprocess.TimeoutExpired:
@@ -584,9 +586,10 @@ class Comparer:
 
     def differs(self, trial):
         """None where the program and the plain machine agree; else the two answers."""
-        status, line = plain_machine.replay(trial.case.system, (trial.case.limit, trial.case.memory), trial.text)
+        scenario = (trial.case.limit, trial.case.memory)
+        status, text = plain_machine.answer(trial.case.system, scenario, trial.text, self.audits)
         seen = self.answer(trial)
-        return None if seen == (status, line + "\n") else (status, line, *seen)
+        return None if seen == (status, text + "\n") else (status, text, *seen)
 
 
 def trials(case, arguments, work, chance):
@@ -622,6 +625,7 @@ def keep(folder, name, trial):
 def main():
     parser = argparse.ArgumentParser(description=__doc__.splitlines()[0])
     parser.add_argument("--cmd", required=True, help="the program ffm")
+    parser.add_argument("--audit", action="store_true", help="compare audits, and not judgements")
     parser.add_argument("--examples", type=pathlib.Path, default=pathlib.Path("examples"))
     parser.add_argument("--count", type=int, default=2000, help="about so many altered traces of each trace; 0 for all")
     parser.add_argument("--walks", type=int, default=20, help="so many random runs of each system")
@@ -632,7 +636,7 @@ def main():
     tried = different = 0
     with tempfile.TemporaryDirectory() as temporary, concurrent.futures.ThreadPoolExecutor(PROCESSES) as pool:
         work = pathlib.Path(temporary)
-        comparer = Comparer(program, work)
+        comparer = Comparer(program, arguments.audit, work)
         for case in cases(program, arguments.examples, work):
             counts = compare(case, arguments, work, pool, comparer)
             tried, different = tried + counts[0], different + counts[1]

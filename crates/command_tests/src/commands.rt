@@ -296,7 +296,7 @@ fn faults_and_words(rt: HostRuntime) -> Result<(), Fail> {
 }
 
 /// Lists of words, and the status that comes of each over the two files, a trace and a part of one.
-const LISTS: [(&[&str], u8); 33] = [
+const LISTS: [(&[&str], u8); 39] = [
     (&["ffm", "run", "--threads", "system", "scenario"], 0),
     (&["ffm", "run", "system", "--threads", "scenario"], 0),
     (&["ffm", "run", "system", "scenario", "--threads"], 0),
@@ -324,6 +324,12 @@ const LISTS: [(&[&str], u8); 33] = [
     (&["ffm", "make", "1", "2"], 2),
     (&["ffm", "make", "1"], 0),
     (&["ffm", "make", "10"], 0),
+    (&["ffm", "audit"], 2),
+    (&["ffm", "audit", "system", "scenario"], 2),
+    (&["ffm", "audit", "system", "scenario", "trace", "a"], 2),
+    (&["ffm", "audit", "--", "system", "scenario"], 2),
+    (&["ffm", "audit", "system", "scenario", "nothing"], 7),
+    (&["ffm", "audit", "system", "scenario", "trace"], 0),
     (&["ffm", "replay"], 2),
     (&["ffm", "replay", "system", "scenario"], 2),
     (&["ffm", "replay", "system", "scenario", "trace", "a"], 2),

@@ -1,5 +1,6 @@
 pub mod Makes
 pub mod Replays
+pub mod Audits
 pub mod Reports
 pub mod RunTexts
 pub mod Traces

@@ -15,7 +15,9 @@ use Rattle.trace_print.specs.Lines.{IsFirstWrong}
 use Rattle.trace_print.specs.View.{parts}
 use Rattle.trace_print.specs.declared.error.TraceError.TheVariants.{Syntax}
 use Rattle.ffm_top.specs.Lines.{refusal_line}
-use Rattle.ffm_top.specs.Replays.{IsTextOf, IsTraceText, judgement_line, judgement_status, judgement_of, wrong_line, JudgedDue, ReplayDue}
+use Rattle.ffm_top.specs.Replays.{IsTextOf, IsTraceText, judgement_line, judgement_status, judgement_of, wrong_line, JudgedDue}
+use Rattle.ffm_top.specs.Due.{TraceDue}
+use Rattle.command_words.specs.declared.words.Inspection.{Inspection}
 use Rattle.ffm_top.proofs.Reports.{not_empty}
 
 pub judged_due : (s : System) (c : Scenario) (bytes : List ℕ) (es : List Entry) (v : Verdict) (j : Judgement) (text : List ℕ) → IsTextOf s bytes es v → j ≡ judgement_of s c es v
@@ -33,9 +35,9 @@ unfolding judgement_line
 judged_some Legal count = not_empty (judgement_line Legal count) refl
 judged_some (IllegalAt place) count = not_empty (judgement_line (IllegalAt place) count) refl
 
-pub wrong_due : (s : System) (c : Scenario) (bytes text : List ℕ) (status place : ℕ) → IsFirstWrong (counts_of s) 0 (parts 10 bytes) place → text ≡ refusal_line (wrong_line place) → status ≡ 1
-    → ReplayDue s c bytes text status
-wrong_due s c bytes text status place first e one = inr (record { place = place; first = first; text_is = e; status_is = one })
+pub wrong_due : (how : Inspection) (s : System) (c : Scenario) (bytes text : List ℕ) (status place : ℕ) → IsFirstWrong (counts_of s) 0 (parts 10 bytes) place → text ≡ refusal_line (wrong_line place) → status ≡ 1
+    → TraceDue how s c bytes text status
+wrong_due how s c bytes text status place first e one = inr (record { place = place; first = first; text_is = e; status_is = one })
 
 -- no line of a trace's text is wrong
 pub not_wrong : (s : System) (bytes : List ℕ) (place : ℕ)

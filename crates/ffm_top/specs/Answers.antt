@@ -3,7 +3,8 @@
 use Rattle.std.specs.Prelude.{ℕ, ◌≡◌, ◌≤◌, ◌⊎◌, List, Option}
 use Rattle.outside_io.specs.Told.{Takes, TakesPart}
 use Rattle.ffm_model.specs.Reading.{Contents, FailedAmong}
-use Rattle.ffm_top.specs.Due.{Due, asked}
+use Rattle.ffm_top.specs.Due.{Due, DueAlone, asked}
+use Rattle.command_words.specs.Words.{order_of}
 
 -- 0: done. 1: a file is refused. 2: the words are no command. 4, 5: a run is stalled, full. 6: a trace is illegal. 7: a file can't be read. 8: the text can't be written. 9: no memory
 abbrev pub IsStatus : ℕ → Type 0
@@ -16,6 +17,10 @@ IsDoneStatus status = (status ≡ 0) ⊎ ((4 ≤ status) × (status ≤ 6))
 -- a text that is due with this status was taken, all of it
 abbrev pub WritesDue : List (List ℕ) → Contents → Option (List ℕ) → Option (List ℕ) → ℕ → Type 0
 WritesDue words of before after status = (text : List ℕ) × Due words of text status × Takes before after text
+
+-- what the words alone decide was taken, all of it
+abbrev pub WritesAlone : List (List ℕ) → Option (List ℕ) → Option (List ℕ) → ℕ → Type 0
+WritesAlone words before after status = (text : List ℕ) × DueAlone (order_of words) text status × Takes before after text
 
 -- a proper prefix of a text that is due was taken
 abbrev pub WritesPart : List (List ℕ) → Contents → Option (List ℕ) → Option (List ℕ) → Type 0

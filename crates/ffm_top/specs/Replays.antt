@@ -1,6 +1,6 @@
 -- A trace that is judged, and the line that says how.
 -- Source: this simulator's.
-use Rattle.std.specs.Prelude.{◌≡◌, ◌≤◌, ◌⊎◌, ℕ, List, [], ◌∷◌, ◌++◌, length, codes}
+use Rattle.std.specs.Prelude.{◌≡◌, ◌≤◌, ℕ, List, [], ◌∷◌, ◌++◌, length, codes}
 use Rattle.std.specs.Fmt.{decimal}
 use Rattle.std.specs.List.{AllByRecursion}
 use Rattle.ffm_model.specs.declared.codes.TheConstants.{TRACE_SYNTAX}
@@ -60,6 +60,3 @@ pub record WrongDue (s : System) (bytes text : List ℕ) (status : ℕ) : Type 0
   pub first : IsFirstWrong (counts_of s) 0 (parts 10 bytes) place
   pub text_is : text ≡ refusal_line (wrong_line place)
   pub status_is : status ≡ 1
-
-abbrev pub ReplayDue : System → Scenario → List ℕ → List ℕ → ℕ → Type 0
-ReplayDue s c bytes text status = JudgedDue s c bytes text status ⊎ WrongDue s bytes text status

@@ -1,11 +1,14 @@
 //! The top call: what the words of the command line ask for, done over any files and any sink.
 #![tactic(auto)]
 
+mod changes;
+mod judge;
 mod lines;
 mod make;
-mod replay;
 mod report;
 mod run;
+mod steady;
 mod top;
 
+pub use steady::ffm_steady;
 pub use top::{asks_threads, ffm, ffm_alone};

@@ -1,20 +1,22 @@
 //! What is written at the end.
 
-ghost use Rattle.std.specs.Prelude.{◌≡◌, ◌<◌, ◌≤◌, OnErr, OnOk, ◌+◌, drop, length, map, take, true};
+ghost use Rattle.std.specs.Prelude.{◌≡◌, ◌<◌, ◌≤◌, OnErr, OnOk, ◌+◌, ◌++◌, drop, length, map, take, true};
 ghost use Rattle.outside_io.specs.Count.{Rose};
 ghost use Rattle.outside_io.specs.Told.{Puts};
 ghost use Rattle.ffm_model.specs.Actors.{counts_of};
 ghost use Rattle.ffm_model.specs.TraceText.{IsActorOf, entry_text, line, trace_text, verdict_text};
 ghost use Rattle.machine_check.specs.Answers.{judgement};
 ghost use Rattle.scenario_runs.specs.Restarting.{finished, fits_counts};
+ghost use Rattle.ffm_top.specs.Audits.{change_lines};
 ghost use Rattle.ffm_top.specs.Replays.{judgement_status};
 ghost use Rattle.ffm_top.specs.Runs.{last_status, restart_line, run_text, runs_text, verdict_status};
 ghost use Rattle.ffm_top.specs.Report.{text_of, status_of};
 
+use crate::changes::put_changes;
 use crate::lines::usage_line;
 use ffm_model::{Counts, Entry, Trace, Verdict};
 use itoa::Buffer;
-use machine_check::Checked;
+use machine_check::{AuditReport, Checked};
 use outside_io::{Failed, Sink, put_all};
 use scenario_runs::Runs;
 use trace_print::{Line, print_into, print_verdict};
@@ -32,6 +34,8 @@ pub enum Report {
     Ran(Runs),
     /// A trace is judged, by this line.
     Judged { checked: Checked, line: Vec<u8> },
+    /// A trace is audited: its changes, and then this line.
+    Audited { report: AuditReport, line: Vec<u8> },
 }
 
 // Puts the line of an entry. The line's own room holds it.
@@ -44,6 +48,7 @@ fn put_entry<S: Sink>(
     requires { IsActorOf counts entry.now.actor.0 }
     ensures puts { Puts (S.taken out.old) (S.taken out.new) result (line (entry_text counts entry.now)) }
     ensures later { S.faults out.old ≤ S.faults out.new }
+    ensures steady { OnOk result (S.faults out.new ≡ S.faults out.old) }
     ensures failed { OnErr result (Rose (S.faults out.old) (S.faults out.new)) }
 {
     print_into(room, counts, entry);
@@ -54,6 +59,7 @@ fn put_entry<S: Sink>(
 fn put_verdict<S: Sink>(out: &mut S, verdict: Verdict, count: u32) -> Result<(), Failed>
     ensures puts { Puts (S.taken out.old) (S.taken out.new) result (line (verdict_text verdict count)) }
     ensures later { S.faults out.old ≤ S.faults out.new }
+    ensures steady { OnOk result (S.faults out.new ≡ S.faults out.old) }
     ensures failed { OnErr result (Rose (S.faults out.old) (S.faults out.new)) }
 {
     let text = print_verdict(verdict, count);
@@ -65,6 +71,7 @@ fn put_trace<S: Sink>(out: &mut S, counts: Counts, trace: &Trace) -> Result<(), 
     requires { fits_counts counts trace.now ≡ true }
     ensures puts { Puts (S.taken out.old) (S.taken out.new) result (trace_text counts trace.now.entries trace.now.verdict) }
     ensures later { S.faults out.old ≤ S.faults out.new }
+    ensures steady { OnOk result (S.faults out.new ≡ S.faults out.old) }
     ensures failed { OnErr result (Rose (S.faults out.old) (S.faults out.new)) }
 {
     let mut room = Line::new();
@@ -94,6 +101,7 @@ fn put_run<S: Sink>(out: &mut S, counts: Counts, count: usize, trace: &Trace) ->
     requires { fits_counts counts trace.now ≡ true }
     ensures puts { Puts (S.taken out.old) (S.taken out.new) result (run_text counts count (finished trace.now)) }
     ensures later { S.faults out.old ≤ S.faults out.new }
+    ensures steady { OnOk result (S.faults out.new ≡ S.faults out.old) }
     ensures failed { OnErr result (Rose (S.faults out.old) (S.faults out.new)) }
 {
     let line = restart_line(count);
@@ -105,6 +113,7 @@ fn put_run<S: Sink>(out: &mut S, counts: Counts, count: usize, trace: &Trace) ->
 fn put_runs<S: Sink>(out: &mut S, runs: &Runs) -> Result<(), Failed>
     ensures puts { Puts (S.taken out.old) (S.taken out.new) result (runs_text (counts_of runs.now.system) 0 (map finished runs.now.traces.items)) }
     ensures later { S.faults out.old ≤ S.faults out.new }
+    ensures steady { OnOk result (S.faults out.new ≡ S.faults out.old) }
     ensures failed { OnErr result (Rose (S.faults out.old) (S.faults out.new)) }
 {
     let counts = runs.system.counts();
@@ -141,6 +150,7 @@ fn line_at(text: &[u8], start: usize) -> &[u8]
 fn put_lines<S: Sink>(out: &mut S, text: &[u8]) -> Result<(), Failed>
     ensures puts { Puts (S.taken out.old) (S.taken out.new) result text.now }
     ensures later { S.faults out.old ≤ S.faults out.new }
+    ensures steady { OnOk result (S.faults out.new ≡ S.faults out.old) }
     ensures failed { OnErr result (Rose (S.faults out.old) (S.faults out.new)) }
 {
     let mut start = 0;
@@ -152,11 +162,23 @@ fn put_lines<S: Sink>(out: &mut S, text: &[u8]) -> Result<(), Failed>
     Ok(())
 }
 
+// Puts the lines of an audit, and the last one.
+fn put_audit<S: Sink>(out: &mut S, report: &AuditReport, line: &[u8]) -> Result<(), Failed>
+    ensures puts { Puts (S.taken out.old) (S.taken out.new) result (change_lines report.now.changes ++ line.now) }
+    ensures later { S.faults out.old ≤ S.faults out.new }
+    ensures steady { OnOk result (S.faults out.new ≡ S.faults out.old) }
+    ensures failed { OnErr result (Rose (S.faults out.old) (S.faults out.new)) }
+{
+    put_changes(out, report.changes.as_slice())?;
+    put_all(out, line)
+}
+
 // Puts the lines of a report.
 #[tactic(auto, unfolding(crate::specs::Report::text_of))]
 fn put_report<S: Sink>(out: &mut S, report: &Report) -> Result<(), Failed>
     ensures puts { Puts (S.taken out.old) (S.taken out.new) result (text_of report.now) }
     ensures later { S.faults out.old ≤ S.faults out.new }
+    ensures steady { OnOk result (S.faults out.new ≡ S.faults out.old) }
     ensures failed { OnErr result (Rose (S.faults out.old) (S.faults out.new)) }
 {
     match report {
@@ -165,6 +187,7 @@ fn put_report<S: Sink>(out: &mut S, report: &Report) -> Result<(), Failed>
         Report::Text(text) => put_lines(out, text.as_slice()),
         Report::Ran(runs) => put_runs(out, runs),
         Report::Judged { line, .. } => put_all(out, line.as_slice()),
+        Report::Audited { report, line } => put_audit(out, report, line.as_slice()),
     }
 }
 
@@ -175,6 +198,7 @@ pub fn write_report<S: Sink>(out: &mut S, report: &Report) -> Result<(), Failed>
     ensures handed_on { OnOk result (S.is_handed_on out.new) }
     ensures puts { Puts (S.taken out.old) (S.taken out.new) result (text_of report.now) }
     ensures later { S.faults out.old ≤ S.faults out.new }
+    ensures steady { OnOk result (S.faults out.new ≡ S.faults out.old) }
     ensures failed { OnErr result (Rose (S.faults out.old) (S.faults out.new)) }
 {
     put_report(out, report)?;
@@ -222,6 +246,7 @@ impl Report {
             Report::Text(_) => 0,
             Report::Ran(runs) => last_status(runs.traces.as_slice()),
             Report::Judged { checked, .. } => checked_status(*checked),
+            Report::Audited { report, .. } => checked_status(report.result),
         }
     }
 }

@@ -1,32 +1,33 @@
 //! The top call.
 
-ghost use Rattle.std.specs.Prelude.{◌≡◌, ◌<◌, ◌≤◌, ◌≢◌, ◌↔◌, [], ◌⊎◌, None, Ok, IfOk, IfSome, IsErrOf, IsOk, IsOkAnd, false, length, map, string_bytes, true};
+ghost use Rattle.std.specs.Prelude.{◌≡◌, ◌<◌, ◌≤◌, ◌≢◌, ◌↔◌, [], ◌⊎◌, None, Some, Ok, IfOk, IfSome, IsErrOf, IsOk, IsOkAnd, false, length, map, string_bytes, true};
 ghost use Rattle.outside_io.specs.Count.{Rose};
 ghost use Rattle.outside_io.specs.Told.{Puts, Takes};
 ghost use Rattle.ffm_model.specs.Reading.{FailedAmong};
-ghost use Rattle.ffm_top.specs.Answers.{IsStatus, IsDoneStatus, WritesDue, WritesPart, FailedAsked};
-ghost use Rattle.ffm_top.specs.Due.{Due, DueBy, ListingDue, WorkDue, asked, IsValid, IsValidWork};
+ghost use Rattle.ffm_top.specs.Answers.{IsStatus, IsDoneStatus, WritesAlone, WritesDue, WritesPart, FailedAsked};
+ghost use Rattle.ffm_top.specs.Due.{Due, DueAlone, DueBy, ListingDue, TraceDue, WorkDue, asked, IsValid, IsValidWork};
 ghost use Rattle.ffm_top.specs.Makes.{MadeDue};
-ghost use Rattle.ffm_top.specs.Replays.{ReplayDue, IsTraceText};
+ghost use Rattle.ffm_top.specs.Replays.{IsTraceText};
 ghost use Rattle.ffm_top.specs.Runs.{RunDue};
 ghost use Rattle.ffm_top.specs.Lines.{refusal_line, usage_line};
 ghost use Rattle.ffm_top.specs.Report.{text_of, status_of};
-ghost use Rattle.work_orders.specs.View.{work as work_seen, IsReplay, IsRun, IsWork, threads_of};
-ghost use Rattle.work_orders.specs.Words.{asks_threads, has_threads, order, order_of};
+ghost use Rattle.work_orders.specs.View.{work as work_seen, IsRun, IsTraceWork, IsWork, threads_of};
+ghost use Rattle.command_words.specs.Words.{asks_threads, has_threads, order, order_of};
 ghost use Rattle.work_orders.specs.Work.{work_of};
 
+use crate::judge::judge;
 use crate::lines::refusal_line;
 use crate::make::make;
-use crate::replay::replay;
 use crate::report::{Report, write_report};
 use crate::run::{run_alone, run_as_asked};
+use command_words::{Command, command_of, confirmed};
 use ffm_model::{Gate, PartsError, Refusal, System};
 use outside_io::{Failed, Files, Sink};
-use std::alloc::Global;
+use std::alloc::{AllocError, Global};
 use std::sync::Wait;
 use std::thread::Threads;
 use system_listing::listing;
-use work_orders::{Command, ReplayWork, RunWork, Unread, Work, command_of, confirmed, work_of};
+use work_orders::{RunWork, TraceWork, Work, work_of};
 
 /// Why there is nothing to write.
 #[derive(Clone, Copy, Debug, PartialEq, Eq)]
@@ -90,15 +91,15 @@ fn ran(alloc: Global, work: RunWork) -> Result<Report, Halt>
 }
 
 // The report of a trace's text.
-fn replayed(alloc: Global, work: &ReplayWork) -> Result<Report, Halt>
-    requires { IsReplay work.now }
-    ensures due { IfOk result (λ report. ReplayDue work.now.system work.now.scenario work.now.trace.items (text_of report) (status_of report)) }
+fn judged(alloc: Global, work: &TraceWork) -> Result<Report, Halt>
+    requires { IsTraceWork work.now }
+    ensures due { IfOk result (λ report. TraceDue work.now.inspection work.now.system work.now.scenario work.now.trace.items (text_of report) (status_of report)) }
     ensures some { IfOk result (λ report. 0 < length (text_of report)) }
     ensures status { IfOk result (λ report. (status_of report ≡ 1) ⊎ IsDoneStatus (status_of report)) }
     ensures valid { IsTraceText work.now.system work.now.trace.items → IfOk result (λ report. IsDoneStatus (status_of report)) }
     ensures memory { IsErrOf result Halt.Files → ⊥ }
 {
-    match replay(alloc, work) {
+    match judge(alloc, work) {
         Ok(report) => Ok(report),
         Err(_) => Err(Halt::Memory),
     }
@@ -130,7 +131,7 @@ fn done(alloc: Global, work: Work) -> Result<Report, Halt>
     match work {
         Work::Listing(system) => listed(alloc, &system),
         Work::Run(run) => ran(alloc, run),
-        Work::Replay(replay) => replayed(alloc, &replay),
+        Work::Judge(task) => judged(alloc, &task),
         Work::Make(rounds) => made(alloc, rounds),
     }
 }
@@ -144,12 +145,14 @@ fn report_of_command<F: Files>(
     requires threads { has_threads (order command) ≡ false }
     ensures due { IfSome (F.held files.old) (λ of. IfOk result (λ report.
         DueBy (work_of of (order command.entry)).gives (text_of report) (status_of report))) }
+    ensures alone { IfOk result (λ report. DueAlone (Some (order command.entry)) (text_of report) (status_of report)) }
     ensures valid { IfSome (F.held files.old) (λ of. IsOkAnd (work_of of (order command.entry)).gives IsValidWork →
         IfOk result (λ report. IsDoneStatus (status_of report))) }
     ensures some { IfOk result (λ report. 0 < length (text_of report)) }
     ensures status { IfOk result (λ report. (status_of report ≡ 1) ⊎ IsDoneStatus (status_of report)) }
     ensures keeps { F.held files.new ≡ F.held files.old }
     ensures later { F.faults files.old ≤ F.faults files.new }
+    ensures steady { (IsErrOf result Halt.Files → ⊥) → F.faults files.new ≡ F.faults files.old }
     ensures failed { IsErrOf result Halt.Files → Rose (F.faults files.old) (F.faults files.new) }
     ensures asked { IsErrOf result Halt.Files → IfSome (F.held files.old) (λ of.
         FailedAmong (work_of of (order command.entry)).names (F.last_failed files.new)) }
@@ -167,6 +170,7 @@ fn report_of<F: Files>(alloc: Global, words: &Vec<String>, files: &mut F) -> Res
     requires threads { asks_threads (order_of (map string_bytes words.now.items)) ≡ false }
     ensures due { IfSome (F.held files.old) (λ of. IfOk result (λ report.
         Due (map string_bytes words.now.items) of (text_of report) (status_of report))) }
+    ensures alone { IfOk result (λ report. DueAlone (order_of (map string_bytes words.now.items)) (text_of report) (status_of report)) }
     ensures valid { IfSome (F.held files.old) (λ of. IsValid (map string_bytes words.now.items) of →
         IfOk result (λ report. IsDoneStatus (status_of report))) }
     ensures usage { IfOk result (λ report. (status_of report ≡ 2) ↔ (order_of (map string_bytes words.now.items) ≡ None)) }
@@ -175,6 +179,7 @@ fn report_of<F: Files>(alloc: Global, words: &Vec<String>, files: &mut F) -> Res
     ensures status { IfOk result (λ report. (status_of report ≤ 2) ⊎ IsDoneStatus (status_of report)) }
     ensures keeps { F.held files.new ≡ F.held files.old }
     ensures later { F.faults files.old ≤ F.faults files.new }
+    ensures steady { (IsErrOf result Halt.Files → ⊥) → F.faults files.new ≡ F.faults files.old }
     ensures failed { IsErrOf result Halt.Files → Rose (F.faults files.old) (F.faults files.new) }
     ensures asked { IsErrOf result Halt.Files → IfSome (F.held files.old) (λ of.
         FailedAsked (map string_bytes words.now.items) of (F.last_failed files.new)) }
@@ -183,7 +188,7 @@ fn report_of<F: Files>(alloc: Global, words: &Vec<String>, files: &mut F) -> Res
         None => Ok(usage()),
         Some(command) => match confirmed(alloc, words.as_slice(), command) {
             Ok(command) => report_of_command(alloc, command, files),
-            Err(Unread) => Err(Halt::Memory),
+            Err(AllocError) => Err(Halt::Memory),
         },
     }
 }
@@ -225,7 +230,7 @@ fn done_as_asked<R: Threads + Wait + Sync, G: Gate + Sync>(
     match work {
         Work::Listing(system) => listed(alloc, &system),
         Work::Run(run) => ran_as_asked(rt, alloc, gate, run),
-        Work::Replay(replay) => replayed(alloc, &replay),
+        Work::Judge(task) => judged(alloc, &task),
         Work::Make(rounds) => made(alloc, rounds),
     }
 }
@@ -240,12 +245,14 @@ fn report_as_asked<R: Threads + Wait + Sync, G: Gate + Sync, F: Files>(
 ) -> Result<Report, Halt>
     ensures due { IfSome (F.held files.old) (λ of. IfOk result (λ report.
         DueBy (work_of of (order command.entry)).gives (text_of report) (status_of report))) }
+    ensures alone { IfOk result (λ report. DueAlone (Some (order command.entry)) (text_of report) (status_of report)) }
     ensures valid { IfSome (F.held files.old) (λ of. IsOkAnd (work_of of (order command.entry)).gives IsValidWork →
         IfOk result (λ report. IsDoneStatus (status_of report))) }
     ensures some { IfOk result (λ report. 0 < length (text_of report)) }
     ensures status { IfOk result (λ report. (status_of report ≡ 1) ⊎ IsDoneStatus (status_of report)) }
     ensures keeps { F.held files.new ≡ F.held files.old }
     ensures later { F.faults files.old ≤ F.faults files.new }
+    ensures steady { (IsErrOf result Halt.Files → ⊥) → F.faults files.new ≡ F.faults files.old }
     ensures failed { IsErrOf result Halt.Files → Rose (F.faults files.old) (F.faults files.new) }
     ensures asked { IsErrOf result Halt.Files → IfSome (F.held files.old) (λ of.
         FailedAmong (work_of of (order command.entry)).names (F.last_failed files.new)) }
@@ -268,6 +275,7 @@ fn report_in_threads<R: Threads + Wait + Sync, G: Gate + Sync, F: Files>(
 ) -> Result<Report, Halt>
     ensures due { IfSome (F.held files.old) (λ of. IfOk result (λ report.
         Due (map string_bytes words.now.items) of (text_of report) (status_of report))) }
+    ensures alone { IfOk result (λ report. DueAlone (order_of (map string_bytes words.now.items)) (text_of report) (status_of report)) }
     ensures valid { IfSome (F.held files.old) (λ of. IsValid (map string_bytes words.now.items) of →
         IfOk result (λ report. IsDoneStatus (status_of report))) }
     ensures usage { IfOk result (λ report. (status_of report ≡ 2) ↔ (order_of (map string_bytes words.now.items) ≡ None)) }
@@ -276,6 +284,7 @@ fn report_in_threads<R: Threads + Wait + Sync, G: Gate + Sync, F: Files>(
     ensures status { IfOk result (λ report. (status_of report ≤ 2) ⊎ IsDoneStatus (status_of report)) }
     ensures keeps { F.held files.new ≡ F.held files.old }
     ensures later { F.faults files.old ≤ F.faults files.new }
+    ensures steady { (IsErrOf result Halt.Files → ⊥) → F.faults files.new ≡ F.faults files.old }
     ensures failed { IsErrOf result Halt.Files → Rose (F.faults files.old) (F.faults files.new) }
     ensures asked { IsErrOf result Halt.Files → IfSome (F.held files.old) (λ of.
         FailedAsked (map string_bytes words.now.items) of (F.last_failed files.new)) }
@@ -284,7 +293,7 @@ fn report_in_threads<R: Threads + Wait + Sync, G: Gate + Sync, F: Files>(
         None => Ok(usage()),
         Some(command) => match confirmed(alloc, words.as_slice(), command) {
             Ok(command) => report_as_asked(rt, alloc, gate, command, files),
-            Err(Unread) => Err(Halt::Memory),
+            Err(AllocError) => Err(Halt::Memory),
         },
     }
 }
@@ -302,11 +311,11 @@ pub fn asks_threads(words: &Vec<String>) -> bool
 /// Does what the words ask for over these files, without threads: writes the text that is due, and answers the
 /// status to end with.
 ///
-/// 0: a system is listed, a run is quiet, a trace is legal, or a generated run is summed up. 4 and 5:
+/// 0: a system is listed, a run is quiet, a trace is legal or clean, or a generated run is summed up. 4 and 5:
 /// a run is stalled, full; of several runs the last one counts. 6: a trace is illegal. 1: a file is
 /// refused, by the line written. 2: the words are no command, by the usage line. 7: a file that is
 /// asked for can't be read, and nothing is written. 8: the text can't be written whole. 9: no memory
-/// was found, or `clap` reads accepted words otherwise, and nothing is written.
+/// was found, and nothing is written.
 pub fn ffm_alone<F: Files, S: Sink>(
     alloc: Global,
     words: &Vec<String>,
@@ -320,11 +329,15 @@ pub fn ffm_alone<F: Files, S: Sink>(
     // listing of the system, for `run` the trace of a run of the FF-M machine in which each actor's
     // events are its script's calls with the machine's answers, in the turns of the schedule, and
     // behind it, after a panic and while a restart is left, that of the run after the reset, and so
-    // on; for `replay` the judgement of the trace file's trace by that machine or the refusal of its
-    // first wrong line, and for `make` the summary of such a run of the generated system. So 6 comes
+    // on; for `replay` the judgement of the trace file's trace by that machine, for `audit` with a line
+    // for each entry of it that changed a byte, or the refusal of its first wrong line, and for `make` the summary of such a run of the generated system. So 6 comes
     // exactly with `illegal N`, and N is the place that the machine gives.
     ensures due { result < 7 → IfSome (F.held files.old) (λ of.
         WritesDue (map string_bytes words.now.items) of (S.taken out.old) (S.taken out.new) result) }
+
+    // What the words alone decide is written whatever the files tell, or don't: the usage line, and the
+    // summary of a generated run.
+    ensures alone { result < 7 → WritesAlone (map string_bytes words.now.items) (S.taken out.old) (S.taken out.new) result }
 
     // What the sink only gathered was handed on.
     ensures handed_on { result < 7 → S.is_handed_on out.new }
@@ -335,11 +348,13 @@ pub fn ffm_alone<F: Files, S: Sink>(
 
     // 7: a read failed in this call, of a file that is asked for.
     ensures files { result ≡ 7 → Rose (F.faults files.old) (F.faults files.new) }
+    ensures no_read_failed { result ≢ 7 → F.faults files.new ≡ F.faults files.old }
     ensures failed { result ≡ 7 → IfSome (F.held files.old) (λ of.
         FailedAsked (map string_bytes words.now.items) of (F.last_failed files.new)) }
 
     // 8: a put or the flush failed in this call, and a proper prefix of a text that is due was written.
     ensures sink { result ≡ 8 → Rose (S.faults out.old) (S.faults out.new) }
+    ensures no_put_failed { result ≢ 8 → S.faults out.new ≡ S.faults out.old }
     ensures part { result ≡ 8 → IfSome (F.held files.old) (λ of.
         WritesPart (map string_bytes words.now.items) of (S.taken out.old) (S.taken out.new)) }
 
@@ -370,11 +385,11 @@ pub fn ffm_alone<F: Files, S: Sink>(
 /// Does what the words ask for over these files, writes the text that is due, and answers the
 /// status to end with.
 ///
-/// 0: a system is listed, a run is quiet, a trace is legal, or a generated run is summed up. 4 and 5:
+/// 0: a system is listed, a run is quiet, a trace is legal or clean, or a generated run is summed up. 4 and 5:
 /// a run is stalled, full; of several runs the last one counts. 6: a trace is illegal. 1: a file is
 /// refused, by the line written. 2: the words are no command, by the usage line. 7: a file that is
 /// asked for can't be read, and nothing is written. 8: the text can't be written whole. 9: no memory
-/// was found, or `clap` reads accepted words otherwise, and nothing is written.
+/// was found, and nothing is written.
 pub fn ffm<R: Threads + Wait + Sync, F: Files, S: Sink, G: Gate + Sync>(
     rt: &R,
     alloc: Global,
@@ -389,12 +404,16 @@ pub fn ffm<R: Threads + Wait + Sync, F: Files, S: Sink, G: Gate + Sync>(
     // listing of the system, for `run` the trace of a run of the FF-M machine in which each actor's
     // events are its script's calls with the machine's answers, without `--threads` in the turns of
     // the schedule, and behind it, after a panic and while a restart is left, that of the run after
-    // the reset, and so on; for `replay` the judgement of the trace file's trace by that machine or
-    // the refusal of its first wrong line, and for `make` the summary of such a run of the generated
-    // system, by a schedule. So 6 comes exactly with `illegal N`, and N is the place that the machine
+    // the reset, and so on; for `replay` the judgement of the trace file's trace by that machine, for
+    // `audit` with a line for each entry of it that changed a byte, or the refusal of its first wrong
+    // line, and for `make` the summary of such a run of the generated system, by a schedule. So 6 comes exactly with `illegal N`, and N is the place that the machine
     // gives.
     ensures due { result < 7 → IfSome (F.held files.old) (λ of.
         WritesDue (map string_bytes words.now.items) of (S.taken out.old) (S.taken out.new) result) }
+
+    // What the words alone decide is written whatever the files tell, or don't: the usage line, and the
+    // summary of a generated run.
+    ensures alone { result < 7 → WritesAlone (map string_bytes words.now.items) (S.taken out.old) (S.taken out.new) result }
 
     // What the sink only gathered was handed on.
     ensures handed_on { result < 7 → S.is_handed_on out.new }
@@ -405,11 +424,13 @@ pub fn ffm<R: Threads + Wait + Sync, F: Files, S: Sink, G: Gate + Sync>(
 
     // 7: a read failed in this call, of a file that is asked for.
     ensures files { result ≡ 7 → Rose (F.faults files.old) (F.faults files.new) }
+    ensures no_read_failed { result ≢ 7 → F.faults files.new ≡ F.faults files.old }
     ensures failed { result ≡ 7 → IfSome (F.held files.old) (λ of.
         FailedAsked (map string_bytes words.now.items) of (F.last_failed files.new)) }
 
     // 8: a put or the flush failed in this call, and a proper prefix of a text that is due was written.
     ensures sink { result ≡ 8 → Rose (S.faults out.old) (S.faults out.new) }
+    ensures no_put_failed { result ≢ 8 → S.faults out.new ≡ S.faults out.old }
     ensures part { result ≡ 8 → IfSome (F.held files.old) (λ of.
         WritesPart (map string_bytes words.now.items) of (S.taken out.old) (S.taken out.new)) }
 

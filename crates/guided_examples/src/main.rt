@@ -1,5 +1,5 @@
 //! Runs the guided examples, one after the other, and writes the trace of each behind its name. Then the trace that
-//! lies beside the example is judged, or refused where the scenario has restarts.
+//! lies beside the example is judged and audited, or refused where the scenario has restarts.
 #![tactic(auto)]
 
 use ffm_top::{asks_threads, ffm_alone};
@@ -7,7 +7,7 @@ use outside_io::{HostFiles, StdoutSink};
 use std::alloc::{AllocError, Global};
 use std::io;
 
-const EXAMPLES: [&str; 25] = [
+const EXAMPLES: [&str; 26] = [
     "two_requests",
     "rhandle",
     "version_policies",
@@ -33,6 +33,7 @@ const EXAMPLES: [&str; 25] = [
     "mapped_vectors",
     "client_threads",
     "flash_log",
+    "audited_meter",
 ];
 
 // The words of a command over an example's files.
@@ -70,6 +71,8 @@ fn main(rt: HostRuntime) -> io::Result<()> {
         let files = ["system.json", "scenario.json", "trace.txt"];
         let replay = words_of(rt.alloc(), "replay", name, &files)?;
         write(&rt, &replay)?;
+        let audit = words_of(rt.alloc(), "audit", name, &files)?;
+        write(&rt, &audit)?;
     }
     Ok(())
 }

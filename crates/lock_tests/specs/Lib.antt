@@ -1,1 +1,2 @@
 pub mod Threes
+pub mod Workers

@@ -4,6 +4,8 @@
 #![tactic(auto)]
 
 #[cfg(test)]
+mod driven;
+#[cfg(test)]
 mod setup;
 #[cfg(test)]
 mod turns;

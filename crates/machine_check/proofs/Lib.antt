@@ -3,3 +3,8 @@ mod Allowed
 mod Steps
 mod Performed
 mod Judged
+mod Covered
+mod OwnRam
+mod Compared
+mod Told
+mod Audited

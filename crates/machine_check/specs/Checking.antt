@@ -1,12 +1,15 @@
 -- A trace as far as it was checked.
 -- Source: this checker's; `judged` of the model. These serve the checker's own proof; no public contract cites them.
-use Rattle.std.specs.Prelude.{ℕ, ◌≡◌, ◌+◌, ◌≤◌, Bool, true, false, List, Result, Ok, Err}
+use Rattle.std.specs.Prelude.{ℕ, ◌≡◌, ◌+◌, ◌<◌, ◌≤◌, ◌⊎◌, Bool, true, false, List, [], None, Some, Result, Ok, Err}
 use Rattle.ffm_model.specs.declared.system.System.{System}
 use Rattle.ffm_model.specs.declared.machine.Entry.{Entry}
 use Rattle.ffm_model.specs.declared.machine.Handle.{Handle}
 use Rattle.ffm_model.specs.declared.machine.Memory.{Memory}
 use Rattle.ffm_model.specs.declared.machine.Verdict.{Verdict}
-use Rattle.ffm_model.specs.Verdicts.{Judgement, IllegalAt, judged_from}
+use Rattle.ffm_model.specs.Memory.{ByteMap}
+use Rattle.ffm_model.specs.State.{opening}
+use Rattle.ffm_model.specs.Step.{step}
+use Rattle.ffm_model.specs.Verdicts.{Judgement, judged_from}
 use Rattle.machine_check.specs.declared.judging.Checker.{Checker}
 use Rattle.machine_calls.specs.Machine.{state_of, IsMachineOf}
 use Rattle.machine_check.specs.Performed.{Knows}
@@ -19,8 +22,26 @@ pub record ChecksTo (s : System) (limit : ℕ) (v : Verdict) (j : Judgement) (c 
   pub made : c.machine.objects.connections_made ≤ c.count
   pub judged : j ≡ judged_from s limit v c.count left (state_of c.machine all)
 
--- an entry was accepted, and the others decide, or the trace is illegal at it
-abbrev pub Accepts : System → ℕ → Verdict → Judgement → Checker → Result Bool Memory → Checker → List Entry → Type 0
-Accepts s limit v j old (Ok true) new left = ChecksTo s limit v j new left × (new.count ≡ old.count + 1)
-Accepts s limit v j old (Ok false) new left = (j ≡ IllegalAt (old.count + 1)) × (new.count ≡ old.count)
-Accepts s limit v j old (Err e) new left = Unit {0}
+-- the state that a run begins with
+pub record Starts (s : System) (m : ByteMap) (c : Checker) : Type 0 where
+  pub knows : Knows c.given []
+  pub kept : IsMachineOf s c.machine
+  pub state : state_of c.machine [] ≡ opening s m
+  pub made : c.machine.objects.connections_made ≡ 0
+  pub count : c.count ≡ 0
+
+-- an entry was accepted: it is a step, and not above the limit
+pub record IsAccepted (s : System) (limit : ℕ) (old : Checker) (all : List Handle) (e : Entry) (new : Checker) : Type 0 where
+  pub below : old.count < limit
+  pub count : new.count ≡ old.count + 1
+  pub given : List Handle
+  pub knows : Knows new.given given
+  pub is_step : step s (state_of old.machine all) e ≡ Some (state_of new.machine given)
+  pub kept : IsMachineOf s new.machine
+  pub made : new.machine.objects.connections_made ≤ new.count
+
+-- or it was not: it is above the limit, or no step
+abbrev pub Accepts : System → ℕ → Checker → List Handle → Entry → Result Bool Memory → Checker → Type 0
+Accepts s limit old all e (Ok true) new = IsAccepted s limit old all e new
+Accepts s limit old all e (Ok false) new = ((limit ≤ old.count) ⊎ (step s (state_of old.machine all) e ≡ None)) × (new.count ≡ old.count)
+Accepts s limit old all e (Err x) new = Unit {0}

@@ -1,13 +1,13 @@
 //! Whole traces.
-ghost use Rattle.std.specs.Prelude.{◌≡◌, ◌<◌, ◌≤◌, ◌+◌, ◌^◌, ◌∷◌, [], ℕ, IfOk, length, map, replicate, false};
+ghost use Rattle.std.specs.Prelude.{◌≡◌, ◌<◌, ◌≤◌, ◌+◌, ◌^◌, [], IfOk, length, map, replicate, false};
 ghost use Rattle.std.specs.Prelude as prelude;
-ghost use Rattle.ffm_model.specs.declared.machine.Entry.{Entry as EntrySeen};
-ghost use Rattle.ffm_model.specs.declared.machine.Verdict.{Verdict as VerdictSeen};
+ghost use Rattle.ffm_model.specs.declared.machine.Handle.{Handle as HandleSeen};
 ghost use Rattle.ffm_model.specs.State.{opening_spm};
 ghost use Rattle.ffm_model.specs.Verdicts.{Judgement, judged, some_enabled, some_blocked, verdict_at};
 ghost use Rattle.memory_image.specs.Pieces.{byte_at, ranges_of, regions_of};
 ghost use Rattle.machine_check.specs.Answers.{judgement};
-ghost use Rattle.machine_check.specs.Checking.{Accepts, ChecksTo};
+ghost use Rattle.machine_check.specs.Checking.{Accepts, ChecksTo, Starts};
+ghost use Rattle.machine_check.specs.Performed.{Knows};
 ghost use Rattle.machine_calls.specs.Machine.{spm_of, IsMachineOf};
 
 use crate::step::step;
@@ -97,20 +97,19 @@ fn verdict_at(objects: &Objects, system: &System, limit: u32, count: u32) -> Opt
 
 /// A trace as far as it was checked.
 #[derive(Drop)]
-struct Checker {
-    machine: Machine,
+pub struct Checker {
+    pub machine: Machine,
     /// The handles that its entries gave.
     given: BTreeSet<i32>,
     /// How many entries were accepted.
-    count: u32,
+    pub count: u32,
 }
 
 impl Checker {
-    // Before the first entry.
-    fn new(alloc: Global, system: &System, memory: &Image) -> Result<Checker, Memory>
+    /// Before the first entry.
+    pub fn new(alloc: Global, system: &System, memory: &Image) -> Result<Checker, Memory>
         requires { regions_of memory.now ≡ ranges_of system.now.regions }
-        ensures checks { IfOk result (λ c. (limit : ℕ) (v : VerdictSeen) (es : prelude.List EntrySeen) → ChecksTo system.now limit v (judged system.now (byte_at memory.now) limit es v) c es) }
-        ensures count { IfOk result (λ c. c.count ≡ 0) }
+        ensures starts { IfOk result (λ c. Starts system.now (byte_at memory.now) c) }
     {
         let machine = Machine {
             objects: opening(alloc, system)?,
@@ -123,12 +122,12 @@ impl Checker {
         })
     }
 
-    // Whether the entry is the next one of a run of at most so many.
-    fn accept(&mut self, system: &System, limit: u32, entry: &Entry) -> Result<bool, Memory>
+    /// Whether the entry is the next one of a run of at most so many.
+    pub fn accept(&mut self, system: &System, limit: u32, entry: &Entry) -> Result<bool, Memory>
         requires kept { IsMachineOf system.now self.old.machine }
         requires made { self.old.machine.objects.connections_made ≤ self.old.count }
         requires few { self.old.count < 2 ^ 31 }
-        ensures accepts { (v : VerdictSeen) (j : Judgement) (es : prelude.List EntrySeen) → ChecksTo system.now limit v j self.old (entry.now ∷ es) → Accepts system.now limit v j self.old result self.new es }
+        ensures accepts { (all : prelude.List HandleSeen) → Knows self.old.given all → Accepts system.now limit self.old all entry.now result self.new }
         ensures count { self.new.count ≤ self.old.count + 1 }
     {
         if self.count >= limit {
@@ -142,8 +141,8 @@ impl Checker {
         Ok(true)
     }
 
-    // Judges by the verdict, behind all entries.
-    fn finish(&self, system: &System, limit: u32, verdict: Verdict) -> Checked
+    /// Judges by the verdict, behind all entries.
+    pub fn finish(&self, system: &System, limit: u32, verdict: Verdict) -> Checked
         requires { self.now.count < 2 ^ 31 }
         ensures { (j : Judgement) → ChecksTo system.now limit verdict j self.now [] → judgement result ≡ j }
     {

@@ -1,10 +1,14 @@
-//! Judges whether a trace is a run of the FF-M machine.
+//! Judges whether a trace is a run of the FF-M machine, and says which bytes each of its entries changed.
 //!
 //! Each entry is followed by the machine's own calls, in the crate below; the handles of the past are an ordered set.
-//! Nothing of the manager is used.
+//! What an entry changed is looked for in the few ranges that its call may write. Nothing of the manager is used.
 #![tactic(auto)]
 
+mod auditing;
+mod differences;
 mod judging;
 mod step;
+mod written;
 
+pub use auditing::{AuditReport, Change, audit};
 pub use judging::{Checked, check};

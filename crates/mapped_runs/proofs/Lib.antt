@@ -9,4 +9,4 @@ mod Ranges
 mod Copies
 mod Once
 mod Lengths
-mod Events
+pub mod Events

@@ -104,3 +104,30 @@ abbrev pub LengthsAreTold : Type 0
 LengthsAreTold = (s : System) (m : ByteMap) (a : ℕ) (script : List Instruction) (es : List Entry) (e : Entry) (old new : State) (h : Handle) (status : Status) (x : HeldMessage) (index : ℕ)
     → IsEvent s m a script es e old new → e.call ≡ call.Reply h status → e.outcome ≡ outcome.Done → held (standing_at s a script es).table h ≡ Some x → is_or_was_mapped (vector_at x.output index).state ≡ true
     → IsLengthTold s a script es h index (vector_at x.output index).state old new
+
+-- ---- at each event of a run
+
+-- an event of the partition among the entries: the entries before it, the state before it, and the one behind it
+pub record IsOwnEvent (s : System) (m : ByteMap) (a : ℕ) (es earlier : List Entry) (e : Entry) (old new : State) : Type 0 where
+  pub later : List Entry
+  pub split : es ≡ earlier ++ e ∷ later
+  pub own : e.actor.0 ≡ a
+  pub before : after s m earlier ≡ Some old
+  pub behind : step s old e ≡ Some new
+
+-- what the entries keep, from that memory on, of the vectors that the partition's script maps
+pub record KeepsWindows (s : System) (m : ByteMap) (a : ℕ) (script : List Instruction) (es : List Entry) : Type 0 where
+  -- wherever a map_in makes its psa_read
+  pub inputs : (earlier : List Entry) (e : Entry) (old new : State) (operands : List Operand) (h : Handle) (index buffer len : ℕ) → IsOwnEvent s m a es earlier e old new
+      → line_at s a script earlier ≡ Some (line.Map MapIn operands) → e.call ≡ call.Read h index buffer len → IsCopiedIn s a h index buffer e.outcome old new
+  -- wherever an unmap_out makes its psa_write
+  pub outputs : (earlier : List Entry) (e : Entry) (old new : State) (operands : List Operand) (h : Handle) (index buffer len : ℕ) → IsOwnEvent s m a es earlier e old new
+      → line_at s a script earlier ≡ Some (line.Map UnmapOut operands) → e.call ≡ call.Write h index buffer len → IsCopiedOut s a h index buffer len e.outcome old new
+  -- wherever a message is answered, for each of its output vectors that was mapped
+  pub lengths : (earlier : List Entry) (e : Entry) (old new : State) (h : Handle) (status : Status) (x : HeldMessage) (index : ℕ) → IsOwnEvent s m a es earlier e old new
+      → e.call ≡ call.Reply h status → e.outcome ≡ outcome.Done → held (standing_at s a script earlier).table h ≡ Some x → is_or_was_mapped (vector_at x.output index).state ≡ true
+      → IsLengthTold s a script earlier h index (vector_at x.output index).state old new
+
+-- of each partition whose entries are a run of its script's plan
+abbrev pub RunsKeepWindows : Type 0
+RunsKeepWindows = (s : System) (m : ByteMap) (a : ℕ) (script : List Instruction) (es : List Entry) → a < length s.partitions → PlanRun (held_plan (holder_of s a) script) (entries_of a es) → KeepsWindows s m a script es

@@ -5,7 +5,7 @@
 //! every system, every opening memory, every run and every partition that runs a script.
 #![tactic(auto)]
 
-ghost use Rattle.mapped_runs.specs.Windows.{EachIsEvent, InputsAreCopied, LengthsAreTold, OutputsAreCopied};
+ghost use Rattle.mapped_runs.specs.Windows.{EachIsEvent, InputsAreCopied, LengthsAreTold, OutputsAreCopied, RunsKeepWindows};
 
 /// In each run of the machine the `psa_read` of a `map_in` answers the size of the client's input vector
 /// and leaves its bytes in the window, and the `psa_write` of an `unmap_out` is done and leaves the
@@ -24,4 +24,10 @@ pub fn lengths_are_told()
 /// The other laws speak of the last event of a run. Each event of a run is the last one of a run.
 pub fn laws_hold_of_each_event()
     ensures { EachIsEvent }
+{}
+
+/// All of this at each event of the partition, from the first to the last, in the form in which a run is
+/// asked for it.
+pub fn runs_keep_windows()
+    ensures { RunsKeepWindows }
 {}

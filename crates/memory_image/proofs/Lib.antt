@@ -7,3 +7,5 @@ pub mod Numbers
 pub mod Words
 pub mod Indexed
 pub mod Located
+pub mod Changed
+pub mod Compared

@@ -98,6 +98,13 @@ impl Image {
         Ok(Image { pieces, starts })
     }
 
+    // The pieces, one for each region in the regions' order.
+    pub(crate) fn pieces(&self) -> &[Bytes]
+        ensures { result.now ≡ self.now }
+    {
+        self.pieces.as_slice()
+    }
+
     /// What holds of each image, for callers that compute with its ranges: no two regions share a
     /// byte, each ends by 2^32, and all together have at most 16 MiB.
     pub fn keeps_its_limits(&self)

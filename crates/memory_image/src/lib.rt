@@ -1,12 +1,15 @@
-//! The memory of a system: the bytes of its regions by address, and which ranges an actor may name.
+//! The memory of a system: the bytes of its regions by address, which ranges an actor may name, and where
+//! two memories differ.
 #![tactic(auto)]
 
+mod differences;
 mod image;
 mod index;
 mod pieces;
 mod ranges;
 mod region_index;
 
+pub use differences::{count_differences, first_difference, first_difference_outside};
 pub use image::Image;
 pub use ranges::{may_read, may_write, open_within, valid_buffer};
 pub use region_index::RegionIndex;

@@ -1,21 +1,17 @@
 -- How often the operating system answered the adapters of real files and of the standard output with an error.
 -- Source: this project's rule for its trusted edge.
-use Rattle.std.specs.Prelude.{ℕ, ◌≡◌, []}
+use Rattle.std.specs.Prelude.{ℕ}
+use Rattle.std.specs.declared.io.stdio.Printer.{Printer}
+use Rattle.outside_io.specs.Gathering.{sink_of}
+use Rattle.outside_io.specs.Output.{faults_of}
+use Rattle.outside_io.specs.declared.gathering.Gathering.{Gathering}
+use Rattle.outside_io.specs.declared.output.Output.{Output}
 use Rattle.outside_io.specs.declared.host.HostFiles.{HostFiles}
-use Rattle.outside_io.specs.declared.host.Output.{Output}
-use Rattle.outside_io.specs.declared.host.StdoutSink.{StdoutSink}
 
 -- how many reads of real files failed
 abbrev pub files_faults : {R : Type 0} → HostFiles R → ℕ
 files_faults files = files.faults
 
 -- how many writes to the standard output failed
-abbrev pub output_faults : {R : Type 0} → Output R → ℕ
-output_faults output = output.faults
-
-abbrev pub stdout_faults : {R : Type 0} → StdoutSink R → ℕ
-stdout_faults sink = output_faults sink.output
-
--- nothing is gathered
-abbrev pub has_written : {R : Type 0} → StdoutSink R → Type 0
-has_written sink = sink.gathered.items ≡ []
+abbrev pub stdout_faults : {R : Type 0} {telling : _} {write : _} → Gathering (Output (Printer R) telling write) → ℕ
+stdout_faults sink = faults_of (sink_of sink)

@@ -2,5 +2,8 @@ pub mod Count
 pub mod Told
 pub mod MemoryFiles
 pub mod MemorySink
+pub mod Gathering
+pub mod Output
 pub mod Host
-pub mod Gathered
+pub mod SteadyFiles
+pub mod SteadySink

@@ -60,8 +60,9 @@ pub trait Files {
     ///
     /// `TooLong` comes exactly where the file has more than `limit` bytes. `Failed` comes only where
     /// the count of faults rose in this call, and then this name is the last failed one; every other
-    /// answer leaves the last failed name as it was. `Memory` comes where no memory is found, and may
-    /// stand in place of each other answer. Whatever it answers, each name holds what it held.
+    /// answer leaves the count and the last failed name as they were. `Memory` comes where no memory
+    /// is found, and may stand in place of each other answer. Whatever it answers, each name holds
+    /// what it held.
     fn read(&mut self, alloc: Global, name: &str, limit: u32) -> Result<Vec<u8>, FileError>
         ensures within { IfOk result (λ bytes. vec_len bytes ≤ limit) }
         ensures content { IfOk result (λ bytes. IfSome (held self.old) (λ of. of name.now ≡ Some bytes.items)) }
@@ -72,6 +73,7 @@ pub trait Files {
         // `Failed` has a cause outside, and is told by its name.
         ensures later { faults self.old ≤ faults self.new }
         ensures failed { IsErrOf result FileError.Failed → Rose (faults self.old) (faults self.new) }
+        ensures steady { (IsErrOf result FileError.Failed → ⊥) → faults self.new ≡ faults self.old }
         ensures named { IsErrOf result FileError.Failed →
             last_failed self.new ≡ option_map (λ _. Some name.now) (last_failed self.old) }
         ensures unnamed { (IsErrOf result FileError.Failed → ⊥) → last_failed self.new ≡ last_failed self.old };

@@ -2,17 +2,25 @@
 #![tactic(auto)]
 
 mod files;
-mod gathered;
+mod front;
+mod gathering;
 mod host;
 mod listed;
 mod memory_files;
 mod memory_sink;
+mod output;
 mod sink;
+mod steady_files;
+mod steady_sink;
 #[cfg(test)]
 mod tests;
 
 pub use files::{FileError, Files};
+pub use gathering::Gathering;
 pub use host::{HostFiles, StdoutSink};
 pub use memory_files::MemoryFiles;
 pub use memory_sink::MemorySink;
+pub use output::{Output, Telling};
 pub use sink::{Failed, Sink, put_all};
+pub use steady_files::SteadyFiles;
+pub use steady_sink::SteadySink;

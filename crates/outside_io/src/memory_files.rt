@@ -2,6 +2,7 @@
 
 ghost use Rattle.std.specs.Prelude.{◌≡◌, ◌≢◌, ◌⊎◌, ℕ, ◌<◌, ◌≤◌, List, [], Some, None, IfOk, OnOk, OnErr, IsSomeAnd, IsErrOf};
 ghost use Rattle.std.specs.Prelude.{vec_len, length};
+ghost use Rattle.std.specs.Option.{option_map};
 ghost use Rattle.outside_io.specs.Count.{one_more};
 
 use crate::files::{FileError, Files};
@@ -68,6 +69,13 @@ impl MemoryFiles {
     {
         self.failing = calls;
     }
+
+    /// What the name holds, lent.
+    pub(crate) fn content(&self, name: &str) -> Option<&[u8]>
+        ensures { option_map (λ bytes. bytes.now) result ≡ held_by self.now name.now }
+    {
+        self.files.get(name).map(|bytes| bytes.as_slice())
+    }
 }
 
 impl MemoryFiles {
@@ -129,7 +137,7 @@ impl Files for MemoryFiles {
         if is_listed(&self.failing, self.calls) {
             return Err(self.fail(alloc, name));
         }
-        match self.files.get(name) {
+        match self.content(name) {
             Some(bytes) if bytes.len() <= limit as usize => Ok(bytes.to_vec(alloc)?),
             Some(_) => Err(FileError::TooLong),
             None => Err(self.fail(alloc, name)),

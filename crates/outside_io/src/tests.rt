@@ -1,11 +1,11 @@
 //! What the operating system answers, and that calls succeed where there is memory.
 
 use super::*;
-use crate::gathered::{gather, hand_on};
-use arrayvec::ArrayVec;
+use crate::front::whole_of;
 use ffm_model::List;
-use std::fs;
+use std::io::{ErrorKind, Read};
 use std::test::Fail;
+use std::{fs, io};
 
 // The answer of a read, with the bytes lent.
 fn lent(answer: &Result<Vec<u8>, FileError>) -> Result<&[u8], FileError> {
@@ -34,6 +34,58 @@ fn files_in_memory(rt: HostRuntime) -> Result<(), Fail> {
         assert_eq!(rt; lent(&answer), want, "{name} up to {limit}");
     }
     Ok(())
+}
+
+// The listed call doesn't fail, and a name that isn't held reads as an empty file.
+#[test]
+fn steady_files(rt: HostRuntime) -> Result<(), Fail> {
+    let mut files = MemoryFiles::new(rt.alloc());
+    assert_eq!(rt; files.add(rt.alloc(), "six", b"abcdef"), Ok(()));
+    files.fail_at(List::of(vec![in rt.alloc(); 1u32]?));
+    let mut files = SteadyFiles::new(files);
+    let reads = [
+        ("six", 6, Ok(b"abcdef".as_slice())),
+        ("six", 5, Err(FileError::TooLong)),
+        ("other", 0, Ok(b"".as_slice())),
+    ];
+    for (name, limit, want) in reads {
+        let answer = files.read(rt.alloc(), name, limit);
+        assert_eq!(rt; lent(&answer), want, "{name} up to {limit}");
+    }
+    Ok(())
+}
+
+// A reader each of whose reads fails.
+#[derive(Drop)]
+struct Broken;
+
+impl Read for Broken {
+    fn read(&mut self, _buf: &mut [u8]) -> io::Result<usize> {
+        Err(io::Error::from(ErrorKind::Other))
+    }
+}
+
+#[test]
+fn readers(rt: HostRuntime) {
+    let limits = [
+        (6, Ok(b"abcdef".as_slice())),
+        (5, Err(FileError::TooLong)),
+        (u32::MAX, Ok(b"abcdef".as_slice())),
+    ];
+    for (limit, want) in limits {
+        let answer = whole_of(rt.alloc(), Ok(b"abcdef".as_slice()), limit);
+        assert_eq!(rt; lent(&answer), want, "up to {limit}");
+    }
+    let broken = whole_of(rt.alloc(), Ok(b"abc".chain(Broken)), 6);
+    assert_eq!(rt; lent(&broken), Err(FileError::Failed));
+    let kinds = [
+        (ErrorKind::NotFound, FileError::Failed),
+        (ErrorKind::OutOfMemory, FileError::Memory),
+    ];
+    for (kind, want) in kinds {
+        let opened: io::Result<Broken> = Err(io::Error::from(kind));
+        assert_eq!(rt; lent(&whole_of(rt.alloc(), opened, 6)), Err(want));
+    }
 }
 
 #[test]
@@ -79,31 +131,61 @@ fn a_sink_in_memory(rt: HostRuntime) -> Result<(), Fail> {
     Ok(())
 }
 
+// There is room for six bytes; the second text exceeds it, and the third one would still fit.
+#[test]
+fn a_steady_sink(rt: HostRuntime) -> Result<(), Fail> {
+    let mut sink = SteadySink::new(rt.alloc(), 6)?;
+    for text in ["abcd", "efg", "ef"] {
+        assert_eq!(rt; put_all(&mut sink, text.as_bytes()), Ok(()));
+        assert_eq!(rt; sink.bytes(), b"abcd".as_slice());
+    }
+    assert_eq!(rt; sink.flush(), Ok(()));
+    let mut sink = SteadySink::new(rt.alloc(), 6)?;
+    assert_eq!(rt; put_all(&mut sink, b"abcdef"), Ok(()));
+    assert_eq!(rt; sink.bytes(), b"abcdef".as_slice());
+    Ok(())
+}
+
 // Pieces of so many bytes, how many of them are taken, and how many bytes the sink has then.
-const PIECES: [(usize, usize, usize); 4] = [
+const PIECES: [(usize, usize, usize); 6] = [
     (3000, 3000, 0),
-    (3000, 3000, 0),
-    (3000, 3000, 6000),
-    (9000, 5000, 14000),
+    (5192, 5192, 0),
+    (1, 1, 8192),
+    (8191, 8191, 8192),
+    (8193, 5000, 21384),
+    (8192, 8192, 21384),
 ];
 
-// The sink takes five thousand bytes at a time, and its fifth put fails.
+// The sink takes five thousand bytes at a time, and its seventh put fails.
 #[test]
 fn gathered_pieces(rt: HostRuntime) -> Result<(), Fail> {
-    let fail = List::of(vec![in rt.alloc(); 5u32]?);
-    let mut sink = MemorySink::new(rt.alloc(), 20000, 5000, fail)?;
-    let mut gathered = ArrayVec::new();
+    let fail = List::of(vec![in rt.alloc(); 7u32]?);
+    let mut sink = Gathering::of(MemorySink::new(rt.alloc(), 40000, 5000, fail)?);
     for (size, taken, put) in PIECES {
         let piece = vec![in rt.alloc(); b'a'; size]?;
         assert!(rt; !piece.is_empty());
-        assert_eq!(rt; gather(&mut sink, &mut gathered, &piece), Ok(taken));
-        assert_eq!(rt; sink.bytes().len(), put);
+        assert_eq!(rt; sink.put(&piece), Ok(taken), "{size} bytes");
+        assert_eq!(rt; sink.sink().bytes().len(), put, "after {size} bytes");
     }
-    assert_eq!(rt; hand_on(&mut sink, &mut gathered), Ok(()));
-    assert_eq!(rt; gather(&mut sink, &mut gathered, b"last"), Ok(4));
-    assert_eq!(rt; hand_on(&mut sink, &mut gathered), Err(Failed));
-    assert_eq!(rt; sink.bytes().len(), 14000);
+    assert_eq!(rt; sink.flush(), Err(Failed));
+    assert_eq!(rt; sink.sink().bytes().len(), 26384);
+    assert_eq!(rt; put_all(&mut sink, b"last"), Ok(()));
+    assert_eq!(rt; sink.flush(), Ok(()));
+    assert_eq!(rt; sink.sink().bytes().len(), 26388);
     Ok(())
+}
+
+impl Telling for Vec<u8> {
+    ghost use Rattle.std.specs.Prelude.{true};
+
+    ghost tells = { true };
+}
+
+#[test]
+fn a_writer_in_memory(rt: HostRuntime) {
+    let mut sink = Gathering::of(Output::of(Vec::new(rt.alloc())));
+    assert_eq!(rt; put_all(&mut sink, b"a line"), Ok(()));
+    assert_eq!(rt; sink.flush(), Ok(()));
 }
 
 #[test]

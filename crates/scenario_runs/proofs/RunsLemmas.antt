@@ -7,7 +7,6 @@ use Rattle.std.proofs.lemmas.Bool.Decides.{nat_tests}
 use Rattle.std.proofs.lemmas.List.{map-append}
 use Rattle.ffm_model.specs.declared.machine.Entry.{Entry}
 use Rattle.ffm_model.specs.declared.machine.Verdict.{Verdict}
-use Rattle.ffm_model.specs.declared.scenario.Bytes.{Bytes}
 use Rattle.ffm_model.specs.declared.scenario.Scenario.{Scenario}
 use Rattle.ffm_model.specs.declared.system.System.{System}
 use Rattle.ffm_model.specs.declared.trace.Trace.{Trace}
@@ -71,9 +70,6 @@ pub leads_to : (s : System) (c : Scenario) (scripts : List Parts) (first m : Byt
     → (nat_lt 0 left && ends_panicked s m (finished t)) ≡ false → RunsFrom s (RunOf s c scripts) first first c.restarts (map finished (so_far ++ t ∷ []))
 leads_to s c scripts first m left so_far t leads ran last =
     subst (λ (xs : List FinishedRun). RunsFrom s (RunOf s c scripts) first first c.restarts xs) (sym (map-append finished so_far (t ∷ []))) (leads (finished t ∷ []) (ran, last))
-
-abbrev pub opening_of : System → List Bytes → ℕ → Opening
-opening_of s memory limit = record { system = s; memory = memory; limit = limit }
 
 pub if_some : {X : Type 0} (o : Option X) (x : X) (P : X → Type 0) → o ≡ Some x → IfSome o P → P x
 if_some o x P is h = subst (λ p. IfSome p P) is h

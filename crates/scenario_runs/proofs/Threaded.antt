@@ -17,10 +17,9 @@ use Rattle.partition_sim.specs.ActorPlans.{plan_at}
 use Rattle.spm_core.specs.Manager.{Opening, Managed}
 use Rattle.spm_lock.specs.Histories.{IsRun}
 use Rattle.spm_lock.specs.Passes.{SharedView, PassView, ArePasses, IsDoneAt, Keeps, has_verdict, record_of}
-use Rattle.headline_law.proofs.Kept.{run_keeps}
 use Rattle.actor_programs.specs.declared.program.Program.TheVariants.{Plain}
 use Rattle.scenario_runs.specs.Runs.{RanBy}
-use Rattle.scenario_runs.proofs.Programs.{plain_run}
+use Rattle.scenario_runs.proofs.Programs.{opening_of, ran_by_manager}
 use Rattle.scenario_runs.specs.declared.threads.Start.{Start}
 use Rattle.scenario_runs.specs.Threads.{Crew, CrewedBy, AreDoneBy, StartsFrom}
 use Rattle.actor_programs.specs.Programs.{Parts}
@@ -63,25 +62,15 @@ has_ended s scripts y g =
 pub no_none : (o : Opening) (history : List Entry) (v : Option Verdict) → has_verdict o history → v ≡ verdict_of o.system (byte_at o.memory) o.limit history → v ≡ None → ⊥
 no_none o history v has is none = true≢false (sym (subst IsSome (sym is ∙ none) has))
 
-abbrev made_of : System → List Bytes → Scenario → Opening
-made_of system memory c = record { system = system; memory = memory; limit = c.limit }
-
 -- the history is one that a run with threads may have
-pub ran_with_threads : (system : System) (memory : List Bytes) (c : Scenario) (scripts : List Parts) (s : SharedView) (y : Managed) (v : Verdict) → s.opening ≡ made_of system memory c → byte_at memory ≡ opening_memory c.memory → GaveBack s scripts y
+pub ran_with_threads : (system : System) (memory : List Bytes) (c : Scenario) (scripts : List Parts) (s : SharedView) (y : Managed) (v : Verdict) → s.opening ≡ opening_of system memory c.limit → byte_at memory ≡ opening_memory c.memory → GaveBack s scripts y
     → names y.opening.system (byte_at y.opening.memory) y.history ≡ true → verdict_of y.opening.system (byte_at y.opening.memory) y.opening.limit y.history ≡ Some v → RanBy system (opening_memory c.memory) c (map Plain scripts) true y.history v
 ran_with_threads system memory c scripts s y v made bytes g named verdict =
-    let whole : y.opening ≡ made_of system memory c = g.opening_is ∙ made in
-    let scripted : (a : ℕ) → a < actor_count system → PlanRun (plan_at system scripts a) (entries_of a y.history) =
+    let planned : (a : ℕ) → a < actor_count system → PlanRun (plan_at system scripts a) (entries_of a y.history) =
     λ a lt.
     let it = g.driven a (subst (λ (o : Opening). a < actor_count o.system) (sym made) lt) in
     let entries : entries_of a y.history ≡ record_of it.0 = ap (λ (n : ℕ). entries_of n y.history) (sym it.1.actor) ∙ it.2.own in
     subst (PlanRun (plan_at system scripts a)) (sym entries) (subst (λ (o : Opening). PlanRun (plan_at o.system scripts a) (record_of it.0)) made it.1.runs) in
-    subst (λ (m : ByteMap). RanBy system m c (map Plain scripts) true y.history v) bytes (record {
-      is_run = subst (λ (o : Opening). IsRun o y.history) made g.run;
-      kept = run_keeps _ _ _ (subst (λ (o : Opening). IsRun o y.history) made g.run);
-      within = subst (λ (o : Opening). length y.history ≤ o.limit) whole g.within;
-      verdict = subst (λ (o : Opening). verdict_of o.system (byte_at o.memory) o.limit y.history ≡ Some v) whole verdict;
-      programmed = λ a lt. plain_run system scripts a _ (scripted a lt);
-      named = subst (λ (o : Opening). names o.system (byte_at o.memory) y.history ≡ true) whole named;
-      scheduled = λ e. absurd (true≢false e);
-    })
+    let run : IsRun y.opening y.history = subst (λ (o : Opening). IsRun o y.history) (sym g.opening_is) g.run in
+    subst (λ (m : ByteMap). RanBy system m c (map Plain scripts) true y.history v) bytes
+    (ran_by_manager system memory c scripts true y v (g.opening_is ∙ made) run g.within named verdict planned (λ e. absurd (true≢false e)))

@@ -44,7 +44,6 @@ pub fn opening_image(alloc: Global, system: &System, scenario: &Scenario) -> Res
 
 /// The run of scripts, one for each actor, over a system from this memory, in the turns of the
 /// scenario's schedule. Memory where no memory was found.
-#[tactic(auto, using(headline_law::proofs::Kept::run_keeps, crate::proofs::Programs::plain_run))]
 pub(crate) fn run_from(
     alloc: Global,
     system: System,

@@ -83,6 +83,7 @@ fn manifest_bytes<F: Files>(
     ensures keeps { F.held files.new ≡ F.held files.old }
     ensures later { F.faults files.old ≤ F.faults files.new }
     ensures failed { IsErrOf result PartsError.ReadFault → Rose (F.faults files.old) (F.faults files.new) }
+    ensures steady { (IsErrOf result PartsError.ReadFault → ⊥) → F.faults files.new ≡ F.faults files.old }
 {
     match files.read(alloc, name, MAX_FILE_BYTES) {
         Ok(bytes) => Ok(bytes),
@@ -110,6 +111,7 @@ fn manifest_named<F: Files>(
     ensures keeps { F.held files.new ≡ F.held files.old }
     ensures later { F.faults files.old ≤ F.faults files.new }
     ensures failed { IsErrOf result PartsError.ReadFault → Rose (F.faults files.old) (F.faults files.new) }
+    ensures steady { (IsErrOf result PartsError.ReadFault → ⊥) → F.faults files.new ≡ F.faults files.old }
 {
     let bytes = manifest_bytes(alloc, files, name, number)?;
     Ok(manifest_in(alloc, &bytes, number)?)
@@ -128,6 +130,7 @@ fn manifest_item<F: Files>(
     ensures keeps { F.held files.new ≡ F.held files.old }
     ensures later { F.faults files.old ≤ F.faults files.new }
     ensures failed { IsErrOf result PartsError.ReadFault → Rose (F.faults files.old) (F.faults files.new) }
+    ensures steady { (IsErrOf result PartsError.ReadFault → ⊥) → F.faults files.new ≡ F.faults files.old }
 {
     match tree.as_str() {
         Some(name) => manifest_named(alloc, files, name, number),
@@ -149,6 +152,7 @@ fn manifests_from<F: Files>(
     ensures keeps { F.held files.new ≡ F.held files.old }
     ensures later { F.faults files.old ≤ F.faults files.new }
     ensures failed { IsErrOf result PartsError.ReadFault → Rose (F.faults files.old) (F.faults files.new) }
+    ensures steady { (IsErrOf result PartsError.ReadFault → ⊥) → F.faults files.new ≡ F.faults files.old }
 {
     let mut found = Vec::new(alloc);
     for (i, item) in items.iter().enumerate() {
@@ -191,6 +195,7 @@ fn manifests<F: Files>(
     ensures keeps { F.held files.new ≡ F.held files.old }
     ensures later { F.faults files.old ≤ F.faults files.new }
     ensures failed { IsErrOf result PartsError.ReadFault → Rose (F.faults files.old) (F.faults files.new) }
+    ensures steady { (IsErrOf result PartsError.ReadFault → ⊥) → F.faults files.new ≡ F.faults files.old }
 {
     let items = manifest_items(alloc, tree)?;
     manifests_from(alloc, files, items)
@@ -229,6 +234,7 @@ fn parts<F: Files>(alloc: Global, files: &mut F, tree: &Value) -> Result<Parts, 
     ensures keeps { F.held files.new ≡ F.held files.old }
     ensures later { F.faults files.old ≤ F.faults files.new }
     ensures failed { IsErrOf result PartsError.ReadFault → Rose (F.faults files.old) (F.faults files.new) }
+    ensures steady { (IsErrOf result PartsError.ReadFault → ⊥) → F.faults files.new ≡ F.faults files.old }
 {
     let level = level_here(alloc, tree)?;
     let manifests = manifests(alloc, files, tree)?;
@@ -257,8 +263,8 @@ fn system_tree(alloc: Global, bytes: &[u8]) -> Result<Value, ReadError>
 /// `Refused` exactly where a file gives the first refusal: it is no JSON text, misses an attribute,
 /// has a value of a wrong type or a bad value, or is a manifest file of more than 1 MiB. `ReadFault`
 /// only where the count of faults of `files` rose in this call, and, where it is told, the last
-/// failed name is that of a manifest file that was asked for before any refusal. `Memory` where no
-/// memory is found.
+/// failed name is that of a manifest file that was asked for before any refusal; every other answer
+/// leaves the count. `Memory` where no memory is found.
 #[tactic(auto, unfolding(ffm_model::specs::Systems::system_of), using(ffm_model::proofs::ReadingLemmas::after_ok, ffm_model::proofs::ReadingLemmas::after_err))]
 pub fn read_system<F: Files>(
     alloc: Global,
@@ -270,6 +276,7 @@ pub fn read_system<F: Files>(
     ensures keeps { F.held files.new ≡ F.held files.old }
     ensures later { F.faults files.old ≤ F.faults files.new }
     ensures failed { IsErrOf result PartsError.ReadFault → Rose (F.faults files.old) (F.faults files.new) }
+    ensures steady { (IsErrOf result PartsError.ReadFault → ⊥) → F.faults files.new ≡ F.faults files.old }
 {
     let tree = system_tree(alloc, bytes)?;
     parts(alloc, files, &tree)

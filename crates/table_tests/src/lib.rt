@@ -5,6 +5,8 @@
 #![tactic(auto)]
 
 #[cfg(test)]
+mod differences;
+#[cfg(test)]
 mod handles;
 #[cfg(test)]
 mod images;

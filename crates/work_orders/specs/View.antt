@@ -7,13 +7,13 @@ use Rattle.actor_programs.specs.Programs.{ArePrograms}
 use Rattle.work_orders.specs.declared.work.Work as code
 use Rattle.work_orders.specs.declared.work.Work.TheVariants as code_work
 use Rattle.work_orders.specs.declared.work.RunWork.{RunWork}
-use Rattle.work_orders.specs.declared.work.ReplayWork.{ReplayWork}
-use Rattle.work_orders.specs.Work.{Work, listing_of, run_of, replay_of, make_of}
+use Rattle.work_orders.specs.declared.work.TraceWork.{TraceWork}
+use Rattle.work_orders.specs.Work.{Work, listing_of, run_of, judge_of, make_of}
 
 abbrev pub work : code.Work → Work
 work (code_work.Listing system) = listing_of system
 work (code_work.Run run) = run_of run.threads run.system run.scenario run.programs
-work (code_work.Replay replay) = replay_of replay.system replay.scenario replay.trace.items
+work (code_work.Judge task) = judge_of task.inspection task.system task.scenario task.trace.items
 work (code_work.Make rounds) = make_of rounds
 
 -- whether a run with threads is to be done
@@ -29,11 +29,11 @@ pub record IsRun (run : RunWork) : Type 0 where
   pub fit : ArePrograms run.system run.programs
 
 -- a scenario of the system
-abbrev pub IsReplay : ReplayWork → Type 0
-IsReplay replay = IsScenarioOf replay.system replay.scenario
+abbrev pub IsTraceWork : TraceWork → Type 0
+IsTraceWork task = IsScenarioOf task.system task.scenario
 
 abbrev pub IsWork : code.Work → Type 0
 IsWork (code_work.Listing system) = Unit {0}
 IsWork (code_work.Run run) = IsRun run
-IsWork (code_work.Replay replay) = IsReplay replay
+IsWork (code_work.Judge task) = IsTraceWork task
 IsWork (code_work.Make rounds) = Unit {0}

@@ -16,7 +16,8 @@ use Rattle.ffm_model.specs.Compiled.{compiled}
 use Rattle.actor_programs.specs.declared.program.Program.{Program}
 use Rattle.actor_programs.specs.Programs.{programs_of}
 use Rattle.work_orders.specs.declared.limits.TheConstants.{MAX_TRACE_BYTES}
-use Rattle.work_orders.specs.Words.{Order, compile, run, replay, make}
+use Rattle.command_words.specs.declared.words.Inspection.{Inspection}
+use Rattle.command_words.specs.Words.{Order, compile, run, judge, make}
 
 -- ---- files
 
@@ -61,7 +62,7 @@ pub data Work : Type 0 where
   -- with threads or without
   run_of : Bool → System → Scenario → List Program → Work
   -- the trace file's bytes
-  replay_of : System → Scenario → List ℕ → Work
+  judge_of : Inspection → System → Scenario → List ℕ → Work
   make_of : ℕ → Work
 
 -- the scenario's runs of a system; with threads there is one
@@ -85,27 +86,27 @@ run_at of threads system scenario = do
   run_in of threads s scenario
 
 -- a trace file's bytes
-unfoldable pub trace_in : Contents → System → Scenario → List ℕ → Reading Work
-trace_in of s c trace = do
+unfoldable pub trace_in : Contents → Inspection → System → Scenario → List ℕ → Reading Work
+trace_in of how s c trace = do
   bytes ← file_at of trace_place MAX_TRACE_BYTES trace
-  asks_nothing (Ok (replay_of s c bytes))
+  asks_nothing (Ok (judge_of how s c bytes))
 
 -- a trace for a system, which is of one run; the scenario's programs are read before it, and not used
-unfoldable pub replay_in : Contents → System → List ℕ → List ℕ → Reading Work
-replay_in of s scenario trace = do
+unfoldable pub judge_in : Contents → Inspection → System → List ℕ → List ℕ → Reading Work
+judge_in of how s scenario trace = do
   c ← scenario_at of s scenario
   programs ← asks_nothing (programs_of s c)
   single ← asks_nothing (scenario_for true c)
-  trace_in of s single trace
+  trace_in of how s single trace
 
 -- a trace for a system and a scenario, from their files
-unfoldable pub replay_at : Contents → List ℕ → List ℕ → List ℕ → Reading Work
-replay_at of system scenario trace = do
+unfoldable pub judge_at : Contents → Inspection → List ℕ → List ℕ → List ℕ → Reading Work
+judge_at of how system scenario trace = do
   s ← system_at of system
-  replay_in of s scenario trace
+  judge_in of how s scenario trace
 
 abbrev pub work_of : Contents → Order → Reading Work
 work_of of (compile system) = list_in of system
 work_of of (run threads system scenario) = run_at of threads system scenario
-work_of of (replay system scenario trace) = replay_at of system scenario trace
+work_of of (judge how system scenario trace) = judge_at of how system scenario trace
 work_of of (make rounds) = asks_nothing (Ok (make_of rounds))

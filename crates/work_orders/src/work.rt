@@ -1,16 +1,16 @@
 //! What a command and its files ask to be done.
 
-ghost use Rattle.std.specs.Prelude.{◌≡◌, ◌≤◌, [], Ok, false, true, IfOk, IfErr, IfSome, IsErrOf, length};
+ghost use Rattle.std.specs.Prelude.{◌≡◌, ◌≤◌, ℕ, [], Ok, IsOkAnd, false, true, IfOk, IfErr, IfSome, IsErrOf, length};
 ghost use Rattle.outside_io.specs.Count.{Rose};
 ghost use Rattle.ffm_model.specs.Reading.{Gives, Reads, file_at};
 ghost use Rattle.ffm_model.specs.Scenarios.{IsScenarioOf};
-ghost use Rattle.work_orders.specs.Words.{has_threads, order};
-ghost use Rattle.work_orders.specs.Work.{system_in, system_at, scenario_at, scenario_for, run_in, list_in, run_at, trace_in, replay_in, replay_at, work_of};
+ghost use Rattle.command_words.specs.Words.{has_threads, make, order};
+ghost use Rattle.work_orders.specs.Work.{system_in, system_at, scenario_at, scenario_for, run_in, list_in, run_at, trace_in, judge_in, judge_at, make_of, work_of};
 ghost use Rattle.work_orders.specs.View.{work, IsWork, threads_of};
 
 use crate::limits::MAX_TRACE_BYTES;
-use crate::words::Command;
 use actor_programs::{Program, programs_of};
+use command_words::{Command, Inspection};
 use ffm_model::{
     BAD_VALUE, FILE_TOO_LONG, Key, List, MAX_FILE_BYTES, PartsError, PathStep, Place, ReadError,
     Refusal, Root, Scenario, System,
@@ -30,9 +30,10 @@ pub struct RunWork {
     pub programs: List<Program>,
 }
 
-/// A trace's text, for a scenario over a system.
+/// A trace's text, for a scenario over a system, and how it is to be judged.
 #[derive(Drop)]
-pub struct ReplayWork {
+pub struct TraceWork {
+    pub inspection: Inspection,
     pub system: System,
     pub scenario: Scenario,
     pub trace: Vec<u8>,
@@ -45,7 +46,7 @@ pub enum Work {
     Listing(System),
     Run(RunWork),
     /// To judge a trace.
-    Replay(ReplayWork),
+    Judge(TraceWork),
     /// To run a generated system, with so many requests of each client.
     Make(u32),
 }
@@ -89,6 +90,7 @@ fn bytes_of<F: Files>(
     ensures gives { IfSome (F.held files.old) (λ of. Gives (λ bytes. bytes.items) (F.last_failed files.new) result (file_at of (record { root = root; steps = [] }) limit name.now)) }
     ensures keeps { F.held files.new ≡ F.held files.old }
     ensures later { F.faults files.old ≤ F.faults files.new }
+    ensures steady { (IsErrOf result PartsError.ReadFault → ⊥) → F.faults files.new ≡ F.faults files.old }
     ensures failed { IsErrOf result PartsError.ReadFault → Rose (F.faults files.old) (F.faults files.new) }
     ensures short { IfOk result (λ bytes. length bytes.items ≤ limit) }
 {
@@ -106,6 +108,7 @@ pub fn system_in<F: Files>(alloc: Global, files: &mut F, bytes: &[u8]) -> Result
     ensures gives { IfSome (F.held files.old) (λ of. Gives (λ s. s) (F.last_failed files.new) result (system_in of bytes.now)) }
     ensures keeps { F.held files.new ≡ F.held files.old }
     ensures later { F.faults files.old ≤ F.faults files.new }
+    ensures steady { (IsErrOf result PartsError.ReadFault → ⊥) → F.faults files.new ≡ F.faults files.old }
     ensures failed { IsErrOf result PartsError.ReadFault → Rose (F.faults files.old) (F.faults files.new) }
 {
     let parts = read_system(alloc, bytes, files)?;
@@ -118,6 +121,7 @@ fn system_at<F: Files>(alloc: Global, files: &mut F, name: &str) -> Result<Syste
     ensures gives { IfSome (F.held files.old) (λ of. Gives (λ s. s) (F.last_failed files.new) result (system_at of name.now)) }
     ensures keeps { F.held files.new ≡ F.held files.old }
     ensures later { F.faults files.old ≤ F.faults files.new }
+    ensures steady { (IsErrOf result PartsError.ReadFault → ⊥) → F.faults files.new ≡ F.faults files.old }
     ensures failed { IsErrOf result PartsError.ReadFault → Rose (F.faults files.old) (F.faults files.new) }
 {
     let bytes = bytes_of(alloc, files, Root::System, MAX_FILE_BYTES, name)?;
@@ -135,6 +139,7 @@ fn scenario_at<F: Files>(
     ensures gives { IfSome (F.held files.old) (λ of. Gives (λ c. c) (F.last_failed files.new) result (scenario_at of system.now name.now)) }
     ensures keeps { F.held files.new ≡ F.held files.old }
     ensures later { F.faults files.old ≤ F.faults files.new }
+    ensures steady { (IsErrOf result PartsError.ReadFault → ⊥) → F.faults files.new ≡ F.faults files.old }
     ensures failed { IsErrOf result PartsError.ReadFault → Rose (F.faults files.old) (F.faults files.new) }
     ensures kept { IfOk result (IsScenarioOf system.now) }
 {
@@ -167,6 +172,7 @@ fn run_in<F: Files>(
     ensures gives { IfSome (F.held files.old) (λ of. Gives work (F.last_failed files.new) result (run_in of threads system name.now)) }
     ensures keeps { F.held files.new ≡ F.held files.old }
     ensures later { F.faults files.old ≤ F.faults files.new }
+    ensures steady { (IsErrOf result PartsError.ReadFault → ⊥) → F.faults files.new ≡ F.faults files.old }
     ensures failed { IsErrOf result PartsError.ReadFault → Rose (F.faults files.old) (F.faults files.new) }
     ensures kept { IfOk result IsWork }
     ensures threads { IfOk result (λ work. threads_of work ≡ threads) }
@@ -188,6 +194,7 @@ fn list_in<F: Files>(alloc: Global, files: &mut F, name: &str) -> Result<Work, P
     ensures gives { IfSome (F.held files.old) (λ of. Gives work (F.last_failed files.new) result (list_in of name.now)) }
     ensures keeps { F.held files.new ≡ F.held files.old }
     ensures later { F.faults files.old ≤ F.faults files.new }
+    ensures steady { (IsErrOf result PartsError.ReadFault → ⊥) → F.faults files.new ≡ F.faults files.old }
     ensures failed { IsErrOf result PartsError.ReadFault → Rose (F.faults files.old) (F.faults files.new) }
     ensures kept { IfOk result IsWork }
     ensures threads { IfOk result (λ work. threads_of work ≡ false) }
@@ -208,6 +215,7 @@ fn run_at<F: Files>(
     ensures gives { IfSome (F.held files.old) (λ of. Gives work (F.last_failed files.new) result (run_at of threads system.now scenario.now)) }
     ensures keeps { F.held files.new ≡ F.held files.old }
     ensures later { F.faults files.old ≤ F.faults files.new }
+    ensures steady { (IsErrOf result PartsError.ReadFault → ⊥) → F.faults files.new ≡ F.faults files.old }
     ensures failed { IsErrOf result PartsError.ReadFault → Rose (F.faults files.old) (F.faults files.new) }
     ensures kept { IfOk result IsWork }
     ensures threads { IfOk result (λ work. threads_of work ≡ threads) }
@@ -221,20 +229,23 @@ fn run_at<F: Files>(
 fn trace_in<F: Files>(
     alloc: Global,
     files: &mut F,
+    inspection: Inspection,
     system: System,
     scenario: Scenario,
     name: &str,
 ) -> Result<Work, PartsError>
     requires { IsScenarioOf system scenario }
-    ensures gives { IfSome (F.held files.old) (λ of. Gives work (F.last_failed files.new) result (trace_in of system scenario name.now)) }
+    ensures gives { IfSome (F.held files.old) (λ of. Gives work (F.last_failed files.new) result (trace_in of inspection system scenario name.now)) }
     ensures keeps { F.held files.new ≡ F.held files.old }
     ensures later { F.faults files.old ≤ F.faults files.new }
+    ensures steady { (IsErrOf result PartsError.ReadFault → ⊥) → F.faults files.new ≡ F.faults files.old }
     ensures failed { IsErrOf result PartsError.ReadFault → Rose (F.faults files.old) (F.faults files.new) }
     ensures kept { IfOk result IsWork }
     ensures threads { IfOk result (λ work. threads_of work ≡ false) }
 {
     let trace = bytes_of(alloc, files, Root::Trace, MAX_TRACE_BYTES, name)?;
-    Ok(Work::Replay(ReplayWork {
+    Ok(Work::Judge(TraceWork {
+        inspection,
         system,
         scenario,
         trace,
@@ -243,17 +254,19 @@ fn trace_in<F: Files>(
 
 // A trace for a system, which is of one run, from the files of the scenario and the trace. The
 // programs are read and not used.
-#[tactic(auto, unfolding(crate::specs::Work::replay_in), using(ffm_model::proofs::ReadingLemmas::after_ok, ffm_model::proofs::ReadingLemmas::after_err))]
-fn replay_in<F: Files>(
+#[tactic(auto, unfolding(crate::specs::Work::judge_in), using(ffm_model::proofs::ReadingLemmas::after_ok, ffm_model::proofs::ReadingLemmas::after_err))]
+fn judge_in<F: Files>(
     alloc: Global,
     files: &mut F,
+    inspection: Inspection,
     system: System,
     scenario: &str,
     trace: &str,
 ) -> Result<Work, PartsError>
-    ensures gives { IfSome (F.held files.old) (λ of. Gives work (F.last_failed files.new) result (replay_in of system scenario.now trace.now)) }
+    ensures gives { IfSome (F.held files.old) (λ of. Gives work (F.last_failed files.new) result (judge_in of inspection system scenario.now trace.now)) }
     ensures keeps { F.held files.new ≡ F.held files.old }
     ensures later { F.faults files.old ≤ F.faults files.new }
+    ensures steady { (IsErrOf result PartsError.ReadFault → ⊥) → F.faults files.new ≡ F.faults files.old }
     ensures failed { IsErrOf result PartsError.ReadFault → Rose (F.faults files.old) (F.faults files.new) }
     ensures kept { IfOk result IsWork }
     ensures threads { IfOk result (λ work. threads_of work ≡ false) }
@@ -261,27 +274,29 @@ fn replay_in<F: Files>(
     let scenario = scenario_at(alloc, files, &system, scenario)?;
     let _programs = programs_of(alloc, &system, &scenario)?;
     let scenario = scenario_for(alloc, true, scenario)?;
-    trace_in(alloc, files, system, scenario, trace)
+    trace_in(alloc, files, inspection, system, scenario, trace)
 }
 
 // A trace for a scenario over a system, from their files.
-#[tactic(auto, unfolding(crate::specs::Work::replay_at), using(ffm_model::proofs::ReadingLemmas::after_ok, ffm_model::proofs::ReadingLemmas::after_err))]
-fn replay_at<F: Files>(
+#[tactic(auto, unfolding(crate::specs::Work::judge_at), using(ffm_model::proofs::ReadingLemmas::after_ok, ffm_model::proofs::ReadingLemmas::after_err))]
+fn judge_at<F: Files>(
     alloc: Global,
     files: &mut F,
+    inspection: Inspection,
     system: &str,
     scenario: &str,
     trace: &str,
 ) -> Result<Work, PartsError>
-    ensures gives { IfSome (F.held files.old) (λ of. Gives work (F.last_failed files.new) result (replay_at of system.now scenario.now trace.now)) }
+    ensures gives { IfSome (F.held files.old) (λ of. Gives work (F.last_failed files.new) result (judge_at of inspection system.now scenario.now trace.now)) }
     ensures keeps { F.held files.new ≡ F.held files.old }
     ensures later { F.faults files.old ≤ F.faults files.new }
+    ensures steady { (IsErrOf result PartsError.ReadFault → ⊥) → F.faults files.new ≡ F.faults files.old }
     ensures failed { IsErrOf result PartsError.ReadFault → Rose (F.faults files.old) (F.faults files.new) }
     ensures kept { IfOk result IsWork }
     ensures threads { IfOk result (λ work. threads_of work ≡ false) }
 {
     let system = system_at(alloc, files, system)?;
-    replay_in(alloc, files, system, scenario, trace)
+    judge_in(alloc, files, inspection, system, scenario, trace)
 }
 
 /// The work of a command.
@@ -293,9 +308,13 @@ pub fn work_of<F: Files>(
     ensures gives { IfSome (F.held files.old) (λ of. Gives work (F.last_failed files.new) result (work_of of (order command.entry))) }
     ensures keeps { F.held files.new ≡ F.held files.old }
     ensures later { F.faults files.old ≤ F.faults files.new }
+    ensures steady { (IsErrOf result PartsError.ReadFault → ⊥) → F.faults files.new ≡ F.faults files.old }
     ensures failed { IsErrOf result PartsError.ReadFault → Rose (F.faults files.old) (F.faults files.new) }
     ensures kept { IfOk result IsWork }
     ensures threads { IfOk result (λ work. threads_of work ≡ has_threads (order command.entry)) }
+
+    // A generated run asks for no file.
+    ensures made { (rounds : ℕ) → order command.entry ≡ make rounds → IsOkAnd result (λ w. work w ≡ make_of rounds) }
 {
     match command {
         Command::Compile { system } => list_in(alloc, files, system),
@@ -304,11 +323,12 @@ pub fn work_of<F: Files>(
             system,
             scenario,
         } => run_at(alloc, files, threads, system, scenario),
-        Command::Replay {
+        Command::Judge {
+            inspection,
             system,
             scenario,
             trace,
-        } => replay_at(alloc, files, system, scenario, trace),
+        } => judge_at(alloc, files, inspection, system, scenario, trace),
         Command::Make { rounds } => Ok(Work::Make(rounds)),
     }
 }

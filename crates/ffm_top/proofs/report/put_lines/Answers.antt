@@ -1,4 +1,4 @@
-use Rattle.std.proofs.Common.{ℕ, List, length, arith, subst}
+use Rattle.std.proofs.Common.{◌∙◌, ℕ, List, length, arith, subst}
 use Rattle.std.proofs.lemmas.Result.{err_from_is_err_and}
 use Rattle.outside_io.specs.Told.{Takes, TakesPart}
 use Rattle.outside_io.proofs.Told.{Takes-more}
@@ -18,4 +18,8 @@ loop-start-preserved g c =
       takes = Takes-more _ _ _ c.loop-start.start (length c.line_at-line.result.now) c.args.text.now c.loop-start.invariant.takes piece;
       within = c.line_at-line.ensures.within;
       later = omega (arith, c.loop-start.invariant.later, c.in_ok-put_all.ensures.later);
+      steady = c.in_ok-put_all.ensures.steady ∙ c.loop-start.invariant.steady;
     }
+
+pub returns-clause-steady : goal.returns-clause-steady
+returns-clause-steady g c = c.loop-start.invariant.steady

@@ -1,4 +1,4 @@
-use Rattle.std.proofs.Common.{◌≤◌, ◌-◌, take, length}
+use Rattle.std.proofs.Common.{◌≡◌, ◌≤◌, ◌-◌, take, length}
 use Rattle.outside_io.specs.Told.{Takes}
 use Rattle.ffm_top.proofs.report.put_lines.Given as goal
 
@@ -8,6 +8,7 @@ invariant-loop-start g l = record {
   takes : Takes (g.S.Sink.taken l.initial.out) (g.S.Sink.taken l.out) (take l.start l.text);
   within : l.start ≤ length l.text;
   later : g.S.Sink.faults l.initial.out ≤ g.S.Sink.faults l.out;
+  steady : g.S.Sink.faults l.out ≡ g.S.Sink.faults l.initial.out;
 }
 
 abbrev pub decreases-loop-start : goal.decreases-loop-start

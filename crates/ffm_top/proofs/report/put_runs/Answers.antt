@@ -44,4 +44,8 @@ loop-count-preserved g c =
     record {
       takes = run_more c.counts-counts.result ts k d (g.S.Sink.taken c.args.out.now) before behind lt c.loop-count.invariant.takes piece;
       later = omega (arith, c.loop-count.invariant.later, c.in_ok-put_run.ensures.later);
+      steady = c.in_ok-put_run.ensures.steady ∙ c.loop-count.invariant.steady;
     }
+
+pub returns-clause-steady : goal.returns-clause-steady
+returns-clause-steady g c = c.loop-count.invariant.steady

@@ -1,5 +1,5 @@
 use Rattle.std.proofs.Common.{arith, ◌≤◌, ◌<◌, ◌∙◌, ap, length, List, ℕ, subst, sym}
-use Rattle.std.proofs.lemmas.Result.{err_from_is_err_and}
+use Rattle.std.proofs.lemmas.Result.{err_from_is_err_and, on_ok_weaker}
 use Rattle.ffm_model.specs.declared.machine.Entry.{Entry}
 use Rattle.ffm_model.specs.TraceText.{entry_text, line, verdict_text}
 use Rattle.outside_io.specs.Told.{Puts}
@@ -23,6 +23,7 @@ loop-entry-preserved g c =
     record {
       takes = line_more (λ (e : Entry). line (entry_text c.args.counts e)) c.as_slice-entry-items.result.now c.loop-entry.entry-index _ _ _ _ c.loop-entry-test.true c.loop-entry.invariant.takes c.in_ok-put_entry.ensures.puts;
       later = omega (arith, c.loop-entry.invariant.later, c.in_ok-put_entry.ensures.later);
+      steady = c.in_ok-put_entry.ensures.steady ∙ c.loop-entry.invariant.steady;
     }
 
 pub overflow_cast-count : goal.overflow_cast-count
@@ -34,3 +35,6 @@ returns-clause-puts g c =
     let all : length items ≤ c.loop-entry.entry-index = c.loop-entry-test.false in
     let last = subst (λ (n : ℕ). Puts (g.S.Sink.taken c.loop-entry.out) (g.S.Sink.taken c.put_verdict.new.out) c.put_verdict.result (line (verdict_text c.args.trace.now.verdict n))) (c.len-count.ensures ∙ ap length (sym c.as_slice-entry-items.ensures)) c.put_verdict.ensures.puts in
     rw (← c.as_slice-entry-items.ensures) (lines_then (λ (e : Entry). line (entry_text c.args.counts e)) items c.loop-entry.entry-index (line (verdict_text c.args.trace.now.verdict (length items))) _ _ _ c.put_verdict.result all c.loop-entry.invariant.takes last)
+
+pub returns-clause-steady : goal.returns-clause-steady
+returns-clause-steady g c = on_ok_weaker c.put_verdict.result (λ same. same ∙ c.loop-entry.invariant.steady) c.put_verdict.ensures.steady

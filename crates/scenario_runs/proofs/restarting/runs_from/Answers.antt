@@ -11,7 +11,8 @@ use Rattle.actor_programs.specs.declared.program.Program.TheVariants.{Plain}
 use Rattle.spm_core.specs.Manager.{Opening}
 use Rattle.scenario_runs.specs.Restarting.{finished, fits_counts}
 use Rattle.scenario_runs.specs.Runs.{RanBy}
-use Rattle.scenario_runs.proofs.RunsLemmas.{LeadsOn, RunOf, again_is, if_some, leads_first, leads_on, leads_to, opening_of, traces_fit}
+use Rattle.scenario_runs.proofs.Programs.{opening_of}
+use Rattle.scenario_runs.proofs.RunsLemmas.{LeadsOn, RunOf, again_is, if_some, leads_first, leads_on, leads_to, traces_fit}
 use Rattle.scenario_runs.proofs.restarting.runs_from.Goals as goal
 
 pub loop-traces-init : goal.loop-traces-init

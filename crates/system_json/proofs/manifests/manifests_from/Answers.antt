@@ -17,6 +17,11 @@ returns-in_err-manifest-clause-gives g c =
     let failed = told_still (λ of. Gives (λ (m : Manifest). m) last (Err c.in_err-manifest.field-0.0) (manifest_item of c.loop-i.i (view v))) _ _ c.loop-i.invariant.keeps c.in_err-manifest.ensures.gives in
     rw (p.1, p.2) (ends _ last c.in_err-manifest.field-0.0 c.loop-i.found.items c.args.items.now c.loop-i.i v c.loop-i-test.true c.index-items-i.is c.loop-i.invariant.leads failed)
 
+pub returns-in_err-manifest-clause-steady : goal.returns-in_err-manifest-clause-steady
+returns-in_err-manifest-clause-steady g c =
+    let p = err_from_is_err_and c.from_residual.result c.from_residual.ensures.1 in
+    rw (p.1, p.2) (λ not_failed. c.in_err-manifest.ensures.steady (λ failed. not_failed cc) ∙ c.loop-i.invariant.steady)
+
 pub loop-i-preserved : goal.loop-i-preserved
 loop-i-preserved g c =
     let v = c.index-items-i.result in
@@ -25,6 +30,7 @@ loop-i-preserved g c =
     record {
       leads = rw c.in_ok-push.ensures.items (goes_on _ c.loop-i.found.items c.args.items.now c.loop-i.i v m c.loop-i-test.true c.index-items-i.is c.loop-i.invariant.leads given);
       keeps = c.manifest_item.ensures.keeps ∙ c.loop-i.invariant.keeps;
+      steady = c.in_ok-manifest.ensures.steady (λ h. cc) ∙ c.loop-i.invariant.steady;
       later = omega (arith, c.loop-i.invariant.later, c.manifest_item.ensures.later);
       kept = rw c.in_ok-push.ensures.items (kept_push IsManifest c.loop-i.found.items m c.loop-i.invariant.kept c.in_ok-manifest.ensures.kept);
       count = rw c.in_ok-push.ensures.items (omega (arith, c.loop-i.invariant.count, length-append {A = Manifest} c.loop-i.found.items (m ∷ [])));

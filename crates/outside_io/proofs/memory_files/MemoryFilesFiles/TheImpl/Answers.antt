@@ -10,6 +10,7 @@ read-tells c = record {
   keeps = ap Some c.ensures.keeps;
   later = c.ensures.later;
   failed = λ h. omega (arith, c.ensures.failed h);
+  steady = c.ensures.not_failed;
   named = λ h. ap Some (c.ensures.named h);
   unnamed = λ h. ap Some (c.ensures.unnamed h);
 }

@@ -12,4 +12,5 @@ put-tells c = record {
   none = on_err_weaker c.result (λ same. same ∙ sym (append-nil _)) c.ensures.none;
   later = c.ensures.later;
   failed = on_err_weaker c.result (λ more. omega (arith, more)) c.ensures.failed;
+  steady = c.ensures.not_failed;
 }

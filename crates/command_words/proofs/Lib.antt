@@ -1,0 +1,5 @@
+mod Levels
+mod Taken
+mod Accepted
+mod Commands
+mod Getters

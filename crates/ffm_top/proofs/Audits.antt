@@ -1,0 +1,47 @@
+-- A trace that is audited, and the lines of its changes.
+use Rattle.std.proofs.Common.{ℕ, ◌≡◌, ◌<◌, ◌≤◌, ◌+◌, ◌^◌, List, ◌++◌, length, length-append, refl, ap, arith}
+use Rattle.std.specs.Fmt.{decimal}
+use Rattle.std.proofs.lemmas.Fmt.{length-decimal-le}
+use Rattle.ffm_model.specs.declared.machine.Entry.{Entry}
+use Rattle.ffm_model.specs.declared.machine.Verdict.{Verdict}
+use Rattle.ffm_model.specs.declared.scenario.Scenario.{Scenario}
+use Rattle.ffm_model.specs.declared.system.System.{System}
+use Rattle.ffm_model.specs.Memory.{opening_memory}
+use Rattle.ffm_model.specs.TraceText.{hexadecimal_word, hexadecimal_digits}
+use Rattle.ffm_model.specs.Verdicts.{Judgement, Legal, IllegalAt}
+use Rattle.machine_check.specs.Answers.{judgement}
+use Rattle.machine_check.specs.Auditing.{IsAudit}
+use Rattle.machine_check.specs.declared.auditing.AuditReport.{AuditReport}
+use Rattle.ffm_top.specs.Audits.{AuditedDue, audit_line, change_lines}
+use Rattle.ffm_top.specs.Replays.{IsTextOf, judgement_status}
+use Rattle.ffm_top.proofs.Reports.{not_empty}
+
+pub audited_due : (s : System) (c : Scenario) (bytes : List ℕ) (es : List Entry) (v : Verdict) (report : AuditReport) (last : List ℕ) → IsTextOf s bytes es v
+    → IsAudit s (opening_memory c.memory) c.limit es v report → last ≡ audit_line (judgement report.result) (length es)
+    → AuditedDue s c bytes (change_lines report.changes ++ last) (judgement_status (judgement report.result))
+audited_due s c bytes es v report last read audited e = record {
+  entries = es;
+  ended = v;
+  report = report;
+  read = read;
+  audited = audited;
+  text_is = ap (λ (t : List ℕ). change_lines report.changes ++ t) e;
+  status_is = refl;
+}
+
+line_some : (j : Judgement) (count : ℕ) → 0 < length (audit_line j count)
+unfolding audit_line
+line_some Legal count = not_empty (audit_line Legal count) refl
+line_some (IllegalAt place) count = not_empty (audit_line (IllegalAt place) count) refl
+
+pub audited_some : (front : List ℕ) (j : Judgement) (count : ℕ) → 0 < length (front ++ audit_line j count)
+audited_some front j count = rw (length-append front (audit_line j count)) (omega (arith, line_some j count))
+
+-- a number of 32 bits has at most ten digits
+pub number_length : (n : ℕ) → n < 2 ^ 32 → length (decimal n) ≤ 10
+number_length n small = length-decimal-le 10 n (omega arith) (omega arith) (omega arith)
+
+-- and an address has `0x` and eight
+pub address_length : (n : ℕ) → length (hexadecimal_word n) ≡ 10
+unfolding hexadecimal_word hexadecimal_digits
+address_length n = refl

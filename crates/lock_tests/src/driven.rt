@@ -1,0 +1,130 @@
+//! All actors of a system, driven by one thread over one shared manager.
+ghost use Rattle.std.specs.Prelude.{◌≡◌, IfOk, length};
+ghost use Rattle.std.specs.List.{All};
+ghost use Rattle.lock_tests.specs.Workers.{IsUnstarted, passes_in};
+
+use crate::setup::{judged, manager};
+use ffm_model::{ActorId, ActorKind, List, Name, OpenGate, Script, System, Verdict};
+use machine_check::Checked;
+use partition_sim::{Runner, Worker, drive};
+use script_asm::assemble;
+use spm_core::Spm;
+use spm_lock::{Pass, Shared};
+use std::alloc::{AllocError, Global};
+use std::process::Abort;
+use std::test::Fail;
+
+// Serves two messages, each answered with 0.
+const VAULT: &str = "wait 0x10 0x80000000
+get 0x10 0x30000000
+reply r2 0
+wait 0x10 0x80000000
+get 0x10 0x30000000
+reply r2 0";
+
+const CLIENT: &str = "connect 0x40 1
+close r0";
+
+const OTHER: &str = "version 0x40";
+
+fn script(rt: &impl Abort, alloc: Global, kind: ActorKind, text: &str) -> Result<Script, Fail>
+    ensures { IfOk result (λ s. length s ≡ 1) }
+{
+    let mut lines = Vec::new(alloc);
+    for line in text.split('\n') {
+        lines.push(Name::of(String::from_str(alloc, line)?))?;
+    }
+    assert!(rt; lines.len() < 20);
+    let script = assemble(alloc, &List::of(lines), kind, 0)?;
+    assert_eq!(rt; script.parts.len(), 1);
+    Ok(script)
+}
+
+fn script_of(rt: &impl Abort, alloc: Global, actor: ActorId) -> Result<Script, Fail>
+    ensures { IfOk result (λ s. length s ≡ 1) }
+{
+    match actor {
+        ActorId(0) => script(rt, alloc, ActorKind::Partition, VAULT),
+        ActorId(1) => script(rt, alloc, ActorKind::Client, CLIENT),
+        _ => script(rt, alloc, ActorKind::Client, OTHER),
+    }
+}
+
+// A worker of the pass's actor, before its first event.
+fn worker_of(
+    rt: &impl Abort,
+    alloc: Global,
+    system: &System,
+    pass: Pass,
+) -> Result<Worker<Pass>, Fail>
+    ensures pass { IfOk result (λ w. w.pass ≡ pass) }
+    ensures unstarted { IfOk result IsUnstarted }
+{
+    let actor = pass.actor();
+    if actor.0 >= system.actor_count() {
+        return Err(Fail::from("an actor is wanted"));
+    }
+    let script = script_of(rt, alloc, actor)?;
+    let runner = Runner::new(system, actor, 1);
+    Ok(Worker::new(pass, runner, script))
+}
+
+// A worker for each pass, in order.
+fn workers_of(
+    rt: &impl Abort,
+    alloc: Global,
+    system: &System,
+    passes: List<Pass>,
+) -> Result<List<Worker<Pass>>, Fail>
+    ensures passes { IfOk result (λ ws. passes_in ws ≡ passes) }
+    ensures unstarted { IfOk result (λ ws. All IsUnstarted ws) }
+{
+    let mut workers = Vec::new(alloc);
+    for pass in passes.into_vec() {
+        workers.push(worker_of(rt, alloc, system, pass)?)?;
+    }
+    Ok(List::of(workers))
+}
+
+// The passes of the workers, in order.
+fn passes_of(alloc: Global, workers: List<Worker<Pass>>) -> Result<List<Pass>, AllocError>
+    ensures { IfOk result (λ ps. ps ≡ passes_in workers) }
+{
+    let mut passes = Vec::new(alloc);
+    for worker in workers.into_vec() {
+        passes.push(worker.pass)?;
+    }
+    Ok(List::of(passes))
+}
+
+// How many entries an actor has.
+fn entry_count(spm: &Spm, actor: ActorId) -> u32 {
+    let mut count: u32 = 0;
+    for place in 1..=spm.length() {
+        if spm.entry(place).actor == actor {
+            count = count.saturating_add(1);
+        }
+    }
+    count
+}
+
+#[test]
+fn all_actors_in_one_drive(rt: HostRuntime) -> Result<(), Fail> {
+    let alloc = rt.alloc();
+    let (shared, passes) = Shared::new(alloc, manager(alloc, 30)?)?;
+    let opening = manager(alloc, 30)?;
+    let mut workers = workers_of(&rt, alloc, opening.system(), passes)?;
+    drive(&rt, &shared, &mut workers, &OpenGate);
+    let passes = passes_of(alloc, workers)?;
+    let spm = shared.finish(passes);
+    assert_eq!(rt; spm.verdict(), Some(Verdict::Quiet));
+    assert_eq!(rt; spm.length(), 16);
+    for (actor, count) in [(ActorId(0), 9), (ActorId(1), 5), (ActorId(2), 2)] {
+        assert_eq!(rt; entry_count(&spm, actor), count);
+    }
+    assert_eq!(rt;
+        judged(&rt, alloc, &spm, 30, Verdict::Quiet)?,
+        Checked::Legal
+    );
+    Ok(())
+}

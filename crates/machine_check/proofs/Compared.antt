@@ -1,0 +1,167 @@
+-- Differences in ranges, one range and one more, and bytes that are taken over.
+use Rattle.std.proofs.Common.{ℕ, zero, suc, ◌≡◌, ◌<◌, ◌≤◌, ◌+◌, ◌*◌, Bool, true, false, not, ◌&&◌, ◌||◌, List, [], ◌∷◌, Option, None, count_by, ◌-◌, get_or, add-one, arith, ◌∙◌, ap, sym, refl, subst, inl, inr, ◌⊎◌}
+use Rattle.std.specs.Prelude.{nat_le, nat_lt, slice_index, if◌then◌else◌}
+use Rattle.std.specs.List.{range_with_len}
+use Rattle.std.proofs.Math.Path.{fun_ext}
+use Rattle.std.proofs.lemmas.Bool.Decides.{nat_tests}
+use Rattle.std.proofs.lemmas.List.Sums.{sum_by-cons}
+use Rattle.byte_lanes.specs.Differences.{any_covers, count_in, differs, lesser, range_covers, IsLeast}
+use Rattle.byte_lanes.proofs.Ranges.{least_same, lesser_of}
+use Rattle.ffm_model.specs.declared.system.System.{System}
+use Rattle.ffm_model.specs.Memory.{ByteMap, bytes_at, write_bytes}
+use Rattle.memory_image.specs.Pieces.{fit_an_image, is_inside, ranges_of}
+use Rattle.memory_image.proofs.Changed.{length-bytes_at}
+use Rattle.memory_image.proofs.Stored.{ends_below}
+use Rattle.machine_check.specs.declared.differences.Differences.{Differences}
+use Rattle.machine_check.specs.Auditing.{own_ram}
+use Rattle.machine_check.specs.declared.written.Ranges.{Ranges}
+use Rattle.machine_check.specs.Written.{ranges_from, taken_from, AreDifferences, AreInside}
+use Rattle.machine_check.proofs.OwnRam.{own-whole}
+
+-- ---- one range
+
+or_false : (b : Bool) → (b || false) ≡ b
+or_false true = refl
+or_false false = refl
+
+pub one-least : (p : ℕ → Bool) (a len : ℕ) (found : Option ℕ) → IsLeast (λ x. p x && range_covers (a, len) x) found → IsLeast (λ x. p x && any_covers ((a, len) ∷ []) x) found
+one-least p a len found least = least_same _ _ found (λ x. ap (λ b. p x && b) (sym (or_false (range_covers (a, len) x)))) least
+
+pub one-count : (p : ℕ → Bool) (a len : ℕ) → count_by p (range_with_len a len) ≡ count_in p ((a, len) ∷ [])
+one-count p a len =
+    let head = sum_by-cons (λ (r : ℕ × ℕ). count_by p (range_with_len r.0 r.1)) (a, len) [] in
+    omega (arith, head)
+
+none_own : (d o c : Bool) → (c ≡ true → o ≡ true) → ((d && not o) && c) ≡ false
+none_own d o false own = by_left (d && not o) where
+  by_left : (b : Bool) → (b && false) ≡ false
+  by_left true = refl
+  by_left false = refl
+none_own d o true own = let is : o ≡ true = own refl in rw is (by_left d) where
+  by_left : (b : Bool) → ((b && false) && true) ≡ false
+  by_left true = refl
+  by_left false = refl
+
+all_other : (d o c : Bool) → (c ≡ true → o ≡ false) → (d && c) ≡ ((d && not o) && c)
+all_other true o false other = by_left (not o) where
+  by_left : (b : Bool) → false ≡ (b && false)
+  by_left true = refl
+  by_left false = refl
+all_other false o false other = refl
+all_other d o true other = let is : o ≡ false = other refl in rw is (by_left d) where
+  by_left : (b : Bool) → (b && true) ≡ ((b && true) && true)
+  by_left true = refl
+  by_left false = refl
+
+-- a range of own RAM has no difference outside of it
+pub own-outside : (s : System) (act a len : ℕ) (old new : ByteMap) → is_inside a len (ranges_of s.regions) ≡ true → own_ram s act a ≡ true
+    → IsLeast (λ x. (differs old new x && not (own_ram s act x)) && any_covers ((a, len) ∷ []) x) None
+own-outside s act a len old new inside own =
+    λ x. none_own (differs old new x) (own_ram s act x) _ (λ here. own-whole s act a len x inside (sym (or_false (range_covers (a, len) x)) ∙ here) ∙ own)
+
+-- and in another one each difference is
+pub other-outside : (s : System) (act a len : ℕ) (old new : ByteMap) (found : Option ℕ) → is_inside a len (ranges_of s.regions) ≡ true → own_ram s act a ≡ false
+    → IsLeast (λ x. differs old new x && range_covers (a, len) x) found → IsLeast (λ x. (differs old new x && not (own_ram s act x)) && any_covers ((a, len) ∷ []) x) found
+other-outside s act a len old new found inside other least =
+    least_same _ _ found (λ x. all_other (differs old new x) (own_ram s act x) _ (λ here. own-whole s act a len x inside (sym (or_false (range_covers (a, len) x)) ∙ here) ∙ other))
+    (one-least (differs old new) a len found least)
+
+-- ---- one more range
+
+split : (b c d : Bool) → ((b && c) || (b && d)) ≡ (b && (c || d))
+split true c d = refl
+split false c d = refl
+
+least-more : (p : ℕ → Bool) (r : ℕ × ℕ) (rs : List (ℕ × ℕ)) (one others : Option ℕ) → IsLeast (λ x. p x && any_covers (r ∷ []) x) one → IsLeast (λ x. p x && any_covers rs x) others
+    → IsLeast (λ x. p x && any_covers (r ∷ rs) x) (lesser one others)
+least-more p r rs one others first rest =
+    least_same _ _ (lesser one others) (λ x. split (p x) (any_covers (r ∷ []) x) (any_covers rs x) ∙ ap (λ b. p x && (b || any_covers rs x)) (or_false (range_covers r x)))
+    (lesser_of (λ x. p x && any_covers (r ∷ []) x) (λ x. p x && any_covers rs x) one others first rest)
+
+count-more : (p : ℕ → Bool) (r : ℕ × ℕ) (rs : List (ℕ × ℕ)) → count_in p (r ∷ []) + count_in p rs ≡ count_in p (r ∷ rs)
+count-more p r rs =
+    let counts = λ (q : ℕ × ℕ). count_by p (range_with_len q.0 q.1) in
+    let one = sum_by-cons counts r [] in
+    let more = sum_by-cons counts r rs in
+    omega (arith, one, more)
+
+-- both are joined as the code does it
+pub more-differences : (s : System) (a : ℕ) (old new : ByteMap) (r : ℕ × ℕ) (rs : List (ℕ × ℕ)) (one others both : Differences)
+    → AreDifferences s a old new (r ∷ []) one → AreDifferences s a old new rs others
+    → both.lowest ≡ lesser one.lowest others.lowest → both.count ≡ one.count + others.count → both.outside ≡ lesser one.outside others.outside
+    → AreDifferences s a old new (r ∷ rs) both
+more-differences s a old new r rs one others both first rest lowest count outside = record {
+  lowest = subst (IsLeast (λ x. differs old new x && any_covers (r ∷ rs) x)) (sym lowest) (least-more (differs old new) r rs one.lowest others.lowest first.lowest rest.lowest);
+  count = count ∙ omega (arith, first.count, rest.count, count-more (differs old new) r rs);
+  outside = subst (IsLeast (λ x. (differs old new x && not (own_ram s a x)) && any_covers (r ∷ rs) x)) (sym outside)
+      (least-more (λ x. differs old new x && not (own_ram s a x)) r rs one.outside others.outside first.outside rest.outside);
+}
+
+pub no-differences : (s : System) (a : ℕ) (old new : ByteMap) → AreDifferences s a old new [] (record { lowest = None; count = 0; outside = None })
+no-differences s a old new = record {
+  lowest = λ x. none (differs old new x);
+  count = refl;
+  outside = λ x. none (differs old new x && not (own_ram s a x));
+} where
+  none : (b : Bool) → (b && false) ≡ false
+  none true = refl
+  none false = refl
+
+-- ---- the ranges, one by one
+
+-- a range has a byte, and ends by 2^32
+pub record IsPlaced (w : Ranges) (k : ℕ) : Type 0 where
+  pub some : 0 < w.len
+  pub end : (w.first + 8 * k) + w.len ≤ 4294967296
+  pub few : k ≤ 3
+
+pub placed : (regions : List (ℕ × ℕ)) (w : Ranges) (k : ℕ) → fit_an_image regions ≡ true → AreInside regions w → k < w.times → IsPlaced w k
+placed regions w k fit inside below = record {
+  some = some inside.some;
+  end = ends_below (w.first + 8 * k) w.len regions fit (inside.inside k below) (some inside.some);
+  few = few inside.few;
+} where
+  some : (w.times ≡ 0) ⊎ (0 < w.len) → 0 < w.len
+  some (inl none) = absurd (omega arith)
+  some (inr bytes) = bytes
+
+  few : (w.times ≤ 1) ⊎ ((w.times ≤ 4) × (w.len ≡ 4)) → k ≤ 3
+  few (inl one) = omega arith
+  few (inr words) = omega (arith, words.0)
+
+pub one_more : (first len k : ℕ) → ranges_from first len (k + 1) ≡ (first + 8 * k, len) ∷ ranges_from first len k
+one_more first len k = ap (ranges_from first len) (add-one k)
+
+-- a count so far and that of the next range
+pub counts_fit : (w : Ranges) (k here so_far : ℕ) → (w.times ≤ 1) ⊎ ((w.times ≤ 4) × (w.len ≡ 4)) → k < w.times → here ≤ w.len → here < 4294967296 → (k ≡ 0 → so_far ≡ 0) → (w.len ≡ 4 → so_far ≤ 4 * k) → here + so_far < 4294967296
+counts_fit w k here so_far (inl one) below bound small none words = let is : so_far ≡ 0 = none (omega arith) in omega (arith, is)
+counts_fit w k here so_far (inr some) below bound small none words = let most : so_far ≤ 4 * k = words some.1 in omega (arith, most, some.0, some.1)
+
+-- ---- bytes taken over
+
+byte_of : (n : ByteMap) (a len i : ℕ) → i < len → get_or (bytes_at n a len) i 0 ≡ n (a + i)
+byte_of n a zero i below = absurd (omega arith)
+byte_of n a (suc len) zero below = let here : a ≡ a + 0 = omega arith in ap n here
+byte_of n a (suc len) (suc i) below = let next : (a + 1) + i ≡ a + suc i = omega arith in byte_of n (a + 1) len i (omega arith) ∙ ap n next
+
+byte_at_place : (n : ByteMap) (a len x : ℕ) → range_covers (a, len) x ≡ true → get_or (bytes_at n a len) (x - a) 0 ≡ n x
+byte_at_place n a len x inside =
+    let low : a ≤ x = grind (arith, nat_tests) in
+    let high : x < a + len = grind (arith, nat_tests) in
+    let back : a + (x - a) ≡ x = omega arith in
+    byte_of n a len (x - a) (omega arith) ∙ ap n back
+
+taken_at : (n m : ByteMap) (rs : List (ℕ × ℕ)) (a len x : ℕ) (b : Bool) → range_covers (a, len) x ≡ b
+    → (if b then get_or (bytes_at n a len) (x - a) 0 else taken_from n rs m x) ≡ (if b || any_covers rs x then n x else m x)
+taken_at n m rs a len x true inside = byte_at_place n a len x inside
+taken_at n m rs a len x false outside = refl
+
+pub taken-more : (n m : ByteMap) (rs : List (ℕ × ℕ)) (a len : ℕ) → write_bytes (taken_from n rs m) a (bytes_at n a len) ≡ taken_from n ((a, len) ∷ rs) m
+taken-more n m rs a len = fun_ext (λ x. ap (λ k. if nat_le a x && nat_lt x (a + k) then slice_index (bytes_at n a len) (x - a) else taken_from n rs m x) (length-bytes_at n a len) ∙ taken_at n m rs a len x (range_covers (a, len) x) refl)
+
+-- where the memories agree outside of the ranges, the whole is taken over
+pub taken-all : (n m : ByteMap) (rs : List (ℕ × ℕ)) → ((x : ℕ) → any_covers rs x ≡ false → n x ≡ m x) → taken_from n rs m ≡ n
+taken-all n m rs same = fun_ext (λ x. by_test x (any_covers rs x) refl) where
+  by_test : (x : ℕ) (b : Bool) → any_covers rs x ≡ b → (if b then n x else m x) ≡ n x
+  by_test x true is = refl
+  by_test x false is = sym (same x is)

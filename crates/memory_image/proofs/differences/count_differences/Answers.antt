@@ -1,0 +1,39 @@
+use Rattle.std.proofs.Common.{rules, arith, ap, ◌∙◌, sym, length, ◌≤◌, ◌+◌}
+use Rattle.std.proofs.lemmas.List.{length-map}
+use Rattle.byte_lanes.specs.Differences.{differs}
+use Rattle.memory_image.specs.Pieces.{byte_at, range_of, regions_of, is_inside}
+use Rattle.memory_image.proofs.Compared.{piece_at, region_inside, region_small, count_step, count_last, count_small}
+use Rattle.memory_image.proofs.differences.count_differences.Goals as goal
+
+pub overflow_cast-len : goal.overflow_cast-len
+overflow_cast-len c =
+    let at = piece_at c.args.one.now _ _ c.len.result _ _ c.pieces-piece-items.ensures c.loop-piece-test.true c.piece-item.is c.len.ensures in
+    let small = region_small _ _ _ _ at c.keeps_its_limits.ensures in
+    search rules
+
+pub count_differences_in-total-requires-clause-one : goal.count_differences_in-total-requires-clause-one
+count_differences_in-total-requires-clause-one c =
+    region_inside _ _ _ _ (piece_at c.args.one.now _ _ c.len.result _ _ c.pieces-piece-items.ensures c.loop-piece-test.true c.piece-item.is c.len.ensures)
+
+pub count_differences_in-total-requires-clause-other : goal.count_differences_in-total-requires-clause-other
+count_differences_in-total-requires-clause-other c =
+    let at = piece_at c.args.one.now _ _ c.len.result _ _ c.pieces-piece-items.ensures c.loop-piece-test.true c.piece-item.is c.len.ensures in
+    ap (is_inside c.piece-item.result.address c.len.result) (sym c.requires) ∙ region_inside _ _ _ _ at
+
+pub overflow_add-total : goal.overflow_add-total
+overflow_add-total c =
+    let at = piece_at c.args.one.now _ _ c.len.result _ _ c.pieces-piece-items.ensures c.loop-piece-test.true c.piece-item.is c.len.ensures in
+    let small = count_small (byte_at c.args.one.now) (byte_at c.args.other.now) _ _ _ _ at c.keeps_its_limits.ensures in
+    let bound : c.loop-piece.total + c.count_differences_in-total.result ≤ 16777216 = omega (arith, small, c.loop-piece.invariant, c.count_differences_in-total.ensures) in
+    search rules
+
+pub loop-piece-preserved : goal.loop-piece-preserved
+loop-piece-preserved c =
+    let at = piece_at c.args.one.now _ _ c.len.result _ _ c.pieces-piece-items.ensures c.loop-piece-test.true c.piece-item.is c.len.ensures in
+    let step = count_step (differs (byte_at c.args.one.now) (byte_at c.args.other.now)) _ _ _ _ at in
+    omega (arith, step, c.loop-piece.invariant, c.count_differences_in-total.ensures)
+
+pub returns : goal.returns
+returns c =
+    let all : length (regions_of c.args.one.now) ≤ c.loop-piece.piece-index = omega (arith, length-map c.args.one.now range_of, ap length c.pieces-piece-items.ensures, c.loop-piece-test.false) in
+    c.loop-piece.invariant ∙ count_last (differs (byte_at c.args.one.now) (byte_at c.args.other.now)) _ _ all

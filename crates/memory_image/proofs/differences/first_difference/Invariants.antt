@@ -1,0 +1,7 @@
+use Rattle.byte_lanes.specs.Differences.{differs}
+use Rattle.memory_image.specs.Pieces.{byte_at, regions_of}
+use Rattle.memory_image.proofs.Compared.{IsLeastWithin}
+use Rattle.memory_image.proofs.differences.first_difference.Given as goal
+
+abbrev pub invariant-loop-piece : goal.invariant-loop-piece
+invariant-loop-piece l = IsLeastWithin (differs (byte_at l.one) (byte_at l.other)) (regions_of l.one) l.piece-index l.least

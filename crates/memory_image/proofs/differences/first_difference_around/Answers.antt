@@ -1,0 +1,25 @@
+use Rattle.std.proofs.Common.{rules, arith}
+use Rattle.memory_image.specs.Pieces.{regions_of}
+use Rattle.memory_image.proofs.Stored.{ends_below, part_inside}
+use Rattle.memory_image.proofs.differences.first_difference_around.Goals as goal
+
+pub first_difference_in-found-requires-clause-one : goal.first_difference_in-found-requires-clause-one
+first_difference_in-found-requires-clause-one c =
+    part_inside c.args.address c.args.len c.args.address c.min-before.result _ (omega arith) (grind (arith, c.min-before.ensures)) c.requires.one
+
+pub first_difference_in-found-requires-clause-other : goal.first_difference_in-found-requires-clause-other
+first_difference_in-found-requires-clause-other c =
+    part_inside c.args.address c.args.len c.args.address c.min-before.result _ (omega arith) (grind (arith, c.min-before.ensures)) c.requires.other
+
+pub overflow_add-address : goal.overflow_add-address
+overflow_add-address c =
+    let end = ends_below c.args.address c.args.len (regions_of c.args.one.now) c.keeps_its_limits.ensures c.requires.one (omega arith) in
+    search rules
+
+pub first_difference_in-requires-clause-one : goal.first_difference_in-requires-clause-one
+first_difference_in-requires-clause-one c =
+    part_inside c.args.address c.args.len _ _ _ (omega arith) (omega arith) c.requires.one
+
+pub first_difference_in-requires-clause-other : goal.first_difference_in-requires-clause-other
+first_difference_in-requires-clause-other c =
+    part_inside c.args.address c.args.len _ _ _ (omega arith) (omega arith) c.requires.other

@@ -1,0 +1,26 @@
+use Rattle.std.proofs.Common.{rules, ◌≤◌, length, count_by, ap, sym, ◌∙◌, arith}
+use Rattle.std.specs.List.{zip}
+use Rattle.byte_lanes.specs.Unequal.{are_unequal}
+use Rattle.ffm_model.specs.Memory.{bytes_at}
+use Rattle.memory_image.specs.Pieces.{byte_at}
+use Rattle.memory_image.proofs.Changed.{length-bytes_at, counted_at, counted_le}
+use Rattle.memory_image.proofs.image.Image.count_differences_in.Goals as goal
+
+pub count_unequal-requires : goal.count_unequal-requires
+count_unequal-requires c =
+    ap length c.bytes-before.ensures
+    ∙ (length-bytes_at (byte_at c.args.self.now) c.args.address c.args.len
+    ∙ sym (ap length c.bytes-after.ensures ∙ length-bytes_at (byte_at c.args.other.now) c.args.address c.args.len))
+
+pub returns : goal.returns
+returns c =
+    c.count_unequal.ensures
+    ∙ (ap (λ l. count_by are_unequal (zip l c.bytes-after.result.now)) c.bytes-before.ensures
+    ∙ (ap (λ l. count_by are_unequal (zip (bytes_at (byte_at c.args.self.now) c.args.address c.args.len) l)) c.bytes-after.ensures
+    ∙ counted_at (byte_at c.args.self.now) (byte_at c.args.other.now) c.args.address c.args.len))
+
+pub overflow_cast-result : goal.overflow_cast-result
+overflow_cast-result c =
+    let bound : c.count_unequal.result ≤ c.args.len = omega (arith, returns c, counted_le (byte_at c.args.self.now) (byte_at c.args.other.now) c.args.address c.args.len) in
+    let top = c.ranges.len.fits in
+    search rules
