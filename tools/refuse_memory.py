@@ -3,8 +3,8 @@
 
     python3 tools/refuse_memory.py [--from N] [--most N] [--step N] [--example DIR]
 
-Run at the top of the repository. It tries `run`, `replay`, `compile` and, where the program has it, `audit` on the
-files of an example, and refuses the allocation N: for each N from `--from` up to `--most`, in steps of `--step`.
+Run at the top of the repository. It tries `run`, `replay`, `audit` and `compile` on the files of an example, and
+refuses the allocation N: for each N from `--from` up to `--most`, in steps of `--step`.
 A command that finds no memory has to end with the status 9 and to write nothing. One that makes fewer than N
 allocations, or does without that one, has to write what it writes else, to the byte, and to end with the same
 status; `run` writes the example's trace.txt. Prints for each N what each command did, and at the end for each
@@ -70,7 +70,7 @@ def tried(example, cases, *flags):
 
 
 def commands_of(example, folder):
-    """The commands that the program has, as they are where no allocation is refused."""
+    """The commands, as they are where no allocation is refused."""
     for name, words in WORDS.items():
         add_case(folder, name, words)
     written, said = tried(example, folder)
@@ -80,10 +80,7 @@ def commands_of(example, folder):
     statuses = {name: int(status) for name, status, _ in ENDED.findall(said)}
     for name in WORDS:
         text = texts.get(name.encode(), b"")
-        if statuses.get(name) == USAGE:
-            print(f"{name}: the program doesn't have it")
-            continue
-        if statuses.get(name) in (None, NO_MEMORY) or text == b"":
+        if statuses.get(name) in (None, USAGE, NO_MEMORY) or text == b"":
             stop(f"{name} fails where no allocation is refused\n{said}")
         if name == "run" and text != (example / "trace.txt").read_bytes():
             stop("run doesn't write the example's trace.txt")

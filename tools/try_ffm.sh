@@ -18,7 +18,7 @@ for word in "$@"; do
     words+=("$word")
 done
 for file in *.json; do
-    if [ -f "$file" ]; then data+=(--data "$file=$PWD/$file"); fi
+    if [ -f "$file" ]; then data+=(--data "$file=$(readlink -f "$file")"); fi
 done
 cd "$crate"
 exec rt try ${data[@]+"${data[@]}"} -- ${words[@]+"${words[@]}"}

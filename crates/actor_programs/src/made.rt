@@ -1,5 +1,5 @@
 //! The scripts of a scenario, assembled in the file's order.
-ghost use Rattle.std.specs.Prelude.{◌≡◌, ◌<◌, ◌≤◌, IfOk, IfSome, OnOk, [], get_or, length, option_map, replicate};
+ghost use Rattle.std.specs.Prelude.{◌≡◌, ◌<◌, IfOk, IfSome, OnOk, [], get_or, length, option_map, replicate};
 ghost use Rattle.ffm_model.specs.Actors.{actor_count};
 ghost use Rattle.ffm_model.specs.Reading.{Reads};
 ghost use Rattle.ffm_model.specs.Scenarios.{IsScenarioOf, most_scripts};
@@ -51,7 +51,6 @@ fn next_lines<'a>(
     requires actor { actor.0 < actor_count system.now }
     requires long { length made.now ≡ actor_count system.now }
     ensures lines { option_map (λ l. l.now) result ≡ next_lines scenario.now actor made.now }
-    ensures short { IfSome result (λ l. length l.now ≤ 4096) }
     ensures left { IfSome result (λ l. length (get_or made.now actor.0 []) < most_scripts system.now actor.0) }
 {
     let own = scenario.lines.as_slice()[actor.0 as usize].as_slice();

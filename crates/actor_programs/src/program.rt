@@ -1,5 +1,5 @@
 //! The program of one actor.
-ghost use Rattle.std.specs.Prelude.{◌≡◌, ◌<◌, ◌≤◌, IfOk, length};
+ghost use Rattle.std.specs.Prelude.{◌≡◌, ◌<◌, IfOk};
 ghost use Rattle.ffm_model.specs.Actors.{actor_count};
 ghost use Rattle.ffm_model.specs.Reading.{Reads};
 ghost use Rattle.sfn_calls.specs.Partitions.{is_sfn};
@@ -51,7 +51,6 @@ pub fn program_of(
     number: u32,
 ) -> Result<Program, ReadError>
     requires actor { actor.0 < actor_count system.now }
-    requires short { length lines.now ≤ 4096 }
     ensures reads { Reads (λ p. p) result (program_read system.now number actor.0 lines.now) }
     ensures fits { IfOk result (IsOfOneScript system.now actor.0) }
 {

@@ -1,6 +1,7 @@
 -- Where no rule is broken, the parts fit each other and make a system.
-use Rattle.std.proofs.Common.{ℕ, ◌≡◌, ◌*◌, ◌^◌, ◌≤◌, true, List, [], ◌∷◌, ◌++◌, ◌==◌, map, length, Ok, Err, IsOkAnd, refl, ap, ap₂, sym, arith, nat_lt, le-leb, lt-ltb, ltb-false}
+use Rattle.std.proofs.Common.{ℕ, ◌≡◌, ◌+◌, ◌*◌, ◌^◌, ◌≤◌, true, List, [], ◌∷◌, ◌++◌, ◌==◌, ◌&&◌, map, length, Ok, Err, IsOkAnd, refl, ap, ap₂, sym, arith, nat_lt, le-leb, lt-ltb, ltb-false}
 use Rattle.std.specs.List.{AllByRecursion as Each}
+use Rattle.std.proofs.lemmas.Bool.{and_from}
 use Rattle.ffm_model.specs.declared.place.Refusal.{Refusal}
 use Rattle.ffm_model.specs.declared.system.System.{System}
 use Rattle.ffm_model.specs.declared.system.Partition.{Partition}
@@ -23,7 +24,7 @@ use Rattle.admitted_systems.proofs.Models.{models_do_fit}
 use Rattle.admitted_systems.proofs.Stateless.{items_right, stateless_do_fit}
 use Rattle.admitted_systems.proofs.Enough.{all_have_indices}
 use Rattle.admitted_systems.proofs.Partitions.{length_partitions, partitions_do_fit}
-use Rattle.admitted_systems.proofs.Regions.{regions_do_fit}
+use Rattle.admitted_systems.proofs.Regions.{regions_do_fit, few_regions}
 use Rattle.admitted_systems.proofs.Services.{sids_differ, few_services, all_signals_fit}
 use Rattle.admitted_systems.proofs.Budgets.{budgets_do_fit}
 
@@ -96,7 +97,8 @@ parts_are_numbered p parts none =
     let rules : Kept p = kept p none in
     let few : length p.manifests ≤ 32 = few_partitions p rules.partitions in
     let services : length (services_of p) ≤ 28 * length p.manifests = few_services p rules.signals in
-    lt-ltb (length (services_of p)) (2 ^ 31) (omega arith)
+    let regions : length (regions_of p) ≤ length p.manifests + 1 + 16777216 = few_regions p parts rules.memory in
+    and_from _ _ (lt-ltb (length (services_of p)) (2 ^ 31) (omega arith)) (lt-ltb (length (regions_of p)) (2 ^ 31) (omega arith))
 
 pub stateless_have_indices : (p : PartsRecord) → IsParts p → broken p ≡ [] → map (λ v. v.stateless == 0) (services_of p) ≡ map (λ x. x.value.connection_based) (services_in p)
 stateless_have_indices p parts none =
@@ -112,8 +114,9 @@ pub lists_fit : (p : PartsRecord) (level : ℕ) (partitions : List Partition) (s
     → is_well_formed level partitions services sources regions clients budgets ≡ true
 lists_fit p level partitions services sources regions clients budgets parts none a b c d e f g = rw (a, b, c, d, e, f, g) (parts_fit p parts none)
 
-pub services_are_numbered : (p : PartsRecord) (services : List Service) → IsParts p → broken p ≡ [] → services ≡ services_of p → nat_lt (length services) (2 ^ 31) ≡ true
-services_are_numbered p services parts none e = rw e (parts_are_numbered p parts none)
+pub lists_are_numbered : (p : PartsRecord) (services : List Service) (regions : List Region) → IsParts p → broken p ≡ [] → services ≡ services_of p → regions ≡ regions_of p
+    → (nat_lt (length services) (2 ^ 31) && nat_lt (length regions) (2 ^ 31)) ≡ true
+lists_are_numbered p services regions parts none e f = rw (e, f) (parts_are_numbered p parts none)
 
 -- ---- the system
 
@@ -127,7 +130,7 @@ system_with p numbered fit = record {
   regions = p.regions;
   clients = p.clients;
   budgets = p.budgets;
-  services_counted = numbered;
+  counted = numbered;
   well_formed = fit;
 }
 

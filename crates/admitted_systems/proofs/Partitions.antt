@@ -15,7 +15,7 @@ use Rattle.ffm_model.specs.Compiled.{partition_of, partitions_of}
 use Rattle.ffm_model.specs.Rules.{memory_too_large}
 use Rattle.admitted_systems.proofs.Lists.{get_behind, three, each_weaker, each_map, all_from, pairs_test, pairs_map}
 use Rattle.admitted_systems.proofs.Numbered.{each_numbered, numbers_rise}
-use Rattle.admitted_systems.proofs.Regions.{Secure, sizes_of, mmio_right}
+use Rattle.admitted_systems.proofs.Regions.{Secure, length_rams, sizes_of, mmio_right}
 
 abbrev HasRam : List Region → Partition → Type 0
 HasRam regions p = option_map_or (λ r. is_ram_in p.domain r.class) (slice_get regions p.ram) false ≡ true
@@ -33,10 +33,6 @@ rams_found level k base (m ∷ ms) front rest e =
       subst (λ (regions : List Region). Each (HasRam regions) (map (partition_of level) (enumerate_from (k + 1) ms))) (append_assoc front (ram ∷ []) behind)
           (rams_found level (k + 1) (base + ram_needed m) ms (front ++ ram ∷ []) rest (let l = length-append front (ram ∷ []) in omega arith)),
     )
-
-length_rams : (level k base : ℕ) (ms : List ManifestRecord) → length (rams_from level k base ms) ≡ length ms
-length_rams level k base [] = refl
-length_rams level k base (m ∷ ms) = ap suc (length_rams level (k + 1) (base + ram_needed m) ms)
 
 -- the regions behind the RAM aren't RAM
 front_or_other : (Q : Region → Type 0) (k : ℕ) (xs ys : List Region) → Each Q ys → Each (λ e. (e.0 < k + length xs) ⊎ Q e.1) (enumerate_from k (xs ++ ys))

@@ -1,9 +1,9 @@
--- The regions: their sizes and ends, and that they lie apart.
-use Rattle.std.proofs.Common.{ℕ, ◌≡◌, ◌+◌, ◌*◌, ◌<◌, ◌≤◌, Bool, true, false, not, cond, ◌&&◌, ◌==◌, List, [], ◌∷◌, ◌++◌, map, filter, length, Option, Some, None, IfSome, option_map, find, refl, arith, nat_lt, nat_le, sum_by, count_by, append_assoc, subst, le_refl, le-leb, ltb-false, lt-ltb, eq-eqb}
+-- The regions: their sizes and ends, that they lie apart, and how many there are at most.
+use Rattle.std.proofs.Common.{ℕ, suc, ◌≡◌, ◌+◌, ◌*◌, ◌<◌, ◌≤◌, Bool, true, false, not, cond, ◌&&◌, ◌==◌, List, [], ◌∷◌, ◌++◌, map, filter, length, Option, Some, None, IfSome, option_map, find, refl, ap, arith, nat_lt, nat_le, sum_by, count_by, append_assoc, subst, le_refl, le-leb, ltb-false, lt-ltb, eq-eqb, length-append}
 use Rattle.std.specs.List.{AllByRecursion as Each, list_any, list_all}
 use Rattle.std.specs.Option.{option_map_or}
 use Rattle.std.specs.Str.{bytes_eq}
-use Rattle.std.proofs.lemmas.List.Sums.{sum_by-append}
+use Rattle.std.proofs.lemmas.List.Sums.{sum_by-append, sum_by-cons}
 use Rattle.std.proofs.lemmas.Bool.{not-false, or_left, or_right}
 use Rattle.ffm_model.specs.declared.constants.TheConstants.{MAX_IMAGE_BYTES, RAM_BASE}
 use Rattle.ffm_model.specs.declared.manifest.Location.{Location}
@@ -26,6 +26,7 @@ use Rattle.admitted_systems.proofs.Located.{item_each, items_below}
 pub record Secure (n : ℕ) (r : Region) : Type 0 where
   pub owner : owner_below n r.class ≡ true
   pub secure : is_nonsecure r.class ≡ false
+  pub some : 0 < r.size
   pub size : r.size ≤ 1048576
   pub ends : r.base + r.size ≤ 4294967296
 
@@ -110,19 +111,23 @@ found : (p : RegionRecord → Bool) (regions : List RegionRecord) → Each IsReg
 found p [] h = tt
 found p (r ∷ rs) h = elim (p r) as (λ b. IfSome (cond b (Some r) (find p rs)) IsRegion) [ true ↦ h.0 | false ↦ found p rs h.1 ]
 
-ends_of : (r : Option RegionRecord) → IfSome r IsRegion → IfSome (option_map (λ r. (r.base, r.size)) r) (λ (e : ℕ × ℕ). e.0 + e.1 ≤ 4294967296)
-ends_of None h = tt
-ends_of (Some r) h = h.ends
+-- at least one byte, and the end by 2 ^ 32
+abbrev IsRange : ℕ × ℕ → Type 0
+IsRange e = (0 < e.1) × (e.0 + e.1 ≤ 4294967296)
 
-range_ends : (regions : List RegionRecord) (location : Location) → Each IsRegion regions → IsLocation location → IfSome (range_named regions location) (λ e. e.0 + e.1 ≤ 4294967296)
-range_ends regions (Named name) h k = ends_of _ (found (λ r. bytes_eq r.name name) regions h)
-range_ends regions (Numbered base size) h k = k.1
+range_of : (r : Option RegionRecord) → IfSome r IsRegion → IfSome (option_map (λ r. (r.base, r.size)) r) IsRange
+range_of None h = tt
+range_of (Some r) h = (h.size, h.ends)
 
-placed_by : (n : ℕ) (x : Located MmioRecord) (range : Option (ℕ × ℕ)) → x.manifest < n → option_map_or (λ e. is_large e.1) range false ≡ false → IfSome range (λ e. e.0 + e.1 ≤ 4294967296)
+is_range : (regions : List RegionRecord) (location : Location) → Each IsRegion regions → IsLocation location → IfSome (range_named regions location) IsRange
+is_range regions (Named name) h k = range_of _ (found (λ r. bytes_eq r.name name) regions h)
+is_range regions (Numbered base size) h k = k
+
+placed_by : (n : ℕ) (x : Located MmioRecord) (range : Option (ℕ × ℕ)) → x.manifest < n → option_map_or (λ e. is_large e.1) range false ≡ false → IfSome range IsRange
     → IfSome (option_map (λ e. record { manifest = x.manifest; item = x.item; value = record { base = e.0; size = e.1; class = Mmio x.manifest x.value.writable } }) range)
     (λ (y : Located Region). Secure n y.value × (is_ram y.value.class ≡ false))
-placed_by n x None below small ends = tt
-placed_by n x (Some e) below small ends = (record { owner = lt-ltb _ _ below; secure = refl; size = not_large e.1 small; ends = ends }, refl)
+placed_by n x None below small right = tt
+placed_by n x (Some e) below small right = (record { owner = lt-ltb _ _ below; secure = refl; some = right.0; size = not_large e.1 small; ends = right.1 }, refl)
 
 items_right : (ms : List ManifestRecord) → Each IsManifest ms → Each (λ x. IsMmio x.value) (located_from (λ m. m.mmio) 0 ms)
 items_right ms h =
@@ -138,7 +143,7 @@ mmio_right p parts sizes =
     each_filter_map (λ y. Secure (length p.manifests) y.value × (is_ram y.value.class ≡ false)) (mmio_placed p.regions) (mmio_items p)
     (each_weaker (λ x. (x.manifest < 0 + length p.manifests) × ((is_large_item p.regions x ≡ false) × IsMmio x.value))
     (λ x. IfSome (mmio_placed p.regions x) (λ y. Secure (length p.manifests) y.value × (is_ram y.value.class ≡ false)))
-    (λ x h. placed_by (length p.manifests) x (range_named p.regions x.value.location) (let l : x.manifest < 0 + length p.manifests = h.0 in omega arith) h.1.0 (range_ends p.regions x.value.location parts.regions h.1.1.location))
+    (λ x h. placed_by (length p.manifests) x (range_named p.regions x.value.location) (let l : x.manifest < 0 + length p.manifests = h.0 in omega arith) h.1.0 (is_range p.regions x.value.location parts.regions h.1.1.location))
     (mmio_items p)
     (each_both (λ x. x.manifest < 0 + length p.manifests) (λ x. (is_large_item p.regions x ≡ false) × IsMmio x.value) (mmio_items p) (items_below (λ m. m.mmio) 0 p.manifests)
     (each_both (λ x. is_large_item p.regions x ≡ false) (λ x. IsMmio x.value) (mmio_items p) sizes.items (items_right p.manifests parts.manifests))))
@@ -218,3 +223,26 @@ pub regions_do_fit : (p : PartsRecord) (n : ℕ) → n ≡ length p.manifests �
 regions_do_fit p n counted parts few apart_rule size_rule =
     let sizes : Sizes p = sizes_of p size_rule in
     four _ _ _ _ (eq-eqb _ _ (one_non_secure p parts sizes)) (regions_within p n counted parts few sizes) (le-leb _ _ sizes.together) (regions_apart p sizes (map_nil _ _ apart_rule))
+
+-- ---- how many there are at most
+
+pub length_rams : (level k base : ℕ) (ms : List ManifestRecord) → length (rams_from level k base ms) ≡ length ms
+length_rams level k base [] = refl
+length_rams level k base (m ∷ ms) = ap suc (length_rams level (k + 1) (base + ram_needed m) ms)
+
+-- where each has a byte, they are no more than their bytes
+at_most_bytes : (rs : List Region) → Each (λ r. 0 < r.size) rs → length rs ≤ sum_by (λ r. r.size) rs
+at_most_bytes [] h = le_refl 0
+at_most_bytes (r ∷ rs) h = omega (arith, h.0, at_most_bytes rs h.1, sum_by-cons (λ r. r.size) r rs)
+
+pub few_regions : (p : PartsRecord) → IsParts p → memory_too_large p ≡ [] → length (regions_of p) ≤ length p.manifests + 1 + 16777216
+few_regions p parts size_rule =
+    let sizes : Sizes p = sizes_of p size_rule in
+    let mmio : List Region = map (λ x. x.value) (mmio_of p) in
+    let few : length mmio ≤ sum_by (λ r. r.size) mmio =
+    at_most_bytes mmio (each_map (λ r. 0 < r.size) (λ x. x.value) (mmio_of p)
+    (each_weaker (MmioRight (length p.manifests)) (λ y. 0 < y.value.size) (λ y h. h.0.some) (mmio_of p) (mmio_right p parts sizes))) in
+    let counted : length (regions_of p) ≡ length (rams_of p) + suc (length mmio) = length-append (rams_of p) (non_secure_of p ∷ mmio) in
+    let bytes : sum_by (λ r. r.size) (regions_of p) ≡ sum_by (λ r. r.size) (rams_of p) + sum_by (λ r. r.size) (non_secure_of p ∷ mmio) =
+    sum_by-append (λ r. r.size) (rams_of p) (non_secure_of p ∷ mmio) in
+    omega (arith, few, counted, bytes, sum_by-cons (λ r. r.size) (non_secure_of p) mmio, length_rams p.level 0 RAM_BASE p.manifests, sizes.together)

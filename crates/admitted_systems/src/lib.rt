@@ -11,8 +11,8 @@ ghost use Rattle.ffm_model.specs.Permissions.{services_in};
 ghost use Rattle.ffm_model.specs.Reading.{refused};
 ghost use Rattle.ffm_model.specs.Rules.{broken};
 
-/// Where no rule is broken, the parts of the system fit each other, and its services have numbers
-/// below 2^31.
+/// Where no rule is broken, the parts of the system fit each other, and its services and its regions
+/// are each fewer than 2^31.
 #[tactic(auto, using(crate::proofs::Fit::parts_fit, crate::proofs::Fit::parts_are_numbered))]
 pub fn admitted_parts_fit()
     ensures fit { (p : PartsRecord) → IsParts p → broken p ≡ [] → do_fit (system_parts p) ≡ true }

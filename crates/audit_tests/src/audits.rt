@@ -1,6 +1,7 @@
 //! Audits: the changes of each legal entry, and how the trace is judged.
 
-use crate::worked::{AUDIT, CONNECTION, SCENARIO, STEADY, SYSTEM, TRACE, Texts, answer};
+use crate::worked::{AUDIT, CONNECTION, STEADY, SYSTEM, Texts, answer};
+use sample_texts::{ONE_REQUEST_SCENARIO, ONE_REQUEST_TRACE};
 use std::test::Fail;
 
 /// Files, and the status and the text of their audit.
@@ -72,7 +73,7 @@ clean 10
     Audited {
         texts: Texts {
             system: SYSTEM,
-            scenario: SCENARIO,
+            scenario: ONE_REQUEST_SCENARIO,
             trace: "p1 wait 0xffffffff 0x80000000 -> blocked
 n1 connect 0x00000040 1 -> blocked
 p1 resume -> signals 0x00000010
@@ -91,7 +92,7 @@ illegal 5
     Audited {
         texts: Texts {
             system: SYSTEM,
-            scenario: SCENARIO,
+            scenario: ONE_REQUEST_SCENARIO,
             trace: "p1 wait 0xffffffff 0x80000000 -> blocked
 n1 connect 0x00000040 1 -> blocked
 p1 resume -> signals 0x00000010
@@ -182,7 +183,7 @@ clean 17
     Audited {
         texts: Texts {
             system: SYSTEM,
-            scenario: SCENARIO,
+            scenario: ONE_REQUEST_SCENARIO,
             trace: "quiet 0\n",
         },
         status: 6,
@@ -201,7 +202,7 @@ clean 17
     Audited {
         texts: Texts {
             system: SYSTEM,
-            scenario: SCENARIO,
+            scenario: ONE_REQUEST_SCENARIO,
             trace: "p1 stop end -> done\nquiet 2\n",
         },
         status: 1,
@@ -212,7 +213,7 @@ clean 17
         texts: Texts {
             system: SYSTEM,
             scenario: r#"{"restarts":1}"#,
-            trace: TRACE,
+            trace: ONE_REQUEST_TRACE,
         },
         status: 1,
         text: "refused 4 BadValue scenario /restarts\n",

@@ -1,10 +1,9 @@
 //! The commands over files that are cut, reads that fail, and outputs that fail or take a byte a call.
 
-use crate::worked::{
-    COMMANDS, CONNECTION, MANIFEST, Outside, STEADY, SYSTEM, Texts, answer, words_of,
-};
+use crate::worked::{COMMANDS, CONNECTION, Outside, STEADY, SYSTEM, Texts, answer, words_of};
 use ffm_top::{asks_threads, ffm_steady};
 use outside_io::{MemoryFiles, SteadyFiles, SteadySink};
+use sample_texts::VAULT_MANIFEST;
 use std::test::Fail;
 
 // The first lines of a text.
@@ -80,7 +79,7 @@ fn one_byte_a_put(rt: HostRuntime) -> Result<(), Fail> {
 fn each_cut_system(rt: HostRuntime) -> Result<(), Fail> {
     let alloc = rt.alloc();
     let system = format!(in alloc;
-        r#"{{"isolation_level":3,"manifests":[{MANIFEST}],"clients":["NS"]}}"#
+        r#"{{"isolation_level":3,"manifests":[{VAULT_MANIFEST}],"clients":["NS"]}}"#
     )?;
     for length in 0..system.len() {
         if let Some((cut, _)) = system.split_at_checked(length) {
@@ -123,7 +122,7 @@ fn steady_pair(rt: HostRuntime) -> Result<(), Fail> {
     for (room, text) in [(4096, ASKED), (40, "n1 framework_version -> number 257\n")] {
         let mut files = MemoryFiles::new(alloc);
         files.add(alloc, "system", SYSTEM.as_bytes())?;
-        files.add(alloc, "manifest", MANIFEST.as_bytes())?;
+        files.add(alloc, "manifest", VAULT_MANIFEST.as_bytes())?;
         files.add(alloc, "scenario", ASKING.as_bytes())?;
         let mut steady = SteadyFiles::new(files);
         let mut sink = SteadySink::new(alloc, room)?;

@@ -3,60 +3,15 @@
 use ffm_model::List;
 use ffm_top::{asks_threads, ffm_alone};
 use outside_io::{MemoryFiles, MemorySink};
+use sample_texts::{ONE_REQUEST_SCENARIO, ONE_REQUEST_TRACE, VAULT_MANIFEST};
 use std::alloc::Global;
 use std::test::Fail;
 
-/// A partition's manifest.
-pub(crate) const MANIFEST: &str =
-    r#"{"psa_framework_version":1.0,"name":"VAULT","type":"APPLICATION-ROT","priority":"NORMAL",
-"entry_point":"vault_main","stack_size":"0x400",
-"services":[{"name":"VAULT","sid":"0x40","non_secure_clients":true},
-{"name":"ADMIN","sid":"0x41","non_secure_clients":false,"version":2}]}"#;
-
-/// A system of that partition and a client.
+/// A system of the partition VAULT, whose manifest is a file of its own, and a client.
 pub(crate) const SYSTEM: &str =
     r#"{"isolation_level":3,"manifests":["manifest"],"clients":["NS"]}"#;
 
-/// A connection with a request that is read and written in pieces, and its end.
-pub(crate) const SCENARIO: &str = r#"{"scripts":[
-{"actor":"VAULT","lines":["top:","wait 0xffffffff 0x80000000","get r0 0x30000000","jeq r1 0 req",
-"reply r2 0","jmp top","req:","read r2 0 0x30000100 3","read r2 0 0x30000100 3",
-"read r2 0 0x30000100 3","write r2 0 0x30000100 4","reply r2 7","jmp top"]},
-{"actor":"NS","lines":["connect 0x40 1","set r5 r0","call r5 0 0x20000000 1 0x20000008 1",
-"close r5","load 0x2000000c 4"]}],
-"memory":[{"address":"0x20000000","bytes":"20000020050000003000002008000000"},
-{"address":"0x20000020","bytes":"68656c6c6f"}]}"#;
-
-/// Its trace.
-pub(crate) const TRACE: &str = "p1 wait 0xffffffff 0x80000000 -> blocked
-n1 connect 0x00000040 1 -> blocked
-p1 resume -> signals 0x00000010
-p1 get 0x00000010 0x30000000 -> message -1 1536 -1 0x00000000 0 0 0 0 0 0 0 0
-p1 reply 1536 0 -> done
-n1 resume -> value 1024
-p1 wait 0xffffffff 0x80000000 -> blocked
-n1 call 1024 0 0x20000000 1 0x20000008 1 -> blocked
-p1 resume -> signals 0x00000010
-p1 get 0x00000010 0x30000000 -> message 0 2560 -1 0x00000000 5 0 0 0 8 0 0 0
-p1 read 2560 0 0x30000100 3 -> number 3
-p1 read 2560 0 0x30000100 3 -> number 2
-p1 read 2560 0 0x30000100 3 -> number 0
-p1 write 2560 0 0x30000100 4 -> done
-p1 reply 2560 7 -> done
-n1 resume -> value 7
-p1 wait 0xffffffff 0x80000000 -> blocked
-n1 close 1024 -> blocked
-p1 resume -> signals 0x00000010
-p1 get 0x00000010 0x30000000 -> message -2 3584 -1 0x00000000 0 0 0 0 0 0 0 0
-p1 reply 3584 0 -> done
-n1 resume -> done
-p1 wait 0xffffffff 0x80000000 -> blocked
-n1 load 0x2000000c 4 -> number 4
-n1 stop end -> done
-quiet 25
-";
-
-/// What its entries changed.
+/// What the entries of the connection's run changed.
 pub(crate) const AUDIT: &str = "4 0x30000000 9 -
 10 0x30000000 7 -
 11 0x30000100 3 -
@@ -78,8 +33,8 @@ pub(crate) struct Texts<'a> {
 /// The files of the connection's run.
 pub(crate) const CONNECTION: Texts<'static> = Texts {
     system: SYSTEM,
-    scenario: SCENARIO,
-    trace: TRACE,
+    scenario: ONE_REQUEST_SCENARIO,
+    trace: ONE_REQUEST_TRACE,
 };
 
 /// What of the outside is out of the ordinary.
@@ -123,7 +78,7 @@ pub(crate) fn answer(
     }
     let mut files = MemoryFiles::new(alloc);
     files.add(alloc, "system", texts.system.as_bytes())?;
-    files.add(alloc, "manifest", MANIFEST.as_bytes())?;
+    files.add(alloc, "manifest", VAULT_MANIFEST.as_bytes())?;
     files.add(alloc, "scenario", texts.scenario.as_bytes())?;
     files.add(alloc, "trace", texts.trace.as_bytes())?;
     files.fail_at(List::of(vec![in alloc; outside.failing_read]?));
@@ -135,7 +90,7 @@ pub(crate) fn answer(
 
 /// The words of the commands over the files, with what each writes over the connection's.
 pub(crate) const COMMANDS: [(&[&str], &str); 3] = [
-    (&["ffm", "run", "system", "scenario"], TRACE),
+    (&["ffm", "run", "system", "scenario"], ONE_REQUEST_TRACE),
     (
         &["ffm", "replay", "system", "scenario", "trace"],
         "legal 25\n",

@@ -52,7 +52,7 @@ vault_system = record {
   regions = vault_regions;
   clients = codes "NS" ∷ [];
   budgets = two_connections;
-  services_counted = refl;
+  counted = refl;
   well_formed = vault_fits;
 }
 

@@ -5,7 +5,7 @@ ghost use Rattle.partition_sim.specs.Workers.{IsFresh};
 
 use crate::alone::{Alone, Book, Log};
 use ffm_model::{
-    ActorId, ActorKind, Call, Handle, List, Name, PSA_BLOCK, Script, Sid, Status, System,
+    ActorId, ActorKind, Call, Handle, Lines, List, Name, PSA_BLOCK, Script, Sid, Status, System,
 };
 use ns_contexts::join;
 use partition_sim::{Runner, Worker, drive};
@@ -30,8 +30,8 @@ fn script(rt: &impl Abort, alloc: Global, text: &str) -> Result<Script, Fail>
     for line in text.split('\n') {
         lines.push(Name::of(String::from_str(alloc, line)?))?;
     }
-    assert!(rt; lines.len() < 20);
-    let script = assemble(alloc, &List::of(lines), ActorKind::Partition, 0)?;
+    let lines = Lines::of(List::of(lines)).ok_or("the lines are few")?;
+    let script = assemble(alloc, &lines, ActorKind::Partition, 0)?;
     assert_eq!(rt; script.parts.len(), 1);
     Ok(script)
 }

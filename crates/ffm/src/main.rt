@@ -1,6 +1,9 @@
 //! The program: the top call over the real files and the standard output, ending with its answer.
 #![tactic(auto)]
 
+#[cfg(test)]
+mod tests;
+
 use ffm_model::OpenGate;
 use ffm_top::ffm;
 use outside_io::{HostFiles, StdoutSink};

@@ -15,7 +15,7 @@ made p numbered fit = record {
   regions = p.regions;
   clients = p.clients;
   budgets = p.budgets;
-  services_counted = numbered;
+  counted = numbered;
   well_formed = fit;
 }
 
@@ -32,7 +32,7 @@ system_by-made p false f is_m is_f numbered fit = cc
 -- the parts of a system make that system
 pub system_from-parts_of_system : (s : System) → system_from (parts_of_system s) ≡ Some s
 unfolding system_from
-system_from-parts_of_system s = system_by-made (parts_of_system s) (are_numbered (parts_of_system s)) (do_fit (parts_of_system s)) refl refl s.services_counted s.well_formed
+system_from-parts_of_system s = system_by-made (parts_of_system s) (are_numbered (parts_of_system s)) (do_fit (parts_of_system s)) refl refl s.counted s.well_formed
 
 pub system_of_parts : (s : System) (p : SystemParts) → parts_of_system s ≡ p → system_from p ≡ Some s
 system_of_parts s p e = ap system_from (sym e) ∙ system_from-parts_of_system s

@@ -1,10 +1,10 @@
 -- A scenario file as a table, over the system that it is for: one line for each attribute, in the order in which they are
 -- read. The first refusal counts. Unknown attributes pass unread.
 -- Source: this simulator's scenario file.
-use Rattle.std.specs.Prelude.{◌≡◌, ◌<◌, ◌≤◌, IsTrue, ℕ, ◌+◌, ◌*◌, List, [], ◌∷◌, ◌++◌, length, map, filter, count_by, position, get_or, slice_get, nat_lt, Bool, false, ◌&&◌, ◌==◌, Option, Some, None, is_some, IfSome, option_and_then, Result, Ok, codes, if◌then◌else◌}
+use Rattle.std.specs.Prelude.{◌≡◌, ◌<◌, ◌≤◌, IsTrue, ℕ, ◌+◌, ◌*◌, List, [], ◌∷◌, ◌++◌, length, map, filter, count_by, position, get_or, nat_lt, Bool, ◌&&◌, ◌==◌, Option, Some, None, is_some, IfSome, option_and_then, Result, Ok, codes, if◌then◌else◌}
 use Rattle.std.specs.Char.{digit_value, is_digit}
 use Rattle.std.specs.List.{list_any, range_with_len, AllByRecursion}
-use Rattle.std.specs.Option.{option_map, option_map_or}
+use Rattle.std.specs.Option.{option_map}
 use Rattle.std.specs.Str.{bytes_eq}
 use Rattle.serde_json.specs.Data.{Data}
 use Rattle.serde_json.specs.Find.{as_str, as_object}

@@ -1,5 +1,5 @@
 -- The calls of `psa/service.h`: what each answers and leaves, or nothing where the call is a PROGRAMMER ERROR.
-use Rattle.std.specs.Prelude.{ℕ, ℤ, pos, negsuc, ◌+◌, ◌-◌, ◌==◌, nat_lt, nat_le, min, int_lt, int_le, Bool, true, false, not, ◌&&◌, ◌||◌, if◌then◌else◌, List, [], take, option_and_then, ◌∷◌, ◌++◌, length, Some, None, Option, map, position, get_or, slice_get, slice_set, bit_and, find}
+use Rattle.std.specs.Prelude.{ℕ, ℤ, ◌+◌, ◌-◌, ◌==◌, nat_lt, nat_le, min, int_lt, int_le, Bool, not, ◌&&◌, ◌||◌, if◌then◌else◌, List, [], take, option_and_then, ◌∷◌, ◌++◌, Some, None, Option, map, position, get_or, slice_set, bit_and, find}
 use Rattle.std.specs.Option.{option_map_or, option_map}
 use Rattle.std.specs.Ordering.{int_eq}
 use Rattle.std.specs.Int.{w32, cast_unsigned}

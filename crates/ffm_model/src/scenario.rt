@@ -3,9 +3,70 @@
 use crate::list::List;
 use crate::machine::ActorId;
 use crate::name::Name;
+use std::alloc::Global;
+use std::marker::Model;
 
-/// The lines of one script.
-pub type Lines = List<Name>;
+/// The lines of one script: fewer than 2^31. Contracts see the list of them.
+#[derive(Debug, Drop)]
+pub struct Lines {
+    texts: List<Name>,
+}
+
+impl Model for Lines {
+    ghost use Rattle.std.specs.Prelude.{ℕ, ◌<◌, ◌^◌, List, length};
+
+    ghost Value = { List (List ℕ) };
+
+    ghost view = { λ lines. lines.texts };
+
+    ghost invariant = { λ lines. length lines.texts < 2 ^ 31 };
+}
+
+impl Lines {
+    ghost use Rattle.std.specs.Prelude.{◌≡◌, ◌<◌, ◌^◌, ◌==◌, [], IfSome, is_some, length, nat_lt};
+
+    /// No lines. It takes no memory.
+    pub fn none(alloc: Global) -> Lines
+        ensures { result ≡ [] }
+    {
+        Lines {
+            texts: List::of(Vec::new(alloc)),
+        }
+    }
+
+    /// These lines. None exactly where there are 2^31 or more. It takes no memory.
+    pub fn of(texts: List<Name>) -> Option<Lines>
+        ensures exact { is_some result ≡ nat_lt (length texts) (2 ^ 31) }
+        ensures lines { IfSome result (λ lines. lines ≡ texts) }
+    {
+        if texts.len() >= 1 << 31 {
+            return None;
+        }
+        Some(Lines { texts })
+    }
+
+    /// The lines, lent.
+    pub fn as_slice(&self) -> &[Name]
+        ensures lines { result.now ≡ self.now }
+        ensures few { length result.now < 2 ^ 31 }
+    {
+        self.texts.as_slice()
+    }
+
+    /// How many lines there are.
+    pub fn len(&self) -> usize
+        ensures { result ≡ length self.now }
+    {
+        self.texts.len()
+    }
+
+    /// Whether there is no line.
+    pub fn is_empty(&self) -> bool
+        ensures { result ≡ (length self.now == 0) }
+    {
+        self.texts.is_empty()
+    }
+}
 
 /// Bytes at an address and behind it.
 #[derive(Debug, Drop)]

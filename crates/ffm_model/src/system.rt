@@ -114,7 +114,8 @@ pub struct Budget {
 /// non-secure clients, services and interrupt sources with signals of their own, regions that share no
 /// byte, and one budget for each client that may use a service, in actor order and then in service
 /// order. No two stateless services have one index. Each heap lies in its partition's RAM, and a
-/// partition whose services are functions has a service and at least 48 bytes of RAM.
+/// partition whose services are functions has a service and at least 48 bytes of RAM. The services and
+/// the regions are each fewer than 2^31.
 #[derive(Drop)]
 pub struct System {
     pub level: u32,
@@ -124,7 +125,7 @@ pub struct System {
     pub regions: List<Region>,
     pub clients: List<Name>,
     pub budgets: List<Budget>,
-    pub ghost services_counted: { IsTrue (nat_lt (length services) (2 ^ 31)) },
+    pub ghost counted: { IsTrue (nat_lt (length services) (2 ^ 31) && nat_lt (length regions) (2 ^ 31)) },
     pub ghost well_formed: { IsTrue (is_well_formed level partitions services sources regions clients budgets) },
 }
 

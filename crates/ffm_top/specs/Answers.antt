@@ -1,6 +1,7 @@
 -- The answers of the top call, and their causes.
 -- Source: this simulator's exit statuses.
 use Rattle.std.specs.Prelude.{ℕ, ◌≡◌, ◌≤◌, ◌⊎◌, List, Option}
+use Rattle.outside_io.specs.Reads.{ReadBetween, FrontReadBetween}
 use Rattle.outside_io.specs.Told.{Takes, TakesPart}
 use Rattle.ffm_model.specs.Reading.{Contents, FailedAmong}
 use Rattle.ffm_top.specs.Due.{Due, DueAlone, asked}
@@ -29,3 +30,11 @@ WritesPart words of before after = (text : List ℕ) × (status : ℕ) × Due wo
 -- the last failed name, where it is told, is one that is asked for
 abbrev pub FailedAsked : List (List ℕ) → Contents → Option (Option (List ℕ)) → Type 0
 FailedAsked words of last = FailedAmong (asked words of) last
+
+-- the files that are asked for were read, in the order in which they are asked for, each as often as it is, and no other
+abbrev pub ReadsAsked : List (List ℕ) → Contents → Option (List (List ℕ)) → Option (List (List ℕ)) → Type 0
+ReadsAsked words of before after = ReadBetween before after (asked words of)
+
+-- of the files that are asked for, those in front were read, up to where the reading ended, and no other
+abbrev pub ReadsAskedPart : List (List ℕ) → Contents → Option (List (List ℕ)) → Option (List (List ℕ)) → Type 0
+ReadsAskedPart words of before after = FrontReadBetween before after (asked words of)

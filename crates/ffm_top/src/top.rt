@@ -1,10 +1,11 @@
 //! The top call.
 
-ghost use Rattle.std.specs.Prelude.{◌≡◌, ◌<◌, ◌≤◌, ◌≢◌, ◌↔◌, [], ◌⊎◌, None, Some, Ok, IfOk, IfSome, IsErrOf, IsOk, IsOkAnd, false, length, map, string_bytes, true};
+ghost use Rattle.std.specs.Prelude.{◌≡◌, ◌<◌, ◌≤◌, ◌≢◌, ◌↔◌, [], ◌⊎◌, None, Some, Ok, IfOk, IfSome, IsErr, IsErrOf, IsOk, IsOkAnd, false, length, map, string_bytes, true};
 ghost use Rattle.outside_io.specs.Count.{Rose};
+ghost use Rattle.outside_io.specs.Reads.{FrontReadBetween, ReadBetween};
 ghost use Rattle.outside_io.specs.Told.{Puts, Takes};
 ghost use Rattle.ffm_model.specs.Reading.{FailedAmong};
-ghost use Rattle.ffm_top.specs.Answers.{IsStatus, IsDoneStatus, WritesAlone, WritesDue, WritesPart, FailedAsked};
+ghost use Rattle.ffm_top.specs.Answers.{IsStatus, IsDoneStatus, WritesAlone, WritesDue, WritesPart, FailedAsked, ReadsAsked, ReadsAskedPart};
 ghost use Rattle.ffm_top.specs.Due.{Due, DueAlone, DueBy, ListingDue, TraceDue, WorkDue, asked, IsValid, IsValidWork};
 ghost use Rattle.ffm_top.specs.Makes.{MadeDue};
 ghost use Rattle.ffm_top.specs.Replays.{IsTraceText};
@@ -137,6 +138,7 @@ fn done(alloc: Global, work: Work) -> Result<Report, Halt>
 }
 
 // The report of an accepted command.
+#[tactic(auto, using(outside_io::proofs::ReadSteps::all_read))]
 fn report_of_command<F: Files>(
     alloc: Global,
     command: Command<'_>,
@@ -156,6 +158,10 @@ fn report_of_command<F: Files>(
     ensures failed { IsErrOf result Halt.Files → Rose (F.faults files.old) (F.faults files.new) }
     ensures asked { IsErrOf result Halt.Files → IfSome (F.held files.old) (λ of.
         FailedAmong (work_of of (order command.entry)).names (F.last_failed files.new)) }
+    ensures read { IsOk result → IfSome (F.held files.old) (λ of.
+        ReadBetween (F.reads files.old) (F.reads files.new) (work_of of (order command.entry)).names) }
+    ensures read_part { IsErr result → IfSome (F.held files.old) (λ of.
+        FrontReadBetween (F.reads files.old) (F.reads files.new) (work_of of (order command.entry)).names) }
 {
     match work_of(alloc, command, files) {
         Ok(work) => done(alloc, work),
@@ -166,6 +172,7 @@ fn report_of_command<F: Files>(
 }
 
 // All that is to be written.
+#[tactic(auto, using(outside_io::proofs::ReadSteps::read_none, outside_io::proofs::ReadSteps::none_read_yet))]
 fn report_of<F: Files>(alloc: Global, words: &Vec<String>, files: &mut F) -> Result<Report, Halt>
     requires threads { asks_threads (order_of (map string_bytes words.now.items)) ≡ false }
     ensures due { IfSome (F.held files.old) (λ of. IfOk result (λ report.
@@ -183,6 +190,10 @@ fn report_of<F: Files>(alloc: Global, words: &Vec<String>, files: &mut F) -> Res
     ensures failed { IsErrOf result Halt.Files → Rose (F.faults files.old) (F.faults files.new) }
     ensures asked { IsErrOf result Halt.Files → IfSome (F.held files.old) (λ of.
         FailedAsked (map string_bytes words.now.items) of (F.last_failed files.new)) }
+    ensures read { IsOk result → IfSome (F.held files.old) (λ of.
+        ReadsAsked (map string_bytes words.now.items) of (F.reads files.old) (F.reads files.new)) }
+    ensures read_part { IsErr result → IfSome (F.held files.old) (λ of.
+        ReadsAskedPart (map string_bytes words.now.items) of (F.reads files.old) (F.reads files.new)) }
 {
     match command_of(words) {
         None => Ok(usage()),
@@ -236,6 +247,7 @@ fn done_as_asked<R: Threads + Wait + Sync, G: Gate + Sync>(
 }
 
 // The report of an accepted command, with threads or without.
+#[tactic(auto, using(outside_io::proofs::ReadSteps::all_read))]
 fn report_as_asked<R: Threads + Wait + Sync, G: Gate + Sync, F: Files>(
     rt: &R,
     alloc: Global,
@@ -256,6 +268,10 @@ fn report_as_asked<R: Threads + Wait + Sync, G: Gate + Sync, F: Files>(
     ensures failed { IsErrOf result Halt.Files → Rose (F.faults files.old) (F.faults files.new) }
     ensures asked { IsErrOf result Halt.Files → IfSome (F.held files.old) (λ of.
         FailedAmong (work_of of (order command.entry)).names (F.last_failed files.new)) }
+    ensures read { IsOk result → IfSome (F.held files.old) (λ of.
+        ReadBetween (F.reads files.old) (F.reads files.new) (work_of of (order command.entry)).names) }
+    ensures read_part { IsErr result → IfSome (F.held files.old) (λ of.
+        FrontReadBetween (F.reads files.old) (F.reads files.new) (work_of of (order command.entry)).names) }
 {
     match work_of(alloc, command, files) {
         Ok(work) => done_as_asked(rt, alloc, gate, work),
@@ -266,6 +282,7 @@ fn report_as_asked<R: Threads + Wait + Sync, G: Gate + Sync, F: Files>(
 }
 
 // All that is to be written, with threads or without.
+#[tactic(auto, using(outside_io::proofs::ReadSteps::read_none, outside_io::proofs::ReadSteps::none_read_yet))]
 fn report_in_threads<R: Threads + Wait + Sync, G: Gate + Sync, F: Files>(
     rt: &R,
     alloc: Global,
@@ -288,6 +305,10 @@ fn report_in_threads<R: Threads + Wait + Sync, G: Gate + Sync, F: Files>(
     ensures failed { IsErrOf result Halt.Files → Rose (F.faults files.old) (F.faults files.new) }
     ensures asked { IsErrOf result Halt.Files → IfSome (F.held files.old) (λ of.
         FailedAsked (map string_bytes words.now.items) of (F.last_failed files.new)) }
+    ensures read { IsOk result → IfSome (F.held files.old) (λ of.
+        ReadsAsked (map string_bytes words.now.items) of (F.reads files.old) (F.reads files.new)) }
+    ensures read_part { IsErr result → IfSome (F.held files.old) (λ of.
+        ReadsAskedPart (map string_bytes words.now.items) of (F.reads files.old) (F.reads files.new)) }
 {
     match command_of(words) {
         None => Ok(usage()),
@@ -351,6 +372,13 @@ pub fn ffm_alone<F: Files, S: Sink>(
     ensures no_read_failed { result ≢ 7 → F.faults files.new ≡ F.faults files.old }
     ensures failed { result ≡ 7 → IfSome (F.held files.old) (λ of.
         FailedAsked (map string_bytes words.now.items) of (F.last_failed files.new)) }
+
+    // No file is read but those that are asked for, each as often as it is, where the files tell both: at 7
+    // and 9 the first of them, up to where the reading ended, and at each other status all.
+    ensures read { (result < 7) ⊎ (result ≡ 8) → IfSome (F.held files.old) (λ of.
+        ReadsAsked (map string_bytes words.now.items) of (F.reads files.old) (F.reads files.new)) }
+    ensures read_part { (result ≡ 7) ⊎ (result ≡ 9) → IfSome (F.held files.old) (λ of.
+        ReadsAskedPart (map string_bytes words.now.items) of (F.reads files.old) (F.reads files.new)) }
 
     // 8: a put or the flush failed in this call, and a proper prefix of a text that is due was written.
     ensures sink { result ≡ 8 → Rose (S.faults out.old) (S.faults out.new) }
@@ -427,6 +455,13 @@ pub fn ffm<R: Threads + Wait + Sync, F: Files, S: Sink, G: Gate + Sync>(
     ensures no_read_failed { result ≢ 7 → F.faults files.new ≡ F.faults files.old }
     ensures failed { result ≡ 7 → IfSome (F.held files.old) (λ of.
         FailedAsked (map string_bytes words.now.items) of (F.last_failed files.new)) }
+
+    // No file is read but those that are asked for, each as often as it is, where the files tell both: at 7
+    // and 9 the first of them, up to where the reading ended, and at each other status all.
+    ensures read { (result < 7) ⊎ (result ≡ 8) → IfSome (F.held files.old) (λ of.
+        ReadsAsked (map string_bytes words.now.items) of (F.reads files.old) (F.reads files.new)) }
+    ensures read_part { (result ≡ 7) ⊎ (result ≡ 9) → IfSome (F.held files.old) (λ of.
+        ReadsAskedPart (map string_bytes words.now.items) of (F.reads files.old) (F.reads files.new)) }
 
     // 8: a put or the flush failed in this call, and a proper prefix of a text that is due was written.
     ensures sink { result ≡ 8 → Rose (S.faults out.old) (S.faults out.new) }

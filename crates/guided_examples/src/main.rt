@@ -7,7 +7,7 @@ use outside_io::{HostFiles, StdoutSink};
 use std::alloc::{AllocError, Global};
 use std::io;
 
-const EXAMPLES: [&str; 26] = [
+const EXAMPLES: [&str; 25] = [
     "two_requests",
     "rhandle",
     "version_policies",
@@ -25,7 +25,6 @@ const EXAMPLES: [&str; 26] = [
     "storage_stack",
     "serial_driver",
     "hostile_clients",
-    "firmware",
     "interrupt_handlers",
     "stateless_service",
     "firmware_1_1",

@@ -4,7 +4,7 @@ ghost use Rattle.std.specs.List.{All};
 ghost use Rattle.lock_tests.specs.Workers.{IsUnstarted, passes_in};
 
 use crate::setup::{judged, manager};
-use ffm_model::{ActorId, ActorKind, List, Name, OpenGate, Script, System, Verdict};
+use ffm_model::{ActorId, ActorKind, Lines, List, Name, OpenGate, Script, System, Verdict};
 use machine_check::Checked;
 use partition_sim::{Runner, Worker, drive};
 use script_asm::assemble;
@@ -34,8 +34,8 @@ fn script(rt: &impl Abort, alloc: Global, kind: ActorKind, text: &str) -> Result
     for line in text.split('\n') {
         lines.push(Name::of(String::from_str(alloc, line)?))?;
     }
-    assert!(rt; lines.len() < 20);
-    let script = assemble(alloc, &List::of(lines), kind, 0)?;
+    let lines = Lines::of(List::of(lines)).ok_or("the lines are few")?;
+    let script = assemble(alloc, &lines, kind, 0)?;
     assert_eq!(rt; script.parts.len(), 1);
     Ok(script)
 }

@@ -42,17 +42,17 @@ accepted s limit c new all e true below steps is kept made count = record {
 pub second : (b : Bool) (x y : Judgement) → b ≡ false → (if b then x else y) ≡ y
 second b x y h = rw h refl
 
-first : (b : Bool) (x y : Judgement) → b ≡ true → (if b then x else y) ≡ x
+pub first : (b : Bool) (x y : Judgement) → b ≡ true → (if b then x else y) ≡ x
 first b x y h = rw h refl
 
-either : (b : Bool) (x y : Judgement) → y ≡ x → (if b then x else y) ≡ x
+pub either : (b : Bool) (x y : Judgement) → y ≡ x → (if b then x else y) ≡ x
 either true x y h = refl
 either false x y h = h
 
 pub below_limit : (limit n : ℕ) → n < limit → nat_le limit n ≡ false
 below_limit limit n h = grind (arith, nat_tests)
 
-at_limit : (limit n : ℕ) → limit ≤ n → nat_le limit n ≡ true
+pub at_limit : (limit n : ℕ) → limit ≤ n → nat_le limit n ≡ true
 at_limit limit n h = grind (arith, nat_tests)
 
 -- before the first entry

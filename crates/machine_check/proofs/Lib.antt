@@ -2,9 +2,12 @@ mod Kept
 mod Allowed
 mod Steps
 mod Performed
+mod Due
 mod Judged
+mod Followed
 mod Covered
 mod OwnRam
 mod Compared
 mod Told
 mod Audited
+mod StoredBytes

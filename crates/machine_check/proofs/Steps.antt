@@ -16,7 +16,7 @@ use Rattle.ffm_model.specs.Calls.{effect_of}
 use Rattle.ffm_model.specs.Step.{step, may_call, handle_allowed, handle_shown, outcome_eq}
 use Rattle.machine_calls.specs.declared.machine.Machine.{Machine}
 use Rattle.machine_calls.specs.Machine.{spm_of, state_of}
-use Rattle.machine_check.specs.Performed.{gave_handle, given_after, phase_in, Knows, Performs, Steps}
+use Rattle.machine_check.specs.Performed.{gave_handle, given_after, is_left, phase_in, Knows, Performs, Steps}
 use Rattle.machine_check.proofs.Allowed.{allowed_gave}
 
 -- ---- the three tests of a step
@@ -40,7 +40,7 @@ pub none_by_call : (s : System) (st : State) (e : Entry) → may_call s st.spm e
 unfolding step
 none_by_call s st e h = no_call _ _ _ _ h
 
-none_by_handle : (s : System) (st : State) (e : Entry) → handle_allowed s st e.actor.0 e.call (handle_shown e.outcome) ≡ false → step s st e ≡ None
+pub none_by_handle : (s : System) (st : State) (e : Entry) → handle_allowed s st e.actor.0 e.call (handle_shown e.outcome) ≡ false → step s st e ≡ None
 unfolding step
 none_by_handle s st e h = no_handle _ _ _ _ h
 
@@ -117,21 +117,25 @@ knows_more : (set more : BTreeSet ℤ) (all : List Handle) (h : Handle) → Know
 knows_more set more all h knows adds k =
     adds k.0 ∙ ap (λ b. int_eq k.0 h.0 || b) (knows k) ∙ sym (or_last (list_any (handle_eq k) all) (int_eq k.0 h.0)) ∙ sym (list_any-append (handle_eq k) all (h ∷ []))
 
+-- a handle is left in the set that knows those given exactly where it is fresh
+pub left_fresh : (st : State) (set : BTreeSet ℤ) (h : Handle) → Knows set st.handles_given → is_left set h ≡ fresh st h
+left_fresh st set h knows = ap (λ b. int_le (pos 1) h.0 && int_le h.0 (pos 0x3fffffff) && not b) (knows h)
+
 -- the entry of a call that gave a handle, by whether the handle is a fresh one
 pub by_given : (s : System) (m n : Machine) (set more : BTreeSet ℤ) (all : List Handle) (e : Entry) (due : Outcome) (r : Result Bool Memory)
     → may_call s (spm_of m.objects) e.actor.0 e.call ≡ true
     → Performs s e.actor.0 e.call (handle_shown e.outcome) m (Ok due) n → outcome_eq due e.outcome ≡ true → gave_handle (phase_in m e.actor.0) e.call due ≡ true
     → Knows set all
-    → IfOk r (λ b. b ≡ (int_le (pos 1) (handle_shown e.outcome).0 && int_le (handle_shown e.outcome).0 (pos 0x3fffffff) && not (contains int_cmp set (handle_shown e.outcome).0)))
+    → IfOk r (λ b. b ≡ is_left set (handle_shown e.outcome))
     → IfOk r (λ b. b ≡ true → (k : ℤ) → contains int_cmp more k ≡ (int_eq k (handle_shown e.outcome).0 || contains int_cmp set k))
     → Steps s m all e r n more
 by_given s m n set more all e due (Ok true) may is same gave knows new adds =
     let h = handle_shown e.outcome in (
       all ++ h ∷ [],
       knows_more set more all h knows (adds refl),
-      some_with s m n all e due may is same gave (ap (λ b. int_le (pos 1) h.0 && int_le h.0 (pos 0x3fffffff) && not b) (sym (knows h)) ∙ sym new),
+      some_with s m n all e due may is same gave (sym (left_fresh (state_of m all) set h knows) ∙ sym new),
     )
 by_given s m n set more all e due (Ok false) may is same gave knows new adds =
     let h = handle_shown e.outcome in
-    none_with s m n all e due is gave (ap (λ b. int_le (pos 1) h.0 && int_le h.0 (pos 0x3fffffff) && not b) (sym (knows h)) ∙ sym new)
+    none_with s m n all e due is gave (sym (left_fresh (state_of m all) set h knows) ∙ sym new)
 by_given s m n set more all e due (Err x) may is same gave knows new adds = tt

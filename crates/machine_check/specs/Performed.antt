@@ -1,6 +1,6 @@
 -- What a call makes of the checker's state.
--- Source: FF-M 1.0, by the machine's definitions. These serve the checker's own proof; no public contract cites them.
-use Rattle.std.specs.Prelude.{ℕ, ℤ, ◌≡◌, Bool, true, false, List, [], ◌∷◌, ◌++◌, Option, Some, None, Result, Ok, Err, if◌then◌else◌}
+-- Source: FF-M 1.0, by the machine's definitions. These serve the checker's own proof; public contracts cite `Knows` alone.
+use Rattle.std.specs.Prelude.{ℕ, ℤ, pos, int_le, not, ◌≡◌, ◌&&◌, Bool, true, false, List, [], ◌∷◌, ◌++◌, Option, Some, None, Result, Ok, Err, if◌then◌else◌}
 use Rattle.std.specs.List.{list_any}
 use Rattle.std.specs.BTreeSet.{BTreeSet, contains}
 use Rattle.std.specs.Ordering.{int_cmp}
@@ -44,6 +44,10 @@ Attempts s a c h old (Err e) new = Unit {0}
 abbrev pub Performs : System → ℕ → Call → Handle → Machine → Result Outcome Memory → Machine → Type 0
 Performs s a c h old (Ok o) new = (given : List Handle) → effect_of s (state_of old given) a c h ≡ effect o (state_of new (given_after (gave_handle (phase_in old a) c o) given h))
 Performs s a c h old (Err e) new = Unit {0}
+
+-- the number is one that a handle may have, and no handle of the set has it
+abbrev pub is_left : BTreeSet ℤ → Handle → Bool
+is_left set h = int_le (pos 1) h.0 && int_le h.0 (pos 0x3fffffff) && not (contains int_cmp set h.0)
 
 -- the set has exactly the handles of the list
 abbrev pub Knows : BTreeSet ℤ → List Handle → Type 0

@@ -6,8 +6,9 @@ ghost use Rattle.ffm_model.specs.State.{opening_spm};
 ghost use Rattle.ffm_model.specs.Verdicts.{Judgement, judged, some_enabled, some_blocked, verdict_at};
 ghost use Rattle.memory_image.specs.Pieces.{byte_at, ranges_of, regions_of};
 ghost use Rattle.machine_check.specs.Answers.{judgement};
-ghost use Rattle.machine_check.specs.Checking.{Accepts, ChecksTo, Starts};
+ghost use Rattle.machine_check.specs.Checking.{Accepts, ChecksTo, Follows, Starts};
 ghost use Rattle.machine_check.specs.Performed.{Knows};
+ghost use Rattle.machine_check.specs.Reaching.{IsReached};
 ghost use Rattle.machine_calls.specs.Machine.{spm_of, IsMachineOf};
 
 use crate::step::step;
@@ -78,35 +79,20 @@ fn is_some_blocked(objects: &Objects, system: &System) -> bool
     (0..system.actor_count()).any(|actor| matches!(objects.phase(actor), ActorPhase::Blocked))
 }
 
-// The verdict of a run of so many entries, or none where it isn't ended.
-fn verdict_at(objects: &Objects, system: &System, limit: u32, count: u32) -> Option<Verdict>
-    ensures { result ≡ verdict_at system.now limit count (spm_of objects.now) }
-{
-    if is_some_enabled(objects, system) {
-        if count == limit {
-            Some(Verdict::Full)
-        } else {
-            None
-        }
-    } else if is_some_blocked(objects, system) {
-        Some(Verdict::Stalled)
-    } else {
-        Some(Verdict::Quiet)
-    }
-}
-
-/// A trace as far as it was checked.
+/// A trace as far as it was checked: the state of the machine behind its first entries.
 #[derive(Drop)]
 pub struct Checker {
+    /// Connections, messages, what each actor does, doorbells, interrupts and memory.
     pub machine: Machine,
     /// The handles that its entries gave.
-    given: BTreeSet<i32>,
+    pub(crate) given: BTreeSet<i32>,
     /// How many entries were accepted.
     pub count: u32,
 }
 
 impl Checker {
-    /// Before the first entry.
+    /// Before the first entry, with this memory, which has the system's regions. `Memory` where memory is
+    /// wanting.
     pub fn new(alloc: Global, system: &System, memory: &Image) -> Result<Checker, Memory>
         requires { regions_of memory.now ≡ ranges_of system.now.regions }
         ensures starts { IfOk result (λ c. Starts system.now (byte_at memory.now) c) }
@@ -122,7 +108,8 @@ impl Checker {
         })
     }
 
-    /// Whether the entry is the next one of a run of at most so many.
+    /// Whether the entry is the next one of a run of at most so many. Where it isn't, the machine is of no
+    /// more use. `Memory` where memory is wanting.
     pub fn accept(&mut self, system: &System, limit: u32, entry: &Entry) -> Result<bool, Memory>
         requires kept { IsMachineOf system.now self.old.machine }
         requires made { self.old.machine.objects.connections_made ≤ self.old.count }
@@ -141,15 +128,92 @@ impl Checker {
         Ok(true)
     }
 
+    /// The verdict of a run that ends here and may have at most so many entries. None where it isn't ended: an
+    /// actor can go on, and the entries are not as many as the limit.
+    pub fn verdict(&self, system: &System, limit: u32) -> Option<Verdict>
+        ensures { result ≡ verdict_at system.now limit self.now.count (spm_of self.now.machine.objects) }
+    {
+        let objects = &self.machine.objects;
+        if is_some_enabled(objects, system) {
+            if self.count == limit {
+                Some(Verdict::Full)
+            } else {
+                None
+            }
+        } else if is_some_blocked(objects, system) {
+            Some(Verdict::Stalled)
+        } else {
+            Some(Verdict::Quiet)
+        }
+    }
+
     /// Judges by the verdict, behind all entries.
     pub fn finish(&self, system: &System, limit: u32, verdict: Verdict) -> Checked
         requires { self.now.count < 2 ^ 31 }
         ensures { (j : Judgement) → ChecksTo system.now limit verdict j self.now [] → judgement result ≡ j }
     {
-        match verdict_at(&self.machine.objects, system, limit, self.count) {
+        match self.verdict(system, limit) {
             Some(found) if found == verdict => Checked::Legal,
             _ => Checked::IllegalAt(self.count + 1),
         }
+    }
+}
+
+// Entries that were followed.
+#[derive(Drop)]
+enum Followed {
+    // All are steps within the limit.
+    All(Checker),
+    // So many are, and the next one is no step or is above the limit.
+    Part(u32),
+}
+
+// Follows entries from the start, as far as they are steps of the machine and at most so many.
+fn follow(
+    alloc: Global,
+    system: &System,
+    memory: &Image,
+    limit: u32,
+    entries: &[Entry],
+) -> Result<Followed, Memory>
+    requires regions { regions_of memory.now ≡ ranges_of system.now.regions }
+    requires few { length entries.now < 2 ^ 31 }
+    ensures { IfOk result (λ f. Follows system.now (byte_at memory.now) limit entries.now f) }
+{
+    let mut checker = Checker::new(alloc, system, memory)?;
+    for entry in entries {
+        if !checker.accept(system, limit, entry)? {
+            return Ok(Followed::Part(checker.count));
+        }
+    }
+    Ok(Followed::All(checker))
+}
+
+/// The state behind the first entries of a trace, from this memory: behind as many as are steps of the
+/// machine one after the other, and at most as many as the limit.
+///
+/// It needs memory for the state, for one copy of the image and for the handles that the entries give, and
+/// answers `Memory` where that is wanting. The memory has the system's regions, and the entries are fewer
+/// than 2^31. Where one of them is no step, those before it are followed twice.
+pub fn reached(
+    alloc: Global,
+    system: &System,
+    memory: &Image,
+    limit: u32,
+    entries: &[Entry],
+) -> Result<Checker, Memory>
+    requires regions { regions_of memory.now ≡ ranges_of system.now.regions }
+    requires few { length entries.now < 2 ^ 31 }
+    ensures { IfOk result (λ c. IsReached system.now (byte_at memory.now) limit entries.now c) }
+{
+    let count = match follow(alloc, system, memory, limit, entries)? {
+        Followed::All(checker) => return Ok(checker),
+        Followed::Part(count) => count as usize,
+    };
+    // An entry that is no step may have changed the machine.
+    match follow(alloc, system, memory, limit, &entries[..count])? {
+        Followed::All(checker) => Ok(checker),
+        Followed::Part(_) => unreachable!(),
     }
 }
 
@@ -168,11 +232,8 @@ pub fn check(
     requires few { length trace.now.entries < 2 ^ 31 }
     ensures { IfOk result (λ c. judgement c ≡ judged system.now (byte_at memory.now) limit trace.now.entries trace.now.verdict) }
 {
-    let mut checker = Checker::new(alloc, system, memory)?;
-    for entry in trace.entries.as_slice() {
-        if !checker.accept(system, limit, entry)? {
-            return Ok(Checked::IllegalAt(checker.count + 1));
-        }
+    match follow(alloc, system, memory, limit, trace.entries.as_slice())? {
+        Followed::All(checker) => Ok(checker.finish(system, limit, trace.verdict)),
+        Followed::Part(count) => Ok(Checked::IllegalAt(count + 1)),
     }
-    Ok(checker.finish(system, limit, trace.verdict))
 }

@@ -10,7 +10,7 @@ ghost use Rattle.ffm_model.specs.Groups.{group_of};
 ghost use Rattle.ffm_model.specs.Signals.{may_resume};
 ghost use Rattle.ffm_model.specs.Step.{handle_shown, may_call, outcome_eq, returns_when_due};
 ghost use Rattle.machine_calls.specs.Machine.{spm_of, IsMachineOf};
-ghost use Rattle.machine_check.specs.Performed.{gave_handle, Attempts, Knows, Performs, Refuses, Steps};
+ghost use Rattle.machine_check.specs.Performed.{gave_handle, is_left, Attempts, Knows, Performs, Refuses, Steps};
 
 use ffm_model::{
     ActorId, ActorKind, ActorPhase, Call, Entry, Group, Handle, Memory, Outcome,
@@ -20,7 +20,7 @@ use machine_calls::{Machine, Objects, version};
 use std::collections::BTreeSet;
 
 /// The last number that a handle may have.
-const LAST_HANDLE: i32 = 0x3fff_ffff;
+pub const LAST_HANDLE: i32 = 0x3fff_ffff;
 
 // Makes a call of `psa/client.h`.
 fn client_call(
@@ -276,9 +276,9 @@ fn refuse(
     }
 }
 
-// Makes the call of an actor that can go on, and says what is due. The handle is the one to be given, where the call
-// gives one.
-fn perform(
+/// Makes the call of an actor that can go on, and says what is due. The handle is the one to be given, where the call
+/// gives one.
+pub fn perform(
     machine: &mut Machine,
     system: &System,
     actor: ActorId,
@@ -352,8 +352,8 @@ fn returns_when_due(call: Call, phase: ActorPhase) -> bool
     }
 }
 
-// The actor exists, is enabled, and makes no call while one is to return.
-fn may_call(system: &System, objects: &Objects, actor: ActorId, call: Call) -> bool
+/// The actor exists, is enabled, and makes no call while one is to return.
+pub fn may_call(system: &System, objects: &Objects, actor: ActorId, call: Call) -> bool
     ensures { result ≡ may_call system.now (spm_of objects.now) actor.0 call }
 {
     actor.0 < system.actor_count()
@@ -379,8 +379,8 @@ fn is_due(due: Outcome, told: Outcome) -> bool
     due == told
 }
 
-// Whether the call gave a handle: `psa_get`, or the return of `psa_connect`.
-fn gave_handle(phase: ActorPhase, call: Call, outcome: Outcome) -> bool
+/// Whether the call gave a handle: `psa_get`, or the return of `psa_connect`.
+pub fn gave_handle(phase: ActorPhase, call: Call, outcome: Outcome) -> bool
     ensures { result ≡ gave_handle phase call outcome }
 {
     match call {
@@ -392,7 +392,7 @@ fn gave_handle(phase: ActorPhase, call: Call, outcome: Outcome) -> bool
 
 // Gives a handle, where it is from 1 to 0x3fffffff and no event gave it before.
 fn give(given: &mut BTreeSet<i32>, handle: Handle) -> Result<bool, Memory>
-    ensures fresh { IfOk result (λ is_fresh. is_fresh ≡ (int_le (pos 1) handle.0 && int_le handle.0 (pos 0x3fffffff) && not (contains int_cmp given.old handle.0))) }
+    ensures fresh { IfOk result (λ is_fresh. is_fresh ≡ is_left given.old handle) }
     ensures given { IfOk result (λ is_fresh. is_fresh ≡ true → (k : ℤ) → contains int_cmp given.new k ≡ (int_eq k handle.0 || contains int_cmp given.old k)) }
 {
     if handle.0 < 1 || handle.0 > LAST_HANDLE {

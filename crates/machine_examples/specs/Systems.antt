@@ -69,7 +69,7 @@ vault_system = record {
   regions = vault_regions;
   clients = codes "NS" ∷ [];
   budgets = connections 1 0 1 ∷ [];
-  services_counted = refl;
+  counted = refl;
   well_formed = vault_fits;
 }
 
@@ -106,7 +106,7 @@ abbrev pub policies_system : System
 policies_system = record vault_system {
   services = policy_services;
   budgets = connections 1 0 1 ∷ connections 1 1 1 ∷ [];
-  services_counted = refl;
+  counted = refl;
   well_formed = policies_fit;
 }
 
@@ -144,7 +144,7 @@ dependent_system = record {
   regions = dependent_regions;
   clients = [];
   budgets = connections 1 0 1 ∷ [];
-  services_counted = refl;
+  counted = refl;
   well_formed = dependent_fits;
 }
 
@@ -187,7 +187,7 @@ ticker_system = record {
   regions = vault_regions;
   clients = [];
   budgets = [];
-  services_counted = refl;
+  counted = refl;
   well_formed = ticker_fits;
 }
 
@@ -220,7 +220,7 @@ unfolding is_well_formed
 clock_budget_misfits = refl
 
 abbrev pub clock_system : System
-clock_system = record vault_system { partitions = clock_partitions; services = clock_services; budgets = connections 1 0 0 ∷ []; services_counted = refl; well_formed = clock_fits }
+clock_system = record vault_system { partitions = clock_partitions; services = clock_services; budgets = connections 1 0 0 ∷ []; counted = refl; well_formed = clock_fits }
 
 -- ---- two partitions, of which the second may use the first one's stateless service
 
@@ -232,7 +232,7 @@ unfolding is_well_formed
 called_fits = refl
 
 abbrev pub called_system : System
-called_system = record dependent_system { services = called_services; budgets = connections 1 0 0 ∷ []; services_counted = refl; well_formed = called_fits }
+called_system = record dependent_system { services = called_services; budgets = connections 1 0 0 ∷ []; counted = refl; well_formed = called_fits }
 
 -- ---- a second partition beside the first one, of a type and in a domain, and a client
 
@@ -261,7 +261,7 @@ spied_system level vault_domain spy_type spy_domain fits = record {
   regions = spied_regions vault_domain spy_domain;
   clients = codes "NS" ∷ [];
   budgets = connections 2 0 1 ∷ [];
-  services_counted = refl;
+  counted = refl;
   well_formed = fits;
 }
 
@@ -327,7 +327,7 @@ adder_fits = refl
 
 -- clients call the service without a connection
 abbrev pub adder_system : System
-adder_system = record vault_system { partitions = adder_partitions; services = adder_services; budgets = connections 1 0 0 ∷ []; services_counted = refl; well_formed = adder_fits }
+adder_system = record vault_system { partitions = adder_partitions; services = adder_services; budgets = connections 1 0 0 ∷ []; counted = refl; well_formed = adder_fits }
 
 abbrev connected_services : List Service
 connected_services = service (codes "ADDER") 0x60 1 Strict 0x10 ∷ []
@@ -338,7 +338,7 @@ connected_fits = refl
 
 -- clients connect to the service
 abbrev pub connected_system : System
-connected_system = record adder_system { services = connected_services; budgets = connections 1 0 1 ∷ []; services_counted = refl; well_formed = connected_fits }
+connected_system = record adder_system { services = connected_services; budgets = connections 1 0 1 ∷ []; counted = refl; well_formed = connected_fits }
 
 -- ---- a partition whose service may map vectors, with windows of 16 bytes, and a client
 
@@ -361,7 +361,7 @@ mapper_system = record vault_system {
   services = mapper_services;
   regions = mapper_regions;
   budgets = connections 1 0 0 ∷ [];
-  services_counted = refl;
+  counted = refl;
   well_formed = mapper_fits;
 }
 
@@ -392,6 +392,6 @@ log_system = record {
   regions = log_regions;
   clients = [];
   budgets = [];
-  services_counted = refl;
+  counted = refl;
   well_formed = log_fits;
 }

@@ -1,5 +1,6 @@
 pub mod Count
 pub mod Told
+pub mod Reads
 pub mod MemoryFiles
 pub mod MemorySink
 pub mod Gathering

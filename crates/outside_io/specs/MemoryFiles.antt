@@ -1,6 +1,6 @@
--- Files in memory: what each name holds, the calls made, and which calls fail.
+-- Files in memory: what each name holds, the calls made, the names that were read, and which calls fail.
 -- Source: this project's rule for files in memory.
-use Rattle.std.specs.Prelude.{◌≡◌, ◌⊎◌, ℕ, List, Option, None, Contains, string_bytes}
+use Rattle.std.specs.Prelude.{◌≡◌, ◌⊎◌, ℕ, List, Option, None, Contains, map, string_bytes}
 use Rattle.std.specs.Option.{option_map}
 use Rattle.std.specs.BTreeMap.{get_by_text}
 use Rattle.outside_io.specs.Count.{one_more}
@@ -13,6 +13,10 @@ held_by files name = option_map (λ bytes. bytes.items) (get_by_text files.files
 -- how many reads were called, whatever they answered
 abbrev pub calls_of : MemoryFiles → ℕ
 calls_of files = files.calls
+
+-- the names that were read, in order: those of the calls that found memory to keep the name
+abbrev pub reads_of : MemoryFiles → List (List ℕ)
+reads_of files = map string_bytes files.reads.items
 
 -- the numbers, from 1, of the calls that are to fail
 abbrev pub failing_of : MemoryFiles → List ℕ
@@ -33,6 +37,7 @@ Fails files name = Contains (failing_of files) (one_more (calls_of files)) ⊎ (
 -- no read was called between the two, and the same calls are to fail
 pub record SameCalls (before after : MemoryFiles) : Type 0 where
   pub calls : calls_of after ≡ calls_of before
+  pub reads : reads_of after ≡ reads_of before
   pub failing : failing_of after ≡ failing_of before
   pub faults : faults_of after ≡ faults_of before
   pub last_failed : last_failed_of after ≡ last_failed_of before

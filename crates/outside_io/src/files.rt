@@ -1,9 +1,10 @@
 //! Files by name.
 
-ghost use Rattle.std.specs.Prelude.{◌≡◌, ℕ, ◌<◌, ◌≤◌, List, Option, Some, IfOk, IfSome, IsSomeAnd, IsErrOf};
+ghost use Rattle.std.specs.Prelude.{◌≡◌, ◌⊎◌, ℕ, ◌<◌, ◌≤◌, List, [], ◌∷◌, Option, Some, IfOk, IfSome, IsSomeAnd, IsErrOf};
 ghost use Rattle.std.specs.Prelude.{vec_len, length};
 ghost use Rattle.std.specs.Option.{option_map};
 ghost use Rattle.outside_io.specs.Count.{Rose};
+ghost use Rattle.outside_io.specs.Reads.{ReadBetween};
 ghost use Rattle.ffm_model.specs.Reading.{Contents};
 
 use std::alloc::{AllocError, AllocFailed, Global};
@@ -45,10 +46,14 @@ impl<T: Drop> From<AllocFailed<T>> for FileError {
     }
 }
 
-/// Files: what each name holds, how often a read failed, and the name of the last failed read.
+/// Files: what each name holds, which names were read, how often a read failed, and the name of the
+/// last failed read.
 pub trait Files {
     /// What each name holds, where it is told.
     ghost held: { Self → Option Contents };
+
+    /// The names that were read, in order, where they are told.
+    ghost reads: { Self → Option (List (List ℕ)) };
 
     /// How often a read has failed, up to 2^64 - 1.
     ghost faults: { Self → ℕ };
@@ -62,13 +67,18 @@ pub trait Files {
     /// the count of faults rose in this call, and then this name is the last failed one; every other
     /// answer leaves the count and the last failed name as they were. `Memory` comes where no memory
     /// is found, and may stand in place of each other answer. Whatever it answers, each name holds
-    /// what it held.
+    /// what it held. The name is read once; where `Memory` comes, it may not have been read.
     fn read(&mut self, alloc: Global, name: &str, limit: u32) -> Result<Vec<u8>, FileError>
         ensures within { IfOk result (λ bytes. vec_len bytes ≤ limit) }
         ensures content { IfOk result (λ bytes. IfSome (held self.old) (λ of. of name.now ≡ Some bytes.items)) }
         ensures too_long { IsErrOf result FileError.TooLong →
             IfSome (held self.old) (λ of. IsSomeAnd (of name.now) (λ bytes. limit < length bytes)) }
         ensures keeps { held self.new ≡ held self.old }
+
+        // No other name is read, and this one once. Want of memory may come before that.
+        ensures read { (IsErrOf result FileError.Memory → ⊥) → ReadBetween (reads self.old) (reads self.new) (name.now ∷ []) }
+        ensures perhaps_read { IsErrOf result FileError.Memory →
+            ReadBetween (reads self.old) (reads self.new) [] ⊎ ReadBetween (reads self.old) (reads self.new) (name.now ∷ []) }
 
         // `Failed` has a cause outside, and is told by its name.
         ensures later { faults self.old ≤ faults self.new }

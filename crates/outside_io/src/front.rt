@@ -11,7 +11,8 @@ use std::io::{ErrorKind, Read};
 /// The front of what is left in a reader: at most one byte more than the limit, which shows that
 /// more is left.
 ///
-/// An error of the reader is handed on, and so is want of memory, as `OutOfMemory`.
+/// An error of the reader is handed on as it came, and so is want of memory, as `OutOfMemory`. That
+/// isn't a clause, since std doesn't say with which error `read_to_end` ends.
 fn front_of<T: Read + Drop>(alloc: Global, from: T, limit: u32) -> io::Result<Vec<u8>>
     ensures { IfSome (T.remaining from) (λ left. IfOk result (λ bytes. bytes.items ≡ take (limit + 1) left)) }
 {
@@ -44,8 +45,10 @@ fn answer_of(front: io::Result<Vec<u8>>, limit: u32) -> Result<Vec<u8>, FileErro
 ///
 /// # Errors
 ///
-/// `TooLong` exactly where more than `limit` bytes are left. `Memory` where no memory is found, and
-/// where it was opened exactly with that error; `Failed` at each other error of opening or reading.
+/// `TooLong` exactly where more than `limit` bytes are left. Where it wasn't opened, `Memory` at the
+/// error `OutOfMemory`, and `Failed` at each other error. An error of reading is answered in the same
+/// way, but no clause says so: std doesn't tell which error comes of reading, so that there `Memory`
+/// in place of `Failed`, and the other way round, would be proved too.
 pub(crate) fn whole_of<T: Read + Drop>(
     alloc: Global,
     opened: io::Result<T>,

@@ -14,7 +14,7 @@ use std::{io, rt};
 
 /// Real files, by names as the operating system takes them.
 ///
-/// It tells neither what a name holds nor which read failed last.
+/// It tells neither what a name holds, nor which names were read, nor which read failed last.
 #[derive(Drop)]
 pub struct HostFiles<'a, R> {
     rt: &'a R,
@@ -36,6 +36,8 @@ impl<'a, R: rt::Files> Files for HostFiles<'a, R> {
     ghost use Rattle.outside_io.specs.Host.{files_faults};
 
     ghost held = { λ _. None };
+
+    ghost reads = { λ _. None };
 
     ghost faults = { files_faults };
 

@@ -1,7 +1,7 @@
 //! Files in memory, some of whose reads fail.
 
-ghost use Rattle.std.specs.Prelude.{◌≡◌, ◌≢◌, ◌⊎◌, ℕ, ◌<◌, ◌≤◌, List, [], Some, None, IfOk, OnOk, OnErr, IsSomeAnd, IsErrOf};
-ghost use Rattle.std.specs.Prelude.{vec_len, length};
+ghost use Rattle.std.specs.Prelude.{◌≡◌, ◌≢◌, ◌⊎◌, ℕ, ◌<◌, ◌≤◌, List, [], ◌∷◌, ◌++◌, Some, None, IfOk, OnOk, OnErr, IsSomeAnd, IsErrOf};
+ghost use Rattle.std.specs.Prelude.{vec_len, length, map, string_bytes};
 ghost use Rattle.std.specs.Option.{option_map};
 ghost use Rattle.outside_io.specs.Count.{one_more};
 
@@ -13,23 +13,25 @@ use std::collections::BTreeMap;
 
 /// Files in memory. A read fails where its call is listed, or where nothing is held under the name.
 ///
-/// It tells what each name holds, and the name of the last failed read.
+/// It tells what each name holds, the names that were read, and the name of the last failed read.
 #[derive(Drop)]
 pub struct MemoryFiles {
     files: BTreeMap<String, Vec<u8>>,
     failing: List<u32>,
     calls: u64,
+    reads: Vec<String>,
     faults: u64,
     last_failed: Option<String>,
 }
 
 impl MemoryFiles {
-    ghost use Rattle.outside_io.specs.MemoryFiles.{held_by, calls_of, failing_of, faults_of, last_failed_of, SameCalls};
+    ghost use Rattle.outside_io.specs.MemoryFiles.{held_by, calls_of, reads_of, failing_of, faults_of, last_failed_of, SameCalls};
 
     /// No file is held, no read was made, and no call is listed. It takes no memory.
     pub fn new(alloc: Global) -> Self
         ensures empty { (name : List ℕ) → held_by result name ≡ None }
         ensures no_call { calls_of result ≡ 0 }
+        ensures no_read { reads_of result ≡ [] }
         ensures none_listed { failing_of result ≡ [] }
         ensures no_fault { faults_of result ≡ 0 }
         ensures no_name { last_failed_of result ≡ None }
@@ -38,6 +40,7 @@ impl MemoryFiles {
             files: BTreeMap::new(alloc),
             failing: List::of(Vec::new(alloc)),
             calls: 0,
+            reads: Vec::new(alloc),
             faults: 0,
             last_failed: None,
         }
@@ -64,10 +67,19 @@ impl MemoryFiles {
         ensures listed { failing_of self.new ≡ calls }
         ensures keeps { held_by self.new ≡ held_by self.old }
         ensures calls { calls_of self.new ≡ calls_of self.old }
+        ensures reads { reads_of self.new ≡ reads_of self.old }
         ensures faults { faults_of self.new ≡ faults_of self.old }
         ensures unnamed { last_failed_of self.new ≡ last_failed_of self.old }
     {
         self.failing = calls;
+    }
+
+    /// The names that were read since `new`, in order, lent. A call that found no memory to keep its
+    /// name read nothing.
+    pub fn reads(&self) -> &[String]
+        ensures { map string_bytes result.now ≡ reads_of self.now }
+    {
+        self.reads.as_slice()
     }
 
     /// What the name holds, lent.
@@ -78,14 +90,26 @@ impl MemoryFiles {
     }
 }
 
+// Keeps one more name behind those before.
+fn keep(names: &mut Vec<String>, alloc: Global, name: &str) -> Result<(), FileError>
+    ensures kept { OnOk result (map string_bytes names.new.items ≡ map string_bytes names.old.items ++ name.now ∷ []) }
+    ensures not_kept { OnErr result (map string_bytes names.new.items ≡ map string_bytes names.old.items) }
+    ensures memory { OnErr result (IsErrOf result FileError.Memory) }
+{
+    let name = String::from_str(alloc, name)?;
+    names.push(name)?;
+    Ok(())
+}
+
 impl MemoryFiles {
-    ghost use Rattle.outside_io.specs.MemoryFiles.{held_by, calls_of, failing_of, faults_of, last_failed_of};
+    ghost use Rattle.outside_io.specs.MemoryFiles.{held_by, calls_of, reads_of, failing_of, faults_of, last_failed_of};
 
     // A failed read of this name. Its name is kept first, since that takes memory.
     fn fail(&mut self, alloc: Global, name: &str) -> FileError
         ensures kind { result ≡ FileError.Failed ⊎ result ≡ FileError.Memory }
         ensures keeps { held_by self.new ≡ held_by self.old }
         ensures calls { calls_of self.new ≡ calls_of self.old }
+        ensures reads { reads_of self.new ≡ reads_of self.old }
         ensures same_listed { failing_of self.new ≡ failing_of self.old }
         ensures later { faults_of self.old ≤ faults_of self.new }
         ensures failed { result ≡ FileError.Failed → faults_of self.new ≡ one_more (faults_of self.old) }
@@ -105,9 +129,11 @@ impl MemoryFiles {
 }
 
 impl Files for MemoryFiles {
-    ghost use Rattle.outside_io.specs.MemoryFiles.{held_by, calls_of, failing_of, faults_of, last_failed_of, Fails};
+    ghost use Rattle.outside_io.specs.MemoryFiles.{held_by, calls_of, reads_of, failing_of, faults_of, last_failed_of, Fails};
 
     ghost held = { λ f. Some (held_by f) };
+
+    ghost reads = { λ f. Some (reads_of f) };
 
     ghost faults = { faults_of };
 
@@ -126,6 +152,11 @@ impl Files for MemoryFiles {
         ensures calls { calls_of self.new ≡ one_more (calls_of self.old) }
         ensures same_listed { failing_of self.new ≡ failing_of self.old }
 
+        // The name is kept, or no memory was found for that.
+        ensures read { (IsErrOf result FileError.Memory → ⊥) → reads_of self.new ≡ reads_of self.old ++ name.now ∷ [] }
+        ensures perhaps_read { IsErrOf result FileError.Memory →
+            (reads_of self.new ≡ reads_of self.old) ⊎ (reads_of self.new ≡ reads_of self.old ++ name.now ∷ []) }
+
         // A failed read is counted and named, and no other is.
         ensures later { faults_of self.old ≤ faults_of self.new }
         ensures failed { IsErrOf result FileError.Failed → faults_of self.new ≡ one_more (faults_of self.old) }
@@ -134,6 +165,7 @@ impl Files for MemoryFiles {
         ensures unnamed { (IsErrOf result FileError.Failed → ⊥) → last_failed_of self.new ≡ last_failed_of self.old }
     {
         self.calls = self.calls.saturating_add(1);
+        keep(&mut self.reads, alloc, name)?;
         if is_listed(&self.failing, self.calls) {
             return Err(self.fail(alloc, name));
         }

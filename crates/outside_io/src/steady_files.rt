@@ -10,7 +10,8 @@ use std::alloc::Global;
 
 /// Files in memory that hold something under every name, so that no read fails.
 ///
-/// It tells what each name holds, and that no read failed; its count of faults is 0.
+/// It tells what each name holds, and that no read failed; its count of faults is 0. It doesn't tell
+/// which names were read.
 #[derive(Drop)]
 pub struct SteadyFiles {
     files: MemoryFiles,
@@ -33,6 +34,8 @@ impl Files for SteadyFiles {
     ghost use Rattle.outside_io.specs.SteadyFiles.{content_of};
 
     ghost held = { λ f. Some (λ name. Some (content_of f name)) };
+
+    ghost reads = { λ _. None };
 
     ghost faults = { λ _. 0 };
 

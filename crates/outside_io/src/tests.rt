@@ -18,6 +18,7 @@ fn lent(answer: &Result<Vec<u8>, FileError>) -> Result<&[u8], FileError> {
 #[test]
 fn files_in_memory(rt: HostRuntime) -> Result<(), Fail> {
     let mut files = MemoryFiles::new(rt.alloc());
+    assert!(rt; files.reads().is_empty());
     assert_eq!(rt; files.add(rt.alloc(), "six", b"fedcba"), Ok(()));
     assert_eq!(rt; files.add(rt.alloc(), "six", b"abcdef"), Ok(()));
     files.fail_at(List::of(vec![in rt.alloc(); 2u32, 4]?));
@@ -32,6 +33,11 @@ fn files_in_memory(rt: HostRuntime) -> Result<(), Fail> {
     for (name, limit, want) in reads {
         let answer = files.read(rt.alloc(), name, limit);
         assert_eq!(rt; lent(&answer), want, "{name} up to {limit}");
+    }
+    // Failed reads and too long files are told too.
+    assert_eq!(rt; files.reads().len(), 6);
+    for (read, (name, _, _)) in files.reads().iter().zip(reads) {
+        assert_eq!(rt; read.as_str(), name);
     }
     Ok(())
 }

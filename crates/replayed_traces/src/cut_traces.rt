@@ -1,7 +1,7 @@
 //! Traces that are cut, and traces with a byte that no line has.
 
 use crate::systems::ONE_REQUEST;
-use crate::written::{expect, run};
+use crate::written::{expect, expect_audit, expect_replay, run};
 use std::alloc::Global;
 use std::test::Fail;
 
@@ -26,7 +26,19 @@ fn each_proper_prefix(rt: HostRuntime) -> Result<(), Fail> {
     for length in 0..trace.len() {
         if let Some((before, _)) = trace.as_bytes().split_at_checked(length) {
             let answer = refusal_behind(rt.alloc(), before)?;
-            expect(&rt, &ONE_REQUEST, before, &answer)?;
+            expect_replay(&rt, &ONE_REQUEST, before, &answer)?;
+        }
+    }
+    Ok(())
+}
+
+#[test]
+fn each_proper_prefix_audited(rt: HostRuntime) -> Result<(), Fail> {
+    let trace = run(&rt, &ONE_REQUEST)?;
+    for length in 0..trace.len() {
+        if let Some((before, _)) = trace.as_bytes().split_at_checked(length) {
+            let answer = refusal_behind(rt.alloc(), before)?;
+            expect_audit(&rt, &ONE_REQUEST, before, &answer)?;
         }
     }
     Ok(())

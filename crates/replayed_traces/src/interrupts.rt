@@ -1,7 +1,8 @@
 //! Calls of the device, and ends of an interrupt.
 
-use crate::systems::{DISABLED, TWO_TICKS};
-use crate::written::expect_each;
+use crate::altered::altered;
+use crate::systems::{DISABLED, HANDLED_TICK, TWO_TICKS};
+use crate::written::{expect, expect_each, run};
 use std::test::Fail;
 
 #[test]
@@ -96,4 +97,32 @@ fn disabled_sources(rt: HostRuntime) -> Result<(), Fail> {
             (&[(2, 1, "dev fire 0 1 -> done\n")], "illegal 2"),
         ],
     )
+}
+
+// Calls of the device of which each is followed by the run as before, and how the trace is judged.
+const DEVICE_CALLS: [(&str, &str); 10] = [
+    // A source with a first-level handler isn't raised, but fired.
+    ("dev raise 0 -> value -129\n", "legal 7"),
+    ("dev raise 0 -> value -130\n", "illegal 2"),
+    ("dev raise 0 -> done\n", "illegal 2"),
+    // Its handler answers 0 or 1.
+    ("dev fire 0 2 -> value -129\n", "legal 7"),
+    ("dev fire 0 2 -> done\n", "illegal 2"),
+    ("dev fire 0 4294967295 -> value -129\n", "legal 7"),
+    ("dev fire 0 0 -> done\n", "legal 7"),
+    ("dev fire 0 0 -> value -129\n", "illegal 2"),
+    // No source has the number.
+    ("dev fire 1 1 -> value -129\n", "legal 7"),
+    ("dev fire 1 1 -> done\n", "illegal 2"),
+];
+
+#[test]
+fn calls_of_the_device(rt: HostRuntime) -> Result<(), Fail> {
+    let trace = run(&rt, &HANDLED_TICK)?;
+    for (line, answer) in DEVICE_CALLS {
+        let changes = [(2, 0, line), (7, 1, "quiet 7\n")];
+        let text = altered(rt.alloc(), &trace, &changes)?;
+        expect(&rt, &HANDLED_TICK, text.as_bytes(), answer)?;
+    }
+    Ok(())
 }

@@ -1,5 +1,7 @@
 //! The systems and scenarios whose traces are altered.
 
+use sample_texts::{ONE_REQUEST_SCENARIO, VAULT};
+
 /// A system file and a scenario file.
 #[derive(Drop)]
 pub(crate) struct Pair<'a> {
@@ -7,23 +9,10 @@ pub(crate) struct Pair<'a> {
     pub(crate) scenario: &'a str,
 }
 
-/// A partition with two services, and a client that may connect to the first.
-const VAULT: &str =
-    r#"{"isolation_level":3,"manifests":[{"psa_framework_version":"1.0","name":"VAULT",
-"type":"APPLICATION-ROT","priority":"NORMAL","entry_point":"main","stack_size":"0x400",
-"services":[{"name":"VAULT","sid":"0x40","non_secure_clients":true},
-{"name":"ADMIN","sid":"0x41","non_secure_clients":false,"version":2}]}],"clients":["NS"]}"#;
-
 /// A connection with one request: the service reads `hello` in parts, and writes 4 bytes.
 pub(crate) const ONE_REQUEST: Pair<'static> = Pair {
     system: VAULT,
-    scenario: r#"{"scripts":[{"actor":"VAULT","lines":["top:","wait 0xffffffff 0x80000000",
-"get r0 0x30000000","jeq r1 0 req","reply r2 0","jmp top","req:","read r2 0 0x30000100 3",
-"read r2 0 0x30000100 3","read r2 0 0x30000100 3","write r2 0 0x30000100 4","reply r2 7",
-"jmp top"]},{"actor":"NS","lines":["connect 0x40 1","set r5 r0",
-"call r5 0 0x20000000 1 0x20000008 1","close r5","load 0x2000000c 4"]}],
-"memory":[{"address":"0x20000000","bytes":"20000020050000003000002008000000"},
-{"address":"0x20000020","bytes":"68656c6c6f"}]}"#,
+    scenario: ONE_REQUEST_SCENARIO,
 };
 
 /// A request whose service writes past the vector's end, and panics.
@@ -55,6 +44,15 @@ pub(crate) const DISABLED: Pair<'static> = Pair {
     system: TICKER,
     scenario: r#"{"scripts":[{"actor":"TICKER","lines":["irq_disable 0x10","irq_disable 0x10",
 "wait 0x10 0","irq_enable 0x10","wait 0x10 0","reset_signal 0x10"]}],"interrupts":[17]}"#,
+};
+
+/// A partition whose interrupt has a first-level handler, and comes once the source is enabled.
+pub(crate) const HANDLED_TICK: Pair<'static> = Pair {
+    system: r#"{"isolation_level":3,"manifests":[{"psa_framework_version":1.1,"name":"TICKER",
+"type":"APPLICATION-ROT","priority":"NORMAL","entry_point":"main","stack_size":"0x400",
+"services":[],"irqs":[{"source":17,"name":"TICK","handling":"FLIH"}]}]}"#,
+    scenario: r#"{"scripts":[{"actor":"TICKER","lines":["irq_enable 0x10","wait 0x10 0",
+"reset_signal 0x10"]}],"interrupts":[17]}"#,
 };
 
 /// A strict and a relaxed service of version 2, to which a client connects with several versions.

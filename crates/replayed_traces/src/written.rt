@@ -13,6 +13,8 @@ const RUN: [&str; 4] = ["ffm", "run", "system", "scenario"];
 
 const REPLAY: [&str; 5] = ["ffm", "replay", "system", "scenario", "trace"];
 
+const AUDIT: [&str; 5] = ["ffm", "audit", "system", "scenario", "trace"];
+
 fn words_of(alloc: Global, words: &[&str]) -> Result<Vec<String>, Fail> {
     let mut list = Vec::new(alloc);
     for word in words {
@@ -63,18 +65,63 @@ fn status_of(answer: &str) -> u8 {
     }
 }
 
+// Whether a replay's text is this answer.
+fn is_replay(text: &str, answer: &str) -> bool {
+    text.strip_suffix('\n') == Some(answer)
+}
+
+// Whether an audit's text ends as a replay that has this answer. No line stands before a refusal.
+fn is_audit(text: &str, answer: &str) -> bool {
+    let Some(text) = text.strip_suffix('\n') else {
+        return false;
+    };
+    let last = match text.rsplit_once('\n') {
+        Some((_, last)) if !answer.starts_with("refused ") => last,
+        _ => text,
+    };
+    match answer.strip_prefix("legal ") {
+        Some(entries) => last.strip_prefix("clean ") == Some(entries),
+        None => last == answer,
+    }
+}
+
 /// Fails unless this is the answer to the trace.
-pub(crate) fn expect(
+pub(crate) fn expect_replay(
     rt: &HostRuntime,
     pair: &Pair<'_>,
     trace: &[u8],
     answer: &str,
 ) -> Result<(), Fail> {
     let (text, status) = written_by(rt, &REPLAY, pair, trace)?;
-    if text.strip_suffix('\n') == Some(answer) && status == status_of(answer) {
+    if is_replay(&text, answer) && status == status_of(answer) {
         return Ok(());
     }
     Err(Fail::new(format!(in rt.alloc(); "status {status}, not {answer}: {text}")?))
+}
+
+/// Fails unless an audit of the trace ends as a replay that has this answer.
+pub(crate) fn expect_audit(
+    rt: &HostRuntime,
+    pair: &Pair<'_>,
+    trace: &[u8],
+    answer: &str,
+) -> Result<(), Fail> {
+    let (text, status) = written_by(rt, &AUDIT, pair, trace)?;
+    if is_audit(&text, answer) && status == status_of(answer) {
+        return Ok(());
+    }
+    Err(Fail::new(format!(in rt.alloc(); "status {status}, not {answer} of an audit: {text}")?))
+}
+
+/// Fails unless this is the answer to the trace, and an audit of it ends so too.
+pub(crate) fn expect(
+    rt: &HostRuntime,
+    pair: &Pair<'_>,
+    trace: &[u8],
+    answer: &str,
+) -> Result<(), Fail> {
+    expect_replay(rt, pair, trace, answer)?;
+    expect_audit(rt, pair, trace, answer)
 }
 
 /// Fails unless each of the traces that the changes make of the written one has its answer.

@@ -1,11 +1,11 @@
 //! Calls with wrong handles, numbers, vectors and addresses, each in an otherwise ordinary run.
 
 use crate::systems::VAULT;
-use crate::worked::{Worked, check, check_all};
+use crate::worked::{Worked, check, check_audit};
 use std::test::Fail;
 
 // A client's wrong calls change nothing: the connection serves a request behind them.
-static RUNS: [Worked; 1] = [Worked {
+static RUN: Worked = Worked {
     system: VAULT,
     scenario: r##"{"event_limit":21,"scripts":[
 {"actor":"VAULT","lines":["wait 0xffffffff 0x80000000","get 0x00000010 0x30000000","reply 1536 0","wait 0xffffffff 0x80000000","get 0x00000010 0x30000000"]},
@@ -35,14 +35,23 @@ p1 resume -> signals 0x00000010
 p1 get 0x00000010 0x30000000 -> message 0 2560 -1 0x00000000 0 0 0 0 0 0 0 0
 full 21
 ",
-}];
+};
+
+// The messages change bytes, and of the client's calls the store of one byte alone.
+const CHANGES: &str = "4 0x30000000 9 -
+16 0x20000000 1 -
+21 0x30000000 5 -
+clean 21
+";
 
 #[test]
 fn hostile_calls_of_a_client(rt: HostRuntime) -> Result<(), Fail> {
-    check_all(&rt, rt.alloc(), &RUNS)
+    let alloc = rt.alloc();
+    check(&rt, alloc, RUN.system, RUN.scenario, RUN.status, RUN.trace)?;
+    check_audit(&rt, alloc, RUN.system, RUN.scenario, RUN.trace, CHANGES)
 }
 
-// Each a call of a service that has a request without vectors, and what comes of it.
+// Each a call of a service that has a request without vectors, and what comes of it. None changes a byte.
 const CALLS: [(&str, &str); 13] = [
     ("get 0x00000030 0x30000000", "panicked"),
     ("get 0x00000008 0x30000000", "panicked"),
@@ -85,11 +94,13 @@ full 11
 "
         )?;
         check(&rt, alloc, VAULT, &scenario, 5, &trace)?;
+        let changes = "4 0x30000000 9 -\n10 0x30000000 5 -\nclean 11\n";
+        check_audit(&rt, alloc, VAULT, &scenario, &trace, changes)?;
     }
     Ok(())
 }
 
-// Each a call of a service that has the message of a new connection. It panics.
+// Each a call of a service that has the message of a new connection. It panics, and no byte changes.
 const ANSWERS: [&str; 2] = ["reply 1536 -132", "read 1536 0 0x30000100 0"];
 
 #[test]
@@ -111,6 +122,8 @@ full 5
 "
         )?;
         check(&rt, alloc, VAULT, &scenario, 5, &trace)?;
+        let changes = "4 0x30000000 9 -\nclean 5\n";
+        check_audit(&rt, alloc, VAULT, &scenario, &trace, changes)?;
     }
     Ok(())
 }

@@ -1,7 +1,8 @@
 //! Whole runs, from the text of a system file and of a scenario file to the text of the trace.
 //!
-//! This library has no function of its own: it is a set of tests over `ffm run` and `ffm replay`. Each
-//! run is compared with the trace that is wanted of it, line by line, and its trace is judged.
+//! This library has no function of its own: it is a set of tests over `ffm run`, `ffm replay` and `ffm
+//! audit`. Each run is compared with the trace that is wanted of it, line by line, and its trace is judged
+//! and audited.
 #![tactic(auto)]
 
 #[cfg(test)]

@@ -2,44 +2,16 @@
 
 use crate::systems::{CLOCK, SERVER, VAULT};
 use crate::worked::{Worked, check_all};
+use sample_texts::{ONE_REQUEST_SCENARIO, ONE_REQUEST_TRACE};
 use std::test::Fail;
 
 static RUNS: [Worked; 8] = [
-    // A connection with two requests, of which the first reads and writes in pieces, and its end.
+    // A connection with one request, which is read and written in pieces, and its end.
     Worked {
         system: VAULT,
-        scenario: r##"{"scripts":[
-{"actor":"VAULT","lines":["top:","wait 0xffffffff 0x80000000","get r0 0x30000000","jeq r1 0 req","reply r2 0","jmp top","req:","read r2 0 0x30000100 3","read r2 0 0x30000100 3","read r2 0 0x30000100 3","write r2 0 0x30000100 4","reply r2 7","jmp top"]},
-{"actor":"NS","lines":["connect 0x40 1","set r5 r0","call r5 0 0x20000000 1 0x20000008 1","close r5","load 0x2000000c 4"]}],
-"memory":[{"address":"0x20000000","bytes":"20000020050000003000002008000000"},{"address":"0x20000020","bytes":"68656c6c6f"}]}"##,
+        scenario: ONE_REQUEST_SCENARIO,
         status: 0,
-        trace: "p1 wait 0xffffffff 0x80000000 -> blocked
-n1 connect 0x00000040 1 -> blocked
-p1 resume -> signals 0x00000010
-p1 get 0x00000010 0x30000000 -> message -1 1536 -1 0x00000000 0 0 0 0 0 0 0 0
-p1 reply 1536 0 -> done
-n1 resume -> value 1024
-p1 wait 0xffffffff 0x80000000 -> blocked
-n1 call 1024 0 0x20000000 1 0x20000008 1 -> blocked
-p1 resume -> signals 0x00000010
-p1 get 0x00000010 0x30000000 -> message 0 2560 -1 0x00000000 5 0 0 0 8 0 0 0
-p1 read 2560 0 0x30000100 3 -> number 3
-p1 read 2560 0 0x30000100 3 -> number 2
-p1 read 2560 0 0x30000100 3 -> number 0
-p1 write 2560 0 0x30000100 4 -> done
-p1 reply 2560 7 -> done
-n1 resume -> value 7
-p1 wait 0xffffffff 0x80000000 -> blocked
-n1 close 1024 -> blocked
-p1 resume -> signals 0x00000010
-p1 get 0x00000010 0x30000000 -> message -2 3584 -1 0x00000000 0 0 0 0 0 0 0 0
-p1 reply 3584 0 -> done
-n1 resume -> done
-p1 wait 0xffffffff 0x80000000 -> blocked
-n1 load 0x2000000c 4 -> number 4
-n1 stop end -> done
-quiet 25
-",
+        trace: ONE_REQUEST_TRACE,
     },
     // A write past the end of an output vector is a PROGRAMMER ERROR: the partition panics, and its client is told.
     Worked {

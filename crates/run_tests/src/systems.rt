@@ -1,11 +1,6 @@
 //! Systems that several runs share.
 
-/// A partition with two services, of which a client may use one, and the client.
-pub(crate) const VAULT: &str =
-    r#"{"isolation_level":3,"manifests":[{"psa_framework_version":1.0,"name":"VAULT",
-"type":"APPLICATION-ROT","priority":"NORMAL","entry_point":"vault_main","stack_size":"0x400",
-"services":[{"name":"VAULT","sid":"0x40","non_secure_clients":true},
-{"name":"ADMIN","sid":"0x41","non_secure_clients":false,"version":2}]}],"clients":["NS"]}"#;
+pub(crate) use sample_texts::VAULT;
 
 /// The same with two clients.
 pub(crate) const TWO_CLIENTS: &str =

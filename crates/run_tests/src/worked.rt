@@ -47,7 +47,13 @@ pub(crate) fn run(alloc: Global, system: &str, scenario: &str) -> Result<(u8, Ve
     answer(alloc, &words, system, scenario, b"")
 }
 
-/// Asserts that a trace is judged to be a run of so many entries.
+// The status and the text of the audit of a trace.
+fn audit(alloc: Global, system: &str, scenario: &str, trace: &[u8]) -> Result<(u8, Vec<u8>), Fail> {
+    let words = ["ffm", "audit", "system", "scenario", "trace"];
+    answer(alloc, &words, system, scenario, trace)
+}
+
+/// Asserts that a trace is judged to be a run of so many entries, and that its audit ends so.
 pub(crate) fn check_legal(
     rt: &impl Abort,
     alloc: Global,
@@ -60,6 +66,25 @@ pub(crate) fn check_legal(
     let (status, text) = answer(alloc, &words, system, scenario, trace)?;
     let wanted = format!(in alloc; "legal {entries}\n")?;
     assert_eq!(rt; from_utf8(text.as_slice())?, wanted.as_str());
+    assert_eq!(rt; status, 0);
+    let (status, text) = audit(alloc, system, scenario, trace)?;
+    let wanted = format!(in alloc; "clean {entries}\n")?;
+    assert!(rt; text.ends_with(wanted.as_bytes()));
+    assert_eq!(rt; status, 0);
+    Ok(())
+}
+
+/// Asserts that the audit of a legal trace has this text.
+pub(crate) fn check_audit(
+    rt: &impl Abort,
+    alloc: Global,
+    system: &str,
+    scenario: &str,
+    trace: &str,
+    wanted: &str,
+) -> Result<(), Fail> {
+    let (status, text) = audit(alloc, system, scenario, trace.as_bytes())?;
+    assert_eq!(rt; from_utf8(text.as_slice())?, wanted, "{trace}");
     assert_eq!(rt; status, 0);
     Ok(())
 }

@@ -26,9 +26,6 @@ pub struct Ran {
     pub verdict: Verdict,
 }
 
-// The regions are fewer than 2^31 where there is memory for so many.
-const MAX_REGIONS: usize = 0x7fff_ffff;
-
 /// The memory that a run begins with. Err where no memory was found.
 #[tactic(auto, using(memory_image::proofs::Systems::system_fits))]
 pub fn opening_image(alloc: Global, system: &System, scenario: &Scenario) -> Result<Image, Memory>
@@ -36,9 +33,6 @@ pub fn opening_image(alloc: Global, system: &System, scenario: &Scenario) -> Res
     ensures regions { IfOk result (λ image. regions_of image ≡ ranges_of system.now.regions) }
     ensures bytes { IfOk result (λ image. byte_at image ≡ opening_memory scenario.now.memory) }
 {
-    if system.regions.len() > MAX_REGIONS {
-        return Err(Memory);
-    }
     Image::new(alloc, &system.regions, &scenario.memory)
 }
 

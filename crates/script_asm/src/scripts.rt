@@ -1,5 +1,5 @@
 //! Scripts: all lines together.
-ghost use Rattle.std.specs.Prelude.{◌≡◌, ◌≤◌, ◌<◌, ◌^◌, ◌++◌, [], IfOk, IfSome, OnOk, length, option_map, sum_by};
+ghost use Rattle.std.specs.Prelude.{◌≡◌, ◌<◌, ◌^◌, ◌++◌, [], IfOk, IfSome, OnOk, length, option_map, sum_by};
 ghost use Rattle.ffm_model.specs.declared.codes.TheConstants.{SCRIPT_SYNTAX};
 ghost use Rattle.ffm_model.specs.Reading.{Reads};
 ghost use Rattle.script_asm.specs.Lines.{assembled, assembled_lines, line_place, made_of, script_read, width};
@@ -145,7 +145,6 @@ pub fn assemble(
     kind: ActorKind,
     number: u32,
 ) -> Result<Script, ReadError>
-    requires { length lines.now < 2 ^ 31 }
     ensures read { Reads (λ s. s) result (script_read kind number lines.now) }
 {
     match assembled(alloc, kind, lines.as_slice()) {

@@ -173,7 +173,6 @@ pub fn assemble_sfn(
     partition: u32,
     number: u32,
 ) -> Result<SfnScript, ReadError>
-    requires { length lines.now < 2 ^ 31 }
     ensures read { Reads (λ s. s) result (functions_read system.now partition number lines.now) }
 {
     match limited(alloc, lines.as_slice(), system, partition) {

@@ -24,7 +24,8 @@ pub struct Spm {
     opening: Snapshot<Image>,
     memory: Image,
     history: Vec<Entry>,
-    tables: Tables,
+    // On the heap, since the pools are large.
+    tables: Box<Tables>,
 }
 
 impl Model for Spm {
@@ -36,7 +37,7 @@ impl Model for Spm {
 
     ghost view = { λ m. record { opening = record { system = m.system; memory = m.opening.value; limit = m.limit }; history = m.history.items; bytes = m.memory } };
 
-    ghost invariant = { λ m. Keeps (record { system = m.system; memory = m.opening.value; limit = m.limit }) m.history.items m.memory m.tables (vec_capacity m.history) };
+    ghost invariant = { λ m. Keeps (record { system = m.system; memory = m.opening.value; limit = m.limit }) m.history.items m.memory m.tables.value (vec_capacity m.history) };
 }
 
 impl Spm {
@@ -61,6 +62,7 @@ impl Spm {
     {
         let tables = Tables::new(alloc, &system)?;
         tables.law();
+        let tables = Box::new(alloc, tables)?;
         let history = Vec::with_capacity(alloc, limit as usize)?;
         let opening = Snapshot::of(&memory);
         Ok(Spm {

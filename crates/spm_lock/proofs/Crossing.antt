@@ -27,7 +27,7 @@ use Rattle.spm_lock.specs.contracts.shared.Shared.TheInside as shared_fields
 
 manager_fields_cross : IsSend manager.the_row
 manager_fields_cross =
-    declared_send manager.the_type (system.the_send, (search sendable, (search sendable, (image.the_send, (search (sendable, entry.the_send, vec.the_send, global.the_send, frees.the_frees), (tables.the_send, tt))))))
+    declared_send manager.the_type (system.the_send, (search sendable, (search sendable, (image.the_send, (search (sendable, entry.the_send, vec.the_send, global.the_send, frees.the_frees), (search (sendable, tables.the_send, boxed.the_send, global.the_send, frees.the_frees), tt))))))
 
 -- a manager may
 pub manager_crosses : IsSend spm.the_row

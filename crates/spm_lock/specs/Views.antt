@@ -98,7 +98,7 @@ least_system = record {
   regions = least_regions;
   clients = [];
   budgets = [];
-  services_counted = refl;
+  counted = refl;
   well_formed = least_fits;
 }
 

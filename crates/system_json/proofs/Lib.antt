@@ -4,3 +4,6 @@ pub mod Gathered
 pub mod HexDigits
 pub mod Files
 pub mod ManifestSteps
+pub mod ManifestReads
+pub mod AloneLemmas
+pub mod ReadingSteps

@@ -52,14 +52,10 @@ whole_of of vs = manifests_after of [] 0 (items_view vs)
 front_item : (vs : List Value) (i : ℕ) (v : Value) → i < length vs → v ≡ get_or vs i v → drop i vs ≡ v ∷ drop (i + 1) vs
 front_item vs i v lt is = rw (add-one) (drop-cons vs i v lt ∙ ap (λ x. x ∷ drop (suc i) vs) (sym is))
 
-one_step : (of : Contents) (found : List Manifest) (vs : List Value) (i : ℕ) (v : Value) → i < length vs → v ≡ get_or vs i v
+pub one_step : (of : Contents) (found : List Manifest) (vs : List Value) (i : ℕ) (v : Value) → i < length vs → v ≡ get_or vs i v
     → rest_of of found i vs ≡ (manifest_item of i (view v) >>= λ m. rest_of of (found ++ m ∷ []) (i + 1) vs)
 unfolding manifests_after
 one_step of found vs i v lt is = rw (front_item vs i v lt is) refl
-
-pub begins : (held : Option Contents) (vs : List Value) → IfSome held (λ of. Leads (rest_of of [] 0 vs) (whole_of of vs))
-begins None vs = tt
-begins (Some of) vs = λ last r h. h
 
 pub goes_on : (held : Option Contents) (found : List Manifest) (vs : List Value) (i : ℕ) (v : Value) (m : Manifest) → i < length vs → v ≡ get_or vs i v
     → IfSome held (λ of. Leads (rest_of of found i vs) (whole_of of vs)) → IfSome held (λ of. (manifest_item of i (view v)).gives ≡ Ok m)

@@ -115,7 +115,10 @@ impl ReaderAfter for ScriptReader<'_> {
             most: MAX_SCRIPT_LINES as usize,
         };
         let lines = required(alloc, &lines, tree, Key::Lines)?;
-        Ok(ScriptItem { actor, lines })
+        match Lines::of(lines) {
+            Some(lines) => Ok(ScriptItem { actor, lines }),
+            None => unreachable!(),
+        }
     }
 }
 
@@ -170,8 +173,7 @@ fn or_empty_script(alloc: Global, scripts: List<Lines>) -> Result<List<Lines>, A
     if !scripts.is_empty() {
         return Ok(scripts);
     }
-    let empty = List::of(Vec::new(alloc));
-    Ok(List::of(vec![in alloc; empty]?))
+    Ok(List::of(vec![in alloc; Lines::none(alloc)]?))
 }
 
 /// The scripts of each actor, by actor.

@@ -5,11 +5,13 @@ ghost use Rattle.serde_json.specs.View.{view, items_view};
 ghost use Rattle.ffm_model.specs.Attributes.{or_refuse};
 ghost use Rattle.ffm_model.specs.ManifestItems.{IsManifest};
 ghost use Rattle.ffm_model.specs.Manifests.{manifest_of};
-ghost use Rattle.ffm_model.specs.Reading.{Gives, Reads, file_at};
+ghost use Rattle.ffm_model.specs.Reading.{Contents, Gives, Reads, file_at};
 ghost use Rattle.ffm_model.specs.SystemAttributes.{manifest_in, manifest_items_of, level_of, parts_with};
 ghost use Rattle.ffm_model.specs.Systems.{behind, manifest_steps, manifest_place, manifest_named, manifest_item, manifests_after, manifests_of, parts_of, system_of};
 ghost use Rattle.ffm_model.specs.Trees.{tree_of};
 ghost use Rattle.outside_io.specs.Count.{Rose};
+ghost use Rattle.outside_io.specs.Reads.{HasRead, ReadBetween};
+ghost use Rattle.system_json.specs.Alone.{GivesAlone};
 ghost use Rattle.system_json.specs.Refused.{IsReadRefusal};
 
 use crate::system::{level, parts_with};
@@ -72,6 +74,7 @@ fn manifest_in(alloc: Global, bytes: &[u8], number: u32) -> Result<Manifest, Rea
 }
 
 /// The bytes of the file that holds a manifest.
+#[tactic(auto, using(outside_io::proofs::ReadSteps::perhaps_read, outside_io::proofs::ReadSteps::read_by_all))]
 fn manifest_bytes<F: Files>(
     alloc: Global,
     files: &mut F,
@@ -80,6 +83,7 @@ fn manifest_bytes<F: Files>(
 ) -> Result<Vec<u8>, PartsError>
     ensures gives { IfSome (F.held files.old) (λ of.
         Gives (λ bytes. bytes.items) (F.last_failed files.new) result (file_at of (manifest_place number) 1048576 name.now)) }
+    ensures reads { IfSome (F.held files.old) (λ of. HasRead (F.reads files.old) (F.reads files.new) result (file_at of (manifest_place number) 1048576 name.now).names) }
     ensures keeps { F.held files.new ≡ F.held files.old }
     ensures later { F.faults files.old ≤ F.faults files.new }
     ensures failed { IsErrOf result PartsError.ReadFault → Rose (F.faults files.old) (F.faults files.new) }
@@ -98,7 +102,7 @@ fn manifest_bytes<F: Files>(
 }
 
 /// The manifest in the named file.
-#[tactic(auto, unfolding(ffm_model::specs::Systems::manifest_named), using(ffm_model::proofs::ReadingLemmas::after_ok, ffm_model::proofs::ReadingLemmas::after_err))]
+#[tactic(auto, unfolding(ffm_model::specs::Systems::manifest_named), using(crate::proofs::ReadingSteps::reading_steps))]
 fn manifest_named<F: Files>(
     alloc: Global,
     files: &mut F,
@@ -107,6 +111,7 @@ fn manifest_named<F: Files>(
 ) -> Result<Manifest, PartsError>
     ensures gives { IfSome (F.held files.old) (λ of.
         Gives (λ m. m) (F.last_failed files.new) result (manifest_named of number name.now)) }
+    ensures reads { IfSome (F.held files.old) (λ of. HasRead (F.reads files.old) (F.reads files.new) result (manifest_named of number name.now).names) }
     ensures kept { IfOk result IsManifest }
     ensures keeps { F.held files.new ≡ F.held files.old }
     ensures later { F.faults files.old ≤ F.faults files.new }
@@ -118,6 +123,7 @@ fn manifest_named<F: Files>(
 }
 
 /// A manifest, which stands in the system file or in the file that a text names.
+#[tactic(auto, using(outside_io::proofs::ReadSteps::read_none, outside_io::proofs::ReadSteps::read_by_all, crate::proofs::AloneLemmas::named_asks))]
 fn manifest_item<F: Files>(
     alloc: Global,
     files: &mut F,
@@ -126,6 +132,9 @@ fn manifest_item<F: Files>(
 ) -> Result<Manifest, PartsError>
     ensures gives { IfSome (F.held files.old) (λ of.
         Gives (λ m. m) (F.last_failed files.new) result (manifest_item of number (view tree.now))) }
+    ensures reads { IfSome (F.held files.old) (λ of. HasRead (F.reads files.old) (F.reads files.new) result (manifest_item of number (view tree.now)).names) }
+    ensures alone { (of : Contents) → (manifest_item of number (view tree.now)).names ≡ [] → GivesAlone result (manifest_item of number (view tree.now)) }
+    ensures none_read { (of : Contents) → (manifest_item of number (view tree.now)).names ≡ [] → ReadBetween (F.reads files.old) (F.reads files.new) [] }
     ensures kept { IfOk result IsManifest }
     ensures keeps { F.held files.new ≡ F.held files.old }
     ensures later { F.faults files.old ≤ F.faults files.new }
@@ -139,6 +148,7 @@ fn manifest_item<F: Files>(
 }
 
 /// The manifests of a list, each in its turn.
+#[tactic(auto, using(outside_io::proofs::ReadSteps::read_none))]
 fn manifests_from<F: Files>(
     alloc: Global,
     files: &mut F,
@@ -147,6 +157,9 @@ fn manifests_from<F: Files>(
     requires { length items.now ≤ 256 }
     ensures gives { IfSome (F.held files.old) (λ of.
         Gives (λ ms. ms) (F.last_failed files.new) result (manifests_after of [] 0 (items_view items.now))) }
+    ensures reads { IfSome (F.held files.old) (λ of. HasRead (F.reads files.old) (F.reads files.new) result (manifests_after of [] 0 (items_view items.now)).names) }
+    ensures alone { (of : Contents) → (manifests_after of [] 0 (items_view items.now)).names ≡ [] → GivesAlone result (manifests_after of [] 0 (items_view items.now)) }
+    ensures none_read { (of : Contents) → (manifests_after of [] 0 (items_view items.now)).names ≡ [] → ReadBetween (F.reads files.old) (F.reads files.new) [] }
     ensures kept { IfOk result (AllByRecursion IsManifest) }
     ensures count { IfOk result (λ ms. length ms ≤ 256) }
     ensures keeps { F.held files.new ≡ F.held files.old }
@@ -182,7 +195,7 @@ fn manifest_items(alloc: Global, tree: &Value) -> Result<&[Value], ReadError>
 }
 
 /// The manifests of a system file.
-#[tactic(auto, unfolding(ffm_model::specs::Systems::manifests_of), using(ffm_model::proofs::ReadingLemmas::after_ok, ffm_model::proofs::ReadingLemmas::after_err))]
+#[tactic(auto, unfolding(ffm_model::specs::Systems::manifests_of), using(crate::proofs::ReadingSteps::reading_steps, crate::proofs::ReadingSteps::reading_alone))]
 fn manifests<F: Files>(
     alloc: Global,
     files: &mut F,
@@ -190,6 +203,9 @@ fn manifests<F: Files>(
 ) -> Result<List<Manifest>, PartsError>
     ensures gives { IfSome (F.held files.old) (λ of.
         Gives (λ ms. ms) (F.last_failed files.new) result (manifests_of of (view tree.now))) }
+    ensures reads { IfSome (F.held files.old) (λ of. HasRead (F.reads files.old) (F.reads files.new) result (manifests_of of (view tree.now)).names) }
+    ensures alone { (of : Contents) → (manifests_of of (view tree.now)).names ≡ [] → GivesAlone result (manifests_of of (view tree.now)) }
+    ensures none_read { (of : Contents) → (manifests_of of (view tree.now)).names ≡ [] → ReadBetween (F.reads files.old) (F.reads files.new) [] }
     ensures kept { IfOk result (AllByRecursion IsManifest) }
     ensures count { IfOk result (λ ms. length ms ≤ 256) }
     ensures keeps { F.held files.new ≡ F.held files.old }
@@ -227,10 +243,13 @@ fn parts_here(
 }
 
 /// What a system file's tree says.
-#[tactic(auto, unfolding(ffm_model::specs::Systems::parts_of), using(ffm_model::proofs::ReadingLemmas::after_ok, ffm_model::proofs::ReadingLemmas::after_err))]
+#[tactic(auto, unfolding(ffm_model::specs::Systems::parts_of), using(crate::proofs::ReadingSteps::reading_steps, crate::proofs::ReadingSteps::reading_alone))]
 fn parts<F: Files>(alloc: Global, files: &mut F, tree: &Value) -> Result<Parts, PartsError>
     ensures gives { IfSome (F.held files.old) (λ of.
         Gives (λ p. p) (F.last_failed files.new) result (parts_of of (view tree.now))) }
+    ensures reads { IfSome (F.held files.old) (λ of. HasRead (F.reads files.old) (F.reads files.new) result (parts_of of (view tree.now)).names) }
+    ensures alone { (of : Contents) → (parts_of of (view tree.now)).names ≡ [] → GivesAlone result (parts_of of (view tree.now)) }
+    ensures none_read { (of : Contents) → (parts_of of (view tree.now)).names ≡ [] → ReadBetween (F.reads files.old) (F.reads files.new) [] }
     ensures keeps { F.held files.new ≡ F.held files.old }
     ensures later { F.faults files.old ≤ F.faults files.new }
     ensures failed { IsErrOf result PartsError.ReadFault → Rose (F.faults files.old) (F.faults files.new) }
@@ -255,8 +274,9 @@ fn system_tree(alloc: Global, bytes: &[u8]) -> Result<Value, ReadError>
 /// What a system file's bytes say, with the manifests that stand in it or in the files that it
 /// names, and the defaults filled in.
 ///
-/// Manifests are read in their turn. A file's name is taken as it stands, and its manifest is placed
-/// as if it stood in the system file.
+/// Manifests are read in their turn, each file once at each place that names it, up to the first
+/// refusal. A file's name is taken as it stands, and its manifest is placed as if it stood in the
+/// system file.
 ///
 /// # Errors
 ///
@@ -264,8 +284,9 @@ fn system_tree(alloc: Global, bytes: &[u8]) -> Result<Value, ReadError>
 /// has a value of a wrong type or a bad value, or is a manifest file of more than 1 MiB. `ReadFault`
 /// only where the count of faults of `files` rose in this call, and, where it is told, the last
 /// failed name is that of a manifest file that was asked for before any refusal; every other answer
-/// leaves the count. `Memory` where no memory is found.
-#[tactic(auto, unfolding(ffm_model::specs::Systems::system_of), using(ffm_model::proofs::ReadingLemmas::after_ok, ffm_model::proofs::ReadingLemmas::after_err))]
+/// leaves the count, and a system file that names no other file never gives it. `Memory` where no
+/// memory is found.
+#[tactic(auto, unfolding(ffm_model::specs::Systems::system_of), using(crate::proofs::ReadingSteps::reading_steps, crate::proofs::ReadingSteps::reading_alone))]
 pub fn read_system<F: Files>(
     alloc: Global,
     bytes: &[u8],
@@ -273,6 +294,13 @@ pub fn read_system<F: Files>(
 ) -> Result<Parts, PartsError>
     ensures gives { IfSome (F.held files.old) (λ of.
         Gives (λ p. p) (F.last_failed files.new) result (system_of of bytes.now)) }
+    ensures reads { IfSome (F.held files.old) (λ of. HasRead (F.reads files.old) (F.reads files.new) result (system_of of bytes.now).names) }
+
+    // A system file that asks for no other file is read whatever the files tell, and none of them with it.
+    ensures alone { (of : Contents) → (system_of of bytes.now).names ≡ [] → GivesAlone result (system_of of bytes.now) }
+    ensures none_read { (of : Contents) → (system_of of bytes.now).names ≡ [] → ReadBetween (F.reads files.old) (F.reads files.new) [] }
+
+    // What the files hold stays, and no count falls.
     ensures keeps { F.held files.new ≡ F.held files.old }
     ensures later { F.faults files.old ≤ F.faults files.new }
     ensures failed { IsErrOf result PartsError.ReadFault → Rose (F.faults files.old) (F.faults files.new) }

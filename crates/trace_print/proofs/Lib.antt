@@ -11,3 +11,5 @@ pub mod Traces
 pub mod FirstLine
 pub mod WholeTrace
 pub mod OneWrong
+pub mod Gives
+pub mod LineLengths

@@ -2,6 +2,7 @@
 
 ghost use Rattle.std.specs.Prelude.{◌≡◌, ◌≤◌, ℕ, [], Ok, IsOkAnd, false, true, IfOk, IfErr, IfSome, IsErrOf, length};
 ghost use Rattle.outside_io.specs.Count.{Rose};
+ghost use Rattle.outside_io.specs.Reads.{HasRead};
 ghost use Rattle.ffm_model.specs.Reading.{Gives, Reads, file_at};
 ghost use Rattle.ffm_model.specs.Scenarios.{IsScenarioOf};
 ghost use Rattle.command_words.specs.Words.{has_threads, make, order};
@@ -80,6 +81,7 @@ fn bad_value(alloc: Global, root: Root, steps: Vec<PathStep>) -> Refusal
 }
 
 // The bytes of a file.
+#[tactic(auto, using(outside_io::proofs::ReadSteps::perhaps_read, outside_io::proofs::ReadSteps::read_by_all))]
 fn bytes_of<F: Files>(
     alloc: Global,
     files: &mut F,
@@ -88,6 +90,7 @@ fn bytes_of<F: Files>(
     name: &str,
 ) -> Result<Vec<u8>, PartsError>
     ensures gives { IfSome (F.held files.old) (λ of. Gives (λ bytes. bytes.items) (F.last_failed files.new) result (file_at of (record { root = root; steps = [] }) limit name.now)) }
+    ensures reads { IfSome (F.held files.old) (λ of. HasRead (F.reads files.old) (F.reads files.new) result (file_at of (record { root = root; steps = [] }) limit name.now).names) }
     ensures keeps { F.held files.new ≡ F.held files.old }
     ensures later { F.faults files.old ≤ F.faults files.new }
     ensures steady { (IsErrOf result PartsError.ReadFault → ⊥) → F.faults files.new ≡ F.faults files.old }
@@ -103,9 +106,10 @@ fn bytes_of<F: Files>(
 }
 
 /// The system of a system file's bytes.
-#[tactic(auto, unfolding(crate::specs::Work::system_in), using(ffm_model::proofs::ReadingLemmas::after_ok, ffm_model::proofs::ReadingLemmas::after_err))]
+#[tactic(auto, unfolding(crate::specs::Work::system_in), using(crate::proofs::Readings::reading_steps))]
 pub fn system_in<F: Files>(alloc: Global, files: &mut F, bytes: &[u8]) -> Result<System, PartsError>
     ensures gives { IfSome (F.held files.old) (λ of. Gives (λ s. s) (F.last_failed files.new) result (system_in of bytes.now)) }
+    ensures reads { IfSome (F.held files.old) (λ of. HasRead (F.reads files.old) (F.reads files.new) result (system_in of bytes.now).names) }
     ensures keeps { F.held files.new ≡ F.held files.old }
     ensures later { F.faults files.old ≤ F.faults files.new }
     ensures steady { (IsErrOf result PartsError.ReadFault → ⊥) → F.faults files.new ≡ F.faults files.old }
@@ -116,9 +120,10 @@ pub fn system_in<F: Files>(alloc: Global, files: &mut F, bytes: &[u8]) -> Result
 }
 
 // The system of a system file.
-#[tactic(auto, unfolding(crate::specs::Work::system_at), using(ffm_model::proofs::ReadingLemmas::after_ok, ffm_model::proofs::ReadingLemmas::after_err))]
+#[tactic(auto, unfolding(crate::specs::Work::system_at), using(crate::proofs::Readings::reading_steps))]
 fn system_at<F: Files>(alloc: Global, files: &mut F, name: &str) -> Result<System, PartsError>
     ensures gives { IfSome (F.held files.old) (λ of. Gives (λ s. s) (F.last_failed files.new) result (system_at of name.now)) }
+    ensures reads { IfSome (F.held files.old) (λ of. HasRead (F.reads files.old) (F.reads files.new) result (system_at of name.now).names) }
     ensures keeps { F.held files.new ≡ F.held files.old }
     ensures later { F.faults files.old ≤ F.faults files.new }
     ensures steady { (IsErrOf result PartsError.ReadFault → ⊥) → F.faults files.new ≡ F.faults files.old }
@@ -129,7 +134,7 @@ fn system_at<F: Files>(alloc: Global, files: &mut F, name: &str) -> Result<Syste
 }
 
 // The scenario of a scenario file.
-#[tactic(auto, unfolding(crate::specs::Work::scenario_at), using(ffm_model::proofs::ReadingLemmas::after_ok, ffm_model::proofs::ReadingLemmas::after_err))]
+#[tactic(auto, unfolding(crate::specs::Work::scenario_at), using(crate::proofs::Readings::reading_steps))]
 fn scenario_at<F: Files>(
     alloc: Global,
     files: &mut F,
@@ -137,6 +142,7 @@ fn scenario_at<F: Files>(
     name: &str,
 ) -> Result<Scenario, PartsError>
     ensures gives { IfSome (F.held files.old) (λ of. Gives (λ c. c) (F.last_failed files.new) result (scenario_at of system.now name.now)) }
+    ensures reads { IfSome (F.held files.old) (λ of. HasRead (F.reads files.old) (F.reads files.new) result (scenario_at of system.now name.now).names) }
     ensures keeps { F.held files.new ≡ F.held files.old }
     ensures later { F.faults files.old ≤ F.faults files.new }
     ensures steady { (IsErrOf result PartsError.ReadFault → ⊥) → F.faults files.new ≡ F.faults files.old }
@@ -161,7 +167,7 @@ fn scenario_for(alloc: Global, single: bool, scenario: Scenario) -> Result<Scena
 }
 
 // The scenario's runs of a system.
-#[tactic(auto, unfolding(crate::specs::Work::run_in), using(ffm_model::proofs::ReadingLemmas::after_ok, ffm_model::proofs::ReadingLemmas::after_err))]
+#[tactic(auto, unfolding(crate::specs::Work::run_in), using(crate::proofs::Readings::reading_steps))]
 fn run_in<F: Files>(
     alloc: Global,
     files: &mut F,
@@ -170,6 +176,7 @@ fn run_in<F: Files>(
     name: &str,
 ) -> Result<Work, PartsError>
     ensures gives { IfSome (F.held files.old) (λ of. Gives work (F.last_failed files.new) result (run_in of threads system name.now)) }
+    ensures reads { IfSome (F.held files.old) (λ of. HasRead (F.reads files.old) (F.reads files.new) result (run_in of threads system name.now).names) }
     ensures keeps { F.held files.new ≡ F.held files.old }
     ensures later { F.faults files.old ≤ F.faults files.new }
     ensures steady { (IsErrOf result PartsError.ReadFault → ⊥) → F.faults files.new ≡ F.faults files.old }
@@ -189,9 +196,10 @@ fn run_in<F: Files>(
 }
 
 // The listing of a system, from its file.
-#[tactic(auto, unfolding(crate::specs::Work::list_in), using(ffm_model::proofs::ReadingLemmas::after_ok, ffm_model::proofs::ReadingLemmas::after_err))]
+#[tactic(auto, unfolding(crate::specs::Work::list_in), using(crate::proofs::Readings::reading_steps))]
 fn list_in<F: Files>(alloc: Global, files: &mut F, name: &str) -> Result<Work, PartsError>
     ensures gives { IfSome (F.held files.old) (λ of. Gives work (F.last_failed files.new) result (list_in of name.now)) }
+    ensures reads { IfSome (F.held files.old) (λ of. HasRead (F.reads files.old) (F.reads files.new) result (list_in of name.now).names) }
     ensures keeps { F.held files.new ≡ F.held files.old }
     ensures later { F.faults files.old ≤ F.faults files.new }
     ensures steady { (IsErrOf result PartsError.ReadFault → ⊥) → F.faults files.new ≡ F.faults files.old }
@@ -204,7 +212,7 @@ fn list_in<F: Files>(alloc: Global, files: &mut F, name: &str) -> Result<Work, P
 }
 
 // The scenario's runs of a system, from their files.
-#[tactic(auto, unfolding(crate::specs::Work::run_at), using(ffm_model::proofs::ReadingLemmas::after_ok, ffm_model::proofs::ReadingLemmas::after_err))]
+#[tactic(auto, unfolding(crate::specs::Work::run_at), using(crate::proofs::Readings::reading_steps))]
 fn run_at<F: Files>(
     alloc: Global,
     files: &mut F,
@@ -213,6 +221,7 @@ fn run_at<F: Files>(
     scenario: &str,
 ) -> Result<Work, PartsError>
     ensures gives { IfSome (F.held files.old) (λ of. Gives work (F.last_failed files.new) result (run_at of threads system.now scenario.now)) }
+    ensures reads { IfSome (F.held files.old) (λ of. HasRead (F.reads files.old) (F.reads files.new) result (run_at of threads system.now scenario.now).names) }
     ensures keeps { F.held files.new ≡ F.held files.old }
     ensures later { F.faults files.old ≤ F.faults files.new }
     ensures steady { (IsErrOf result PartsError.ReadFault → ⊥) → F.faults files.new ≡ F.faults files.old }
@@ -225,7 +234,7 @@ fn run_at<F: Files>(
 }
 
 // A trace for a scenario over a system, from its file.
-#[tactic(auto, unfolding(crate::specs::Work::trace_in), using(ffm_model::proofs::ReadingLemmas::after_ok, ffm_model::proofs::ReadingLemmas::after_err))]
+#[tactic(auto, unfolding(crate::specs::Work::trace_in), using(crate::proofs::Readings::reading_steps))]
 fn trace_in<F: Files>(
     alloc: Global,
     files: &mut F,
@@ -236,6 +245,7 @@ fn trace_in<F: Files>(
 ) -> Result<Work, PartsError>
     requires { IsScenarioOf system scenario }
     ensures gives { IfSome (F.held files.old) (λ of. Gives work (F.last_failed files.new) result (trace_in of inspection system scenario name.now)) }
+    ensures reads { IfSome (F.held files.old) (λ of. HasRead (F.reads files.old) (F.reads files.new) result (trace_in of inspection system scenario name.now).names) }
     ensures keeps { F.held files.new ≡ F.held files.old }
     ensures later { F.faults files.old ≤ F.faults files.new }
     ensures steady { (IsErrOf result PartsError.ReadFault → ⊥) → F.faults files.new ≡ F.faults files.old }
@@ -254,7 +264,7 @@ fn trace_in<F: Files>(
 
 // A trace for a system, which is of one run, from the files of the scenario and the trace. The
 // programs are read and not used.
-#[tactic(auto, unfolding(crate::specs::Work::judge_in), using(ffm_model::proofs::ReadingLemmas::after_ok, ffm_model::proofs::ReadingLemmas::after_err))]
+#[tactic(auto, unfolding(crate::specs::Work::judge_in), using(crate::proofs::Readings::reading_steps))]
 fn judge_in<F: Files>(
     alloc: Global,
     files: &mut F,
@@ -264,6 +274,7 @@ fn judge_in<F: Files>(
     trace: &str,
 ) -> Result<Work, PartsError>
     ensures gives { IfSome (F.held files.old) (λ of. Gives work (F.last_failed files.new) result (judge_in of inspection system scenario.now trace.now)) }
+    ensures reads { IfSome (F.held files.old) (λ of. HasRead (F.reads files.old) (F.reads files.new) result (judge_in of inspection system scenario.now trace.now).names) }
     ensures keeps { F.held files.new ≡ F.held files.old }
     ensures later { F.faults files.old ≤ F.faults files.new }
     ensures steady { (IsErrOf result PartsError.ReadFault → ⊥) → F.faults files.new ≡ F.faults files.old }
@@ -278,7 +289,7 @@ fn judge_in<F: Files>(
 }
 
 // A trace for a scenario over a system, from their files.
-#[tactic(auto, unfolding(crate::specs::Work::judge_at), using(ffm_model::proofs::ReadingLemmas::after_ok, ffm_model::proofs::ReadingLemmas::after_err))]
+#[tactic(auto, unfolding(crate::specs::Work::judge_at), using(crate::proofs::Readings::reading_steps))]
 fn judge_at<F: Files>(
     alloc: Global,
     files: &mut F,
@@ -288,6 +299,7 @@ fn judge_at<F: Files>(
     trace: &str,
 ) -> Result<Work, PartsError>
     ensures gives { IfSome (F.held files.old) (λ of. Gives work (F.last_failed files.new) result (judge_at of inspection system.now scenario.now trace.now)) }
+    ensures reads { IfSome (F.held files.old) (λ of. HasRead (F.reads files.old) (F.reads files.new) result (judge_at of inspection system.now scenario.now trace.now).names) }
     ensures keeps { F.held files.new ≡ F.held files.old }
     ensures later { F.faults files.old ≤ F.faults files.new }
     ensures steady { (IsErrOf result PartsError.ReadFault → ⊥) → F.faults files.new ≡ F.faults files.old }
@@ -306,6 +318,7 @@ pub fn work_of<F: Files>(
     files: &mut F,
 ) -> Result<Work, PartsError>
     ensures gives { IfSome (F.held files.old) (λ of. Gives work (F.last_failed files.new) result (work_of of (order command.entry))) }
+    ensures reads { IfSome (F.held files.old) (λ of. HasRead (F.reads files.old) (F.reads files.new) result (work_of of (order command.entry)).names) }
     ensures keeps { F.held files.new ≡ F.held files.old }
     ensures later { F.faults files.old ≤ F.faults files.new }
     ensures steady { (IsErrOf result PartsError.ReadFault → ⊥) → F.faults files.new ≡ F.faults files.old }

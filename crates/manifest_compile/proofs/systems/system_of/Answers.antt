@@ -1,6 +1,6 @@
 use Rattle.std.proofs.Common.{◌≡◌, ◌∙◌, ap, sym, subst}
 use Rattle.ffm_model.specs.PartsItems.{PartsRecord, IsParts}
-use Rattle.admitted_systems.proofs.Fit.{lists_fit, services_are_numbered}
+use Rattle.admitted_systems.proofs.Fit.{lists_fit, lists_are_numbered}
 use Rattle.manifest_compile.proofs.SystemLemmas.{signals_fit, partitions_are, sources_are, same_parts}
 use Rattle.manifest_compile.proofs.systems.system_of.Goals as goal
 
@@ -21,7 +21,7 @@ invariant_of-result c =
     let services = c.in_ok-services.ensures p (sym manifests) in
     let parts : IsParts p = subst IsParts c.parts.view_is c.parts.invariant in
     record {
-      services_counted = services_are_numbered p c.in_ok-services.services parts c.requires.none services;
+      counted = lists_are_numbered p c.in_ok-services.services c.args.regions parts c.requires.none services c.requires.regions;
       well_formed =
           lists_fit p c.parts.inside.level c.in_ok-partitions.partitions c.in_ok-services.services c.in_ok-sources.sources c.args.regions c.in_ok-clients.clients c.args.budgets parts c.requires.none
           level (partitions_are p c.parts.inside.level ms c.in_ok-partitions.partitions level manifests c.in_ok-partitions.ensures) services

@@ -1,0 +1,55 @@
+//! Texts that several crates of tests share: the files of one system with a run of it.
+#![tactic(auto)]
+
+/// The manifest of a partition with two services, of which non-secure clients may use the first.
+pub const VAULT_MANIFEST: &str =
+    r#"{"psa_framework_version":1.0,"name":"VAULT","type":"APPLICATION-ROT","priority":"NORMAL",
+"entry_point":"vault_main","stack_size":"0x400",
+"services":[{"name":"VAULT","sid":"0x40","non_secure_clients":true},
+{"name":"ADMIN","sid":"0x41","non_secure_clients":false,"version":2}]}"#;
+
+/// The system file of that partition and a client, which names no other file.
+pub const VAULT: &str =
+    r#"{"isolation_level":3,"manifests":[{"psa_framework_version":1.0,"name":"VAULT",
+"type":"APPLICATION-ROT","priority":"NORMAL","entry_point":"vault_main","stack_size":"0x400",
+"services":[{"name":"VAULT","sid":"0x40","non_secure_clients":true},
+{"name":"ADMIN","sid":"0x41","non_secure_clients":false,"version":2}]}],"clients":["NS"]}"#;
+
+/// The scenario file of a connection with one request, which is read and written in pieces, and its end.
+pub const ONE_REQUEST_SCENARIO: &str = r#"{"scripts":[
+{"actor":"VAULT","lines":["top:","wait 0xffffffff 0x80000000","get r0 0x30000000","jeq r1 0 req",
+"reply r2 0","jmp top","req:","read r2 0 0x30000100 3","read r2 0 0x30000100 3",
+"read r2 0 0x30000100 3","write r2 0 0x30000100 4","reply r2 7","jmp top"]},
+{"actor":"NS","lines":["connect 0x40 1","set r5 r0","call r5 0 0x20000000 1 0x20000008 1",
+"close r5","load 0x2000000c 4"]}],
+"memory":[{"address":"0x20000000","bytes":"20000020050000003000002008000000"},
+{"address":"0x20000020","bytes":"68656c6c6f"}]}"#;
+
+/// The trace of its run.
+pub const ONE_REQUEST_TRACE: &str = "p1 wait 0xffffffff 0x80000000 -> blocked
+n1 connect 0x00000040 1 -> blocked
+p1 resume -> signals 0x00000010
+p1 get 0x00000010 0x30000000 -> message -1 1536 -1 0x00000000 0 0 0 0 0 0 0 0
+p1 reply 1536 0 -> done
+n1 resume -> value 1024
+p1 wait 0xffffffff 0x80000000 -> blocked
+n1 call 1024 0 0x20000000 1 0x20000008 1 -> blocked
+p1 resume -> signals 0x00000010
+p1 get 0x00000010 0x30000000 -> message 0 2560 -1 0x00000000 5 0 0 0 8 0 0 0
+p1 read 2560 0 0x30000100 3 -> number 3
+p1 read 2560 0 0x30000100 3 -> number 2
+p1 read 2560 0 0x30000100 3 -> number 0
+p1 write 2560 0 0x30000100 4 -> done
+p1 reply 2560 7 -> done
+n1 resume -> value 7
+p1 wait 0xffffffff 0x80000000 -> blocked
+n1 close 1024 -> blocked
+p1 resume -> signals 0x00000010
+p1 get 0x00000010 0x30000000 -> message -2 3584 -1 0x00000000 0 0 0 0 0 0 0 0
+p1 reply 3584 0 -> done
+n1 resume -> done
+p1 wait 0xffffffff 0x80000000 -> blocked
+n1 load 0x2000000c 4 -> number 4
+n1 stop end -> done
+quiet 25
+";

@@ -1,0 +1,270 @@
+#!/usr/bin/env python3
+"""Runs the commands of the pages as a new user would, and compares what comes with what the pages show.
+
+    python3 tools/run_page_commands.py [--program FILE] [PAGE ..]
+
+Run at the top of the repository. Takes README.md, docs/*.md and examples/*/README.md, or the pages that are named, and
+runs each block of commands at the top of a copy of the repository, in the order of the page. Where the commands say
+crates/ffm/out/ffm, FILE is run, the proved program; with no FILE it is tools/try_ffm.sh, which takes a minute or two
+at each call. The gate, proofs and git are not run, and told.
+
+What the page shows is looked for in what its commands wrote, and in the texts that stand beside the examples they
+name. Compared are:
+- blocks of lines that the program writes: they come, in this order;
+- lines of a trace or an audit in the first cells of a table: they come, and one with its number behind it, as in
+  `quiet 31` (32), is that line; `..` stands for anything;
+- a last line, as `legal 6`, outside of the sections "To try": it comes, and with the status behind it;
+- a link [trace.txt](trace.txt), listing.txt or audit.txt: some block wrote that text;
+- the status of a block: 0, unless its last command is diff.
+
+Prints what differs, and ends with the status 1 where something does."""
+
+import argparse
+import pathlib
+import re
+import shlex
+import shutil
+import subprocess
+import sys
+import tempfile
+from dataclasses import dataclass, field
+
+COMMANDS = ("crates/ffm/out/ffm ", "tools/", "python3 ", "rt ", ".ci/run", "git ", "jq ", "sed ", "awk ", "grep ", "diff ", "(cd ", "set -eu")
+NOT_RUN = re.compile(r"\.ci/run|\brt (run|check|ci|version)\b|\bgit ")
+ENTRY = r"(?:p\d+|n\d+|dev) [a-z_]+\b[^`]*"
+VERDICT = r"(?:quiet|stalled|full|legal|illegal|clean|restart) \d+"
+CHANGE = r"\d+ 0x[0-9a-f]{8} \d+ (?:-|0x[0-9a-f]{8})"
+LISTED = r"(?:isolation|partition|service|irq|mmio|nonsecure|client|connections|stateless|admitted) .*"
+KIT = r"(?:checked:|races:|run=).*"
+WRITTEN = re.compile(f"{ENTRY} -> .+|{VERDICT}|{CHANGE}|{LISTED}|{KIT}|usage: ffm .*|refused \\d+ .*|\\d")
+QUOTED = re.compile(f"`({ENTRY}|{VERDICT}|{CHANGE})`(?: \\((\\d+)\\))?")
+ENDED = re.compile(r"`((?:quiet|stalled|full|legal|illegal|clean) \d+)`(?:,? (?:status|and(?: `ffm`'s status is)?) (\d)\b)?")
+LAST = re.compile(f"^{VERDICT}$", re.M)
+LINKED = re.compile(r"\[(trace\.txt|listing\.txt|audit\.txt)\]\(([^)]*)\)")
+EXAMPLE = re.compile(r"examples/(\w+)")
+TEXTS = ("trace.txt", "listing.txt", "audit.txt")
+
+# It runs the program, or what stands in for it, and notes its status.
+STAND_IN = """#!/bin/bash
+{program} "$@"
+status=$?
+echo $status >> {statuses}
+exit $status
+"""
+
+
+@dataclass
+class Part:
+    """A block between ``` or one other line, the number of its line in the page, and the section in which it stands."""
+    line: int
+    section: str
+    text: str
+    is_block: bool = False
+
+    def is_command(self):
+        return self.is_block and self.text.startswith(COMMANDS)
+
+    def is_written(self):
+        lines = self.text.splitlines()
+        return self.is_block and lines != [] and all(WRITTEN.fullmatch(line) for line in lines)
+
+
+@dataclass
+class Output:
+    """What a block of commands wrote, with the statuses of the program in it."""
+    text: str
+    statuses: list[int] = field(default_factory=list)
+    errors: str = ""
+
+    def lines(self):
+        return self.text.splitlines()
+
+
+def parts_of(page):
+    """The blocks and the other lines of a page."""
+    section, block = "", None
+    for number, line in enumerate(page.read_text().splitlines(), 1):
+        if line.startswith("```"):
+            if block is None:
+                block = Part(number + 1, section, "", is_block=True)
+            else:
+                yield block
+                block = None
+        elif block is not None:
+            block.text += line + "\n"
+        else:
+            if line.startswith("#"):
+                section = line.lstrip("# ")
+            yield Part(number, section, line)
+
+
+def copy_of(folder, program):
+    """A copy of the repository in the folder, with a program in the place of the built one, and where its statuses go."""
+    top = pathlib.Path(folder) / "copy"
+    shutil.copytree(".", top, symlinks=True, ignore=shutil.ignore_patterns("out", ".git", "__pycache__"))
+    statuses = pathlib.Path(folder) / "statuses"
+    stand_in = top / "crates/ffm/out/ffm"
+    stand_in.parent.mkdir()
+    words = [shlex.quote(str(path.resolve())) for path in (program or top / "tools/try_ffm.sh", statuses)]
+    stand_in.write_text(STAND_IN.format(program=words[0], statuses=words[1]))
+    stand_in.chmod(0o755)
+    return top, statuses
+
+
+def run(block, top, statuses):
+    """What the commands of a block write at the top of the copy, and the status of the block."""
+    statuses.write_text("")
+    ran = subprocess.run(["bash", "-c", block.text], cwd=top, stdin=subprocess.DEVNULL, capture_output=True, text=True)
+    return Output(ran.stdout, [int(word) for word in statuses.read_text().split()], ran.stderr), ran.returncode
+
+
+def is_line(quoted, line):
+    """Whether a quoted text is that line, or begins it where no outcome is quoted."""
+    if " -> " not in quoted and re.match(ENTRY, quoted):
+        quoted += ".."
+    pattern = re.sub(r"(\\\.){2,}", ".*", re.escape(quoted))
+    return re.fullmatch(pattern, line) is not None
+
+
+def comes_in_order(quotes, lines):
+    """Whether the quotes are lines of a text, one behind the other."""
+    left = iter(lines)
+    return all(any(is_line(quoted, line) for line in left) for quoted in quotes)
+
+
+def comes_at(quoted, number, lines):
+    return number <= len(lines) and is_line(quoted, lines[number - 1])
+
+
+def table_rows(parts):
+    """The tables of a page, each a list of rows, a row the part and its cells."""
+    table = []
+    for part in parts:
+        if not part.is_block and part.text.startswith("|"):
+            table.append((part, [cell.strip() for cell in part.text.strip("|").split(" | ")]))
+        elif table:
+            yield table
+            table = []
+    if table:
+        yield table
+
+
+def wrong_in_table(table, texts):
+    """The rows of a table that quote in their first cell what doesn't come."""
+    in_order = []
+    for part, cells in table:
+        quotes = QUOTED.findall(cells[0]) if cells[0].startswith("`") else []
+        for quoted, number in quotes:
+            if number and not any(comes_at(quoted, int(number), lines) for lines in texts):
+                yield part, f"line {number} isn't `{quoted}`"
+        if quotes and re.fullmatch(CHANGE, quotes[0][0]):
+            yield from wrong_change(part, quotes[0][0], cells[1], texts)
+        else:
+            in_order += [quoted for quoted, number in quotes if not number]
+    if in_order and not any(comes_in_order(in_order, lines) for lines in texts):
+        lost = [quoted for quoted in in_order if not any(is_line(quoted, line) for lines in texts for line in lines)]
+        yield table[0][0], f"these lines don't come in this order: {lost or in_order}"
+
+
+def wrong_change(part, change, beside, texts):
+    """Where a line of an audit doesn't come, or the cell beside it isn't the entry of its number."""
+    number = int(change.split()[0])
+    if not any(change in lines for lines in texts):
+        yield part, f"`{change}` doesn't come"
+    for quoted, _ in QUOTED.findall(beside)[:1]:
+        if not any(comes_at(quoted, number, lines) for lines in texts):
+            yield part, f"line {number} isn't `{quoted}`"
+
+
+def wrong_in_line(part, outputs, texts):
+    """What a line outside of tables quotes that doesn't come."""
+    for quoted, number in QUOTED.findall(part.text):
+        if number and not any(comes_at(quoted, int(number), lines) for lines in texts):
+            yield part, f"line {number} isn't `{quoted}`"
+    for quoted, status in ENDED.findall(part.text):
+        found = [output for output in outputs if quoted in output.lines()]
+        if not found and not any(quoted in lines for lines in texts):
+            yield part, f"`{quoted}` doesn't come"
+        if found and status and not any(int(status) in output.statuses or status in output.lines() for output in found):
+            yield part, f"`{quoted}` comes without the status {status}"
+
+
+def wrong_links(page, part, outputs):
+    """The texts beside the page to which the part links, and which no block wrote."""
+    for name, target in LINKED.findall(part.text):
+        text = (page.parent / target).read_text()
+        if not any(text in output.text for output in outputs):
+            yield part, f"no command writes {name}"
+
+
+def last_lines(part):
+    """Where a row of the table of examples has another last line than the example's trace."""
+    names = EXAMPLE.findall(part.text)
+    if part.text.startswith("| [") and names:
+        lines = pathlib.Path("examples", names[0], "trace.txt").read_text().splitlines()
+        for quoted in re.findall(f"`({VERDICT})`", part.text.split(" | ")[-1]):
+            if quoted not in lines:
+                yield part, f"`{quoted}` isn't in the trace of {names[0]}"
+
+
+def examples_of(commands):
+    """The lines of the texts beside the examples that the commands name."""
+    names = {name for block in commands for name in EXAMPLE.findall(block.text)}
+    paths = [pathlib.Path("examples", name, text) for name in sorted(names) for text in TEXTS]
+    return [path.read_text().splitlines() for path in paths if path.exists()]
+
+
+def shown_wrong(page, parts, outputs, commands):
+    """What the page shows and its commands don't write."""
+    texts = [output.lines() for output in outputs] + examples_of(commands)
+    both = texts + [(output.text + output.errors).splitlines() for output in outputs]
+    for part in parts:
+        if part.is_written() and not any(comes_in_order(part.text.splitlines(), lines) for lines in both):
+            yield part, "these lines don't come"
+        if part.is_block or part.section == "To try":
+            continue
+        yield from wrong_links(page, part, outputs)
+        yield from last_lines(part)
+        if not part.text.startswith("|"):
+            yield from wrong_in_line(part, outputs, texts)
+    for table in table_rows(part for part in parts if part.section != "To try"):
+        yield from wrong_in_table(table, texts)
+
+
+def wrong_of(page, top, statuses):
+    """Runs the commands of a page, and gives what it shows wrongly."""
+    parts = list(parts_of(page))
+    commands, outputs = [], []
+    for block in parts:
+        if not block.is_command():
+            continue
+        if NOT_RUN.search(block.text):
+            print(f"{page}:{block.line}: not run: {block.text.splitlines()[0]}", flush=True)
+            continue
+        output, status = run(block, top, statuses)
+        commands.append(block)
+        outputs.append(output)
+        if status != 0 and not block.text.splitlines()[-1].startswith("diff "):
+            yield block, f"status {status}: {output.errors.strip()[-300:]}"
+    if any(output.statuses or LAST.search(output.text) for output in outputs):
+        yield from shown_wrong(page, parts, outputs, commands)
+
+
+def main():
+    parser = argparse.ArgumentParser(description=__doc__.splitlines()[0])
+    parser.add_argument("--program", type=pathlib.Path, help="the proved program")
+    parser.add_argument("pages", nargs="*", type=pathlib.Path)
+    arguments = parser.parse_args()
+    all_pages = [pathlib.Path("README.md"), *sorted(pathlib.Path("docs").glob("*.md")), *sorted(pathlib.Path("examples").glob("*/README.md"))]
+    count = 0
+    with tempfile.TemporaryDirectory() as folder:
+        top, statuses = copy_of(folder, arguments.program)
+        for page in arguments.pages or all_pages:
+            for part, words in wrong_of(page, top, statuses):
+                print(f"{page}:{part.line}: {words}", flush=True)
+                count += 1
+    sys.exit(1 if count else 0)
+
+
+if __name__ == "__main__":
+    main()
