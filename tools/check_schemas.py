@@ -19,8 +19,9 @@ import sys
 import jsonschema
 import referencing
 
+from example_files import examples
+
 SCHEMAS = pathlib.Path("schemas")
-EXAMPLES = pathlib.Path("examples")
 SCENARIO_NAMES = {"event_limit", "scripts", "schedule", "interrupts", "memory", "restarts"}
 SYSTEM_NAMES = {"isolation_level", "manifests"}
 
@@ -262,9 +263,13 @@ def wrong_files():
     yield "manifest", "an MMIO region by its name and by its base", both
 
 
+def files_of_examples():
+    return [path for example in examples().values() for path in example.inputs()]
+
+
 def check_examples(checks):
     wrong, right = [], 0
-    for path in sorted(EXAMPLES.glob("*/*.json")):
+    for path in files_of_examples():
         tree = json.loads(path.read_text())
         kind = kind_of(tree)
         wrong += [f"{path}: {problem}" for problem in problems(checks[kind], tree)]
@@ -298,7 +303,7 @@ def main():
         right += 1
         if checks[kind].is_valid(tree):
             wrong.append(f"accepted although {what}")
-    print("\n".join(wrong) if wrong else f"accepted {len(list(EXAMPLES.glob('*/*.json')))} examples, refused {right} wrong files")
+    print("\n".join(wrong) if wrong else f"accepted {len(files_of_examples())} files of examples, refused {right} wrong files")
     sys.exit(1 if wrong else 0)
 
 

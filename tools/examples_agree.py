@@ -1,26 +1,24 @@
 #!/usr/bin/env python3
-"""Compares the examples, as a reader sees them, with what the gate runs and wants.
+"""Compares what stands beside the examples with what the gate wants.
 
     python3 tools/examples_agree.py
 
-Run at the top of the repository. The gate takes no links, so a program of the gate has a copy of the files of each
-example; this says whether each copy is the file of its name. The traces, listings and audits beside the examples have
-to be those that the gate wants, and the judgements and audits that it wants those of the plain machine. Prints what
-differs, and ends with the status 1 where something does."""
+Run at the top of the repository. The traces, listings and audits beside the examples have to be those that the gate
+wants of the programs, and the judgements and audits that it wants those of the plain machine. Each example that has a
+folder of its own has to be run by the gate, and each example to have a row in examples/README.md. Prints what differs,
+and ends with the status 1 where something does."""
 
 import pathlib
 import sys
 
 import plain_machine
+from example_files import FIRMWARE, GUIDED, examples, guided
 
-EXAMPLES = pathlib.Path("examples")
-CRATES = pathlib.Path("crates")
-GUIDED = CRATES / "guided_examples"
-FIRMWARE = CRATES / "firmware_commands"
+LIST = pathlib.Path("examples/README.md")
 FILES = ("system.json", "scenario.json", "trace.txt")
 
 
-def guided():
+def wanted_of_guided():
     """The names of the guided examples, each with its trace, judgement and audit, as the stored run has them."""
     texts, name = {}, None
     for line in (GUIDED / "stdout").read_text().splitlines(keepends=True):
@@ -34,7 +32,7 @@ def guided():
     return {name: found[:3] for name, found in texts.items()}
 
 
-def commands():
+def wanted_of_firmware():
     """The commands over the firmware example, each with its text, as the stored run has them."""
     texts, command = {}, None
     for line in (FIRMWARE / "stdout").read_text().splitlines(keepends=True):
@@ -46,51 +44,46 @@ def commands():
     return texts
 
 
-def plain(folder, names, audits):
-    """What the plain machine says of the trace of these files."""
-    return plain_machine.answer_of_files(*(folder / name for name in names), audits)[1] + "\n"
+def plain(stand, names, audits):
+    """What the plain machine says of the trace of these files, whose names are as seen from the folder `stand`."""
+    return plain_machine.answer_of_files(*names, audits, stand)[1] + "\n"
 
 
 def judged_commands(texts):
     """The texts of the commands that judge or audit a trace which is there, each with what the plain machine says."""
+    stand = FIRMWARE / "data"
     for command, text in texts.items():
         word, *names = command.split()[1:] or [""]
-        if word in ("replay", "audit") and all((FIRMWARE / "data" / name).exists() for name in names):
-            yield f"{command}, by the plain machine,", plain(FIRMWARE / "data", names, word == "audit"), text
+        if word in ("replay", "audit") and all((stand / name).exists() for name in names):
+            yield f"{command}, by the plain machine,", plain(stand, names, word == "audit"), text
 
 
-def pairs():
-    """Pairs of texts that have to be the same, each with what it is."""
-    for name, (trace, judgement, audit) in guided().items():
-        folder = EXAMPLES / name
-        yield f"{name}/trace.txt", (folder / "trace.txt").read_text(), trace
-        yield f"{name}, judged by the plain machine,", plain(folder, FILES, audits=False), judgement
-        yield f"{name}, audited by the plain machine,", plain(folder, FILES, audits=True), audit
-        if (folder / "audit.txt").exists():
-            yield f"{name}/audit.txt", (folder / "audit.txt").read_text(), audit
-    texts = commands()
-    yield "firmware/listing.txt", (EXAMPLES / "firmware" / "listing.txt").read_text(), texts["ffm compile system.json"]
-    yield "firmware/trace.txt", (EXAMPLES / "firmware" / "trace.txt").read_text(), texts["ffm run system.json scenario.json"]
+def guided_pairs(example, trace, judgement, audit):
+    """Pairs of texts that have to be the same, of a guided example, each with what it is."""
+    names = example.words(*FILES)
+    yield str(example.trace), example.trace.read_text(), trace
+    yield f"{example.name}, judged by the plain machine,", plain(example.stand, names, audits=False), judgement
+    yield f"{example.name}, audited by the plain machine,", plain(example.stand, names, audits=True), audit
+    beside = example.folder / "audit.txt"
+    if beside.exists():
+        yield str(beside), beside.read_text(), audit
+
+
+def firmware_pairs():
+    """The same of the firmware example and the commands over it."""
+    texts, firmware = wanted_of_firmware(), examples()["firmware"]
+    listing = firmware.folder / "listing.txt"
+    yield str(listing), listing.read_text(), texts["ffm compile system.json"]
+    yield str(firmware.trace), firmware.trace.read_text(), texts["ffm run system.json scenario.json"]
     yield from judged_commands(texts)
 
 
-def copies():
-    """The files in examples/ that a program of the gate runs, each with the program's copy."""
-    for name in guided():
-        for file in FILES:
-            yield EXAMPLES / name / file, GUIDED / "data" / f"{name}_{file}"
-    for path in sorted(EXAMPLES.glob("firmware_1_1/sp11_*.json")):
-        yield path, GUIDED / "data" / path.name
-    for path in [EXAMPLES / "firmware" / file for file in FILES] + sorted(EXAMPLES.glob("firmware/sp_*.json")):
-        yield path, FIRMWARE / "data" / path.name
-    for file in FILES[:2]:
-        yield EXAMPLES / "first" / file, CRATES / "ffm" / "data" / file
-    yield EXAMPLES / "first" / "trace.txt", CRATES / "ffm" / "stdout"
-
-
 def main():
-    wrong = [f"{name} differs" for name, seen, wanted in pairs() if seen != wanted]
-    wrong += [f"{path} and {copy} differ" for path, copy in copies() if path.read_bytes() != copy.read_bytes()]
+    wanted, there = wanted_of_guided(), {example.name: example for example in guided()}
+    wrong = [f"{name} has no folder, or isn't run by the gate" for name in sorted(wanted.keys() ^ there.keys())]
+    wrong += [f"{name} has no row in {LIST}" for name in examples() if f"\n| [{name}](" not in LIST.read_text()]
+    pairs = [pair for name in wanted.keys() & there.keys() for pair in guided_pairs(there[name], *wanted[name])]
+    wrong += [f"{name} differs" for name, seen, text in [*pairs, *firmware_pairs()] if seen != text]
     for line in wrong:
         print(line)
     sys.exit(1 if wrong else 0)

@@ -212,12 +212,11 @@ def permitted(tree, manifests):
     return users
 
 
-def read_system(path):
-    """The system of a file. Manifests that it names stand beside it."""
-    path = pathlib.Path(path)
-    tree = json.loads(path.read_text())
+def read_system(name, stand=pathlib.Path()):
+    """The system of a file. Its name and those of its manifests are as seen from the folder `stand`."""
+    tree = json.loads((stand / name).read_text())
     manifests = [
-        json.loads((path.parent / item).read_text()) if isinstance(item, str) else item for item in tree["manifests"]
+        json.loads((stand / item).read_text()) if isinstance(item, str) else item for item in tree["manifests"]
     ]
     names = [manifest["name"] for manifest in manifests] + tree.get("clients", [])
     services = read_services(manifests)
@@ -836,11 +835,12 @@ def answer(system, scenario, text, audits):
     return 0 if place is None else 6, "\n".join([*lines, line])
 
 
-def answer_of_files(system, scenario, trace, audits):
-    """The same for the files of these names. A scenario with restarts has several runs, and a trace is of one."""
-    if json.loads(pathlib.Path(scenario).read_text()).get("restarts", 0) > 0:
+def answer_of_files(system, scenario, trace, audits, stand=pathlib.Path()):
+    """The same for the files of these names, as seen from the folder `stand`. A scenario with restarts has several
+    runs, and a trace is of one."""
+    if json.loads((stand / scenario).read_text()).get("restarts", 0) > 0:
         return 1, "refused 4 BadValue scenario /restarts"
-    return answer(read_system(system), read_scenario(scenario), pathlib.Path(trace).read_bytes(), audits)
+    return answer(read_system(system, stand), read_scenario(stand / scenario), (stand / trace).read_bytes(), audits)
 
 
 def main():

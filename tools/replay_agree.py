@@ -1,7 +1,7 @@
 #!/usr/bin/env python3
 """Compares `ffm replay`, or `ffm audit`, with the plain machine, on altered traces and on runs made at random.
 
-    python3 tools/replay_agree.py --cmd crates/ffm/out/ffm [--audit] [--examples examples] [--count N] [--walks N]
+    python3 tools/replay_agree.py --cmd crates/ffm/out/ffm [--audit] [--count N] [--walks N]
 
 Takes the trace of each example and of some systems that stand below, and alters it: numbers, words, lines,
 layout, verdict, bytes, prefixes, the event limit, and single calls with the answer that the plain machine
@@ -24,6 +24,7 @@ import threading
 from dataclasses import dataclass
 
 import plain_machine
+from example_files import examples
 from plain_machine import BLOCK, CALLS, MOST_STATELESS, OUTCOMES, STATELESS_HANDLE, VERDICTS
 
 PROCESSES = 3
@@ -140,20 +141,22 @@ BUILT_IN = {
 
 @dataclass
 class Case:
-    """A trace with its system and scenario, as files and as the plain machine reads them."""
+    """A trace with its system and scenario, as files and as the plain machine reads them. The name of the system's file
+    is as seen from the folder `stand`, in which the program runs."""
     name: str
-    folder: pathlib.Path
+    stand: pathlib.Path
+    system_file: str
     scenario: pathlib.Path
     text: bytes
 
     def __post_init__(self):
-        self.system = plain_machine.read_system(self.folder / "system.json")
+        self.system = plain_machine.read_system(self.system_file, self.stand)
         self.limit, self.memory = plain_machine.read_scenario(self.scenario)
 
     def changed(self, name, place, text, **attributes):
         """The same system with another trace and a changed scenario, which is written at `place`."""
         place.write_text(json.dumps(json.loads(self.scenario.read_text()) | attributes))
-        return Case(name, self.folder, place, text)
+        return Case(name, self.stand, self.system_file, place, text)
 
     def lines(self):
         return self.text.decode("latin-1").split("\n")[:-1]
@@ -166,25 +169,23 @@ class Trial:
     text: bytes
 
 
-def cases(program, examples, work):
+def cases(program, work):
     """Each example of one run and each system from above, with its trace."""
-    for name, (system_tree, scenario_tree) in BUILT_IN.items():
-        (work / name).mkdir()
-        (work / name / "system.json").write_text(json.dumps(system_tree))
-        (work / name / "scenario.json").write_text(json.dumps(scenario_tree))
-    for place in sorted(examples.glob("*/scenario.json")) + [work / name / "scenario.json" for name in BUILT_IN]:
-        folder = place.resolve().parent
-        if json.loads(place.read_text()).get("restarts", 0) > 0:
+    for name, example in sorted(examples().items()):
+        scenario_file = (example.folder / "scenario.json").resolve()
+        if json.loads(scenario_file.read_text()).get("restarts", 0) > 0:
             continue  # several runs, and a trace is of one
-        if (folder / "trace.txt").exists():
-            text = (folder / "trace.txt").read_bytes()
-        else:
-            words = [program, "run", "system.json", "scenario.json"]
-            run = subprocess.run(words, cwd=folder, capture_output=True, timeout=TIMEOUT)
-            if run.returncode not in (0, 4, 5):
-                sys.exit(f"{folder.name}: the run ended with the status {run.returncode}")
-            text = run.stdout
-        yield Case(folder.name, folder, folder / "scenario.json", text)
+        yield Case(name, example.stand, *example.words("system.json"), scenario_file, example.trace.read_bytes())
+    for name, (system_tree, scenario_tree) in BUILT_IN.items():
+        folder = work / name
+        folder.mkdir()
+        (folder / "system.json").write_text(json.dumps(system_tree))
+        (folder / "scenario.json").write_text(json.dumps(scenario_tree))
+        words = [program, "run", "system.json", "scenario.json"]
+        run = subprocess.run(words, cwd=folder, capture_output=True, timeout=TIMEOUT)
+        if run.returncode not in (0, 4, 5):
+            sys.exit(f"{name}: the run ended with the status {run.returncode}")
+        yield Case(name, folder, "system.json", folder / "scenario.json", run.stdout)
 
 
 # Texts
@@ -577,9 +578,9 @@ class Comparer:
     def answer(self, trial):
         place = self.place()
         place.write_bytes(trial.text)
-        words = [self.program, "audit" if self.audits else "replay", "system.json", trial.case.scenario, place]
+        words = [self.program, "audit" if self.audits else "replay", trial.case.system_file, trial.case.scenario, place]
         try:
-            run = subprocess.run(words, cwd=trial.case.folder, capture_output=True, timeout=TIMEOUT)
+            run = subprocess.run(words, cwd=trial.case.stand, capture_output=True, timeout=TIMEOUT)
         except subprocess.TimeoutExpired:
             return "no answer", ""
         return run.returncode, run.stdout.decode("latin-1")
@@ -626,7 +627,6 @@ def main():
     parser = argparse.ArgumentParser(description=__doc__.splitlines()[0])
     parser.add_argument("--cmd", required=True, help="the program ffm")
     parser.add_argument("--audit", action="store_true", help="compare audits, and not judgements")
-    parser.add_argument("--examples", type=pathlib.Path, default=pathlib.Path("examples"))
     parser.add_argument("--count", type=int, default=2000, help="about so many altered traces of each trace; 0 for all")
     parser.add_argument("--walks", type=int, default=20, help="so many random runs of each system")
     parser.add_argument("--seed", type=int, default=0)
@@ -637,7 +637,7 @@ def main():
     with tempfile.TemporaryDirectory() as temporary, concurrent.futures.ThreadPoolExecutor(PROCESSES) as pool:
         work = pathlib.Path(temporary)
         comparer = Comparer(program, arguments.audit, work)
-        for case in cases(program, arguments.examples, work):
+        for case in cases(program, work):
             counts = compare(case, arguments, work, pool, comparer)
             tried, different = tried + counts[0], different + counts[1]
     print(f"{tried - different} of {tried} agree")

@@ -3,10 +3,11 @@
 
     python3 tools/run_page_commands.py [--program FILE] [PAGE ..]
 
-Run at the top of the repository. Takes README.md, docs/*.md and examples/*/README.md, or the pages that are named, and
-runs each block of commands at the top of a copy of the repository, in the order of the page. Where the commands say
-crates/ffm/out/ffm, FILE is run, the proved program; with no FILE it is tools/try_ffm.sh, which takes a minute or two
-at each call. The gate, proofs and git are not run, and told.
+Run at the top of the repository. Takes README.md, docs/*.md and the README.md of the examples, or the pages that are
+named. The blocks of commands of a page are run in their order on a copy of the repository: the first at its top, and
+each further one in the folder in which the one before it ended. Where the commands say ffm, FILE is run, the proved
+program; with no FILE it is tools/try_ffm.sh, which takes a minute or two at each call. The gate, proofs and git are
+not run, and told.
 
 What the page shows is looked for in what its commands wrote, and in the texts that stand beside the examples they
 name. Compared are:
@@ -20,6 +21,7 @@ name. Compared are:
 Prints what differs, and ends with the status 1 where something does."""
 
 import argparse
+import os
 import pathlib
 import re
 import shlex
@@ -29,7 +31,11 @@ import sys
 import tempfile
 from dataclasses import dataclass, field
 
-COMMANDS = ("crates/ffm/out/ffm ", "tools/", "python3 ", "rt ", ".ci/run", "git ", "jq ", "sed ", "awk ", "grep ", "diff ", "(cd ", "set -eu")
+from example_files import GUIDED, examples
+
+COMMAND = re.compile(
+    r"ffm (?:compile|run|replay|audit|make)\b|(?:python3|rt|git|jq|sed|awk|grep|diff|\(?cd|export) |tools/|\.ci/run|set -eu"
+)
 NOT_RUN = re.compile(r"\.ci/run|\brt (run|check|ci|version)\b|\bgit ")
 ENTRY = r"(?:p\d+|n\d+|dev) [a-z_]+\b[^`]*"
 VERDICT = r"(?:quiet|stalled|full|legal|illegal|clean|restart) \d+"
@@ -41,8 +47,8 @@ QUOTED = re.compile(f"`({ENTRY}|{VERDICT}|{CHANGE})`(?: \\((\\d+)\\))?")
 ENDED = re.compile(r"`((?:quiet|stalled|full|legal|illegal|clean) \d+)`(?:,? (?:status|and(?: `ffm`'s status is)?) (\d)\b)?")
 LAST = re.compile(f"^{VERDICT}$", re.M)
 LINKED = re.compile(r"\[(trace\.txt|listing\.txt|audit\.txt)\]\(([^)]*)\)")
-EXAMPLE = re.compile(r"examples/(\w+)")
-TEXTS = ("trace.txt", "listing.txt", "audit.txt")
+EXAMPLE = re.compile(r"\| \[(\w+)\]\(")
+BESIDE = ("listing.txt", "audit.txt")
 
 # It runs the program, or what stands in for it, and notes its status.
 STAND_IN = """#!/bin/bash
@@ -62,7 +68,7 @@ class Part:
     is_block: bool = False
 
     def is_command(self):
-        return self.is_block and self.text.startswith(COMMANDS)
+        return self.is_block and COMMAND.match(self.text) is not None
 
     def is_written(self):
         lines = self.text.splitlines()
@@ -98,24 +104,32 @@ def parts_of(page):
             yield Part(number, section, line)
 
 
-def copy_of(folder, program):
-    """A copy of the repository in the folder, with a program in the place of the built one, and where its statuses go."""
-    top = pathlib.Path(folder) / "copy"
-    shutil.copytree(".", top, symlinks=True, ignore=shutil.ignore_patterns("out", ".git", "__pycache__"))
-    statuses = pathlib.Path(folder) / "statuses"
-    stand_in = top / "crates/ffm/out/ffm"
-    stand_in.parent.mkdir()
-    words = [shlex.quote(str(path.resolve())) for path in (program or top / "tools/try_ffm.sh", statuses)]
-    stand_in.write_text(STAND_IN.format(program=words[0], statuses=words[1]))
-    stand_in.chmod(0o755)
-    return top, statuses
+class Shell:
+    """A user's shell in a copy of the repository, with a program in the place of the built one."""
 
+    def __init__(self, folder, program):
+        folder = pathlib.Path(folder).resolve()
+        self.top = folder / "copy"
+        shutil.copytree(".", self.top, symlinks=True, ignore=shutil.ignore_patterns("out", ".git", "__pycache__"))
+        self.statuses, self.stands = folder / "statuses", folder / "stands"
+        stand_in = self.top / "crates/ffm/out/ffm"
+        stand_in.parent.mkdir()
+        words = [shlex.quote(str(path.resolve())) for path in (program or self.top / "tools/try_ffm.sh", self.statuses)]
+        stand_in.write_text(STAND_IN.format(program=words[0], statuses=words[1]))
+        stand_in.chmod(0o755)
+        self.environment = os.environ | {"PATH": f"{stand_in.parent}:{os.environ['PATH']}"}
+        self.to_the_top()
 
-def run(block, top, statuses):
-    """What the commands of a block write at the top of the copy, and the status of the block."""
-    statuses.write_text("")
-    ran = subprocess.run(["bash", "-c", block.text], cwd=top, stdin=subprocess.DEVNULL, capture_output=True, text=True)
-    return Output(ran.stdout, [int(word) for word in statuses.read_text().split()], ran.stderr), ran.returncode
+    def to_the_top(self):
+        self.stands.write_text(str(self.top))
+
+    def run(self, block):
+        """What the commands of a block write, and the status of the block. The next one stands where this one ends."""
+        self.statuses.write_text("")
+        text = f"trap 'pwd > {shlex.quote(str(self.stands))}' EXIT\n{block.text}"
+        ran = subprocess.run(["bash", "-c", text], cwd=self.stands.read_text().strip(), env=self.environment,
+                             stdin=subprocess.DEVNULL, capture_output=True, text=True)
+        return Output(ran.stdout, [int(word) for word in self.statuses.read_text().split()], ran.stderr), ran.returncode
 
 
 def is_line(quoted, line):
@@ -199,18 +213,19 @@ def wrong_links(page, part, outputs):
 
 def last_lines(part):
     """Where a row of the table of examples has another last line than the example's trace."""
-    names = EXAMPLE.findall(part.text)
-    if part.text.startswith("| [") and names:
-        lines = pathlib.Path("examples", names[0], "trace.txt").read_text().splitlines()
+    linked = EXAMPLE.match(part.text)
+    example = examples().get(linked[1]) if linked else None
+    if example:
+        lines = example.trace.read_text().splitlines()
         for quoted in re.findall(f"`({VERDICT})`", part.text.split(" | ")[-1]):
             if quoted not in lines:
-                yield part, f"`{quoted}` isn't in the trace of {names[0]}"
+                yield part, f"`{quoted}` isn't in the trace of {example.name}"
 
 
 def examples_of(commands):
     """The lines of the texts beside the examples that the commands name."""
-    names = {name for block in commands for name in EXAMPLE.findall(block.text)}
-    paths = [pathlib.Path("examples", name, text) for name in sorted(names) for text in TEXTS]
+    named = [example for example in examples().values() if any(example.is_named_in(block.text) for block in commands)]
+    paths = [path for example in named for path in (example.trace, *(example.folder / name for name in BESIDE))]
     return [path.read_text().splitlines() for path in paths if path.exists()]
 
 
@@ -231,17 +246,18 @@ def shown_wrong(page, parts, outputs, commands):
         yield from wrong_in_table(table, texts)
 
 
-def wrong_of(page, top, statuses):
+def wrong_of(page, shell):
     """Runs the commands of a page, and gives what it shows wrongly."""
     parts = list(parts_of(page))
     commands, outputs = [], []
+    shell.to_the_top()
     for block in parts:
         if not block.is_command():
             continue
         if NOT_RUN.search(block.text):
             print(f"{page}:{block.line}: not run: {block.text.splitlines()[0]}", flush=True)
             continue
-        output, status = run(block, top, statuses)
+        output, status = shell.run(block)
         commands.append(block)
         outputs.append(output)
         if status != 0 and not block.text.splitlines()[-1].startswith("diff "):
@@ -255,12 +271,13 @@ def main():
     parser.add_argument("--program", type=pathlib.Path, help="the proved program")
     parser.add_argument("pages", nargs="*", type=pathlib.Path)
     arguments = parser.parse_args()
-    all_pages = [pathlib.Path("README.md"), *sorted(pathlib.Path("docs").glob("*.md")), *sorted(pathlib.Path("examples").glob("*/README.md"))]
+    of_examples = [pathlib.Path("examples/README.md"), *sorted(GUIDED.glob("data/*/README.md"))]
+    all_pages = [pathlib.Path("README.md"), *sorted(pathlib.Path("docs").glob("*.md")), *of_examples]
     count = 0
     with tempfile.TemporaryDirectory() as folder:
-        top, statuses = copy_of(folder, arguments.program)
+        shell = Shell(folder, arguments.program)
         for page in arguments.pages or all_pages:
-            for part, words in wrong_of(page, top, statuses):
+            for part, words in wrong_of(page, shell):
                 print(f"{page}:{part.line}: {words}", flush=True)
                 count += 1
     sys.exit(1 if count else 0)

@@ -2,6 +2,7 @@
 use Rattle.std.proofs.Common.{ℕ, ◌≡◌, Bool, true, false, List, [], ◌∷◌, get_or, refl, ap, ◌∙◌}
 use Rattle.std.specs.Prelude.{Option, Some, None, if◌then◌else◌, ◌↔◌, slice_set, ◌||◌}
 use Rattle.std.specs.Option.{option_map_or, unwrap_or}
+use Rattle.list_laws.proofs.Bools.{or_false}
 use Rattle.ffm_model.specs.declared.machine.Entry.{Entry}
 use Rattle.ffm_model.specs.declared.machine.Call.{Call}
 use Rattle.ffm_model.specs.declared.machine.Call.TheVariants as call
@@ -47,13 +48,9 @@ stop-of (call.Raise s) e = cc
 stop-of (call.Fire s r) e = cc
 stop-of call.Resume e = cc
 
-or-false : (b : Bool) → (b || false) ≡ b
-or-false true = refl
-or-false false = refl
-
 one-call-by : (c : Call) (b : Bool) → is_stop c ≡ b
     → option_map_or (λ k. get_or (c ∷ []) k (call.Stop false)) (if b then None else Some 0) (call.Stop (is_spent c || false)) ≡ c
-one-call-by c true e = ap call.Stop (or-false (is_spent c)) ∙ stop-of c e
+one-call-by c true e = ap call.Stop (or_false (is_spent c)) ∙ stop-of c e
 one-call-by c false e = refl
 
 picked-one : (c : Call) → picked (record { count = 1; turn = 0 }) (is_stop c ∷ []) ≡ (if is_stop c then None else Some 0)

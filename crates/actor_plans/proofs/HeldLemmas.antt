@@ -1,8 +1,9 @@
 -- A script that maps nothing goes on as if no message were held.
 use Rattle.std.proofs.Common.{ℕ, zero, suc, ◌≡◌, Bool, true, false, List, [], ◌∷◌, ◌++◌, length, refl, ap, sym, ◌∙◌, subst}
-use Rattle.std.specs.Prelude.{Option, Some, None, if◌then◌else◌, slice_get, slice_set, option_and_then, map, find, nat_lt, ◌&&◌, ◌↔◌}
+use Rattle.std.specs.Prelude.{Option, Some, None, if◌then◌else◌, slice_get, slice_set, option_and_then, map, find, nat_lt, ◌↔◌}
 use Rattle.std.specs.Option.{option_map, option_map_or}
 use Rattle.std.specs.List.{AllByRecursion}
+use Rattle.std.proofs.lemmas.Bool.{and_right}
 use Rattle.ffm_model.specs.declared.machine.Handle.{Handle}
 use Rattle.ffm_model.specs.declared.machine.Message.{Message}
 use Rattle.ffm_model.specs.declared.machine.Entry.{Entry}
@@ -109,16 +110,12 @@ find-clean : (b : Bool) (m : HeldMessage) (o : Option HeldMessage) (f : HeldMess
 find-clean true m o f e h = e
 find-clean false m o f e h = h
 
-and-off : (a b : Bool) → b ≡ false → (a && b) ≡ false
-and-off true b e = e
-and-off false b e = refl
-
 held-clean : (f : HeldMessage → Bool) → ((m : HeldMessage) → CleanMessage m → f m ≡ false) → (h : Handle) (t : List HeldMessage) → Clean t → option_map_or f (held t h) false ≡ false
 held-clean f off h [] c = refl
 held-clean f off h (m ∷ ms) c = find-clean (is_held_as h m) m (find (is_held_as h) ms) f (off m c.0) (held-clean f off h ms c.1)
 
 holds-clean : (f : HeldMessage → Bool) → ((m : HeldMessage) → CleanMessage m → f m ≡ false) → (h : Handle) (i : ℕ) (t : List HeldMessage) → Clean t → holds t h i f ≡ false
-holds-clean f off h i t c = and-off (nat_lt i 4) _ (held-clean f off h t c)
+holds-clean f off h i t c = and_right (nat_lt i 4) _ (held-clean f off h t c)
 
 not-refused : (t : List HeldMessage) (k : Call) → Clean t → is_refused t k ≡ false
 not-refused t (call.Read h i b l) c = holds-clean (λ m. is_or_was_mapped (vector_at m.input i).state) (λ m d. clean-at m.input i d.0) h i t c

@@ -5,6 +5,7 @@ use Rattle.std.specs.List.{AllByRecursion}
 use Rattle.std.proofs.lemmas.Bool.{cases_eq, cases_lt}
 use Rattle.std.proofs.lemmas.List.{append-nil, drop_more, drop_all, get_or_append_left, get_or_default, get_or_past, get_or-replicate, get_or-set_other, get_or-set_same, length-append, length-replicate, length-set, set-set}
 use Rattle.std.proofs.Math.Seq.{get_or-append_seam}
+use Rattle.list_laws.proofs.Lists.{AllByRecursion-push}
 use Rattle.ffm_model.specs.declared.machine.ActorId.{ActorId}
 use Rattle.ffm_model.specs.declared.place.ReadError.{ReadError}
 use Rattle.ffm_model.specs.declared.place.ReadError.TheVariants as read_error
@@ -30,10 +31,6 @@ pub same_refusal : {X Y A B : Type 0} (one : X → A) (all : Y → B) (e : ReadE
 same_refusal one all (read_error.Refused f) part whole goes h = goes _ h
 same_refusal one all read_error.Memory part whole goes h = tt
 
-pub each-push : {X : Type 0} (P : X → Type 0) (xs : List X) (x : X) → AllByRecursion P xs → P x → AllByRecursion P (xs ++ x ∷ [])
-each-push P [] x h k = (k, tt)
-each-push P (y ∷ ys) x h k = (h.0, each-push P ys x h.1 k)
-
 -- ---- one script more
 
 -- programs that are taken out, and put back with one more
@@ -56,7 +53,7 @@ made-more s made actor p here are one room =
           let low : a < length made = subst (λ (k : ℕ). a < k) (with_long made actor p) lt in
           ⊎_elim
           (λ e. subst (λ (k : ℕ). AllByRecursion (IsOfOneScript s k) (get_or (with_program made actor p) k [])) (sym e)
-          (subst (AllByRecursion (IsOfOneScript s actor.0)) (sym same) (each-push (IsOfOneScript s actor.0) (get_or made actor.0 []) p (are.each actor.0 here) one)))
+          (subst (AllByRecursion (IsOfOneScript s actor.0)) (sym same) (AllByRecursion-push (IsOfOneScript s actor.0) (get_or made actor.0 []) p (are.each actor.0 here) one)))
           (λ other. subst (AllByRecursion (IsOfOneScript s a)) (sym (get_or-set_other made actor.0 a own [] other)) (are.each a low))
           (cases_eq a actor.0);
       few = λ a lt.

@@ -3,7 +3,7 @@ use Rattle.std.proofs.Common.{ℕ, ◌≡◌, ◌<◌, ◌≤◌, ◌+◌, ◌++
 use Rattle.std.specs.Prelude.{Result, Ok, Err, Some, None, ◌==◌, map, min, count_by, replicate, if◌then◌else◌}
 use Rattle.std.specs.List.{flat_map}
 use Rattle.std.proofs.lemmas.Bool.{eqb-true, eqb-false, cases_lt}
-use Rattle.std.proofs.lemmas.List.{get_or_append_left, get_or-set_other, get_or-set_same, length-append, length-replicate, map-append, take_all, take_more}
+use Rattle.std.proofs.lemmas.List.{get_or_append_left, get_or-set_other, get_or-set_same, length-append, length-replicate, map-append, take_all, take_more, nil_from_length}
 use Rattle.std.proofs.lemmas.List.Sums.{sum_by-cons}
 use Rattle.std.proofs.lemmas.Option.{slice_get_cases}
 use Rattle.ffm_model.specs.declared.machine.ActorId.{ActorId}
@@ -280,10 +280,6 @@ empty-by : (s : System) (a : ℕ) (b : Bool) → IsOfScripts s a ([] ∷ []) (if
 empty-by s a true = ap (λ (r : Result (List SfnFunction) ℕ). limited 0 r ∷ []) (no-functions-made s a)
 empty-by s a false = ap (λ (r : Result (List Instruction) ℕ). r ∷ []) (no-lines (kind_of s a))
 
-nothing-in : {X : Type 0} (xs : List X) → length xs ≡ 0 → xs ≡ []
-nothing-in [] e = refl
-nothing-in (x ∷ xs) e = absurd (omega arith)
-
 of-all : (s : System) (a : ℕ) (scripts : List Texts) (ps : List Program) (b : Bool) → is_sfn s a ≡ b → 0 < length scripts → length scripts ≤ most_scripts s a → Front s a scripts ps → length ps ≡ length scripts
     → IsOfScripts s a scripts (joined s a ps)
 of-all s a scripts ps b sfn some few front all =
@@ -302,7 +298,7 @@ of-listed s c a ps some few front count listed =
     ⊎_elim
     (λ (all : times_named c a ≡ length (get_or c.lines a [])). of-all s a (get_or c.lines a []) ps (is_sfn s a) refl some few front (omega arith))
     (λ none.
-    let gone : ps ≡ [] = nothing-in ps (omega (arith, none.0)) in
+    let gone : ps ≡ [] = nil_from_length ps (omega (arith, none.0)) in
     subst (λ (x : List Texts). IsOfScripts s a x (joined s a ps)) (sym none.1) (subst (λ (x : List Program). IsOfScripts s a ([] ∷ []) (joined s a x)) (sym gone) (empty-by s a (is_sfn s a))))
     listed
 

@@ -4,6 +4,7 @@ use Rattle.std.specs.List.{AllByRecursion as Each, enumerate_from, list_any}
 use Rattle.std.specs.Option.{option_map, option_map_or}
 use Rattle.std.proofs.lemmas.Option.{slice_get-map}
 use Rattle.std.proofs.lemmas.Bool.{not_from_false, and_from, or_left, or_right, or_cases, false≢true}
+use Rattle.list_laws.proofs.Lists.{map_nil}
 use Rattle.ffm_model.specs.declared.system.Budget.{Budget}
 use Rattle.ffm_model.specs.declared.system.Service.{Service}
 use Rattle.ffm_model.specs.ManifestItems.{ManifestRecord, ServiceRecord}
@@ -13,7 +14,7 @@ use Rattle.ffm_model.specs.Layout.{Located}
 use Rattle.ffm_model.specs.Permissions.{services_in, Permitted, permitted_to, depends_on, permitted_to_partition, permitted_to_client, permitted, count_for, budgets_of}
 use Rattle.ffm_model.specs.Compiled.{services_of}
 use Rattle.ffm_model.specs.Rules.{has_service, self_dependencies, too_many_connections}
-use Rattle.admitted_systems.proofs.Lists.{get_behind, three, map_nil, filter_nil, only_if_nil, none_any, each_weaker, each_both, each_append, each_map, each_filter_map, all_from, Pairs, pairs_test, pairs_weaker, pairs_map, pairs_append, pairs_filter_map, across_from, across_turned}
+use Rattle.admitted_systems.proofs.Lists.{get_behind, three, filter_nil, only_if_nil, none_any, each_weaker, each_both, each_append, each_map, each_filter_map, all_from, Pairs, pairs_test, pairs_weaker, pairs_map, pairs_append, pairs_filter_map, across_from, across_turned}
 use Rattle.admitted_systems.proofs.Numbered.{Among, each_numbered, numbers_of, numbers_rise, flat_each, flat_pairs}
 use Rattle.admitted_systems.proofs.Located.{each_item, items_below}
 use Rattle.admitted_systems.proofs.Services.{bare, service_at, services_are}

@@ -3,7 +3,7 @@ use Rattle.std.proofs.Common.{ℕ, zero, suc, ◌≡◌, ◌+◌, ◌<◌, ◌�
 use Rattle.std.specs.List.{AllByRecursion as Each, range_with_len}
 use Rattle.std.specs.Option.{option_map_or}
 use Rattle.std.proofs.lemmas.Bool.{or_right}
-use Rattle.std.proofs.lemmas.List.Sums.{sum_by-append}
+use Rattle.list_laws.proofs.Counts.{bit, count-cons}
 use Rattle.ffm_model.specs.ManifestItems.{ServiceRecord}
 use Rattle.ffm_model.specs.PartsItems.{PartsRecord}
 use Rattle.ffm_model.specs.Layout.{Located}
@@ -20,15 +20,6 @@ frees taken js = count_by (λ j. not (is_taken taken j)) js
 
 abbrev free_count : List ℕ → ℕ
 free_count taken = frees taken (range_with_len 1 32)
-
-abbrev bit : Bool → ℕ
-bit b = cond b 1 0
-
-count-cons : {A : Type 0} (p : A → Bool) (x : A) (xs : List A) → count_by p (x ∷ xs) ≡ bit (p x) + count_by p xs
-count-cons p x xs =
-    let both : count_by p (x ∷ xs) ≡ count_by p (x ∷ []) + count_by p xs = sum_by-append (λ y. cond (p y) 1 0) (x ∷ []) xs in
-    let one : count_by p (x ∷ []) ≡ bit (p x) = omega arith in
-    both ∙ ap (λ n. n + count_by p xs) one
 
 one_lost : (same taken : Bool) → bit (not taken) ≤ bit (not (same || taken)) + bit same
 one_lost true true = omega arith

@@ -2,6 +2,7 @@
 use Rattle.std.proofs.Common.{ℕ, ◌≡◌, ◌+◌, ◌*◌, ◌^◌, ◌≤◌, true, List, [], ◌∷◌, ◌++◌, ◌==◌, ◌&&◌, map, length, Ok, Err, IsOkAnd, refl, ap, ap₂, sym, arith, nat_lt, le-leb, lt-ltb, ltb-false}
 use Rattle.std.specs.List.{AllByRecursion as Each}
 use Rattle.std.proofs.lemmas.Bool.{and_from}
+use Rattle.list_laws.proofs.Lists.{append_nil}
 use Rattle.ffm_model.specs.declared.place.Refusal.{Refusal}
 use Rattle.ffm_model.specs.declared.system.System.{System}
 use Rattle.ffm_model.specs.declared.system.Partition.{Partition}
@@ -14,12 +15,12 @@ use Rattle.ffm_model.specs.PartsItems.{PartsRecord, IsParts}
 use Rattle.ffm_model.specs.Parts.{SystemParts, are_numbered, do_fit, system_from, parts_of_system}
 use Rattle.ffm_model.specs.WellFormed.{is_well_formed}
 use Rattle.ffm_model.specs.Compiled.{system_parts, partitions_of, services_of, sources_of, compiled, compiled_by}
-use Rattle.ffm_model.specs.Layout.{regions_of}
+use Rattle.ffm_model.specs.Layout.{regions_laid_out}
 use Rattle.ffm_model.specs.Permissions.{services_in, budgets_of}
 use Rattle.ffm_model.specs.Reading.{refused}
 use Rattle.ffm_model.proofs.PartsLemmas.{system_of_parts}
 use Rattle.ffm_model.specs.Rules.{broken, duplicate_partitions, duplicate_sids, unknown_dependencies, self_dependencies, dependency_cycle, too_many_signals, unknown_regions, overlapping_regions, too_many_partitions, too_many_connections, budgets_without_permission, duplicate_sources, memory_too_large, duplicate_indices, too_many_stateless}
-use Rattle.admitted_systems.proofs.Lists.{each_weaker, append_nil, only_if_nil, four, eight}
+use Rattle.admitted_systems.proofs.Lists.{each_weaker, only_if_nil, four, eight}
 use Rattle.admitted_systems.proofs.Models.{models_do_fit}
 use Rattle.admitted_systems.proofs.Stateless.{items_right, stateless_do_fit}
 use Rattle.admitted_systems.proofs.Enough.{all_have_indices}
@@ -97,8 +98,8 @@ parts_are_numbered p parts none =
     let rules : Kept p = kept p none in
     let few : length p.manifests ≤ 32 = few_partitions p rules.partitions in
     let services : length (services_of p) ≤ 28 * length p.manifests = few_services p rules.signals in
-    let regions : length (regions_of p) ≤ length p.manifests + 1 + 16777216 = few_regions p parts rules.memory in
-    and_from _ _ (lt-ltb (length (services_of p)) (2 ^ 31) (omega arith)) (lt-ltb (length (regions_of p)) (2 ^ 31) (omega arith))
+    let regions : length (regions_laid_out p) ≤ length p.manifests + 1 + 16777216 = few_regions p parts rules.memory in
+    and_from _ _ (lt-ltb (length (services_of p)) (2 ^ 31) (omega arith)) (lt-ltb (length (regions_laid_out p)) (2 ^ 31) (omega arith))
 
 pub stateless_have_indices : (p : PartsRecord) → IsParts p → broken p ≡ [] → map (λ v. v.stateless == 0) (services_of p) ≡ map (λ x. x.value.connection_based) (services_in p)
 stateless_have_indices p parts none =
@@ -110,11 +111,11 @@ stateless_have_indices p parts none =
 -- the same of lists that are the parts' fields
 pub lists_fit : (p : PartsRecord) (level : ℕ) (partitions : List Partition) (services : List Service) (sources : List Source) (regions : List Region) (clients : List (List ℕ)) (budgets : List Budget)
     → IsParts p → broken p ≡ []
-    → level ≡ p.level → partitions ≡ partitions_of p → services ≡ services_of p → sources ≡ sources_of p → regions ≡ regions_of p → clients ≡ p.clients → budgets ≡ budgets_of p
+    → level ≡ p.level → partitions ≡ partitions_of p → services ≡ services_of p → sources ≡ sources_of p → regions ≡ regions_laid_out p → clients ≡ p.clients → budgets ≡ budgets_of p
     → is_well_formed level partitions services sources regions clients budgets ≡ true
 lists_fit p level partitions services sources regions clients budgets parts none a b c d e f g = rw (a, b, c, d, e, f, g) (parts_fit p parts none)
 
-pub lists_are_numbered : (p : PartsRecord) (services : List Service) (regions : List Region) → IsParts p → broken p ≡ [] → services ≡ services_of p → regions ≡ regions_of p
+pub lists_are_numbered : (p : PartsRecord) (services : List Service) (regions : List Region) → IsParts p → broken p ≡ [] → services ≡ services_of p → regions ≡ regions_laid_out p
     → (nat_lt (length services) (2 ^ 31) && nat_lt (length regions) (2 ^ 31)) ≡ true
 lists_are_numbered p services regions parts none e f = rw (e, f) (parts_are_numbered p parts none)
 

@@ -2,6 +2,7 @@
 use Rattle.std.proofs.Common.{ℕ, ◌≡◌, Bool, true, false, ◌&&◌, List, [], ◌∷◌, ◌++◌, map, filter, cond, length, Option, Some, None, refl, slice_get, IfSome}
 use Rattle.std.specs.List.{AllByRecursion as Each, list_all, list_any, filter_map, cons_option}
 use Rattle.std.proofs.lemmas.Bool.{and_from, or_parts}
+use Rattle.list_laws.proofs.Lists.{append_nil}
 use Rattle.ffm_model.specs.WellFormed.{each_pair}
 use Rattle.ffm_model.specs.Repeats.{only_if, repeated, repeated_after}
 
@@ -20,14 +21,6 @@ pub eight : (a b c d e f g h : Bool) → a ≡ true → b ≡ true → c ≡ tru
 eight a b c d e f g h i j k l m n o p = rw (i, j, k, l, m, n, o, p) refl
 
 -- ---- lists that are empty
-
-pub append_nil : {A : Type 0} (xs ys : List A) → xs ++ ys ≡ [] → (xs ≡ []) × (ys ≡ [])
-append_nil [] ys e = (refl, e)
-append_nil (x ∷ xs) ys e = absurd cc
-
-pub map_nil : {A B : Type 0} (f : A → B) (xs : List A) → map f xs ≡ [] → xs ≡ []
-map_nil f [] e = refl
-map_nil f (x ∷ xs) e = absurd cc
 
 pub only_if_nil : {A : Type 0} (b : Bool) (x : A) → only_if b x ≡ [] → b ≡ false
 only_if_nil true x e = absurd cc

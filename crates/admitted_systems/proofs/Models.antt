@@ -12,8 +12,8 @@ use Rattle.ffm_model.specs.declared.system.Region.{Region}
 use Rattle.ffm_model.specs.declared.system.Service.{Service}
 use Rattle.ffm_model.specs.ManifestItems.{ManifestRecord, ServiceRecord, IsManifest}
 use Rattle.ffm_model.specs.PartsItems.{PartsRecord, IsParts}
-use Rattle.ffm_model.specs.WellFormed.{ram_bytes, functions_fit, models_fit}
-use Rattle.ffm_model.specs.Layout.{Located, located_in, located_from, rounded, ram_needed, domain_at, rams_from, non_secure_of, mmio_of, regions_of}
+use Rattle.ffm_model.specs.WellFormed.{ram_size, functions_fit, models_fit}
+use Rattle.ffm_model.specs.Layout.{Located, located_in, located_from, rounded, ram_needed, domain_at, rams_from, non_secure_of, mmio_of, regions_laid_out}
 use Rattle.ffm_model.specs.Permissions.{services_in}
 use Rattle.ffm_model.specs.Compiled.{index_for, services_from, stated_indices, services_of, partition_of, partitions_of}
 use Rattle.admitted_systems.proofs.Lists.{get_behind, each_weaker, all_from}
@@ -71,7 +71,7 @@ functions_by false owned bytes size e h k = refl
 functions_by true owned bytes size e h k = and_from _ _ (h refl) (let l : 48 ≤ size = k refl in le-leb 48 bytes (omega (arith, e, l)))
 
 abbrev Fits : List Service → List Region → ℕ × Partition → Type 0
-Fits services regions e = (functions_fit services regions e ≡ true) × (nat_le e.1.heap (ram_bytes regions e.1) ≡ true)
+Fits services regions e = (functions_fit services regions e ≡ true) × (nat_le e.1.heap (ram_size regions e.1) ≡ true)
 
 -- the k-th partition and those behind it, whose RAM is behind the regions in front
 fit_from : (services : List Service) (level k base : ℕ) (ms : List ManifestRecord) (front rest : List Region) → length front ≡ k → Each IsManifest ms → Each (Owned services) (enumerate_from k ms)
@@ -90,11 +90,11 @@ fit_from services level k base (m ∷ ms) front rest e h owned =
           (fit_from services level (k + 1) (base + ram_needed m) ms (front ++ ram ∷ []) rest (let l = length-append front (ram ∷ []) in omega arith) h.1 owned.1),
     )
 
-pub models_do_fit : (p : PartsRecord) → IsParts p → models_fit (partitions_of p) (services_of p) (regions_of p) ≡ true
+pub models_do_fit : (p : PartsRecord) → IsParts p → models_fit (partitions_of p) (services_of p) (regions_laid_out p) ≡ true
 models_do_fit p parts =
-    let all : Each (Fits (services_of p) (regions_of p)) (enumerate_from 0 (partitions_of p)) =
+    let all : Each (Fits (services_of p) (regions_laid_out p)) (enumerate_from 0 (partitions_of p)) =
     fit_from (services_of p) p.level 0 RAM_BASE p.manifests [] (non_secure_of p ∷ map (λ x. x.value) (mmio_of p)) refl parts.manifests (all_owned p parts) in
-    and_from _ _ (all_from (Fits (services_of p) (regions_of p)) (functions_fit (services_of p) (regions_of p)) (λ e h. h.0) (enumerate_from 0 (partitions_of p)) all)
-    (all_from (λ q. nat_le q.heap (ram_bytes (regions_of p) q) ≡ true) (λ q. nat_le q.heap (ram_bytes (regions_of p) q)) (λ q h. h) (partitions_of p)
-    (each_unnumbered (λ q. nat_le q.heap (ram_bytes (regions_of p) q) ≡ true) 0 (partitions_of p)
-    (each_weaker (Fits (services_of p) (regions_of p)) (λ e. nat_le e.1.heap (ram_bytes (regions_of p) e.1) ≡ true) (λ e h. h.1) (enumerate_from 0 (partitions_of p)) all)))
+    and_from _ _ (all_from (Fits (services_of p) (regions_laid_out p)) (functions_fit (services_of p) (regions_laid_out p)) (λ e h. h.0) (enumerate_from 0 (partitions_of p)) all)
+    (all_from (λ q. nat_le q.heap (ram_size (regions_laid_out p) q) ≡ true) (λ q. nat_le q.heap (ram_size (regions_laid_out p) q)) (λ q h. h) (partitions_of p)
+    (each_unnumbered (λ q. nat_le q.heap (ram_size (regions_laid_out p) q) ≡ true) 0 (partitions_of p)
+    (each_weaker (Fits (services_of p) (regions_laid_out p)) (λ e. nat_le e.1.heap (ram_size (regions_laid_out p) e.1) ≡ true) (λ e h. h.1) (enumerate_from 0 (partitions_of p)) all)))

@@ -10,7 +10,7 @@ use Rattle.ffm_model.specs.declared.system.Class.TheVariants.{Ram}
 use Rattle.ffm_model.specs.ManifestItems.{ManifestRecord}
 use Rattle.ffm_model.specs.PartsItems.{PartsRecord, IsParts}
 use Rattle.ffm_model.specs.WellFormed.{is_ram_in, is_ram, partitions_fit}
-use Rattle.ffm_model.specs.Layout.{ram_needed, domain_at, rams_from, rams_of, non_secure_of, mmio_of, regions_of}
+use Rattle.ffm_model.specs.Layout.{ram_needed, domain_at, rams_from, rams_of, non_secure_of, mmio_of, regions_laid_out}
 use Rattle.ffm_model.specs.Compiled.{partition_of, partitions_of}
 use Rattle.ffm_model.specs.Rules.{memory_too_large}
 use Rattle.admitted_systems.proofs.Lists.{get_behind, three, each_weaker, each_map, all_from, pairs_test, pairs_map}
@@ -59,17 +59,17 @@ count level k (m ∷ ms) = ap suc (count level (k + 1) ms)
 pub length_partitions : (p : PartsRecord) → length p.manifests ≡ length (map (partition_of p.level) (enumerate_from 0 p.manifests))
 length_partitions p = sym (count p.level 0 p.manifests)
 
-pub partitions_do_fit : (p : PartsRecord) → IsParts p → memory_too_large p ≡ [] → partitions_fit (partitions_of p) (regions_of p) ≡ true
+pub partitions_do_fit : (p : PartsRecord) → IsParts p → memory_too_large p ≡ [] → partitions_fit (partitions_of p) (regions_laid_out p) ≡ true
 partitions_do_fit p parts size_rule =
     three _ _ _
-    (all_from (HasRam (regions_of p)) (λ q. option_map_or (λ r. is_ram_in q.domain r.class) (slice_get (regions_of p) q.ram) false) (λ q h. h) (partitions_of p)
+    (all_from (HasRam (regions_laid_out p)) (λ q. option_map_or (λ r. is_ram_in q.domain r.class) (slice_get (regions_laid_out p) q.ram) false) (λ q h. h) (partitions_of p)
     (rams_found p.level 0 RAM_BASE p.manifests [] (non_secure_of p ∷ map (λ x. x.value) (mmio_of p)) refl))
     (pairs_test (λ q s. q.ram < s.ram) (λ q s. not (q.ram == s.ram)) (λ q s l. not_from_false _ (ne_eqb _ _ (λ (e : q.ram ≡ s.ram). omega arith))) (partitions_of p)
     (pairs_map (λ q s. q.ram < s.ram) (partition_of p.level) (enumerate_from 0 p.manifests) (numbers_rise 0 p.manifests)))
     (all_from (λ e. (e.0 < 0 + length (rams_of p)) ⊎ (is_ram e.1.class ≡ false)) (λ e. not (is_ram e.1.class) || list_any (λ q. q.ram == e.0) (partitions_of p))
     (λ e h. owned (is_ram e.1.class) (list_any (λ q. q.ram == e.0) (partitions_of p))
     (⊎_elim (λ (l : e.0 < 0 + length (rams_of p)). inl (its_partition p.level 0 e.0 p.manifests (omega arith) (let s = length_rams p.level 0 RAM_BASE p.manifests in omega arith))) (λ (s : is_ram e.1.class ≡ false). inr s) h))
-    (enumerate_from 0 (regions_of p))
+    (enumerate_from 0 (regions_laid_out p))
     (front_or_other (λ r. is_ram r.class ≡ false) 0 (rams_of p) (non_secure_of p ∷ map (λ x. x.value) (mmio_of p)) (
       refl,
       each_map (λ r. is_ram r.class ≡ false) (λ x. x.value) (mmio_of p)

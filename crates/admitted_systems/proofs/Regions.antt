@@ -5,6 +5,7 @@ use Rattle.std.specs.Option.{option_map_or}
 use Rattle.std.specs.Str.{bytes_eq}
 use Rattle.std.proofs.lemmas.List.Sums.{sum_by-append, sum_by-cons}
 use Rattle.std.proofs.lemmas.Bool.{not-false, or_left, or_right}
+use Rattle.list_laws.proofs.Lists.{append_nil, map_nil}
 use Rattle.ffm_model.specs.declared.constants.TheConstants.{MAX_IMAGE_BYTES, RAM_BASE}
 use Rattle.ffm_model.specs.declared.manifest.Location.{Location}
 use Rattle.ffm_model.specs.declared.manifest.Location.TheVariants.{Named, Numbered}
@@ -14,9 +15,9 @@ use Rattle.ffm_model.specs.ManifestItems.{ManifestRecord, MmioRecord, IsManifest
 use Rattle.ffm_model.specs.PartsItems.{PartsRecord, RegionRecord, IsRegion, IsParts}
 use Rattle.ffm_model.specs.Repeats.{only_if}
 use Rattle.ffm_model.specs.WellFormed.{apart, each_pair, is_nonsecure, is_ram, owner_below, regions_fit}
-use Rattle.ffm_model.specs.Layout.{Located, located_in, located_from, ram_needed, rounded, rams_from, rams_of, non_secure_of, range_named, mmio_placed, mmio_items, mmio_of, regions_of, overlapping, overlaps, is_large, is_large_item, large_from, partition_ram, mmio_item, non_secure_ram, all_regions}
+use Rattle.ffm_model.specs.Layout.{Located, located_in, located_from, ram_needed, rounded, rams_from, rams_of, non_secure_of, range_named, mmio_placed, mmio_items, mmio_of, regions_laid_out, overlapping, overlaps, is_large, is_large_item, large_from, partition_ram, mmio_item, non_secure_ram, all_regions}
 use Rattle.ffm_model.specs.Rules.{overlapping_regions, memory_too_large}
-use Rattle.admitted_systems.proofs.Lists.{three, four, append_nil, map_nil, only_if_nil, filter_nil, none_any, each_weaker, each_always, each_both, each_append, each_split, each_map, each_filter_map, all_from, Pairs, pairs_test, pairs_weaker, pairs_map, pairs_append, Across, across_cons}
+use Rattle.admitted_systems.proofs.Lists.{three, four, only_if_nil, filter_nil, none_any, each_weaker, each_always, each_both, each_append, each_split, each_map, each_filter_map, all_from, Pairs, pairs_test, pairs_weaker, pairs_map, pairs_append, Across, across_cons}
 use Rattle.admitted_systems.proofs.Numbered.{each_numbered}
 use Rattle.admitted_systems.proofs.Located.{item_each, items_below}
 
@@ -91,12 +92,12 @@ pub record Sizes (p : PartsRecord) : Type 0 where
   pub rams : Each (λ m. ram_needed m ≤ 1048576) p.manifests
   pub items : Each (λ x. is_large_item p.regions x ≡ false) (mmio_items p)
   pub non_secure : rounded p.non_secure_ram ≤ 1048576
-  pub together : sum_by (λ r. r.size) (regions_of p) ≤ 16777216
+  pub together : sum_by (λ r. r.size) (regions_laid_out p) ≤ 16777216
 
 pub sizes_of : (p : PartsRecord) → memory_too_large p ≡ [] → Sizes p
 sizes_of p e =
-    let first : (large_from p.regions 0 p.manifests ≡ []) × (only_if (is_large (rounded p.non_secure_ram)) non_secure_ram ++ only_if (nat_lt MAX_IMAGE_BYTES (sum_by (λ r. r.size) (regions_of p))) all_regions ≡ []) = append_nil _ _ (map_nil _ _ e) in
-    let second : (only_if (is_large (rounded p.non_secure_ram)) non_secure_ram ≡ []) × (only_if (nat_lt MAX_IMAGE_BYTES (sum_by (λ r. r.size) (regions_of p))) all_regions ≡ []) = append_nil _ _ first.1 in
+    let first : (large_from p.regions 0 p.manifests ≡ []) × (only_if (is_large (rounded p.non_secure_ram)) non_secure_ram ++ only_if (nat_lt MAX_IMAGE_BYTES (sum_by (λ r. r.size) (regions_laid_out p))) all_regions ≡ []) = append_nil _ _ (map_nil _ _ e) in
+    let second : (only_if (is_large (rounded p.non_secure_ram)) non_secure_ram ≡ []) × (only_if (nat_lt MAX_IMAGE_BYTES (sum_by (λ r. r.size) (regions_laid_out p))) all_regions ≡ []) = append_nil _ _ first.1 in
     let large : Each Small p.manifests × Each (λ x. is_large_item p.regions x ≡ false) (mmio_items p) = none_large p.regions 0 p.manifests first.0 in
     record {
       rams = large.0;
@@ -174,7 +175,7 @@ front_pairs p sizes =
     (each_weaker (IsRamOf p) (λ r. Each (λ q. apart r q ≡ true) (non_secure_of p ∷ []))
     (λ r b. (behind_apart r (non_secure_of p) (let l : RAM_BASE ≤ r.base = b.from in let m : rounded p.non_secure_ram ≤ 1048576 = sizes.non_secure in omega arith), tt)) (rams_of p) (rams_are_between p sizes))
 
-regions_apart : (p : PartsRecord) → Sizes p → overlaps p ≡ [] → each_pair apart (regions_of p) ≡ true
+regions_apart : (p : PartsRecord) → Sizes p → overlaps p ≡ [] → each_pair apart (regions_laid_out p) ≡ true
 regions_apart p sizes e =
     let none : Across (λ r x. apart r x.value ≡ true) (rams_of p ++ non_secure_of p ∷ []) (mmio_of p) × Pairs (λ x y. apart x.value y.value ≡ true) (mmio_of p) = none_overlaps (rams_of p ++ non_secure_of p ∷ []) (mmio_of p) e in
     let pairs : Pairs (λ r q. apart r q ≡ true) ((rams_of p ++ non_secure_of p ∷ []) ++ map (λ x. x.value) (mmio_of p)) =
@@ -182,21 +183,21 @@ regions_apart p sizes e =
     (pairs_map (λ r q. apart r q ≡ true) (λ x. x.value) (mmio_of p) none.1)
     (each_weaker (λ r. Each (λ x. apart r x.value ≡ true) (mmio_of p)) (λ r. Each (λ q. apart r q ≡ true) (map (λ x. x.value) (mmio_of p)))
     (λ r. each_map (λ q. apart r q ≡ true) (λ x. x.value) (mmio_of p)) (rams_of p ++ non_secure_of p ∷ []) none.0) in
-    pairs_test (λ r q. apart r q ≡ true) apart (λ r q h. h) (regions_of p)
+    pairs_test (λ r q. apart r q ≡ true) apart (λ r q h. h) (regions_laid_out p)
     (subst (Pairs (λ r q. apart r q ≡ true)) (append_assoc (rams_of p) (non_secure_of p ∷ []) (map (λ x. x.value) (mmio_of p))) pairs)
 
 none_counted : (xs : List Region) → Each (λ r. is_nonsecure r.class ≡ false) xs → count_by (λ r. is_nonsecure r.class) xs ≡ 0
 none_counted [] h = refl
 none_counted (x ∷ xs) h = rw h.0 (none_counted xs h.1)
 
-one_non_secure : (p : PartsRecord) → IsParts p → Sizes p → count_by (λ r. is_nonsecure r.class) (regions_of p) ≡ 1
+one_non_secure : (p : PartsRecord) → IsParts p → Sizes p → count_by (λ r. is_nonsecure r.class) (regions_laid_out p) ≡ 1
 one_non_secure p parts sizes =
     let rams : count_by (λ r. is_nonsecure r.class) (rams_of p) ≡ 0 =
     none_counted (rams_of p) (each_weaker (IsRamOf p) (λ r. is_nonsecure r.class ≡ false) (λ r b. b.secure) (rams_of p) (rams_are_between p sizes)) in
     let mmio : count_by (λ r. is_nonsecure r.class) (map (λ x. x.value) (mmio_of p)) ≡ 0 =
     none_counted (map (λ x. x.value) (mmio_of p)) (each_map (λ r. is_nonsecure r.class ≡ false) (λ x. x.value) (mmio_of p)
     (each_weaker (MmioRight (length p.manifests)) (λ y. is_nonsecure y.value.class ≡ false) (λ y h. h.0.secure) (mmio_of p) (mmio_right p parts sizes))) in
-    let one : count_by (λ r. is_nonsecure r.class) (regions_of p) ≡ count_by (λ r. is_nonsecure r.class) (rams_of p) + count_by (λ r. is_nonsecure r.class) (non_secure_of p ∷ map (λ x. x.value) (mmio_of p)) =
+    let one : count_by (λ r. is_nonsecure r.class) (regions_laid_out p) ≡ count_by (λ r. is_nonsecure r.class) (rams_of p) + count_by (λ r. is_nonsecure r.class) (non_secure_of p ∷ map (λ x. x.value) (mmio_of p)) =
     sum_by-append (λ r. cond (is_nonsecure r.class) 1 0) (rams_of p) (non_secure_of p ∷ map (λ x. x.value) (mmio_of p)) in
     let two : count_by (λ r. is_nonsecure r.class) (non_secure_of p ∷ map (λ x. x.value) (mmio_of p)) ≡ 1 + count_by (λ r. is_nonsecure r.class) (map (λ x. x.value) (mmio_of p)) =
     sum_by-append (λ r. cond (is_nonsecure r.class) 1 0) (non_secure_of p ∷ []) (map (λ x. x.value) (mmio_of p)) in
@@ -206,10 +207,10 @@ abbrev Within : ℕ → Region → Type 0
 Within n r = (owner_below n r.class ≡ true) × ((r.size ≤ 1048576) × (r.base + r.size ≤ 4294967296))
 
 regions_within : (p : PartsRecord) (n : ℕ) → n ≡ length p.manifests → IsParts p → length p.manifests ≤ 32 → Sizes p
-    → list_all (λ r. owner_below n r.class && nat_le r.size 1048576 && nat_le (r.base + r.size) 4294967296) (regions_of p) ≡ true
+    → list_all (λ r. owner_below n r.class && nat_le r.size 1048576 && nat_le (r.base + r.size) 4294967296) (regions_laid_out p) ≡ true
 regions_within p n counted parts few sizes =
     all_from (Within n) (λ r. owner_below n r.class && nat_le r.size 1048576 && nat_le (r.base + r.size) 4294967296)
-    (λ r h. three _ _ _ h.0 (le-leb _ _ h.1.0) (le-leb _ _ h.1.1)) (regions_of p)
+    (λ r h. three _ _ _ h.0 (le-leb _ _ h.1.0) (le-leb _ _ h.1.1)) (regions_laid_out p)
     (each_append (Within n) (rams_of p) (non_secure_of p ∷ map (λ x. x.value) (mmio_of p))
     (each_weaker (IsRamOf p) (Within n)
     (λ r b. (b.owner n, (b.size, let l : r.base + r.size ≤ RAM_BASE + 1048576 * length p.manifests = b.ends in omega arith))) (rams_of p) (rams_are_between p sizes)) (
@@ -219,7 +220,7 @@ regions_within p n counted parts few sizes =
           (λ y h. (rw counted h.0.owner, (h.0.size, h.0.ends))) (mmio_of p) (mmio_right p parts sizes)),
     ))
 
-pub regions_do_fit : (p : PartsRecord) (n : ℕ) → n ≡ length p.manifests → IsParts p → length p.manifests ≤ 32 → overlapping_regions p ≡ [] → memory_too_large p ≡ [] → regions_fit n (regions_of p) ≡ true
+pub regions_do_fit : (p : PartsRecord) (n : ℕ) → n ≡ length p.manifests → IsParts p → length p.manifests ≤ 32 → overlapping_regions p ≡ [] → memory_too_large p ≡ [] → regions_fit n (regions_laid_out p) ≡ true
 regions_do_fit p n counted parts few apart_rule size_rule =
     let sizes : Sizes p = sizes_of p size_rule in
     four _ _ _ _ (eq-eqb _ _ (one_non_secure p parts sizes)) (regions_within p n counted parts few sizes) (le-leb _ _ sizes.together) (regions_apart p sizes (map_nil _ _ apart_rule))
@@ -235,14 +236,14 @@ at_most_bytes : (rs : List Region) → Each (λ r. 0 < r.size) rs → length rs 
 at_most_bytes [] h = le_refl 0
 at_most_bytes (r ∷ rs) h = omega (arith, h.0, at_most_bytes rs h.1, sum_by-cons (λ r. r.size) r rs)
 
-pub few_regions : (p : PartsRecord) → IsParts p → memory_too_large p ≡ [] → length (regions_of p) ≤ length p.manifests + 1 + 16777216
+pub few_regions : (p : PartsRecord) → IsParts p → memory_too_large p ≡ [] → length (regions_laid_out p) ≤ length p.manifests + 1 + 16777216
 few_regions p parts size_rule =
     let sizes : Sizes p = sizes_of p size_rule in
     let mmio : List Region = map (λ x. x.value) (mmio_of p) in
     let few : length mmio ≤ sum_by (λ r. r.size) mmio =
     at_most_bytes mmio (each_map (λ r. 0 < r.size) (λ x. x.value) (mmio_of p)
     (each_weaker (MmioRight (length p.manifests)) (λ y. 0 < y.value.size) (λ y h. h.0.some) (mmio_of p) (mmio_right p parts sizes))) in
-    let counted : length (regions_of p) ≡ length (rams_of p) + suc (length mmio) = length-append (rams_of p) (non_secure_of p ∷ mmio) in
-    let bytes : sum_by (λ r. r.size) (regions_of p) ≡ sum_by (λ r. r.size) (rams_of p) + sum_by (λ r. r.size) (non_secure_of p ∷ mmio) =
+    let counted : length (regions_laid_out p) ≡ length (rams_of p) + suc (length mmio) = length-append (rams_of p) (non_secure_of p ∷ mmio) in
+    let bytes : sum_by (λ r. r.size) (regions_laid_out p) ≡ sum_by (λ r. r.size) (rams_of p) + sum_by (λ r. r.size) (non_secure_of p ∷ mmio) =
     sum_by-append (λ r. r.size) (rams_of p) (non_secure_of p ∷ mmio) in
     omega (arith, few, counted, bytes, sum_by-cons (λ r. r.size) (non_secure_of p) mmio, length_rams p.level 0 RAM_BASE p.manifests, sizes.together)

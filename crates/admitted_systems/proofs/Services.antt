@@ -4,6 +4,7 @@ use Rattle.std.specs.List.{AllByRecursion as Each, enumerate_from, list_all}
 use Rattle.std.proofs.lemmas.List.{map-append, length-map}
 use Rattle.std.proofs.lemmas.List.Folds.{list_all-map}
 use Rattle.std.proofs.lemmas.Bool.{not_from_false}
+use Rattle.list_laws.proofs.Lists.{map_nil}
 use Rattle.ffm_model.specs.declared.system.Service.{Service}
 use Rattle.ffm_model.specs.declared.system.Source.{Source}
 use Rattle.ffm_model.specs.ManifestItems.{ManifestRecord, ServiceRecord}
@@ -13,7 +14,7 @@ use Rattle.ffm_model.specs.Layout.{Located, located_in, located_from}
 use Rattle.ffm_model.specs.Permissions.{services_in}
 use Rattle.ffm_model.specs.Compiled.{index_for, service_of, services_from, stated_indices, services_of, sources_of}
 use Rattle.ffm_model.specs.Rules.{duplicate_sids, too_many_signals}
-use Rattle.admitted_systems.proofs.Lists.{map_nil, repeated_nil, pairs_test, pairs_map}
+use Rattle.admitted_systems.proofs.Lists.{repeated_nil, pairs_test, pairs_map}
 use Rattle.admitted_systems.proofs.Signals.{Few, few_signals, plain_service, services_of_manifest, signals_do_fit}
 
 -- ---- all but the indices of services

@@ -3,6 +3,7 @@ use Rattle.std.proofs.Common.{ℕ, zero, suc, ◌≡◌, ◌+◌, ◌^◌, ◌<�
 use Rattle.std.specs.List.{AllByRecursion as Each, enumerate_from, list_all, list_any, range_with_len}
 use Rattle.std.proofs.Math.Pow.{pow-lt}
 use Rattle.std.proofs.lemmas.Bool.{and_from, cases_order, false_from_ne_true, not_from_false, and_parts, or_left, or_right}
+use Rattle.list_laws.proofs.Lists.{map_nil}
 use Rattle.ffm_model.specs.declared.constants.TheConstants.{MAX_SIGNALS}
 use Rattle.ffm_model.specs.declared.system.Service.{Service}
 use Rattle.ffm_model.specs.ManifestItems.{ManifestRecord, ServiceRecord}
@@ -10,7 +11,7 @@ use Rattle.ffm_model.specs.PartsItems.{PartsRecord}
 use Rattle.ffm_model.specs.WellFormed.{is_signal_bit, signal_fits, signals_fit}
 use Rattle.ffm_model.specs.Compiled.{signal_at, service_of, source_of, sources_of_manifest, sources_of}
 use Rattle.ffm_model.specs.Rules.{too_many_signals}
-use Rattle.admitted_systems.proofs.Lists.{five, each_weaker, map_nil, filter_nil, all_from, Pairs, pairs_test, across_from}
+use Rattle.admitted_systems.proofs.Lists.{five, each_weaker, filter_nil, all_from, Pairs, pairs_test, across_from}
 use Rattle.admitted_systems.proofs.Numbered.{Among, flat_each, flat_pairs, flat_across}
 
 -- ---- bits

@@ -4,6 +4,7 @@ use Rattle.std.specs.Prelude.{nat_le}
 use Rattle.std.specs.List.{AllByRecursion as Each, list_any, list_all, enumerate_from, range_with_len}
 use Rattle.std.specs.Option.{option_map_or}
 use Rattle.std.proofs.lemmas.Bool.{or_left, or_right, and_from, not_from_false, false_from_ne_true, false≢true}
+use Rattle.list_laws.proofs.Lists.{map_nil}
 use Rattle.ffm_model.specs.declared.system.Service.{Service}
 use Rattle.ffm_model.specs.ManifestItems.{ManifestRecord, ServiceRecord, IsManifest, IsService}
 use Rattle.ffm_model.specs.PartsItems.{PartsRecord, IsParts}
@@ -12,7 +13,7 @@ use Rattle.ffm_model.specs.Permissions.{services_in, Permitted, permitted_to, de
 use Rattle.ffm_model.specs.Compiled.{free_index, index_for, service_of, services_from, stated_indices, services_of}
 use Rattle.ffm_model.specs.Rules.{duplicate_indices}
 use Rattle.ffm_model.specs.WellFormed.{budget_is_fitting, each_pair, stateless_fit}
-use Rattle.admitted_systems.proofs.Lists.{three, map_nil, get_behind, each_weaker, each_both, each_append, each_map, each_filter_map, all_from, Pairs, pairs_weaker, repeated_nil}
+use Rattle.admitted_systems.proofs.Lists.{three, get_behind, each_weaker, each_both, each_append, each_map, each_filter_map, all_from, Pairs, pairs_weaker, repeated_nil}
 use Rattle.admitted_systems.proofs.Numbered.{each_numbered}
 use Rattle.admitted_systems.proofs.Located.{item_each}
 

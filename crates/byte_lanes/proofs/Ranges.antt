@@ -3,6 +3,7 @@ use Rattle.std.proofs.Common.{◌≡◌, ◌≤◌, ◌<◌, ℕ, zero, suc, ◌
 use Rattle.std.proofs.lemmas.Bool.Decides.{nat_tests}
 use Rattle.std.proofs.lemmas.List.Sums.{sum_by-cons}
 use Rattle.std.specs.List.{range_with_len}
+use Rattle.std.proofs.lemmas.Bool.{and_right, or_from, or_left, or_right}
 use Rattle.byte_lanes.specs.Differences.{range_covers, any_covers, count_in, AreApart, IsLeast, lesser}
 
 abbrev from : (ℕ → Bool) → ℕ → ℕ → ℕ
@@ -53,10 +54,6 @@ count_split p c d a (suc n) apart =
     let rest = count_split p c d (a + 1) n apart in
     omega (arith, first, rest)
 
-and_false : (b c : Bool) → c ≡ false → (b && c) ≡ false
-and_false true c none = none
-and_false false c none = refl
-
 and_true : (b c : Bool) → c ≡ true → (b && c) ≡ b
 and_true true c holds = holds
 and_true false c holds = refl
@@ -67,16 +64,16 @@ count_range p r limit room =
     let q = λ (x : ℕ). p x && range_covers r x in
     let k = limit - (r.0 + r.1) in
     let e : limit ≡ r.0 + (r.1 + k) = omega arith in
-    let low = count_none q 0 r.0 (λ x l h. and_false (p x) (range_covers r x) (grind (arith, nat_tests))) in
+    let low = count_none q 0 r.0 (λ x l h. and_right (p x) (range_covers r x) (grind (arith, nat_tests))) in
     let mid = count_same q p r.0 r.1 (λ x l h. and_true (p x) (range_covers r x) (grind (arith, nat_tests))) in
-    let high = count_none q (r.0 + r.1) k (λ x l h. and_false (p x) (range_covers r x) (grind (arith, nat_tests))) in
+    let high = count_none q (r.0 + r.1) k (λ x l h. and_right (p x) (range_covers r x) (grind (arith, nat_tests))) in
     let one = count_add q 0 r.0 (r.1 + k) in
     let zeroth : from q (0 + r.0) (r.1 + k) ≡ from q r.0 (r.1 + k) = let e : 0 + r.0 ≡ r.0 = omega arith in ap (λ b. from q b (r.1 + k)) e in
     let two = count_add q r.0 r.1 k in
     ap (from q 0) e ∙ omega (arith, low, mid, high, one, zeroth, two)
 
 count_covered : (p : ℕ → Bool) (rs : List (ℕ × ℕ)) (limit : ℕ) → AreApart limit rs → count_in p rs ≡ from (λ x. p x && any_covers rs x) 0 limit
-count_covered p [] limit apart = sym (count_none (λ x. p x && false) 0 limit (λ x l h. and_false (p x) false refl))
+count_covered p [] limit apart = sym (count_none (λ x. p x && false) 0 limit (λ x l h. and_right (p x) false refl))
 count_covered p (r ∷ rs) limit apart =
     let first = count_range p r limit apart.0 in
     let head = sum_by-cons (λ (q : ℕ × ℕ). count_by p (range_with_len q.0 q.1)) r rs in
@@ -97,32 +94,20 @@ count_in_ranges p rs qs limit rs_apart qs_apart in_rs in_qs =
     (λ x l h. drop_cover (p x) (any_covers rs x) (in_rs x) ∙ sym (drop_cover (p x) (any_covers qs x) (in_qs x))) in
     count_covered p rs limit rs_apart ∙ (one ∙ sym (count_covered p qs limit qs_apart))
 
-or_none : (b c : Bool) → b ≡ false → c ≡ false → (b || c) ≡ false
-or_none true c h k = h
-or_none false c h k = k
-
-or_left : (b c : Bool) → b ≡ true → (b || c) ≡ true
-or_left true c h = refl
-or_left false c h = absurd cc
-
-or_right : (b c : Bool) → c ≡ true → (b || c) ≡ true
-or_right true c h = refl
-or_right false c h = h
-
 lesser_by : (t : Bool) (p q : ℕ → Bool) (a b : ℕ) → nat_lt a b ≡ t → IsLeast p (Some a) → IsLeast q (Some b)
     → IsLeast (λ x. p x || q x) (cond t (Some a) (Some b))
 lesser_by true p q a b e one other =
     let less : a < b = grind (arith, nat_tests) in
-    (or_left (p a) (q a) one.0, λ x below. or_none (p x) (q x) (one.1 x below) (other.1 x (omega arith)))
+    (or_left (p a) (q a) one.0, λ x below. or_from (p x) (q x) (one.1 x below) (other.1 x (omega arith)))
 lesser_by false p q a b e one other =
     let less : b ≤ a = grind (arith, nat_tests) in
-    (or_right (p b) (q b) other.0, λ x below. or_none (p x) (q x) (one.1 x (omega arith)) (other.1 x below))
+    (or_right (p b) (q b) other.0, λ x below. or_from (p x) (q x) (one.1 x (omega arith)) (other.1 x below))
 
 -- the least in either of two sets is the lesser of their least
 pub lesser_of : (p q : ℕ → Bool) (a b : Option ℕ) → IsLeast p a → IsLeast q b → IsLeast (λ x. p x || q x) (lesser a b)
-lesser_of p q None None one other = λ x. or_none (p x) (q x) (one x) (other x)
-lesser_of p q None (Some b) one other = (or_right (p b) (q b) other.0, λ x below. or_none (p x) (q x) (one x) (other.1 x below))
-lesser_of p q (Some a) None one other = (or_left (p a) (q a) one.0, λ x below. or_none (p x) (q x) (one.1 x below) (other x))
+lesser_of p q None None one other = λ x. or_from (p x) (q x) (one x) (other x)
+lesser_of p q None (Some b) one other = (or_right (p b) (q b) other.0, λ x below. or_from (p x) (q x) (one x) (other.1 x below))
+lesser_of p q (Some a) None one other = (or_left (p a) (q a) one.0, λ x below. or_from (p x) (q x) (one.1 x below) (other x))
 lesser_of p q (Some a) (Some b) one other = lesser_by (nat_lt a b) p q a b refl one other
 
 -- the same test has the same least

@@ -38,7 +38,7 @@ const INTERRUPTS: [(u32, Option<u32>, Outcome); 9] = [
 ];
 
 // A manager of the partition's system, which has made no event.
-#[tactic(auto, using(memory_image::proofs::Systems::system_fits))]
+#[tactic(auto, using(memory_image::proofs::Systems::system_fits, memory_image::proofs::Systems::system_few))]
 fn manager(alloc: Global) -> Result<Spm, Fail>
     ensures { IfOk result (λ m. m.history ≡ []) }
 {

@@ -1,11 +1,9 @@
 //! Calls one after another: the condition of each is met by what those before it left.
 
-ghost use Rattle.std.specs.Prelude.{◌≡◌, ◌+◌, ◌≤◌, All};
-ghost use Rattle.counting_law.specs.Objects.{ObjectsFit};
+ghost use Rattle.std.specs.Prelude.{◌≡◌};
 ghost use Rattle.ffm_model.specs.State.{phase_of};
-ghost use Rattle.memory_image.specs.Pieces.{ranges_of, regions_of};
-ghost use Rattle.message_vectors.specs.Vectors.{AreWithin};
-ghost use Rattle.spm_tables.specs.TablesView.{MadeFor, spm_of};
+ghost use Rattle.slot_names.specs.Premises.{LeavesTakes, PremisesWithMemory};
+ghost use Rattle.spm_tables.specs.TablesView.{spm_of};
 
 use crate::setup::{CLIENT, SYSTEM, VAULT, image_of, ready, runs};
 use client_calls::{close, connect};
@@ -37,13 +35,9 @@ fn asked_once(
     status: Status,
     closed: Handle,
 ) -> Result<(Handle, Result<u32, Fault>, Result<Outcome, Fault>), Fault>
-    requires made { MadeFor tables.old system.now }
+    requires premises { PremisesWithMemory system.now tables.old image.old }
+    requires takes { LeavesTakes tables.old }
     requires running { phase_of (spm_of tables.old) asked.client.0 ≡ ActorPhase.Running }
-    requires fits { ObjectsFit system.now (spm_of tables.old) }
-    requires few_connections { tables.old.linked.takes + 256 ≤ 1048575 }
-    requires few_messages { tables.old.waiting.takes + 256 ≤ 1048575 }
-    requires regions { regions_of image.old ≡ ranges_of system.now.regions }
-    requires vectors { All (λ m. AreWithin (regions_of image.old) m.vectors) (spm_of tables.old).messages }
 {
     connect(system, tables, asked.client, asked.sid, asked.version)?;
     let message = get(

@@ -1,9 +1,9 @@
 //! What the calls are made on: tables at their start and an image, of a system of one partition and one client.
-ghost use Rattle.std.specs.Prelude.{◌≡◌, ◌+◌, ◌≤◌, IfOk, IsTrue};
+ghost use Rattle.std.specs.Prelude.{◌≡◌, IfOk, IsTrue};
 ghost use Rattle.ffm_model.specs.State.{opening_spm, phase_of};
-ghost use Rattle.counting_law.specs.Objects.{ObjectsFit};
 ghost use Rattle.memory_image.specs.Pieces.{ranges_of, regions_of};
-ghost use Rattle.spm_tables.specs.TablesView.{MadeFor, spm_of};
+ghost use Rattle.slot_names.specs.Premises.{LeavesTakes, Premises};
+ghost use Rattle.spm_tables.specs.TablesView.{spm_of};
 
 use ffm_model::{ActorId, ActorPhase, Bytes, List, System};
 use memory_image::{Image, open_within};
@@ -33,11 +33,9 @@ pub(crate) fn runs(tables: &Tables, actor: ActorId) -> bool
 
 // Tables at their start.
 pub(crate) fn ready(rt: &impl Abort, alloc: Global, system: &System) -> Result<Tables, Fail>
-    ensures made { IfOk result (λ t. MadeFor t system.now) }
+    ensures premises { IfOk result (λ t. Premises system.now t) }
+    ensures takes { IfOk result (λ t. LeavesTakes t) }
     ensures state { IfOk result (λ t. spm_of t ≡ opening_spm system.now) }
-    ensures fits { IfOk result (λ t. ObjectsFit system.now (spm_of t)) }
-    ensures few_connections { IfOk result (λ t. t.linked.takes + 256 ≤ 1048575) }
-    ensures few_messages { IfOk result (λ t. t.waiting.takes + 256 ≤ 1048575) }
 {
     let tables = Tables::new(alloc, system)?;
     assert!(rt; tables.messages().takes() < 1000);
@@ -45,6 +43,7 @@ pub(crate) fn ready(rt: &impl Abort, alloc: Global, system: &System) -> Result<T
 }
 
 // The descriptors of a vector of the client, and of one in the partition's RAM.
+#[tactic(auto, using(memory_image::proofs::Systems::system_fits, memory_image::proofs::Systems::system_few))]
 pub(crate) fn image_of(rt: &impl Abort, alloc: Global, system: &System) -> Result<Image, Fail>
     ensures { IfOk result (λ image. regions_of image ≡ ranges_of system.now.regions) }
 {
@@ -54,6 +53,5 @@ pub(crate) fn image_of(rt: &impl Abort, alloc: Global, system: &System) -> Resul
     };
     let opening = vec![in alloc; descriptors]?;
     assert!(rt; open_within(system.regions.as_slice(), opening.as_slice()));
-    assert!(rt; system.regions.len() < 2147483648);
     Ok(Image::new(alloc, &system.regions, &List::of(opening))?)
 }

@@ -23,8 +23,8 @@ pub names_kept : (y : System) (d : TablesView) → KeepsNames y d d
 names_kept y d = names-same y d d refl refl
 
 -- the connection of a slot goes
-pub names_gone : (y : System) (d new : TablesView) (s : Slot) → new ≡ record d { linked = without d.linked s } → KeepsNames y d new
-names_gone y d new s after = names-freed y d new s (ap (λ (x : TablesView). x.linked) after) (ap (λ (x : TablesView). x.waiting) after)
+pub names_gone : (y : System) (d new : TablesView) (s : Slot) → new ≡ record d { connections = without d.connections s } → KeepsNames y d new
+names_gone y d new s after = names-freed y d new s (ap (λ (x : TablesView). x.connections) after) (ap (λ (x : TablesView). x.messages) after)
 
 -- the place of a message that was sent
 abbrev Placed : Places QueuedMessage → QueuedMessage → Places QueuedMessage → Type 0
@@ -38,33 +38,33 @@ placed w v x h =
 
 -- what `send` says of the messages
 abbrev pub Sends : TablesView → Slot → ℤ → Vectors → TablesView → Type 0
-Sends m s kind v new = IfSome (item_at m.linked s) (λ c. IsSomeAnd (free_slot m.waiting) (λ place. new.waiting ≡ taken m.waiting place (message_on s c kind v)))
+Sends m s kind v new = IfSome (item_at m.connections s) (λ c. IsSomeAnd (free_slot m.messages) (λ place. new.messages ≡ taken m.messages place (message_on s c kind v)))
 
 -- psa_connect
-pub names-connect : (y : System) (d m new : TablesView) (s : Slot) (c : OpenConnection) (kind : ℤ) (v : Vectors) → MadeFor d y → IsTable d.linked → free_slot d.linked ≡ Some s → c.serial ≡ d.linked.takes
-    → m ≡ record d { linked = taken d.linked s c } → new.linked ≡ m.linked → Sends m s kind v new → KeepsNames y d new
+pub names-connect : (y : System) (d m new : TablesView) (s : Slot) (c : OpenConnection) (kind : ℤ) (v : Vectors) → MadeFor d y → IsTable d.connections → free_slot d.connections ≡ Some s → c.serial ≡ d.connections.takes
+    → m ≡ record d { connections = taken d.connections s c } → new.connections ≡ m.connections → Sends m s kind v new → KeepsNames y d new
 names-connect y d m new s c kind v made table free serial started same sent =
-    let live : item_at m.linked s ≡ Some c = ap (λ (x : TablesView). item_at x.linked s) started ∙ item-taken d.linked s c free in
-    let waiting : m.waiting ≡ d.waiting = ap (λ (x : TablesView). x.waiting) started in
-    let P : OpenConnection → Type 0 = λ x. IsSomeAnd (free_slot m.waiting) (λ place. new.waiting ≡ taken m.waiting place (message_on s x kind v)) in
-    let at = placed m.waiting new.waiting (message_on s c kind v) (at-item (item_at m.linked s) c P live sent) in
-    names-connected y d new s at.0 c (message_on s c kind v) made table free serial (same ∙ ap (λ (x : TablesView). x.linked) started)
+    let live : item_at m.connections s ≡ Some c = ap (λ (x : TablesView). item_at x.connections s) started ∙ item-taken d.connections s c free in
+    let waiting : m.messages ≡ d.messages = ap (λ (x : TablesView). x.messages) started in
+    let P : OpenConnection → Type 0 = λ x. IsSomeAnd (free_slot m.messages) (λ place. new.messages ≡ taken m.messages place (message_on s x kind v)) in
+    let at = placed m.messages new.messages (message_on s c kind v) (at-item (item_at m.connections s) c P live sent) in
+    names-connected y d new s at.0 c (message_on s c kind v) made table free serial (same ∙ ap (λ (x : TablesView). x.connections) started)
     (ap (λ (w : Places QueuedMessage). free_slot w) (sym waiting) ∙ at.1) (at.2 ∙ ap (λ (w : Places QueuedMessage). taken w at.0 (message_on s c kind v)) waiting)
 
 -- psa_call, and psa_close of a connection that isn't dead
 pub names-held : (y : System) (d m new : TablesView) (a : ℕ) (k : Handle) (s : Slot) (c : OpenConnection) (ph : ConnPhase) (kind : ℤ) (v : Vectors) → IsHeld d a k s c → Phased d s ph m → MadeFor d y
-    → IsKept 256 d.linked → new.linked ≡ m.linked → Sends m s kind v new → KeepsNames y d new
+    → IsKept 256 d.connections → new.connections ≡ m.connections → Sends m s kind v new → KeepsNames y d new
 names-held y d m new a k s c ph kind v h phased made kept same sent =
     let changed : OpenConnection = record c { phase = ph } in
-    let after : m ≡ record d { linked = with_item d.linked s changed } = after-phase d m a k s c ph h phased in
-    let waiting : m.waiting ≡ d.waiting = ap (λ (x : TablesView). x.waiting) after in
-    let P : OpenConnection → Type 0 = λ x. IsSomeAnd (free_slot m.waiting) (λ place. new.waiting ≡ taken m.waiting place (message_on s x kind v)) in
-    let at = placed m.waiting new.waiting (message_on s changed kind v) (at-item (item_at m.linked s) changed P (item-phased d m a k s c ph h phased) sent) in
-    names-asked y d new s at.0 c changed (message_on s changed kind v) made kept h.live refl (same ∙ ap (λ (x : TablesView). x.linked) after)
+    let after : m ≡ record d { connections = with_item d.connections s changed } = after-phase d m a k s c ph h phased in
+    let waiting : m.messages ≡ d.messages = ap (λ (x : TablesView). x.messages) after in
+    let P : OpenConnection → Type 0 = λ x. IsSomeAnd (free_slot m.messages) (λ place. new.messages ≡ taken m.messages place (message_on s x kind v)) in
+    let at = placed m.messages new.messages (message_on s changed kind v) (at-item (item_at m.connections s) changed P (item-phased d m a k s c ph h phased) sent) in
+    names-asked y d new s at.0 c changed (message_on s changed kind v) made kept h.live refl (same ∙ ap (λ (x : TablesView). x.connections) after)
     (ap (λ (w : Places QueuedMessage). free_slot w) (sym waiting) ∙ at.1) (at.2 ∙ ap (λ (w : Places QueuedMessage). taken w at.0 (message_on s changed kind v)) waiting)
 
 -- psa_call by a stateless handle
-pub names-asked-of : (y : System) (d new : TablesView) (x : QueuedMessage) → MadeFor d y → new.linked ≡ d.linked → IsSomeAnd (free_slot d.waiting) (λ place. new.waiting ≡ taken d.waiting place x) → KeepsNames y d new
+pub names-asked-of : (y : System) (d new : TablesView) (x : QueuedMessage) → MadeFor d y → new.connections ≡ d.connections → IsSomeAnd (free_slot d.messages) (λ place. new.messages ≡ taken d.messages place x) → KeepsNames y d new
 names-asked-of y d new x made same sent =
-    let at = placed d.waiting new.waiting x sent in
-    names-added y d new at.0 x made (relinks-same d.linked new.linked same) at.1 at.2
+    let at = placed d.messages new.messages x sent in
+    names-added y d new at.0 x made (relinks-same d.connections new.connections same) at.1 at.2

@@ -34,9 +34,9 @@ queued-on p s kind v m = by (item_at p s) refl where
   by (Some c) live is = ap (queued p) is ∙ queued-live p s c (item_on s c kind v) refl live
 
 -- the pool has room for one more message
-pub room-for-message : (d : TablesView) (s : System) → MadeFor d s → length (spm_of d).messages + 1 ≤ message_capacity s → length (spm_of d).messages < length d.waiting.generations
+pub room-for-message : (d : TablesView) (s : System) → MadeFor d s → length (spm_of d).messages + 1 ≤ message_capacity s → length (spm_of d).messages < length d.messages.generations
 room-for-message d s made room = omega (arith, ap (λ (x : Shape). x.messages) made)
 
 -- and for one more connection
-pub room-for-connection : (d : TablesView) (s : System) → MadeFor d s → length (spm_of d).connections + 1 ≤ capacity s → length (spm_of d).connections < length d.linked.generations
+pub room-for-connection : (d : TablesView) (s : System) → MadeFor d s → length (spm_of d).connections + 1 ≤ capacity s → length (spm_of d).connections < length d.connections.generations
 room-for-connection d s made room = omega (arith, ap (λ (x : Shape). x.connections) made)

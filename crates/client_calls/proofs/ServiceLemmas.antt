@@ -5,6 +5,8 @@ use Rattle.std.specs.List.{list_all}
 use Rattle.std.specs.Option.{option_map, option_map_or, unwrap_or}
 use Rattle.std.proofs.lemmas.List.{length-map}
 use Rattle.std.proofs.lemmas.Option.{slice_get_within}
+use Rattle.list_laws.proofs.Counts.{bit, count-found}
+use Rattle.list_laws.proofs.Tests.{find-passes}
 use Rattle.ffm_model.specs.declared.system.Budget.{Budget}
 use Rattle.ffm_model.specs.declared.system.Service.{Service}
 use Rattle.ffm_model.specs.declared.system.System.{System}
@@ -15,7 +17,6 @@ use Rattle.ffm_model.specs.State.{SpmState, in_use}
 use Rattle.ffm_model.proofs.WellFormedLemmas.{is_between_actors, budgets_between_actors}
 use Rattle.handle_table.proofs.SlotLemmas.{both}
 use Rattle.counting_law.specs.Objects.{ObjectsFit, allowed}
-use Rattle.counting_law.proofs.Counts.{bit, count-found, find-passes}
 use Rattle.spm_tables.specs.TablesView.{TablesView, MadeFor, Shape, service_signal}
 
 -- what passes a test for all

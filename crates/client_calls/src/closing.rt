@@ -1,5 +1,5 @@
 //! `psa_close`.
-ghost use Rattle.std.specs.Prelude.{◌≡◌, ◌+◌, ◌≤◌, ℕ, All, List};
+ghost use Rattle.std.specs.Prelude.{◌≡◌, ℕ, All, List};
 ghost use Rattle.ffm_model.specs.declared.system.System.{System as SystemSeen};
 ghost use Rattle.ffm_model.specs.State.{phase_of};
 ghost use Rattle.ffm_model.specs.ClientCalls.{psa_close};
@@ -8,6 +8,7 @@ ghost use Rattle.message_vectors.specs.Vectors.{AreWithin};
 ghost use Rattle.spm_tables.specs.TablesView.{MadeFor, shape_of, spm_of};
 ghost use Rattle.spm_tables.specs.Answers.{Answers};
 ghost use Rattle.slot_names.specs.Named.{KeepsNames};
+ghost use Rattle.slot_names.specs.Premises.{AreLeft, Premises};
 
 use crate::sending::{NO_VECTORS, send};
 use ffm_model::{
@@ -25,8 +26,8 @@ use spm_tables::Tables;
 /// times more.
 pub fn close(tables: &mut Tables, actor: ActorId, handle: Handle) -> Result<Outcome, Fault>
     requires running { phase_of (spm_of tables.old) actor.0 ≡ ActorPhase.Running }
-    requires fits { (s : SystemSeen) × (MadeFor tables.old s × ObjectsFit s (spm_of tables.old)) }
-    requires few_messages { tables.old.waiting.takes + 256 ≤ 1048575 }
+    requires premises { (s : SystemSeen) × Premises s tables.old }
+    requires takes { AreLeft tables.old.messages.takes }
     ensures answer { Answers (λ o. o) (psa_close (spm_of tables.old) actor.0 handle) tables.old result tables.new }
     ensures shape { shape_of tables.new ≡ shape_of tables.old }
     ensures names { (s : SystemSeen) → MadeFor tables.old s → KeepsNames s tables.old tables.new }

@@ -1,13 +1,14 @@
 //! `psa_connect`.
-ghost use Rattle.std.specs.Prelude.{◌≡◌, ◌+◌, ◌≤◌, ℕ, All, List};
+ghost use Rattle.std.specs.Prelude.{◌≡◌, ℕ, All, List};
 ghost use Rattle.ffm_model.specs.Actors.{is_stateless};
 ghost use Rattle.ffm_model.specs.State.{phase_of};
 ghost use Rattle.ffm_model.specs.ClientCalls.{takes_version, is_service_panicked, psa_connect};
 ghost use Rattle.counting_law.specs.Objects.{ObjectsFit};
 ghost use Rattle.message_vectors.specs.Vectors.{AreWithin};
-ghost use Rattle.spm_tables.specs.TablesView.{MadeFor, shape_of, spm_of};
+ghost use Rattle.spm_tables.specs.TablesView.{shape_of, spm_of};
 ghost use Rattle.spm_tables.specs.Answers.{Answers};
 ghost use Rattle.slot_names.specs.Named.{KeepsNames};
+ghost use Rattle.slot_names.specs.Premises.{LeavesTakes, Premises};
 
 use crate::sending::{NO_VECTORS, send};
 use ffm_model::{
@@ -62,11 +63,9 @@ pub fn connect(
     sid: Sid,
     version: u32,
 ) -> Result<Outcome, Fault>
-    requires made { MadeFor tables.old system.now }
+    requires premises { Premises system.now tables.old }
+    requires takes { LeavesTakes tables.old }
     requires running { phase_of (spm_of tables.old) actor.0 ≡ ActorPhase.Running }
-    requires fits { ObjectsFit system.now (spm_of tables.old) }
-    requires few_connections { tables.old.linked.takes + 256 ≤ 1048575 }
-    requires few_messages { tables.old.waiting.takes + 256 ≤ 1048575 }
     ensures answer { Answers (λ o. o) (psa_connect system.now (spm_of tables.old) actor.0 sid version) tables.old result tables.new }
     ensures shape { shape_of tables.new ≡ shape_of tables.old }
     ensures names { KeepsNames system.now tables.old tables.new }

@@ -1,15 +1,16 @@
 //! `psa_call`.
-ghost use Rattle.std.specs.Prelude.{◌≡◌, ◌+◌, ◌≤◌, All, List};
+ghost use Rattle.std.specs.Prelude.{◌≡◌, All, List};
 ghost use Rattle.ffm_model.specs.declared.machine.Handle.{Handle as HandleSeen};
 ghost use Rattle.ffm_model.specs.State.{phase_of};
 ghost use Rattle.ffm_model.specs.ClientCalls.{connection_called, psa_call, refuses_requests, service_called};
 ghost use Rattle.ffm_model.specs.Panic.{is_dead};
 ghost use Rattle.counting_law.specs.Objects.{ObjectsFit};
-ghost use Rattle.memory_image.specs.Pieces.{byte_at, ranges_of, regions_of};
+ghost use Rattle.memory_image.specs.Pieces.{byte_at, regions_of};
 ghost use Rattle.message_vectors.specs.Vectors.{AreWithin};
-ghost use Rattle.spm_tables.specs.TablesView.{MadeFor, shape_of, spm_of};
+ghost use Rattle.spm_tables.specs.TablesView.{shape_of, spm_of};
 ghost use Rattle.spm_tables.specs.Answers.{Answers, state_with};
 ghost use Rattle.slot_names.specs.Named.{KeepsNames};
+ghost use Rattle.slot_names.specs.Premises.{AreLeft, PremisesWithMemory};
 
 use crate::connecting::is_service_panicked;
 use crate::sending::{send, send_request};
@@ -47,11 +48,9 @@ fn call_connection(
     out_vec: u32,
     out_len: u32,
 ) -> Result<Outcome, Fault>
-    requires made { MadeFor tables.old system.now }
+    requires premises { PremisesWithMemory system.now tables.old image.now }
+    requires takes { AreLeft tables.old.messages.takes }
     requires running { phase_of (spm_of tables.old) actor.0 ≡ ActorPhase.Running }
-    requires fits { ObjectsFit system.now (spm_of tables.old) }
-    requires few_messages { tables.old.waiting.takes + 256 ≤ 1048575 }
-    requires regions { regions_of image.now ≡ ranges_of system.now.regions }
     ensures answer { (given : List HandleSeen) → Answers (λ o. o) (connection_called system.now (state_with tables.old given (byte_at image.now)) actor.0 handle kind in_vec in_len out_vec out_len) tables.old result tables.new }
     ensures shape { shape_of tables.new ≡ shape_of tables.old }
     ensures names { KeepsNames system.now tables.old tables.new }
@@ -88,11 +87,9 @@ fn call_service(
     out_vec: u32,
     out_len: u32,
 ) -> Result<Outcome, Fault>
-    requires made { MadeFor tables.old system.now }
+    requires premises { PremisesWithMemory system.now tables.old image.now }
+    requires takes { AreLeft tables.old.messages.takes }
     requires running { phase_of (spm_of tables.old) actor.0 ≡ ActorPhase.Running }
-    requires fits { ObjectsFit system.now (spm_of tables.old) }
-    requires few_messages { tables.old.waiting.takes + 256 ≤ 1048575 }
-    requires regions { regions_of image.now ≡ ranges_of system.now.regions }
     ensures answer { (given : List HandleSeen) → Answers (λ o. o) (service_called system.now (state_with tables.old given (byte_at image.now)) actor.0 index kind in_vec in_len out_vec out_len) tables.old result tables.new }
     ensures shape { shape_of tables.new ≡ shape_of tables.old }
     ensures names { KeepsNames system.now tables.old tables.new }
@@ -137,11 +134,9 @@ pub fn invoke(
     out_vec: u32,
     out_len: u32,
 ) -> Result<Outcome, Fault>
-    requires made { MadeFor tables.old system.now }
+    requires premises { PremisesWithMemory system.now tables.old image.now }
+    requires takes { AreLeft tables.old.messages.takes }
     requires running { phase_of (spm_of tables.old) actor.0 ≡ ActorPhase.Running }
-    requires fits { ObjectsFit system.now (spm_of tables.old) }
-    requires few_messages { tables.old.waiting.takes + 256 ≤ 1048575 }
-    requires regions { regions_of image.now ≡ ranges_of system.now.regions }
     ensures answer { (given : List HandleSeen) → Answers (λ o. o) (psa_call system.now (state_with tables.old given (byte_at image.now)) actor.0 handle kind in_vec in_len out_vec out_len) tables.old result tables.new }
     ensures shape { shape_of tables.new ≡ shape_of tables.old }
     ensures names { KeepsNames system.now tables.old tables.new }

@@ -43,12 +43,12 @@ fn item_on(connections: &Connections, slot: Slot, kind: i32, vectors: Vectors) -
 
 /// Sends a message of a connection to its service. The connection's client is Blocked from then on.
 pub(crate) fn send(tables: &mut Tables, slot: Slot, kind: i32, vectors: Vectors)
-    requires connection { IsSomeAnd (item_at tables.old.linked slot) (λ c. c.service < length tables.old.services) }
+    requires connection { IsSomeAnd (item_at tables.old.connections slot) (λ c. c.service < length tables.old.services) }
     requires room { length (spm_of tables.old).messages < (shape_of tables.old).messages }
-    requires few { tables.old.waiting.takes < 1048575 }
-    ensures linked { tables.new.linked ≡ tables.old.linked }
-    ensures waiting { IfSome (item_at tables.old.linked slot) (λ c. IsSomeAnd (free_slot tables.old.waiting) (λ place. tables.new.waiting ≡ taken tables.old.waiting place (message_on slot c kind vectors))) }
-    ensures state { IfSome (item_at tables.old.linked slot) (λ c. spm_of tables.new ≡ with_phase (with_message (spm_of tables.old) c kind vectors) c.client.0 ActorPhase.Blocked) }
+    requires few { tables.old.messages.takes < 1048575 }
+    ensures connections { tables.new.connections ≡ tables.old.connections }
+    ensures messages { IfSome (item_at tables.old.connections slot) (λ c. IsSomeAnd (free_slot tables.old.messages) (λ place. tables.new.messages ≡ taken tables.old.messages place (message_on slot c kind vectors))) }
+    ensures state { IfSome (item_at tables.old.connections slot) (λ c. spm_of tables.new ≡ with_phase (with_message (spm_of tables.old) c kind vectors) c.client.0 ActorPhase.Blocked) }
     ensures shape { shape_of tables.new ≡ shape_of tables.old }
 {
     let item = item_on(tables.connections(), slot, kind, vectors);
@@ -66,9 +66,9 @@ pub(crate) fn send_request(
 )
     requires service { service < length tables.old.services }
     requires room { length (spm_of tables.old).messages < (shape_of tables.old).messages }
-    requires few { tables.old.waiting.takes < 1048575 }
-    ensures linked { tables.new.linked ≡ tables.old.linked }
-    ensures waiting { IsSomeAnd (free_slot tables.old.waiting) (λ place. tables.new.waiting ≡ taken tables.old.waiting place (request_message client service kind vectors)) }
+    requires few { tables.old.messages.takes < 1048575 }
+    ensures connections { tables.new.connections ≡ tables.old.connections }
+    ensures messages { IsSomeAnd (free_slot tables.old.messages) (λ place. tables.new.messages ≡ taken tables.old.messages place (request_message client service kind vectors)) }
     ensures state { spm_of tables.new ≡ with_phase (with_request (spm_of tables.old) client.0 service kind vectors) client.0 ActorPhase.Blocked }
     ensures shape { shape_of tables.new ≡ shape_of tables.old }
 {

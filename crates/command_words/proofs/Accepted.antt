@@ -3,6 +3,7 @@ use Rattle.std.proofs.Common.{◌≡◌, ◌⊎◌, ℕ, Bool, inl, inr, refl, s
 use Rattle.std.specs.Prelude.{◌&&◌, ◌==◌, if◌then◌else◌}
 use Rattle.std.specs.Str.{bytes_eq}
 use Rattle.std.proofs.lemmas.Slice.Eq.{bytes_eq-Decides}
+use Rattle.std.proofs.lemmas.Bool.{and_parts}
 use Rattle.clap.specs.Words.{Text}
 use Rattle.command_words.specs.declared.words.Inspection.{Inspection}
 use Rattle.command_words.specs.declared.words.Inspection.TheVariants.{Replay, Audit}
@@ -18,10 +19,6 @@ either false one other x e = inr (refl, e)
 given : {X : Type 0} (b : Bool) (v x : X) → (if b then Some v else None) ≡ Some x → (b ≡ true) × (v ≡ x)
 given true v x e = (refl, cc)
 given false v x e = cc
-
-both : (a b : Bool) → (a && b) ≡ true → (a ≡ true) × (b ≡ true)
-both true b e = (refl, e)
-both false b e = cc
 
 is_text : (word text : Text) → bytes_eq word text ≡ true → text ≡ word
 is_text word text e = sym ((bytes_eq-Decides word text).0 e)
@@ -52,24 +49,24 @@ compile_case program (x ∷ y ∷ words) o e = cc
 run_case : (program x y : Text) (o : Order) → run_files false x y ≡ Some o → Taken (program ∷ codes "run" ∷ x ∷ y ∷ []) o
 run_case program x y o e =
     let files = given (is_file_word x && is_file_word y) (run false x y) o e in
-    let each = both (is_file_word x) (is_file_word y) files.0 in
+    let each = and_parts (is_file_word x) (is_file_word y) files.0 in
     subst (Taken (program ∷ codes "run" ∷ x ∷ y ∷ [])) files.1 (run_taken program x y each.0 each.1)
 
 flag_case : (program x y z : Text) (o : Order) → flagged_words x y z ≡ Some o → Taken (program ∷ codes "run" ∷ x ∷ y ∷ z ∷ []) o
 flag_case program x y z o e = elim (either (is_flag x) (run_files true y z) _ o e) [
   | inl first ↦
       let files = given (is_file_word y && is_file_word z) (run true y z) o first.1 in
-      let each = both (is_file_word y) (is_file_word z) files.0 in
+      let each = and_parts (is_file_word y) (is_file_word z) files.0 in
       rw (← is_text x (codes "--threads") first.0) (subst (Taken (program ∷ codes "run" ∷ codes "--threads" ∷ y ∷ z ∷ [])) files.1 (first_flag_taken program y z each.0 each.1))
   | inr rest ↦ elim (either (is_flag y) (run_files true x z) _ o rest.1) [
     | inl middle ↦
         let files = given (is_file_word x && is_file_word z) (run true x z) o middle.1 in
-        let each = both (is_file_word x) (is_file_word z) files.0 in
+        let each = and_parts (is_file_word x) (is_file_word z) files.0 in
         rw (← is_text y (codes "--threads") middle.0) (subst (Taken (program ∷ codes "run" ∷ x ∷ codes "--threads" ∷ z ∷ [])) files.1 (middle_flag_taken program x z each.0 each.1))
     | inr others ↦ elim (either (is_flag z) (run_files true x y) None o others.1) [
       | inl last ↦
           let files = given (is_file_word x && is_file_word y) (run true x y) o last.1 in
-          let each = both (is_file_word x) (is_file_word y) files.0 in
+          let each = and_parts (is_file_word x) (is_file_word y) files.0 in
           rw (← is_text z (codes "--threads") last.0) (subst (Taken (program ∷ codes "run" ∷ x ∷ y ∷ codes "--threads" ∷ [])) files.1 (last_flag_taken program x y each.0 each.1))
       | inr none ↦ let bad : None ≡ Some o = none.1 in cc
     ]
@@ -88,8 +85,8 @@ trace_case : (program x y z : Text) (how : Inspection) (name : Text) (o : Order)
     → Taken (program ∷ name ∷ x ∷ y ∷ z ∷ []) o
 trace_case program x y z how name o e taken =
     let files = given (is_file_word x && (is_file_word y && is_file_word z)) (judge how x y z) o e in
-    let first = both (is_file_word x) (is_file_word y && is_file_word z) files.0 in
-    let others = both (is_file_word y) (is_file_word z) first.1 in
+    let first = and_parts (is_file_word x) (is_file_word y && is_file_word z) files.0 in
+    let others = and_parts (is_file_word y) (is_file_word z) first.1 in
     subst (Taken (program ∷ name ∷ x ∷ y ∷ z ∷ [])) files.1 (taken first.0 others.0 others.1)
 
 trace_cases : (program : Text) (how : Inspection) (name : Text) (words : List Text) (o : Order) → trace_words how words ≡ Some o

@@ -162,7 +162,7 @@ fn name(alloc: Global, words: &mut SplitWhitespace) -> Result<Name, Fail>
     Ok(Name::of(String::from_str(alloc, text)?))
 }
 
-#[tactic(auto, using(region_map::proofs::Pushed::pushed))]
+#[tactic(auto, using(crate::proofs::Pushed::pushed))]
 fn add_region(
     alloc: Global,
     regions: &mut Vec<RegionItem>,
@@ -187,7 +187,7 @@ fn location(alloc: Global, head: &str, words: &mut SplitWhitespace) -> Result<Lo
     Ok(Location::Numbered { base, size })
 }
 
-#[tactic(auto, using(region_map::proofs::Pushed::pushed))]
+#[tactic(auto, using(crate::proofs::Pushed::pushed))]
 fn add_item(
     alloc: Global,
     items: &mut Vec<MmioItem>,
@@ -205,7 +205,7 @@ fn add_item(
     Ok(())
 }
 
-#[tactic(auto, using(region_map::proofs::Pushed::pushed))]
+#[tactic(auto, using(crate::proofs::Pushed::pushed))]
 fn add_manifest(
     alloc: Global,
     manifests: &mut Vec<Manifest>,

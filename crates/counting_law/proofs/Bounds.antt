@@ -3,14 +3,15 @@ use Rattle.std.proofs.Common.{ℕ, ◌≡◌, ◌≤◌, ◌+◌, ◌==◌, Bool
 use Rattle.std.specs.Prelude.{count_by, sum_by, find, Some, filter}
 use Rattle.std.specs.Option.{option_map_or, option_map}
 use Rattle.std.proofs.lemmas.List.Sums.{sum_by-cons}
+use Rattle.std.proofs.lemmas.Bool.{and_parts, eqb-true}
+use Rattle.list_laws.proofs.Counts.{bit, count-cons, count-filter-le}
 use Rattle.ffm_model.specs.declared.system.System.{System}
 use Rattle.ffm_model.specs.declared.system.Budget.{Budget}
 use Rattle.ffm_model.specs.declared.objects.OpenConnection.{OpenConnection}
 use Rattle.ffm_model.specs.State.{SpmState}
 use Rattle.ffm_model.specs.Names.{capacity}
 use Rattle.counting_law.specs.Objects.{ObjectsFit}
-use Rattle.counting_law.proofs.Counts.{bit, count-cons, count-filter-le}
-use Rattle.counting_law.proofs.Parts.{equal_from, is_itself, left_true, right_true}
+use Rattle.counting_law.proofs.Parts.{is_itself}
 
 abbrev pair : ℕ → ℕ → OpenConnection → Bool
 pair a v c = (c.client.0 == a) && (c.service == v)
@@ -52,8 +53,8 @@ connections-le (b ∷ bs) cs h =
     → count_by (pair a v) rest ≤ allowed_by bs a v =
     elim [
       | true ↦ λ e k.
-          let x : b.client.0 ≡ a = equal_from _ _ (left_true _ _ e) in
-          let y : b.service ≡ v = equal_from _ _ (right_true _ _ e) in
+          let x : b.client.0 ≡ a = eqb-true _ _ (and_parts _ _ e).0 in
+          let y : b.service ≡ v = eqb-true _ _ (and_parts _ _ e).1 in
           omega (arith, count-apart q cs, ap (λ n. count_by (pair n b.service) rest) x, ap (λ n. count_by (pair a n) rest) y)
       | false ↦ λ e k. omega (arith, k, count-filter-le (pair a v) (λ c. not (q c)) cs)
     ] in

@@ -1,10 +1,14 @@
 -- At most one message for each connection, and one more for each actor that may use a stateless service.
-use Rattle.std.proofs.Common.{ℕ, zero, suc, ◌≡◌, ◌≤◌, ◌+◌, ◌==◌, Bool, true, false, cond, not, ◌&&◌, ◌||◌, List, [], ◌∷◌, ◌++◌, length, arith, ◌∙◌, ap, sym, refl}
+use Rattle.std.proofs.Common.{ℕ, zero, suc, ◌≡◌, ◌≤◌, ◌+◌, ◌==◌, Bool, true, false, cond, not, ◌&&◌, List, [], ◌∷◌, length, arith, ◌∙◌, ap, sym, refl}
 use Rattle.std.specs.Prelude.{count_by, find, nat_lt, nat_le, int_le, is_none, is_some, slice_get, sum_by, Option, Some, None}
-use Rattle.std.specs.List.{list_any, list_all, range_with_len}
+use Rattle.std.specs.List.{list_all, range_with_len}
 use Rattle.std.specs.Option.{option_map, option_map_or}
 use Rattle.std.proofs.lemmas.Bool.Decides.{nat_tests}
 use Rattle.std.proofs.lemmas.List.Sums.{count_by-le-length}
+use Rattle.std.proofs.lemmas.Bool.{and_from, and_parts, eqb-true}
+use Rattle.list_laws.proofs.Counts.{bit, count-found, count-le, count-push, some-any, some-found}
+use Rattle.list_laws.proofs.Tests.{find-passes}
+use Rattle.list_laws.proofs.Lists.{range_with_len-more}
 use Rattle.ffm_model.specs.declared.constants.TheConstants.{PSA_IPC_CALL}
 use Rattle.ffm_model.specs.declared.system.System.{System}
 use Rattle.ffm_model.specs.declared.system.Budget.{Budget}
@@ -14,8 +18,6 @@ use Rattle.ffm_model.specs.State.{SpmState}
 use Rattle.ffm_model.specs.Names.{calls_stateless, message_capacity}
 use Rattle.ffm_model.proofs.WellFormedLemmas.{budgets_between_actors}
 use Rattle.counting_law.specs.Objects.{ObjectsFit, called_by, is_awaited, message_marked, wrongly_called}
-use Rattle.counting_law.proofs.Counts.{bit, count-cons, count-found, count-le, count-push, find-passes, some-found}
-use Rattle.counting_law.proofs.Parts.{equal_from, left_true, right_true, and_on}
 use Rattle.counting_law.proofs.Bounds.{count-all, few-connections}
 use Rattle.counting_law.proofs.Pairs.{count-sum, none-counts}
 use Rattle.counting_law.proofs.Slots.{one-call}
@@ -25,7 +27,7 @@ all-at : {X : Type 0} (p : X → Bool) (xs : List X) (q : X → Bool) (x : X) �
 all-at p [] q x all f = cc
 all-at {X = X} p (y ∷ ys) q x all f =
     let go : (b : Bool) → cond b (Some y) (find q ys) ≡ Some x → p x ≡ true =
-    elim [ true ↦ λ g. let it : y ≡ x = cc in ap p (sym it) ∙ left_true (p y) (list_all p ys) all | false ↦ λ g. all-at p ys q x (right_true (p y) (list_all p ys) all) g ] in
+    elim [ true ↦ λ g. let it : y ≡ x = cc in ap p (sym it) ∙ (and_parts (p y) (list_all p ys) all).0 | false ↦ λ g. all-at p ys q x (and_parts (p y) (list_all p ys) all).1 g ] in
     go (q y) f
 
 -- the budget of a permitted pair
@@ -37,23 +39,17 @@ budget-there s a v e =
 permitted-there : (s : System) (a v : ℕ) → permits s a v ≡ true → nat_lt a (length s.partitions + length s.clients) ≡ true
 permitted-there s a v e =
     let it = budget-there s a v e in
-    let own : it.0.client.0 ≡ a = equal_from it.0.client.0 a (left_true _ _ (find-passes (λ c. (c.client.0 == a) && (c.service == v)) s.budgets it.0 it.1)) in
-    let low : nat_lt it.0.client.0 (length s.partitions + length s.clients) ≡ true = left_true _ _ (all-at _ s.budgets _ it.0 (budgets_between_actors s) it.1) in
+    let own : it.0.client.0 ≡ a = eqb-true it.0.client.0 a (and_parts _ _ (find-passes (λ c. (c.client.0 == a) && (c.service == v)) s.budgets it.0 it.1)).0 in
+    let low : nat_lt it.0.client.0 (length s.partitions + length s.clients) ≡ true = (and_parts _ _ (all-at _ s.budgets _ it.0 (budgets_between_actors s) it.1)).0 in
     ap (λ k. nat_lt k (length s.partitions + length s.clients)) (sym own) ∙ low
-
-count-any : {X : Type 0} (p : X → Bool) (xs : List X) → 1 ≤ count_by p xs → list_any p xs ≡ true
-count-any p [] h = absurd (omega (arith, h))
-count-any p (x ∷ xs) h =
-    let go : (b : Bool) → 1 ≤ bit b + count_by p xs → (b || list_any p xs) ≡ true = elim [ true ↦ λ k. refl | false ↦ λ k. count-any p xs (omega (arith, k)) ] in
-    go (p x) (omega (arith, h, count-cons p x xs))
 
 permitted-calls : (s : System) (a v : ℕ) → permits s a v ≡ true → is_stateless s v ≡ true → calls_stateless s a ≡ true
 permitted-calls s a v e stateless =
     let it = budget-there s a v e in
     let passes : ((it.0.client.0 == a) && (it.0.service == v)) ≡ true = find-passes (λ c. (c.client.0 == a) && (c.service == v)) s.budgets it.0 it.1 in
-    let service : it.0.service ≡ v = equal_from it.0.service v (right_true _ _ passes) in
-    let own : ((it.0.client.0 == a) && is_stateless s it.0.service) ≡ true = and_on _ _ (left_true _ _ passes) (ap (is_stateless s) service ∙ stateless) in
-    count-any (λ b. (b.client.0 == a) && is_stateless s b.service) s.budgets
+    let service : it.0.service ≡ v = eqb-true it.0.service v (and_parts _ _ passes).1 in
+    let own : ((it.0.client.0 == a) && is_stateless s it.0.service) ≡ true = and_from _ _ (and_parts _ _ passes).0 (ap (is_stateless s) service ∙ stateless) in
+    some-any (λ b. (b.client.0 == a) && is_stateless s b.service) s.budgets
     (omega (arith, count-found (λ c. (c.client.0 == a) && (c.service == v)) (λ b. (b.client.0 == a) && is_stateless s b.service) s.budgets it.0 it.1, ap bit own))
 
 -- a request of an actor shows that it may call
@@ -65,8 +61,8 @@ and_not false y e h = cc
 lawful : (s : System) (m : PendingMessage) → is_none m.connection ≡ true → bit (wrongly_called s m) ≡ 0 → (is_stateless s m.service ≡ true) × (permits s m.client.0 m.service ≡ true)
 lawful s m none h =
     let all : (int_le PSA_IPC_CALL m.kind && (is_stateless s m.service && permits s m.client.0 m.service)) ≡ true = and_not _ _ none h in
-    let both : (is_stateless s m.service && permits s m.client.0 m.service) ≡ true = right_true _ _ all in
-    (left_true _ _ both, right_true _ _ both)
+    let both : (is_stateless s m.service && permits s m.client.0 m.service) ≡ true = (and_parts _ _ all).1 in
+    ((and_parts _ _ both).0, (and_parts _ _ both).1)
 
 calls-allowed : (s : System) (b : SpmState) (a : ℕ) → ObjectsFit s b → count_by (called_by a) b.messages ≤ bit (calls_stateless s a)
 calls-allowed s b a h =
@@ -77,8 +73,8 @@ calls-allowed s b a h =
           let it = some-found (called_by a) b.messages (omega (arith, e)) in
           let m : PendingMessage = it.0 in
           let passes : called_by a m ≡ true = find-passes (called_by a) b.messages m it.1 in
-          let right = lawful s m (left_true _ _ passes) (omega (arith, count-found (called_by a) (wrongly_called s) b.messages m it.1, h.called)) in
-          let own : m.client.0 ≡ a = equal_from m.client.0 a (right_true _ _ passes) in
+          let right = lawful s m (and_parts _ _ passes).0 (omega (arith, count-found (called_by a) (wrongly_called s) b.messages m it.1, h.called)) in
+          let own : m.client.0 ≡ a = eqb-true m.client.0 a (and_parts _ _ passes).1 in
           let may : calls_stateless s a ≡ true = ap (calls_stateless s) (sym own) ∙ permitted-calls s m.client.0 m.service right.1 right.0 in
           omega (arith, one-call s b a h, ap bit may)
     ] in
@@ -87,12 +83,6 @@ calls-allowed s b a h =
 -- the requests of the first actors
 calls-below : ℕ → PendingMessage → Bool
 calls-below n m = is_none m.connection && nat_lt m.client.0 n
-
-range-more : (a n : ℕ) → range_with_len a (suc n) ≡ range_with_len a n ++ (a + n) ∷ []
-range-more a zero = ap (λ (x : ℕ). x ∷ []) (omega arith)
-range-more a (suc n) =
-    let same : a + 1 + n ≡ a + suc n = omega arith in
-    ap (λ (xs : List ℕ). a ∷ xs) (range-more (a + 1) n ∙ ap (λ (x : ℕ). range_with_len (a + 1) n ++ x ∷ []) same)
 
 zero-plus : (n : ℕ) → 0 + n ≡ n
 zero-plus n = omega arith
@@ -116,7 +106,7 @@ calls-first s b h (suc n) =
       count-sum (calls-below (suc n)) (calls-below n) (called_by n) split b.messages,
       calls-first s b h n,
       calls-allowed s b n h,
-      ap (count_by (calls_stateless s)) (range-more 0 n),
+      ap (count_by (calls_stateless s)) (range_with_len-more 0 n),
       count-push (calls_stateless s) (range_with_len 0 n) (0 + n),
       ap (λ k. bit (calls_stateless s k)) (zero-plus n),
     )

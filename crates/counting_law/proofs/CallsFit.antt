@@ -3,6 +3,7 @@ use Rattle.std.proofs.Common.{ℕ, ℤ, ◌≡◌, ◌+◌, Bool, true, false, �
 use Rattle.std.specs.Prelude.{count_by, nat_le, Option, Some, None, option_and_then, if◌then◌else◌}
 use Rattle.std.specs.List.{filter_map, cons_option, list_any}
 use Rattle.std.specs.Option.{option_map}
+use Rattle.list_laws.proofs.Counts.{any-count, bit, count-cons}
 use Rattle.ffm_model.specs.declared.objects.ActorPhase.TheVariants.{Running, Waiting}
 use Rattle.ffm_model.specs.declared.objects.OpenConnection.{OpenConnection}
 use Rattle.ffm_model.specs.declared.objects.PendingMessage.{PendingMessage}
@@ -20,7 +21,6 @@ use Rattle.ffm_model.specs.ServiceCalls.{output_at, psa_read, psa_skip, psa_writ
 use Rattle.ffm_model.specs.State.{SpmState, State, delivered, handle_eq, has_handle, phase_of, with_phase, with_rhandle, with_vectors}
 use Rattle.counting_law.specs.Objects.{ObjectsFit, objects_with}
 use Rattle.counting_law.proofs.Balance.{Balanced, balanced-fit, fit-balanced, one}
-use Rattle.counting_law.proofs.Counts.{any-count, bit, count-cons}
 use Rattle.counting_law.proofs.Events.{EachKind, IfMoved, calls, closes, connects}
 use Rattle.counting_law.proofs.Keeps.{beside, kinds-balance, phase-keeps, rhandle-keeps}
 use Rattle.counting_law.proofs.Panic.{count-append}

@@ -1,6 +1,9 @@
 -- Close keeps the balance.
 use Rattle.std.proofs.Common.{ℕ, ◌≡◌, ◌<◌, ◌==◌, Bool, true, false, cond, not, ◌&&◌, List, [], ◌∷◌, ◌++◌, length, arith, ap, sym, refl, subst}
 use Rattle.std.specs.Prelude.{count_by, find, Option, Some, None, map, filter, slice_set, is_none, negsuc}
+use Rattle.std.proofs.lemmas.Bool.{and_parts, eqb-true}
+use Rattle.list_laws.proofs.Counts.{bit, count-found, count-push}
+use Rattle.list_laws.proofs.Tests.{find-passes}
 use Rattle.ffm_model.specs.declared.system.System.{System}
 use Rattle.ffm_model.specs.declared.machine.Handle.{Handle}
 use Rattle.ffm_model.specs.declared.objects.OpenConnection.{OpenConnection}
@@ -16,8 +19,7 @@ use Rattle.ffm_model.specs.ClientCalls.{close_on, Move}
 use Rattle.ffm_model.specs.Panic.{is_dead}
 use Rattle.counting_law.proofs.Balance.{Balanced}
 use Rattle.counting_law.specs.Objects.{is_joining, is_awaited, awaited_by, called_by, wrongly_called, awaited_of, accepted_as, message_marked}
-use Rattle.counting_law.proofs.Counts.{bit, count-push, count-found, find-passes}
-use Rattle.counting_law.proofs.Parts.{is_there, found-serial, off_left, on_left, is_itself, running-quiet, left_true, right_true, equal_from, off_from, set_same}
+use Rattle.counting_law.proofs.Parts.{is_there, found-serial, off_left, on_left, is_itself, running-quiet, off_from, set_same}
 use Rattle.counting_law.proofs.Updates.{put, out, moved-keeps, removed-keeps}
 
 pub shown_some : (o : Option Handle) (h : Handle) → has_handle o h ≡ true → is_none o ≡ false
@@ -32,7 +34,7 @@ close-own s limit b h c balanced running held =
     let quiet : awaited_by b.connections b.messages a ≡ 0 = running-quiet (phase_of b a) _ _ (λ n. count_by (accepted_as a n) b.connections) running (balanced.fitting a) in
     let own : bit (is_awaited c.phase) ≡ 0 =
     omega (arith, quiet, on_left (a == a) (is_awaited c.phase) (is_itself a), count-found (λ d. (d.client.0 == a) && has_handle d.handle h) (awaited_of a) b.connections c held) in
-    let known : is_none c.handle ≡ false = shown_some c.handle h (right_true (a == a) (has_handle c.handle h) (find-passes (λ d. (d.client.0 == a) && has_handle d.handle h) b.connections c held)) in
+    let known : is_none c.handle ≡ false = shown_some c.handle h (and_parts (a == a) (has_handle c.handle h) (find-passes (λ d. (d.client.0 == a) && has_handle d.handle h) b.connections c held)).1 in
     let here : find (λ d. d.serial == c.serial) b.connections ≡ Some c = found-serial 0 b.connections_made _ b.connections c balanced.rising held in
     let m : PendingMessage = record { service = c.service; client = c.client; connection = Some c.serial; kind = negsuc 1; vectors = no_vectors; handle = None } in
     let go : (d : Bool) → is_dead c.phase ≡ d → Balanced s limit (cond {A = Move} d (record { outcome = Done; spm = without_connection b c.serial }) (record { outcome = Blocks; spm = record b { connections = map (phase_put c.serial Closing) b.connections; messages = b.messages ++ m ∷ []; phases = slice_set b.phases a Blocked } })).spm =
@@ -65,6 +67,6 @@ close-own s limit b h c balanced running held =
 pub close-keeps : (s : System) (limit : Handle → ℕ) (b : SpmState) (a : ℕ) (h : Handle) (c : OpenConnection) → Balanced s limit b → phase_of b a ≡ Running
     → connection_held b a h ≡ Some c → Balanced s limit (close_on b a c).spm
 close-keeps s limit b a h c balanced running held =
-    let mine : c.client.0 ≡ a = equal_from c.client.0 a (left_true (c.client.0 == a) (has_handle c.handle h) (find-passes (λ d. (d.client.0 == a) && has_handle d.handle h) b.connections c held)) in
+    let mine : c.client.0 ≡ a = eqb-true c.client.0 a (and_parts (c.client.0 == a) (has_handle c.handle h) (find-passes (λ d. (d.client.0 == a) && has_handle d.handle h) b.connections c held)).0 in
     subst (λ (x : ℕ). Balanced s limit (close_on b x c).spm) mine
     (close-own s limit b h c balanced (subst (λ (x : ℕ). phase_of b x ≡ Running) (sym mine) running) (subst (λ (x : ℕ). connection_held b x h ≡ Some c) (sym mine) held))

@@ -1,6 +1,8 @@
 -- Connect keeps the balance.
 use Rattle.std.proofs.Common.{ℕ, ◌≡◌, ◌<◌, ◌≤◌, ◌+◌, ◌==◌, Bool, true, false, not, ◌&&◌, ◌||◌, [], ◌∷◌, ◌++◌, length, arith, ap, refl}
 use Rattle.std.specs.Prelude.{count_by, Some, None, slice_set, is_none, negsuc}
+use Rattle.std.proofs.lemmas.Bool.{and_left}
+use Rattle.list_laws.proofs.Counts.{bit, count-ext, count-push}
 use Rattle.ffm_model.specs.declared.system.System.{System}
 use Rattle.ffm_model.specs.declared.machine.Handle.{Handle}
 use Rattle.ffm_model.specs.declared.objects.OpenConnection.{OpenConnection}
@@ -12,8 +14,7 @@ use Rattle.ffm_model.specs.State.{SpmState, phase_of, in_use, has_handle}
 use Rattle.ffm_model.specs.ClientCalls.{connect_issued, new_connection}
 use Rattle.counting_law.proofs.Balance.{Balanced}
 use Rattle.counting_law.specs.Objects.{is_joining, is_opening, allowed, awaited_by, asked_by, called_by, wrongly_called, awaited_of, asking_of, accepted_as, wrongly_shown, message_marked, connection_marked}
-use Rattle.counting_law.proofs.Counts.{bit, count-push, count-ext}
-use Rattle.counting_law.proofs.Parts.{is_there, fitting-set, joining-set, rising-push, off_left, off_right, on_left, and_off, flipped, is_itself, running-quiet}
+use Rattle.counting_law.proofs.Parts.{is_there, fitting-set, joining-set, rising-push, off_left, off_right, on_left, flipped, is_itself, running-quiet}
 
 room_for : (g f : ℕ → ℕ → ℕ) (a v x w : ℕ) → g a v + 1 ≤ f a v → g x w ≤ f x w → g x w + bit ((a == x) && (v == w)) ≤ f x w
 room_for g f a v x w room old =
@@ -40,7 +41,7 @@ connected-keeps s limit b a v h running room =
           (omega (arith, quiet, count-push (called_by a) b.messages m, count-push (awaited_of a) b.connections c, on_left (a == a) true (is_itself a)))
           (λ x e. omega (arith, count-push (called_by x) b.messages m, count-push (awaited_of x) b.connections c, off_left (a == x) true (flipped x a e)))
           (λ x e. omega (arith, count-push (called_by x) b.messages m, count-push (asking_of x) b.connections c, off_left (a == x) true (flipped x a e)))
-          (λ x n e. omega (arith, count-push (accepted_as x n) b.connections c, off_right (b.connections_made == n) ((a == x) && false) (and_off (a == x) false (flipped x a e))))
+          (λ x n e. omega (arith, count-push (accepted_as x n) b.connections c, off_right (b.connections_made == n) ((a == x) && false) (and_left (a == x) false (flipped x a e))))
           h.fitting;
       shown = omega (
         arith,

@@ -5,6 +5,7 @@ use Rattle.std.specs.Prelude.{ℤ, pos, negsuc, int_lt, bit_and, nat_lt, nat_le,
 use Rattle.std.specs.List.{list_any}
 use Rattle.std.specs.Option.{option_map, option_map_or}
 use Rattle.std.specs.Ordering.{int_eq}
+use Rattle.std.proofs.lemmas.Bool.{and_parts, eqb-true}
 use Rattle.ffm_model.specs.declared.constants.TheConstants.{PSA_BLOCK, PSA_IPC_CONNECT, PSA_NULL_HANDLE, PSA_ERROR_CONNECTION_REFUSED, PSA_ERROR_CONNECTION_BUSY}
 use Rattle.ffm_model.specs.declared.system.System.{System}
 use Rattle.ffm_model.specs.declared.system.Service.{Service}
@@ -33,7 +34,7 @@ use Rattle.ffm_model.specs.SignalCalls.{source_of_signal}
 use Rattle.ffm_model.specs.Calls.{call_case}
 use Rattle.ffm_model.specs.Step.{may_call, returns_when_due, gives_handle}
 use Rattle.counting_law.specs.Objects.{allowed}
-use Rattle.counting_law.proofs.Parts.{is_plain, equal_from, left_true, right_true}
+use Rattle.counting_law.proofs.Parts.{is_plain}
 use Rattle.counting_law.proofs.Resume.{fresh-new}
 use Rattle.counting_law.proofs.Reply.{settled}
 use Rattle.counting_law.proofs.Owed.{replied-settled, owed-settled, owed-request}
@@ -83,8 +84,8 @@ running-from Panicked word e d = cc
 
 pub caller-running : (s : System) (b : SpmState) (a : ℕ) (c : Call) → ((p : ActorPhase) → returns_when_due c p ≡ not (may_resume p)) → may_call s b a c ≡ true → phase_of b a ≡ Running
 caller-running s b a c is_call may =
-    let able : (enabled s b a && returns_when_due c (phase_of b a)) ≡ true = right_true _ _ may in
-    running-from (phase_of b a) (signals_of s b a) (left_true _ _ able) (sym (is_call (phase_of b a)) ∙ right_true _ _ able)
+    let able : (enabled s b a && returns_when_due c (phase_of b a)) ≡ true = (and_parts _ _ may).1 in
+    running-from (phase_of b a) (signals_of s b a) (and_parts _ _ able).0 (sym (is_call (phase_of b a)) ∙ (and_parts _ _ able).1)
 
 -- psa_connect
 connect-kind : (s : System) (b : SpmState) (given : List Handle) (a i : ℕ) (d : Call) (Q : Outcome → SpmState → List Handle → Type 0) → EachKind s b given a d Q → phase_of b a ≡ Running
@@ -158,7 +159,7 @@ position-passes q (x ∷ xs) i e = passes-at q (x ∷ xs) i (position-Some q (x 
 -- an index is not 0
 other-index : (index : ℕ) → (index == 0) ≡ false → (o : Option Service) → option_map_or (λ x. x.stateless == index) o false ≡ true → option_map_or (λ x. not (x.stateless == 0)) o false ≡ true
 other-index index other None e = cc
-other-index index other (Some x) e = let same : x.stateless ≡ index = equal_from x.stateless index e in ap (λ n. not (n == 0)) same ∙ ap not other
+other-index index other (Some x) e = let same : x.stateless ≡ index = eqb-true x.stateless index e in ap (λ n. not (n == 0)) same ∙ ap not other
 
 pub stateless_is : (s : System) (index v : ℕ) → stateless_at s index ≡ Some v → is_stateless s v ≡ true
 stateless_is s index v e =
@@ -360,4 +361,4 @@ call-kind s st a (call.Fire source result) h Q k may new =
     moved st Q _ (choice_of (IfMoved Q st.handles_given) _ _ tt (fired (result == 1)))
 call-kind s st a (call.Stop spent) h Q k may new = k.ends (caller-running s st.spm a (call.Stop spent) (λ p. refl) may)
 call-kind s st a call.Resume h Q k may new =
-    returns s st a h Q (phase_of st.spm a) k refl (right_true (enabled s st.spm a) _ (right_true _ _ may)) (λ e. new e refl)
+    returns s st a h Q (phase_of st.spm a) k refl (and_parts (enabled s st.spm a) _ (and_parts _ _ may).1).1 (λ e. new e refl)

@@ -7,6 +7,9 @@ use Rattle.std.specs.Ordering.{int_eq}
 use Rattle.std.proofs.lemmas.Bool.Decides.{nat_tests}
 use Rattle.std.proofs.lemmas.List.Sums.{count_by-le-length}
 use Rattle.std.proofs.lemmas.List.FromFn.{length-range_with_len}
+use Rattle.std.proofs.lemmas.Bool.{and_from, and_parts, eqb-true, or_right}
+use Rattle.list_laws.proofs.Counts.{bit, both-le-right, count-cons, count-found, count-map-same, count-push, none-count, some-found}
+use Rattle.list_laws.proofs.Tests.{find-passes}
 use Rattle.ffm_model.specs.declared.constants.TheConstants.{MAX_ENTRIES}
 use Rattle.ffm_model.specs.declared.system.System.{System}
 use Rattle.ffm_model.specs.declared.machine.Handle.{Handle}
@@ -31,8 +34,7 @@ use Rattle.counting_law.specs.Objects.{PhaseFits, RisesTo, is_joining, is_openin
 use Rattle.counting_law.specs.Takes.{TakesFew, last_generation}
 use Rattle.counting_law.specs.Fresh.{NamesFit, slots_named}
 use Rattle.counting_law.proofs.Balance.{Balanced, balanced-fit}
-use Rattle.counting_law.proofs.Counts.{bit, count-cons, count-found, count-map-same, count-push, find-passes, none-count, some-found}
-use Rattle.counting_law.proofs.Parts.{and_on, both-le-right, equal_from, found-serial, is_itself, left_true, off_from, right_true}
+use Rattle.counting_law.proofs.Parts.{found-serial, is_itself, off_from}
 use Rattle.counting_law.proofs.Pairs.{member-counts}
 use Rattle.counting_law.proofs.Reply.{both_same, rightly}
 use Rattle.counting_law.proofs.Resume.{delivered-same, int_same, times}
@@ -225,12 +227,12 @@ live s limit b a n h phase =
     let one : count_by (accepted_as a n) b.connections ≡ 1 = connected-one (phase_of b a) (awaited_by b.connections b.messages a) (asked_by b.connections b.messages a) n (λ m. count_by (accepted_as a m) b.connections) phase (h.fitting a) in
     let it = some-found (accepted_as a n) b.connections (omega (arith, one)) in
     let passes : accepted_as a n it.0 ≡ true = find-passes (accepted_as a n) b.connections it.0 it.1 in
-    let serial : it.0.serial ≡ n = equal_from it.0.serial n (left_true _ _ passes) in
+    let serial : it.0.serial ≡ n = eqb-true it.0.serial n (and_parts _ _ passes).0 in
     record {
       c = it.0;
       found = it.1;
       serial = serial;
-      client = equal_from it.0.client.0 a (left_true _ _ (right_true (it.0.serial == n) _ passes));
+      client = eqb-true it.0.client.0 a (and_parts _ _ (and_parts (it.0.serial == n) _ passes).1).0;
       below = omega (arith, serial, found-below 0 b.connections_made (accepted_as a n) b.connections it.0 h.rising it.1);
     }
 
@@ -373,7 +375,7 @@ step-named s es w new e h named =
     subst (λ (x : NamedState). Named s (es ++ e ∷ []) x) is_new
     (shape-names s es w st e shape.0 h (step-keeps s w.state st e h.balanced is_step) spends.2 shape.1 (step-is s w.state st e is_step) shows shape.2))
 
-run-named : (s : System) (m : ByteMap) (es : List Entry) (w : NamedState) → named_after s m es ≡ Some w → Named s es w
+pub run-named : (s : System) (m : ByteMap) (es : List Entry) (w : NamedState) → named_after s m es ≡ Some w → Named s es w
 run-named s m es w h =
     let first : Named s [] (first_named s m) = record {
       balanced = opening-balanced s;
@@ -422,20 +424,16 @@ in-range : (x : ℕ) → 1 ≤ x → x ≤ 0x3fffffff → (int_le (pos 1) (pos x
 in-range x low high =
     let one : int_le (pos 1) (pos x) ≡ true = grind arith in
     let two : int_le (pos x) (pos 0x3fffffff) ≡ true = grind arith in
-    and_on (int_le (pos 1) (pos x)) (int_le (pos x) (pos 0x3fffffff)) one two
+    and_from (int_le (pos 1) (pos x)) (int_le (pos x) (pos 0x3fffffff)) one two
 
 fresh-name : (st : State) (base : ℕ) (t : SlotName) → base ≤ 512 → Numbers t → was_shown base st.handles_given t ≡ false → fresh st (name_of base t) ≡ true
 fresh-name st base t few n off =
-    and_on (int_le (pos 1) (name_of base t).0 && int_le (name_of base t).0 (pos 0x3fffffff)) (not (was_shown base st.handles_given t))
+    and_from (int_le (pos 1) (name_of base t).0 && int_le (name_of base t).0 (pos 0x3fffffff)) (not (was_shown base st.handles_given t))
     (in-range (t.generation * 1024 + t.index + base) (omega (arith, n.first)) (omega (arith, n.small, n.last, few))) (ap not off)
 
 off-second : (x y : Bool) → x ≡ true → bit (x && y) ≡ 0 → y ≡ false
 off-second true y e h = off_from y h
 off-second false y e h = cc
-
-or-right : (x y : Bool) → y ≡ true → (x || y) ≡ true
-or-right true y e = refl
-or-right false y e = e
 
 -- at the return of psa_connect
 connection-due : (s : System) (es : List Entry) (w : NamedState) (a n : ℕ) → Named s es w → length es ≤ MAX_ENTRIES → phase_of w.state.spm a ≡ Connected n → fresh w.state (name_of 0 (get_or w.names.connections n no_slot)) ≡ true
@@ -448,7 +446,7 @@ connection-due s es w a n h limit phase =
     let rule : is_none c.handle ≡ (is_opening c.phase || is_joining (phase_of b c.client.0) c.serial) = both_same _ _ (rightly s _ b c h.balanced here) in
     let joining : is_joining (phase_of b c.client.0) c.serial ≡ true =
     ap (λ x. is_joining (phase_of b x) c.serial) alive.client ∙ ap (λ (p : ActorPhase). is_joining p c.serial) phase ∙ ap (λ x. n == x) alive.serial ∙ is_itself n in
-    let none : is_none c.handle ≡ true = rule ∙ or-right (is_opening c.phase) _ joining in
+    let none : is_none c.handle ≡ true = rule ∙ or_right (is_opening c.phase) _ joining in
     let test : bit (is_none c.handle && was_shown 0 w.state.handles_given (get_or ts c.serial no_slot)) ≤ 0 =
     omega (arith, count-found (accepted_as a n) (λ d. wrongly_told ts w.state.handles_given d.serial d.handle) b.connections c alive.found, h.untold) in
     let off : was_shown 0 w.state.handles_given (get_or ts c.serial no_slot) ≡ false =
@@ -468,7 +466,7 @@ message-due s es w v h limit below =
     let nobody : PendingMessage = record { service = 0; client = record { 0 = 0 }; connection = None; kind = pos 0; vectors = no_vectors; handle = None } in
     let m : PendingMessage = get_or ms j nobody in
     let waits : is_undelivered v m ≡ true = place-passes (is_undelivered v) ms nobody below in
-    let none : is_none m.handle ≡ true = left_true (is_none m.handle) (m.service == v) waits in
+    let none : is_none m.handle ≡ true = (and_parts (is_none m.handle) (m.service == v) waits).0 in
     let test : bit (is_none m.handle && was_shown 512 given (get_or ts j no_slot)) ≤ 0 = omega (arith, slots-member (wrongly_waiting given) ms ts j nobody h.few.message_slots below, h.waiting) in
     let off : was_shown 512 given (get_or ts j no_slot) ≡ false = off-second (is_none m.handle) _ none (omega (arith, test)) in
     fresh-name w.state 512 (get_or ts j no_slot) (omega arith)

@@ -3,6 +3,9 @@ use Rattle.std.proofs.Common.{ℕ, ◌≡◌, ◌<◌, ◌≤◌, ◌+◌, ◌==
 use Rattle.std.specs.Prelude.{ℤ, pos, int_le, int_lt, count_by, find, Some, None, map, slice_set, is_none}
 use Rattle.std.specs.Option.{option_map_or}
 use Rattle.std.specs.Ordering.{int_eq}
+use Rattle.std.proofs.lemmas.Bool.{and_parts, eqb-true}
+use Rattle.list_laws.proofs.Counts.{bit, count-found, count-map-same, count-push}
+use Rattle.list_laws.proofs.Tests.{find-passes}
 use Rattle.ffm_model.specs.declared.constants.TheConstants.{PSA_IPC_CALL, PSA_IPC_CONNECT, PSA_ERROR_PROGRAMMER_ERROR, PSA_ERROR_COMMUNICATION_FAILURE}
 use Rattle.ffm_model.specs.declared.system.System.{System}
 use Rattle.ffm_model.specs.declared.machine.Handle.{Handle}
@@ -24,8 +27,7 @@ use Rattle.ffm_model.specs.ClientCalls.{Move, move, call_on, call_to, is_service
 use Rattle.ffm_model.specs.ServiceCalls.{connect_answered, close_answered, with_request_phase}
 use Rattle.counting_law.specs.Objects.{PhaseFits, same, is_joining, is_awaited, allowed, awaited_by, called_by, wrongly_called, awaited_of, asking_of, accepted_as, wrongly_shown, message_marked, connection_marked}
 use Rattle.counting_law.proofs.Balance.{Balanced}
-use Rattle.counting_law.proofs.Counts.{bit, count-push, count-found, count-map-same, find-passes}
-use Rattle.counting_law.proofs.Parts.{fits_same, is_there, phase_same, found-serial, flipped, off_left, on_left, is_itself, running-quiet, left_true, right_true, equal_from, off_from, rising-map}
+use Rattle.counting_law.proofs.Parts.{fits_same, is_there, phase_same, found-serial, flipped, off_left, on_left, is_itself, running-quiet, off_from, rising-map}
 use Rattle.counting_law.proofs.Updates.{put, moved-keeps, phased-keeps, sent-keeps}
 use Rattle.counting_law.proofs.Connect.{connected-keeps}
 use Rattle.counting_law.proofs.Close.{close-keeps, shown_some}
@@ -54,7 +56,7 @@ invoke-own s limit b h c n v balanced running held =
     let quiet : awaited_by b.connections b.messages a ≡ 0 = running-quiet (phase_of b a) _ _ (λ k. count_by (accepted_as a k) b.connections) running (balanced.fitting a) in
     let own : bit (is_awaited c.phase) ≡ 0 =
     omega (arith, quiet, on_left (a == a) (is_awaited c.phase) (is_itself a), count-found (λ d. (d.client.0 == a) && has_handle d.handle h) (awaited_of a) b.connections c held) in
-    let known : is_none c.handle ≡ false = shown_some c.handle h (right_true (a == a) (has_handle c.handle h) (find-passes (λ d. (d.client.0 == a) && has_handle d.handle h) b.connections c held)) in
+    let known : is_none c.handle ≡ false = shown_some c.handle h (and_parts (a == a) (has_handle c.handle h) (find-passes (λ d. (d.client.0 == a) && has_handle d.handle h) b.connections c held)).1 in
     let here : find (λ d. d.serial == c.serial) b.connections ≡ Some c = found-serial 0 b.connections_made _ b.connections c balanced.rising held in
     let m : PendingMessage = record { service = c.service; client = c.client; connection = Some c.serial; kind = pos n; vectors = v; handle = None } in
     let go : (d : Bool) → Balanced s limit (cond {A = Move} d (move (Value PSA_ERROR_COMMUNICATION_FAILURE) b) (record { outcome = Blocks; spm = record b { connections = map (phase_put c.serial Busy) b.connections; messages = b.messages ++ m ∷ []; phases = slice_set b.phases a Blocked } })).spm =
@@ -81,7 +83,7 @@ invoke-own s limit b h c n v balanced running held =
 pub invoke-keeps : (s : System) (limit : Handle → ℕ) (b : SpmState) (a : ℕ) (h : Handle) (c : OpenConnection) (n : ℕ) (v : Vectors) → Balanced s limit b → phase_of b a ≡ Running
     → connection_held b a h ≡ Some c → Balanced s limit (call_on b a c (pos n) v).spm
 invoke-keeps s limit b a h c n v balanced running held =
-    let mine : c.client.0 ≡ a = equal_from c.client.0 a (left_true (c.client.0 == a) (has_handle c.handle h) (find-passes (λ d. (d.client.0 == a) && has_handle d.handle h) b.connections c held)) in
+    let mine : c.client.0 ≡ a = eqb-true c.client.0 a (and_parts (c.client.0 == a) (has_handle c.handle h) (find-passes (λ d. (d.client.0 == a) && has_handle d.handle h) b.connections c held)).0 in
     subst (λ (x : ℕ). Balanced s limit (call_on b x c (pos n) v).spm) mine
     (invoke-own s limit b h c n v balanced (subst (λ (x : ℕ). phase_of b x ≡ Running) (sym mine) running) (subst (λ (x : ℕ). connection_held b x h ≡ Some c) (sym mine) held))
 

@@ -1,5 +1,4 @@
 pub mod Balance
-pub mod Counts
 pub mod Parts
 pub mod Updates
 pub mod Connect

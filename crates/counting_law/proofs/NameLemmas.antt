@@ -1,10 +1,12 @@
 -- What a step that shows a handle shows, and where an event leaves the names as they were.
-use Rattle.std.proofs.Common.{ℕ, ◌≡◌, ◌<◌, ◌≤◌, ◌-◌, Bool, true, false, cond, ◌||◌, List, [], ◌∷◌, ◌++◌, length, get_or, arith, ◌∙◌, ap, sym, refl}
+use Rattle.std.proofs.Common.{ℕ, ◌≡◌, ◌<◌, ◌≤◌, ◌-◌, Bool, true, false, cond, List, [], ◌∷◌, ◌++◌, length, get_or, arith, ◌∙◌, ap, sym, refl}
 use Rattle.std.specs.Prelude.{pos, count_by, find, nat_lt, position, Option, Some, None, is_none, option_and_then}
 use Rattle.std.specs.List.{position_or_len}
 use Rattle.std.specs.Option.{option_map, option_map_or}
 use Rattle.std.specs.Ordering.{int_eq}
 use Rattle.std.proofs.lemmas.Bool.Decides.{nat_tests}
+use Rattle.std.proofs.lemmas.Bool.{and_parts}
+use Rattle.list_laws.proofs.Bools.{or_rest}
 use Rattle.ffm_model.specs.declared.system.System.{System}
 use Rattle.ffm_model.specs.declared.system.ActorKind.{ActorKind}
 use Rattle.ffm_model.specs.declared.system.ActorKind.TheVariants.{Partition, Client, Device}
@@ -24,7 +26,6 @@ use Rattle.ffm_model.specs.ServiceCalls.{service_of_signal}
 use Rattle.ffm_model.specs.Calls.{call_case, case_of, effect_or_error, error_effect, has_call, programmer_error}
 use Rattle.ffm_model.specs.Step.{handle_shown, outcome_eq}
 use Rattle.ffm_model.specs.Names.{NamesSoFar, SlotName, capacity, message_capacity, name_at_return, name_due, live_connections, name_of, names_after, next_slot, no_slot, shows_name, slots_kept, stays, with_connection, with_messages}
-use Rattle.counting_law.proofs.Parts.{left_true, right_true}
 use Rattle.counting_law.proofs.Resume.{int_same}
 use Rattle.counting_law.proofs.Steps.{Stepped, alike}
 use Rattle.counting_law.proofs.Takes.{same_message}
@@ -53,7 +54,7 @@ pub shown-alike : (o p : Outcome) → outcome_eq o p ≡ true → (handle_shown 
 shown-alike (outcome.Value z) (outcome.Value w) e = int_same z w e
 shown-alike (outcome.Number n) (outcome.Number k) e = refl
 shown-alike (outcome.Signals n) (outcome.Signals k) e = refl
-shown-alike (outcome.Got m) (outcome.Got n) e = int_same m.handle.0 n.handle.0 (left_true _ _ (right_true (int_eq m.kind n.kind) _ e))
+shown-alike (outcome.Got m) (outcome.Got n) e = int_same m.handle.0 n.handle.0 (and_parts _ _ (and_parts (int_eq m.kind n.kind) _ e).1).0
 shown-alike outcome.Blocked outcome.Blocked e = refl
 shown-alike outcome.Done outcome.Done e = refl
 shown-alike outcome.Panicked outcome.Panicked e = refl
@@ -90,10 +91,6 @@ get-made s st new e signal msg m it is got =
 
 -- ---- the name that is shown
 
-no_error : (x y : Bool) → x ≡ false → (x || y) ≡ true → y ≡ true
-no_error true y e h = cc
-no_error false y e h = h
-
 resume-made : (k : ActorKind) (s : System) (st : State) (a : ℕ) (h : Handle) → is_none (cond {A = Option Effect} (has_call k call.Resume) (call_case s st a call.Resume h) None) ≡ false
 resume-made Partition s st a h = refl
 resume-made Client s st a h = refl
@@ -105,7 +102,7 @@ resume-shows s st e k n is phase shows =
     let a : ℕ = e.actor.0 in
     let made : programmer_error s st a e.call ≡ false = ap (λ (c : Call). programmer_error s st a c) is ∙ resume-made (kind_of s a) s st a (record { 0 = pos 0 }) in
     let due : name_due s st a e.call k ≡ Some (name_of 0 (get_or k.connections n no_slot)) = ap (λ (c : Call). name_due s st a c k) is ∙ ap (name_at_return k) phase in
-    sym (ap (λ (o : Option Handle). option_map_or (handle_eq (handle_shown e.outcome)) o true) due) ∙ no_error _ _ made shows
+    sym (ap (λ (o : Option Handle). option_map_or (handle_eq (handle_shown e.outcome)) o true) due) ∙ or_rest _ _ made shows
 
 pub get-shows : (s : System) (st : State) (e : Entry) (k : NamesSoFar) (signal msg v : ℕ) (m : PendingMessage) → e.call ≡ call.Get signal msg → service_of_signal s e.actor.0 signal ≡ Some v → find (is_undelivered v) st.spm.messages ≡ Some m
     → programmer_error s st e.actor.0 e.call ≡ false → shows_name s st e k ≡ true
@@ -118,7 +115,7 @@ get-shows s st e k signal msg v m is found place made shows =
     let at : Option ℕ → Option Handle = λ o. option_map (λ i. name_of 512 (get_or k.messages i no_slot)) o in
     let due : name_due s st a e.call k ≡ Some (name_of 512 (get_or k.messages j no_slot)) =
     ap (λ (c : Call). name_due s st a c k) is ∙ ap (λ (o : Option ℕ). at (option_and_then (λ i. position (is_undelivered i) st.spm.messages) o)) found ∙ ap (λ (x : Bool). at (cond x (Some j) None)) below in
-    sym (ap (λ (o : Option Handle). option_map_or (handle_eq (handle_shown e.outcome)) o true) due) ∙ no_error _ _ made shows
+    sym (ap (λ (o : Option Handle). option_map_or (handle_eq (handle_shown e.outcome)) o true) due) ∙ or_rest _ _ made shows
 
 -- ---- events that make and remove nothing
 

@@ -4,6 +4,8 @@ use Rattle.std.specs.Prelude.{ℤ, pos, negsuc, int_le, count_by, is_none, Optio
 use Rattle.std.specs.Option.{option_map_or}
 use Rattle.std.specs.Ordering.{int_eq}
 use Rattle.std.proofs.lemmas.List.Sums.{get_or-le-sum_by}
+use Rattle.std.proofs.lemmas.Bool.{and_from, and_parts}
+use Rattle.list_laws.proofs.Counts.{bit, bit-le, both-le-left, count-cons, count-ext, count-le}
 use Rattle.ffm_model.specs.declared.constants.TheConstants.{PSA_IPC_CALL, PSA_IPC_DISCONNECT}
 use Rattle.ffm_model.specs.declared.system.System.{System}
 use Rattle.ffm_model.specs.declared.objects.OpenConnection.{OpenConnection}
@@ -17,8 +19,7 @@ use Rattle.ffm_model.specs.State.{SpmState, phase_of}
 use Rattle.ffm_model.specs.Panic.{is_dead}
 use Rattle.counting_law.specs.Objects.{ObjectsFit, PhaseFits, Mark, phase_for, is_awaited, is_asking, is_opening, is_joining, awaited_by, asked_by, called_by, wrongly_called, awaited_of, asking_of, accepted_as, wrongly_shown, message_marked, connection_marked}
 use Rattle.counting_law.specs.Pairs.{MessagesPair, IsCall, is_numbered, kind_fits, is_message_of, client_waits, is_disconnection}
-use Rattle.counting_law.proofs.Counts.{bit, bit-le, count-cons, count-ext, count-le}
-use Rattle.counting_law.proofs.Parts.{is_itself, off_from, on_left, unique, and_on, both-le-left, asking-blocked}
+use Rattle.counting_law.proofs.Parts.{is_itself, off_from, on_left, unique, asking-blocked}
 use Rattle.counting_law.proofs.Reply.{asking_le, both_same, blocked-one, marked_as}
 
 -- an item of a list counts
@@ -108,7 +109,7 @@ belongs s b h i d lt =
     λ k conn.
     let t : Mark = λ n a v ph. (n == k) && ((a == m.client.0) && ((v == m.service) && kind_fits ph m.kind)) in
     let own : message_marked t m ≡ true =
-    marked_as m k t conn ∙ and_on _ _ (is_itself k) (and_on _ _ (is_itself m.client.0) (and_on _ _ (is_itself m.service) (fits_own m.kind (no-dead s b h i d lt)))) in
+    marked_as m k t conn ∙ and_from _ _ (is_itself k) (and_from _ _ (is_itself m.client.0) (and_from _ _ (is_itself m.service) (fits_own m.kind (no-dead s b h i d lt)))) in
     let alike : count_by (connection_marked t) b.connections ≡ count_by (of (Some k)) b.connections =
     count-ext (connection_marked t) (of (Some k))
     (λ c. and_assoc4 (is_awaited c.phase) (c.serial == k) (c.client.0 == m.client.0) (c.service == m.service) (kind_fits c.phase m.kind)
@@ -126,14 +127,6 @@ belongs s b h i d lt =
     let go : (o : Option ℕ) → m.connection ≡ o → count_by (of o) b.connections ≡ (if is_none o then 0 else 1) = elim [ None ↦ λ e. none-counts (of None) (λ c. refl) b.connections | Some k ↦ λ e. on k e ] in
     go m.connection refl
 
-and_first : (x y : Bool) → (x && y) ≡ true → x ≡ true
-and_first true y e = refl
-and_first false y e = cc
-
-and_second : (x y : Bool) → (x && y) ≡ true → y ≡ true
-and_second true y e = e
-and_second false y e = cc
-
 not_wrong : (x y : Bool) → x ≡ true → bit (x && not y) ≡ 0 → y ≡ true
 not_wrong true true e h = refl
 not_wrong true false e h = absurd (omega (arith, h))
@@ -147,11 +140,11 @@ called s b h i d lt none =
     let m : PendingMessage = get_or b.messages i d in
     let a : ℕ = m.client.0 in
     let lawful : (int_le PSA_IPC_CALL m.kind && (is_stateless s m.service && permits s a m.service)) ≡ true = not_wrong _ _ none (omega (arith, member-counts (wrongly_called s) b.messages i d lt, h.called)) in
-    let own : called_by a m ≡ true = and_on (is_none m.connection) (a == a) none (is_itself a) in
+    let own : called_by a m ≡ true = and_from (is_none m.connection) (a == a) none (is_itself a) in
     record {
-      request = and_first _ _ lawful;
-      stateless = and_first _ _ (and_second _ _ lawful);
-      permitted = and_second _ _ (and_second _ _ lawful);
+      request = (and_parts _ _ lawful).0;
+      stateless = (and_parts _ _ (and_parts _ _ lawful).1).0;
+      permitted = (and_parts _ _ (and_parts _ _ lawful).1).1;
       blocked = asking-blocked (phase_of b a) (awaited_by b.connections b.messages a) (asked_by b.connections b.messages a) (λ n. count_by (accepted_as a n) b.connections) (h.phases a)
           (omega (arith, member-counts (called_by a) b.messages i d lt, ap bit own)) (asking-awaited s b a h);
     }
@@ -252,7 +245,7 @@ asked : (s : System) (b : SpmState) → ObjectsFit s b → (i : ℕ) (d : Pendin
 asked s b h i d lt e =
     let m : PendingMessage = get_or b.messages i d in
     let a : ℕ = m.client.0 in
-    let asks_here : ((a == a) && is_asking (phase_for m.kind)) ≡ true = and_on _ _ (is_itself a) (asking_kind m.kind (no-dead s b h i d lt) e) in
+    let asks_here : ((a == a) && is_asking (phase_for m.kind)) ≡ true = and_from _ _ (is_itself a) (asking_kind m.kind (no-dead s b h i d lt) e) in
     asking-blocked (phase_of b a) (awaited_by b.connections b.messages a) (asked_by b.connections b.messages a) (λ n. count_by (accepted_as a n) b.connections) (h.phases a)
     (omega (arith, member-counts (λ x. (x.client.0 == a) && is_asking (phase_for x.kind)) b.messages i d lt, ap bit asks_here, asks-count s b a h)) (asking-awaited s b a h)
 

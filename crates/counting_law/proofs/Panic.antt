@@ -5,6 +5,8 @@ use Rattle.std.specs.Option.{option_map_or}
 use Rattle.ffm_model.specs.declared.constants.TheConstants.{PSA_ERROR_COMMUNICATION_FAILURE}
 use Rattle.ffm_model.specs.declared.objects.PendingMessage.{PendingMessage}
 use Rattle.std.proofs.lemmas.List.Sums.{sum_by-append}
+use Rattle.std.proofs.lemmas.Bool.{eqb-true}
+use Rattle.list_laws.proofs.Counts.{bit, both-le-left, both-le-right, count-cons, count-ext, count-filter-le, count-le}
 use Rattle.ffm_model.specs.declared.system.System.{System}
 use Rattle.ffm_model.specs.declared.machine.Handle.{Handle}
 use Rattle.ffm_model.specs.declared.objects.OpenConnection.{OpenConnection}
@@ -22,8 +24,7 @@ use Rattle.counting_law.proofs.Balance.{Balanced}
 use Rattle.counting_law.specs.Objects.{PhaseFits, PhaseFitsAt, RisesTo, Mark, phase_for, awaited_by, asked_by, called_by, wrongly_called, is_joining, is_opening, is_awaited, is_asking, is_accepted, awaited_of, asking_of, accepted_as, wrongly_shown, message_marked, connection_marked}
 use Rattle.ffm_model.specs.Panic.{is_dead, is_lost_request, callers_answered, client_answered, clients_answered, panic_effect}
 use Rattle.counting_law.proofs.Losses.{survives, left_as, all_left, disconnect_message, disconnect_as, disconnect_messages, after_panic, after_panic-is}
-use Rattle.counting_law.proofs.Counts.{bit, count-cons, count-ext, count-filter-le, count-le}
-use Rattle.counting_law.proofs.Parts.{is_plain, same_or_not, is_there, phase_same, phase_other, off_left, off_right, on_left, flipped, rising-from, unique, off_from, equal_from, both-le-left, both-le-right}
+use Rattle.counting_law.proofs.Parts.{is_plain, same_or_not, is_there, phase_same, phase_other, off_left, off_right, on_left, flipped, rising-from, unique, off_from}
 use Rattle.counting_law.proofs.Updates.{in_phase}
 use Rattle.counting_law.proofs.Reply.{awaited_client, blocked-one, panicked-none, asking_le}
 
@@ -198,7 +199,7 @@ callers-stay s p a (m ∷ ms) ps h =
     let go : (o i : Bool) → (m.client.0 == a) ≡ i → get_or (if o then slice_set ps m.client.0 lost_answer else ps) a Ended ≡ lost_answer =
     elim [
       | true ↦ elim [
-        | true ↦ λ e. let mine : m.client.0 ≡ a = equal_from m.client.0 a e in ap (λ n. get_or (slice_set ps n lost_answer) a Ended) mine ∙ phase_same ps a lost_answer (is_there ps a (λ z. cc))
+        | true ↦ λ e. let mine : m.client.0 ≡ a = eqb-true m.client.0 a e in ap (λ n. get_or (slice_set ps n lost_answer) a Ended) mine ∙ phase_same ps a lost_answer (is_there ps a (λ z. cc))
         | false ↦ λ e. phase_other ps m.client.0 a lost_answer (flipped m.client.0 a e) ∙ h
       ]
       | false ↦ λ i e. h
@@ -213,7 +214,7 @@ callers-told s p a (m ∷ ms) ps b h =
     elim [
       | true ↦ elim [
         | true ↦ λ e n.
-            let mine : m.client.0 ≡ a = equal_from m.client.0 a e in
+            let mine : m.client.0 ≡ a = eqb-true m.client.0 a e in
             callers-stay s p a ms _ (ap (λ k. get_or (slice_set ps k lost_answer) a Ended) mine ∙ phase_same ps a lost_answer (is_there ps a (λ z. cc)))
         | false ↦ λ e n. callers-told s p a ms _ (phase_other ps m.client.0 a lost_answer (flipped m.client.0 a e) ∙ b) (omega (arith, n))
       ]
@@ -268,7 +269,7 @@ apart_ids x p a e =
     let go : (b d : Bool) → (x == p) ≡ b → (x == a) ≡ d → (b && d) ≡ false =
     elim [
       | true ↦ elim [
-        | true ↦ λ f g. let y : x ≡ p = equal_from x p f in let z : x ≡ a = equal_from x a g in
+        | true ↦ λ f g. let y : x ≡ p = eqb-true x p f in let z : x ≡ a = eqb-true x a g in
             let w : (a == p) ≡ true = ap (λ n. n == p) (sym z) ∙ f in cc
         | false ↦ λ f g. refl
       ]
@@ -362,7 +363,7 @@ told-ready s p a (c ∷ cs) ps b h =
       | true ↦ elim [
         | true ↦ elim [
           | true ↦ λ x y z n.
-              let mine : c.client.0 ≡ a = equal_from c.client.0 a y in
+              let mine : c.client.0 ≡ a = eqb-true c.client.0 a y in
               let now = told-lost c.phase ps a z b in
               (now.0, told-same s p a cs _ (omega arith) ∙ ap (λ k. get_or (client_answered c.phase ps k) a Ended) mine ∙ now.1, now.2)
           | false ↦ λ x y z n. told-ready s p a cs _ (told-quiet c.phase ps c.client.0 a (ap bit z) ∙ b) (omega arith)
@@ -383,7 +384,7 @@ told-panicked-step true false ph ps x a e z h = told-other ph ps x a e ∙ h
 told-panicked-step true true Opening ps x a e z h = absurd (omega (arith, z))
 told-panicked-step true true Busy ps x a e z h = absurd (omega (arith, z))
 told-panicked-step true true Closing ps x a e z h =
-    let it : get_or ps x Ended ≡ Panicked = ap (λ n. get_or ps n Ended) (equal_from x a e) ∙ h in
+    let it : get_or ps x Ended ≡ Panicked = ap (λ n. get_or ps n Ended) (eqb-true x a e) ∙ h in
     ap (λ (q : ActorPhase). get_or (if is_blocked q then slice_set ps x (Ready Done) else ps) a Ended) it ∙ h
 told-panicked-step true true Idle ps x a e z h = h
 told-panicked-step true true Error ps x a e z h = h

@@ -2,13 +2,14 @@
 use Rattle.std.proofs.Common.{ℕ, zero, suc, ◌≡◌, ◌<◌, ◌≤◌, ◌+◌, ◌==◌, Bool, true, false, cond, ◌&&◌, List, [], ◌∷◌, ◌++◌, length, get_or, arith, ◌∙◌, ap, sym, refl, subst}
 use Rattle.std.specs.Prelude.{count_by, find, Some, map, filter, slice_set}
 use Rattle.std.proofs.lemmas.Grind.{common_steps}
+use Rattle.std.proofs.lemmas.Bool.{eq-eqb}
+use Rattle.list_laws.proofs.Counts.{bit, count-cons}
 use Rattle.ffm_model.specs.declared.machine.Outcome.{Outcome}
 use Rattle.ffm_model.specs.declared.machine.Outcome.TheVariants as outcome
 use Rattle.ffm_model.specs.declared.objects.OpenConnection.{OpenConnection}
 use Rattle.ffm_model.specs.declared.objects.ActorPhase.{ActorPhase}
 use Rattle.ffm_model.specs.declared.objects.ActorPhase.TheVariants.{Running, Blocked, Waiting, Ready, Connected, Ended, Panicked}
 use Rattle.counting_law.specs.Objects.{PhaseFits, RisesTo, is_joining}
-use Rattle.counting_law.proofs.Counts.{bit, bit-le, count-cons}
 
 -- an outcome that ends its call, and no panic
 abbrev pub is_plain : Outcome → Bool
@@ -112,9 +113,6 @@ found-above lo hi q (d ∷ ds) c h f =
     ] in
     go (q d) f
 
-same_self : (n : ℕ) → (n == n) ≡ true
-same_self n = grind arith
-
 not_same_false : (x n : ℕ) → x < n → (x == n) ≡ false
 not_same_false x n h = grind arith
 
@@ -124,7 +122,7 @@ found-serial lo hi q (d ∷ ds) c h f =
     let go : (b : Bool) → cond b (Some d) (find q ds) ≡ Some c → cond (d.serial == c.serial) (Some d) (find (λ x. x.serial == c.serial) ds) ≡ Some c =
     elim [
       | true ↦ λ g. let it : d ≡ c = cc in
-          ap (λ (x : OpenConnection). cond (x.serial == c.serial) (Some x) (find (λ y. y.serial == c.serial) ds)) it ∙ ap (λ b. cond b (Some c) (find (λ y. y.serial == c.serial) ds)) (same_self c.serial)
+          ap (λ (x : OpenConnection). cond (x.serial == c.serial) (Some x) (find (λ y. y.serial == c.serial) ds)) it ∙ ap (λ b. cond b (Some c) (find (λ y. y.serial == c.serial) ds)) (eq-eqb c.serial c.serial refl)
       | false ↦ λ g. let above : d.serial + 1 ≤ c.serial = found-above (d.serial + 1) hi q ds c h.1 g in
           ap (λ b. cond b (Some d) (find (λ y. y.serial == c.serial) ds)) (not_same_false d.serial c.serial (omega arith)) ∙ found-serial (d.serial + 1) hi q ds c h.1 g
     ] in
@@ -143,26 +141,11 @@ pub on_left : (b c : Bool) → b ≡ true → bit (b && c) ≡ bit c
 on_left true c e = refl
 on_left false c e = cc
 
-pub and_off : (b c : Bool) → b ≡ false → (b && c) ≡ false
-and_off true c e = cc
-and_off false c e = refl
-
 pub flipped : (x a : ℕ) → (x == a) ≡ false → (a == x) ≡ false
 flipped x a e = grind arith
 
 pub is_itself : (a : ℕ) → (a == a) ≡ true
 is_itself a = grind arith
-
-pub left_true : (b c : Bool) → (b && c) ≡ true → b ≡ true
-left_true true c e = refl
-left_true false c e = cc
-
-pub right_true : (b c : Bool) → (b && c) ≡ true → c ≡ true
-right_true true c e = e
-right_true false c e = cc
-
-pub equal_from : (x n : ℕ) → (x == n) ≡ true → x ≡ n
-equal_from x n e = grind arith
 
 pub off_from : (b : Bool) → bit b ≡ 0 → b ≡ false
 off_from true e = absurd (omega (arith, e))
@@ -186,15 +169,3 @@ asking-blocked Panicked n k j h one le = absurd (omega (arith, h))
 -- only a Blocked or a Panicked actor is awaited
 pub running-quiet : (p : ActorPhase) (n k : ℕ) (j : ℕ → ℕ) → p ≡ Running → PhaseFits p n k j → n ≡ 0
 running-quiet p n k j e h = subst (λ (q : ActorPhase). PhaseFits q n k j) e h
-
-pub and_on : (b c : Bool) → b ≡ true → c ≡ true → (b && c) ≡ true
-and_on true c e k = k
-and_on false c e k = cc
-
-pub both-le-left : (b c : Bool) → bit (b && c) ≤ bit b
-both-le-left true c = bit-le c
-both-le-left false c = omega arith
-
-pub both-le-right : (b c : Bool) → bit (b && c) ≤ bit c
-both-le-right true c = omega arith
-both-le-right false c = omega arith

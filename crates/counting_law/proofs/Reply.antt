@@ -16,6 +16,9 @@ use Rattle.ffm_model.specs.declared.machine.ActorId.{ActorId}
 use Rattle.std.specs.Prelude.{int_le, int_lt, Option, None}
 use Rattle.std.specs.Option.{option_map_or}
 use Rattle.std.specs.Ordering.{int_eq}
+use Rattle.std.proofs.lemmas.Bool.{and_from, and_parts, eqb-true}
+use Rattle.list_laws.proofs.Counts.{bit, both-le-left, count-found, count-le, count-out, find-narrow, some-found}
+use Rattle.list_laws.proofs.Tests.{find-passes}
 use Rattle.ffm_model.specs.declared.machine.Outcome.TheVariants.{Done, Value}
 use Rattle.ffm_model.specs.Actors.{is_service_of, is_stateless, permits}
 use Rattle.counting_law.specs.Objects.{same}
@@ -25,8 +28,7 @@ use Rattle.ffm_model.specs.ClientCalls.{is_busy}
 use Rattle.ffm_model.specs.ServiceCalls.{connect_answered, close_answered, with_request_phase}
 use Rattle.counting_law.proofs.Balance.{Balanced}
 use Rattle.counting_law.specs.Objects.{PhaseFits, Mark, awaited_by, asked_by, called_by, wrongly_called, phase_for, is_joining, is_opening, is_awaited, is_asking, is_accepted, awaited_of, asking_of, accepted_as, wrongly_shown, message_marked, connection_marked}
-use Rattle.counting_law.proofs.Counts.{bit, count-found, find-passes, count-out, count-le, find-narrow, some-found}
-use Rattle.counting_law.proofs.Parts.{is_there, found-serial, off_left, off_right, on_left, flipped, is_itself, left_true, right_true, equal_from, off_from, set_same, asking-blocked, rising-map, unique, and_on, both-le-left}
+use Rattle.counting_law.proofs.Parts.{is_there, found-serial, off_left, off_right, on_left, flipped, is_itself, off_from, set_same, asking-blocked, rising-map, unique}
 use Rattle.counting_law.proofs.Updates.{serial-phase_put, put, out, moved-keeps, removed-keeps, sent-keeps}
 
 -- the connection that a message belongs to, by its serial number n; u is a test that the phase for its kind passes
@@ -51,7 +53,7 @@ pub uncalled : (m : PendingMessage) (n : ℕ) (x : Bool) → m.connection ≡ So
 uncalled m n x e = ap (λ (o : Option ℕ). bit (is_none o && x)) e
 
 own_mark : (n : ℕ) (m : PendingMessage) (u : ConnPhase → Bool) → m.connection ≡ Some n → u (phase_for m.kind) ≡ true → message_marked (mark_of n m u) m ≡ true
-own_mark n m u conn e = marked_as m n (mark_of n m u) conn ∙ and_on _ _ (is_itself n) (and_on _ _ (is_itself m.client.0) (and_on _ _ (is_itself m.service) e))
+own_mark n m u conn e = marked_as m n (mark_of n m u) conn ∙ and_from _ _ (is_itself n) (and_from _ _ (is_itself m.client.0) (and_from _ _ (is_itself m.service) e))
 
 pub partner : (s : System) (limit : Handle → ℕ) (b : SpmState) (q : PendingMessage → Bool) (n : ℕ) (m : PendingMessage) (u : ConnPhase → Bool) → Balanced s limit b → find q b.messages ≡ Some m → m.connection ≡ Some n
     → u (phase_for m.kind) ≡ true → (c : OpenConnection) × Partner b n m u c
@@ -62,17 +64,17 @@ partner s limit b q n m u h found conn e =
     let it = some-found (connection_marked t) b.connections some in
     let c : OpenConnection = it.0 in
     let all : connection_marked t c ≡ true = find-passes (connection_marked t) b.connections c it.1 in
-    let marked : t c.serial c.client.0 c.service c.phase ≡ true = right_true _ _ all in
-    let inner : ((c.client.0 == m.client.0) && ((c.service == m.service) && u c.phase)) ≡ true = right_true _ _ marked in
-    let last : ((c.service == m.service) && u c.phase) ≡ true = right_true _ _ inner in (
+    let marked : t c.serial c.client.0 c.service c.phase ≡ true = (and_parts _ _ all).1 in
+    let inner : ((c.client.0 == m.client.0) && ((c.service == m.service) && u c.phase)) ≡ true = (and_parts _ _ marked).1 in
+    let last : ((c.service == m.service) && u c.phase) ≡ true = (and_parts _ _ inner).1 in (
       c,
       record {
         here = found-serial 0 b.connections_made _ b.connections c h.rising it.1;
-        serial = equal_from _ _ (left_true _ _ marked);
-        client = equal_from _ _ (left_true _ _ inner);
-        service = equal_from _ _ (left_true _ _ last);
-        passes = right_true _ _ last;
-        awaited = left_true _ _ all;
+        serial = eqb-true _ _ (and_parts _ _ marked).0;
+        client = eqb-true _ _ (and_parts _ _ inner).0;
+        service = eqb-true _ _ (and_parts _ _ last).0;
+        passes = (and_parts _ _ last).1;
+        awaited = (and_parts _ _ all).0;
       },
     )
 
@@ -83,7 +85,7 @@ pub message-out : (s : System) (limit : Handle → ℕ) (b : SpmState) (p : ℕ)
 message-out s limit b p h m balanced found q =
     let few : count_by (λ n. has_handle n.handle h) b.messages ≤ 1 = omega (arith, balanced.handles h, balanced.single h) in
     count-out (λ n. has_handle n.handle h) q q (λ y e. refl) b.messages m few
-    (find-narrow (λ n. is_service_of s p n.service && has_handle n.handle h) (λ n. has_handle n.handle h) (λ y e. right_true _ _ e) b.messages m few found)
+    (find-narrow (λ n. is_service_of s p n.service && has_handle n.handle h) (λ n. has_handle n.handle h) (λ y e. (and_parts _ _ e).1) b.messages m few found)
 
 asking_awaited : (p : ConnPhase) → bit (is_asking p) ≤ bit (is_awaited p)
 asking_awaited Opening = omega arith
@@ -338,7 +340,7 @@ settled b h status m =
 pub caller-blocked : (s : System) (limit : Handle → ℕ) (b : SpmState) (q : PendingMessage → Bool) (m : PendingMessage) → Balanced s limit b → find q b.messages ≡ Some m → m.connection ≡ None → phase_of b m.client.0 ≡ Blocked
 caller-blocked s limit b q m h found none =
     let a : ℕ = m.client.0 in
-    let own : called_by a m ≡ true = and_on (is_none m.connection) (a == a) (ap is_none none) (is_itself a) in
+    let own : called_by a m ≡ true = and_from (is_none m.connection) (a == a) (ap is_none none) (is_itself a) in
     asking-blocked (phase_of b a) (awaited_by b.connections b.messages a) (asked_by b.connections b.messages a) (λ n. count_by (accepted_as a n) b.connections) (h.fitting a)
     (omega (arith, count-found q (called_by a) b.messages m found, ap bit own)) (omega (arith, count-le (asking_of a) (awaited_of a) (asking_le a) b.connections))
 
@@ -351,7 +353,7 @@ called-keeps s limit b p h o m balanced found none =
     let blocked : phase_of b a ≡ Blocked = caller-blocked s limit b _ m balanced found none in
     let one : awaited_by b.connections b.messages a ≡ 1 = blocked-one (phase_of b a) _ _ (λ n. count_by (accepted_as a n) b.connections) blocked (balanced.fitting a) in
     let gone : (q : PendingMessage → Bool) → count_by q rest + bit (q m) ≡ count_by q b.messages = message-out s limit b p h m balanced found in
-    let own : called_by a m ≡ true = and_on (is_none m.connection) (a == a) (ap is_none none) (is_itself a) in
+    let own : called_by a m ≡ true = and_from (is_none m.connection) (a == a) (ap is_none none) (is_itself a) in
     let unmarked : (t : Mark) → bit (message_marked t m) ≡ 0 = λ t. ap (λ (x : Option ℕ). bit (option_map_or (λ k. t k m.client.0 m.service (phase_for m.kind)) x false)) none in
     let elsewhere : (x : ℕ) → (x == a) ≡ false → bit (called_by x m) ≡ 0 = λ x e. off_right (is_none m.connection) (a == x) (flipped x a e) in
     sent-keeps s limit b a (Ready o) rest

@@ -4,6 +4,9 @@ use Rattle.std.specs.Prelude.{ℤ, count_by, find, Some, map, slice_set, is_none
 use Rattle.std.specs.List.{list_any}
 use Rattle.std.specs.Ordering.{int_eq}
 use Rattle.std.proofs.lemmas.Bool.Decides.{Decides-int_eq}
+use Rattle.std.proofs.lemmas.Bool.{and_parts, eqb-true}
+use Rattle.list_laws.proofs.Counts.{bit, count-cons, count-map-same, count-push, count-put, none-count, some-found}
+use Rattle.list_laws.proofs.Tests.{find-passes}
 use Rattle.ffm_model.specs.declared.system.System.{System}
 use Rattle.ffm_model.specs.declared.machine.Handle.{Handle}
 use Rattle.ffm_model.specs.declared.objects.Vectors.{Vectors}
@@ -17,8 +20,7 @@ use Rattle.counting_law.specs.Objects.{same}
 use Rattle.ffm_model.specs.State.{SpmState, State, phase_of, has_handle, handle_eq, handle_put, with_connection_handle, with_phase, fresh, is_undelivered, delivered, vectors_put}
 use Rattle.counting_law.proofs.Balance.{Balanced}
 use Rattle.counting_law.specs.Objects.{PhaseFits, PhaseFitsAt, awaited_by, asked_by, called_by, wrongly_called, is_joining, is_opening, is_accepted, awaited_of, asking_of, accepted_as, wrongly_shown, message_marked, connection_marked}
-use Rattle.counting_law.proofs.Counts.{bit, count-cons, count-push, count-put, find-passes, some-found, none-count, count-map-same}
-use Rattle.counting_law.proofs.Parts.{fits_same, is_there, fitting-set, joining-set, phase_same, found-serial, flipped, left_true, right_true, equal_from, rising-map, unique}
+use Rattle.counting_law.proofs.Parts.{fits_same, is_there, fitting-set, joining-set, phase_same, found-serial, flipped, rising-map, unique}
 
 pub int_flip : (x y : ℤ) → int_eq x y ≡ int_eq y x
 int_flip x y = grind (arith, Decides-int_eq)
@@ -34,7 +36,7 @@ times given h = count_by (handle_eq h) given
 pub fresh-new : (st : State) (h : Handle) → fresh st h ≡ true → list_any (handle_eq h) st.handles_given ≡ false
 fresh-new st h e =
     let go : (x : Bool) → not x ≡ true → x ≡ false = elim [ true ↦ λ n. cc | false ↦ λ n. refl ] in
-    go _ (right_true _ _ e)
+    go _ (and_parts _ _ e).1
 
 pub times-push : (given : List Handle) (h k : Handle) → list_any (handle_eq h) given ≡ false → times given k ≤ 1 → times given k + bit (handle_eq k h) ≤ 1
 times-push given h k new old =
@@ -76,9 +78,9 @@ named-keeps s given b a n h balanced joined new =
     let it = some-found (accepted_as a n) b.connections (omega (arith, own.1)) in
     let c : OpenConnection = it.0 in
     let passes : accepted_as a n c ≡ true = find-passes (accepted_as a n) b.connections c it.1 in
-    let serial : c.serial ≡ n = equal_from _ _ (left_true _ _ passes) in
-    let client : c.client.0 ≡ a = equal_from _ _ (left_true _ _ (right_true (c.serial == n) _ passes)) in
-    let accepted : is_accepted c.phase ≡ true = right_true _ _ (right_true (c.serial == n) _ passes) in
+    let serial : c.serial ≡ n = eqb-true _ _ (and_parts _ _ passes).0 in
+    let client : c.client.0 ≡ a = eqb-true _ _ (and_parts _ _ (and_parts (c.serial == n) _ passes).1).0 in
+    let accepted : is_accepted c.phase ≡ true = (and_parts _ _ (and_parts (c.serial == n) _ passes).1).1 in
     let here : find (λ d. d.serial == n) b.connections ≡ Some c = subst (λ (x : ℕ). find (λ d. d.serial == x) b.connections ≡ Some c) serial (found-serial 0 b.connections_made _ b.connections c balanced.rising it.1) in
     let after : List OpenConnection = map (handle_put n h) b.connections in
     let change : (q : OpenConnection → Bool) → count_by q after + bit (q c) ≡ count_by q b.connections + bit (q (named h c)) =

@@ -1,6 +1,7 @@
 -- In a run an actor's last entry is Blocked exactly where a call of it waits for its return, or where it panicked for another's reply.
 use Rattle.std.proofs.Common.{ℕ, zero, suc, ◌≡◌, ◌==◌, Bool, true, false, cond, not, ◌&&◌, ◌||◌, List, [], ◌∷◌, ◌++◌, get_or, inl, inr, arith, ◌∙◌, ap, sym, refl, subst}
 use Rattle.std.specs.Prelude.{Some, replicate}
+use Rattle.ffm_model.proofs.RecordLemmas.{ends_blocked-nil, ends_blocked-push}
 use Rattle.ffm_model.specs.declared.system.System.{System}
 use Rattle.ffm_model.specs.declared.machine.Entry.{Entry}
 use Rattle.ffm_model.specs.declared.machine.Outcome.{Outcome}
@@ -20,13 +21,6 @@ use Rattle.counting_law.proofs.Resume.{times}
 use Rattle.counting_law.proofs.Steps.{step-kind}
 use Rattle.counting_law.proofs.Runs.{step-keeps, run-has, opening-balanced}
 use Rattle.counting_law.proofs.Turns.{Turned, Turns, is_told, is_sound, goes_with, kinds-turn}
-
--- one outcome more
-ends_blocked-push : (os : List Outcome) (o : Outcome) → ends_blocked (os ++ o ∷ []) ≡ is_blocked_outcome o
-unfolding ends_blocked
-ends_blocked-push [] o = refl
-ends_blocked-push (p ∷ []) o = refl
-ends_blocked-push (p ∷ q ∷ os) o = ends_blocked-push (q ∷ os) o
 
 ends_panicked-push : (os : List Outcome) (o : Outcome) → ends_panicked (os ++ o ∷ []) ≡ is_panicked_outcome o
 unfolding ends_panicked
@@ -104,7 +98,7 @@ told_pending (Waiting mask) e = cc
 told_pending Ended e = cc
 told_pending Panicked e = cc
 
-told_sound : (p : ActorPhase) → is_told p ≡ true → is_sound p ≡ true
+pub told_sound : (p : ActorPhase) → is_told p ≡ true → is_sound p ≡ true
 told_sound (Ready o) e = e
 told_sound (Connected c) e = refl
 told_sound Running e = cc
@@ -156,15 +150,11 @@ open-phase q v running ended zero a = ended
 open-phase q v running ended (suc n) zero = running
 open-phase q v running ended (suc n) (suc a) = open-phase q v running ended n a
 
-none-blocked : ends_blocked [] ≡ false
-unfolding ends_blocked
-none-blocked = refl
-
 opening-waits : (s : System) (m : ByteMap) → CallsWait s [] (opening s m)
 opening-waits s m = record {
   balanced = opening-balanced s;
   sound = λ a. open-phase is_sound true refl refl (actor_count s) a;
-  last = λ a. none-blocked ∙ sym (open-phase (fits_answers []) false refl refl (actor_count s) a);
+  last = λ a. ends_blocked-nil ∙ sym (open-phase (fits_answers []) false refl refl (actor_count s) a);
 }
 
 enabled-due : (p : ActorPhase) (word : ℕ) (os : List Outcome) → can_go_on p word ≡ true → ends_blocked os ≡ fits_answers os p → may_resume p ≡ ends_blocked os

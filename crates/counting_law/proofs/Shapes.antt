@@ -8,6 +8,7 @@ use Rattle.std.proofs.lemmas.Bool.Decides.{nat_tests}
 use Rattle.std.proofs.lemmas.List.{append-nil}
 use Rattle.std.proofs.lemmas.List.Folds.{list_any-append}
 use Rattle.std.proofs.lemmas.List.Sums.{count_by-le-length}
+use Rattle.list_laws.proofs.Counts.{bit, both-le-left, count-ext, count-filter-le, count-le, count-map-same, count-push}
 use Rattle.ffm_model.specs.declared.constants.TheConstants.{PSA_ERROR_COMMUNICATION_FAILURE, PSA_IPC_DISCONNECT}
 use Rattle.ffm_model.specs.declared.system.System.{System}
 use Rattle.ffm_model.specs.declared.machine.Call.{Call}
@@ -31,8 +32,7 @@ use Rattle.ffm_model.specs.Names.{is_same_connection, stays}
 use Rattle.counting_law.specs.Objects.{ObjectsFit, awaited_by, awaited_of, accepted_as, is_awaited}
 use Rattle.counting_law.specs.Pairs.{is_numbered}
 use Rattle.counting_law.proofs.Balance.{Balanced, balanced-fit}
-use Rattle.counting_law.proofs.Counts.{bit, count-ext, count-le, count-push, count-filter-le, count-map-same}
-use Rattle.counting_law.proofs.Parts.{both-le-left, off_from, on_left, running-quiet}
+use Rattle.counting_law.proofs.Parts.{off_from, on_left, running-quiet}
 use Rattle.counting_law.proofs.Bounds.{count-all}
 use Rattle.counting_law.proofs.Pairs.{carries, count-sum, member-counts, none-counts}
 use Rattle.counting_law.proofs.Resume.{times, put-same}

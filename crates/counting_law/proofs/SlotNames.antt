@@ -5,12 +5,13 @@ use Rattle.std.specs.List.{list_any, range_with_len}
 use Rattle.std.specs.Option.{unwrap_or}
 use Rattle.std.proofs.lemmas.Bool.Decides.{Decides-int_eq, nat_tests}
 use Rattle.std.proofs.lemmas.List.Sums.{count_by-le-length}
+use Rattle.std.proofs.lemmas.Bool.{and_parts, eqb-true}
+use Rattle.list_laws.proofs.Counts.{bit, count-cons, count-found, count-le, count-push, some-found}
+use Rattle.list_laws.proofs.Tests.{find-passes}
 use Rattle.ffm_model.specs.declared.machine.Handle.{Handle}
 use Rattle.ffm_model.specs.State.{handle_eq}
 use Rattle.ffm_model.specs.Names.{NamesSoFar, SlotName, has_index, name_of, next_slot}
 use Rattle.counting_law.specs.Fresh.{slots_named}
-use Rattle.counting_law.proofs.Counts.{bit, count-cons, count-push, count-le, count-found, some-found, find-passes}
-use Rattle.counting_law.proofs.Parts.{equal_from, left_true, right_true}
 use Rattle.counting_law.proofs.Pairs.{count-sum, none-counts}
 
 abbrev pub is_slot : ℕ → ℕ → SlotName → Bool
@@ -58,7 +59,7 @@ taken-push ts i h below =
           let apart : (x y : Bool) → (i == j) ≡ x → ((c + 1) == g) ≡ y → count_by (has_index j) ts + bit x < g → bit (x && y) ≡ 0 =
           elim [
             | true ↦ elim [
-              | true ↦ λ e f k. absurd (let same : i ≡ j = equal_from i j e in let now : c + 1 ≡ g = equal_from (c + 1) g f in omega (arith, k, now, ap (λ n. count_by (has_index n) ts) same))
+              | true ↦ λ e f k. absurd (let same : i ≡ j = eqb-true i j e in let now : c + 1 ≡ g = eqb-true (c + 1) g f in omega (arith, k, now, ap (λ n. count_by (has_index n) ts) same))
               | false ↦ λ e f k. refl
             ]
             | false ↦ λ y e f k. refl
@@ -69,8 +70,8 @@ taken-push ts i h below =
           let here : (x : Bool) → is_slot j g t ≡ x → count_by (is_slot j g) ts + bit x ≤ 1 =
           elim [
             | true ↦ λ e.
-                let same : i ≡ j = equal_from i j (left_true (i == j) ((c + 1) == g) e) in
-                let now : c + 1 ≡ g = equal_from (c + 1) g (right_true (i == j) ((c + 1) == g) e) in
+                let same : i ≡ j = eqb-true i j (and_parts (i == j) ((c + 1) == g) e).0 in
+                let now : c + 1 ≡ g = eqb-true (c + 1) g (and_parts (i == j) ((c + 1) == g) e).1 in
                 let less : count_by (has_index j) ts < g = omega (arith, now, ap (λ n. count_by (has_index n) ts) same) in
                 omega (arith, h.later j g less)
             | false ↦ λ e. omega (arith, h.once j g)

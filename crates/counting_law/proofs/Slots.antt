@@ -1,10 +1,11 @@
 -- How many slots a run takes: the walk of the names, step by step.
 use Rattle.std.proofs.Common.{ℕ, zero, suc, ◌≡◌, ◌<◌, ◌≤◌, ◌+◌, ◌-◌, ◌==◌, Bool, true, false, cond, ◌&&◌, ◌||◌, List, [], ◌∷◌, ◌++◌, length, get_or, arith, ◌∙◌, ap, sym, refl, length-append}
 use Rattle.std.specs.Prelude.{count_by, nat_lt, is_none, Option, Some, None}
-use Rattle.std.specs.List.{list_any}
 use Rattle.std.specs.Option.{option_map, option_map_or}
 use Rattle.std.specs.Ordering.{int_eq}
 use Rattle.std.proofs.lemmas.Bool.Decides.{Decides-int_eq, nat_tests}
+use Rattle.std.proofs.lemmas.Bool.{and_from}
+use Rattle.list_laws.proofs.Counts.{bit, both-le-left, both-le-right, count-cons, count-le, some-any}
 use Rattle.ffm_model.specs.declared.system.System.{System}
 use Rattle.ffm_model.specs.declared.machine.Entry.{Entry}
 use Rattle.ffm_model.specs.declared.objects.PendingMessage.{PendingMessage}
@@ -17,8 +18,7 @@ use Rattle.ffm_model.specs.Names.{NamesSoFar, NamedState, SlotName, capacity, me
 use Rattle.counting_law.specs.Objects.{ObjectsFit, PhaseFits, Mark, called_by, awaited_of, asking_of, accepted_as, message_marked, connection_marked, is_awaited}
 use Rattle.counting_law.specs.Takes.{TakesFew}
 use Rattle.counting_law.proofs.Balance.{Balanced}
-use Rattle.counting_law.proofs.Counts.{bit, count-cons, count-le, none-count}
-use Rattle.counting_law.proofs.Parts.{is_itself, unique, and_on, both-le-left, both-le-right}
+use Rattle.counting_law.proofs.Parts.{is_itself, unique}
 use Rattle.counting_law.proofs.Pairs.{member-counts, count-sum, none-counts}
 use Rattle.counting_law.proofs.Resume.{times}
 use Rattle.counting_law.proofs.Steps.{step-kind}
@@ -26,11 +26,6 @@ use Rattle.counting_law.proofs.Runs.{step-keeps, run-has, opening-balanced}
 use Rattle.counting_law.proofs.Takes.{Spends, same_message, kinds-spend}
 
 -- ---- the messages that stay
-
-some-any : {X : Type 0} (p : X → Bool) (xs : List X) → 1 ≤ count_by p xs → list_any p xs ≡ true
-some-any p xs h =
-    let go : (b : Bool) → list_any p xs ≡ b → list_any p xs ≡ true = elim [ true ↦ λ e. e | false ↦ λ e. absurd (omega (arith, none-count p xs e)) ] in
-    go (list_any p xs) refl
 
 pub count-le-at : {X : Type 0} (p q : X → Bool) (xs : List X) → ((i : ℕ) (d : X) → i < length xs → bit (p (get_or xs i d)) ≤ bit (q (get_or xs i d))) → count_by p xs ≤ count_by q xs
 count-le-at p q [] h = omega arith
@@ -42,7 +37,7 @@ connection-self None = refl
 
 pub same-self : (m : PendingMessage) → same_message m m ≡ true
 same-self m =
-    and_on _ _ (connection-self m.connection) (and_on _ _ (is_itself m.client.0) ((Decides-int_eq m.kind m.kind).1 refl))
+    and_from _ _ (connection-self m.connection) (and_from _ _ (is_itself m.client.0) ((Decides-int_eq m.kind m.kind).1 refl))
 
 -- what a change says to stay does stay
 pub stays-at : (old new : List PendingMessage) (q : PendingMessage → Bool) → ((m : PendingMessage) → count_by (λ x. q x && same_message m x) old ≤ count_by (same_message m) new)

@@ -133,7 +133,7 @@ error-kind s st a c Q Client k running = refused-kind s st a c Q k running
 error-kind s st a c Q Device k running = k.beside running (outcome.Value PSA_ERROR_PROGRAMMER_ERROR) st.spm.doorbells st.spm.sources refl
 
 -- a handle that is given is fresh
-new_handle : (f g x : Bool) → f ≡ false → g ≡ true → (f || (not g || x)) ≡ true → x ≡ true
+pub new_handle : (f g x : Bool) → f ≡ false → g ≡ true → (f || (not g || x)) ≡ true → x ≡ true
 new_handle true g x e k h = cc
 new_handle false true x e k h = h
 new_handle false false x e k h = cc

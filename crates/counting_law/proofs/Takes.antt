@@ -1,6 +1,8 @@
 -- How many connections and messages each kind of change makes.
 use Rattle.std.proofs.Common.{ℕ, ◌≡◌, ◌<◌, ◌≤◌, ◌+◌, ◌==◌, Bool, true, false, cond, not, ◌&&◌, List, [], ◌∷◌, ◌++◌, length, get_or, inl, inr, arith, ◌∙◌, ap, sym, refl, subst, length-append}
 use Rattle.std.specs.Prelude.{ℤ, pos, count_by, Some, map, filter, slice_set, if◌then◌else◌}
+use Rattle.std.proofs.lemmas.Bool.{eqb-true}
+use Rattle.list_laws.proofs.Counts.{bit, bit-le, count-cons, count-ext, count-filter-le, count-le, count-map-same, count-push}
 use Rattle.ffm_model.specs.declared.constants.TheConstants.{PSA_ERROR_COMMUNICATION_FAILURE}
 use Rattle.ffm_model.specs.declared.system.System.{System}
 use Rattle.ffm_model.specs.declared.machine.Handle.{Handle}
@@ -21,8 +23,7 @@ use Rattle.ffm_model.specs.ClientCalls.{Move, move, call_on, close_on, is_servic
 use Rattle.counting_law.specs.Objects.{awaited_by, accepted_as}
 use Rattle.counting_law.specs.Takes.{is_owned, owned}
 use Rattle.counting_law.proofs.Balance.{Balanced}
-use Rattle.counting_law.proofs.Counts.{bit, bit-le, count-cons, count-push, count-ext, count-le, count-filter-le, count-map-same}
-use Rattle.counting_law.proofs.Parts.{same_or_not, is_there, phase_other, running-quiet, equal_from}
+use Rattle.counting_law.proofs.Parts.{same_or_not, is_there, phase_other, running-quiet}
 use Rattle.counting_law.proofs.Bounds.{count-all}
 use Rattle.counting_law.proofs.Resume.{times, delivered-same, put-same}
 use Rattle.counting_law.proofs.Reply.{settled, settled-keeps}
@@ -94,12 +95,12 @@ length-filter {X = X} q (x ∷ xs) =
     go (q x) ∙ sym (count-cons q x xs)
 
 -- a reply: the messages but for the one answered
-pub record Answers (b new : SpmState) (q : PendingMessage → Bool) : Type 0 where
+pub record Settles (b new : SpmState) (q : PendingMessage → Bool) : Type 0 where
   pub messages : new.messages ≡ filter q b.messages
   pub made : new.connections_made ≡ b.connections_made
   pub owners : owned new ≤ owned b
 
-answers-spend : (b new : SpmState) (q : PendingMessage → Bool) → Answers b new q → Spends b new
+answers-spend : (b new : SpmState) (q : PendingMessage → Bool) → Settles b new q → Spends b new
 answers-spend b new q h = record {
   made = omega (arith, h.made);
   grows = omega (arith, h.made);
@@ -114,9 +115,9 @@ client_blind : (n : ℕ) (ph : ConnPhase) (f : ℕ → Bool) (c : OpenConnection
 client_blind n ph f c = put-same (λ (d : OpenConnection). d.serial == n) (λ d. f d.client.0) (λ d. record d { phase = ph }) (λ d. refl) c
 
 settled-answers : (s : System) (limit : Handle → ℕ) (b : SpmState) (p : ℕ) (h : Handle) (status : ℤ) (m : PendingMessage) → Balanced s limit b → message_held s b p h ≡ Some m
-    → Answers b (settled b h status m) (λ n. not (has_handle n.handle h))
+    → Settles b (settled b h status m) (λ n. not (has_handle n.handle h))
 settled-answers s limit b p h status m balanced found =
-    settled-cases s limit b p h status m balanced found (λ new. Answers b new (λ n. not (has_handle n.handle h)))
+    settled-cases s limit b p h status m balanced found (λ new. Settles b new (λ n. not (has_handle n.handle h)))
     (λ n ph q blocked told. record {
       messages = refl;
       made = refl;
@@ -152,7 +153,7 @@ disconnect-step b new p c o k ph alive dead le e =
     let go : (x : Bool) → k ≡ x → bit k + bit (is_owned new c) ≤ bit (is_owned b c) =
     elim [
       | true ↦ λ f.
-          let it : c.client.0 ≡ p = equal_from c.client.0 p (e ∙ f) in
+          let it : c.client.0 ≡ p = eqb-true c.client.0 p (e ∙ f) in
           let was : is_owned b c ≡ true = ap (λ (y : ℕ). not (is_panicked (phase_of b y))) it ∙ ap not alive in
           let now : is_owned new c ≡ false = ap (λ (y : ℕ). not (is_panicked (phase_of new y))) it ∙ ap not dead in
           omega (arith, ap bit was, ap bit now, ap bit f)
@@ -183,7 +184,7 @@ and_assoc true y z = refl
 and_assoc false y z = refl
 
 -- a panic behind a reply, or behind nothing
-panic-spends : (s : System) (limit : Handle → ℕ) (b mid : SpmState) (q : PendingMessage → Bool) (p : ℕ) → Answers b mid q → Balanced s limit mid → p < length mid.phases → is_panicked (phase_of mid p) ≡ false → awaited_by mid.connections mid.messages p ≡ 0
+panic-spends : (s : System) (limit : Handle → ℕ) (b mid : SpmState) (q : PendingMessage → Bool) (p : ℕ) → Settles b mid q → Balanced s limit mid → p < length mid.phases → is_panicked (phase_of mid p) ≡ false → awaited_by mid.connections mid.messages p ≡ 0
     → Spends b (panic_effect s mid p)
 panic-spends s limit b mid q p it balanced inside alive quiet =
     let r : PendingMessage → Bool = λ m. not (is_service_of s p m.service) in
@@ -223,7 +224,7 @@ pub filter-all : {X : Type 0} (xs : List X) → xs ≡ filter (λ x. true) xs
 filter-all [] = refl
 filter-all {X = X} (x ∷ xs) = ap (λ (ys : List X). x ∷ ys) (filter-all xs)
 
-nothing-answers : (b : SpmState) → Answers b b (λ x. true)
+nothing-answers : (b : SpmState) → Settles b b (λ x. true)
 nothing-answers b = record { messages = filter-all b.messages; made = refl; owners = omega arith }
 
 -- ---- each kind of change

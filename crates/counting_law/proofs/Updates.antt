@@ -1,6 +1,8 @@
 -- The three updates that calls are made of keep the balance: a connection changes its phase, a connection goes, an actor's phase changes.
 use Rattle.std.proofs.Common.{ℕ, ◌≡◌, ◌<◌, ◌≤◌, ◌+◌, ◌==◌, Bool, true, false, cond, not, ◌&&◌, ◌||◌, List, length, get_or, arith, ◌∙◌, ap, refl}
 use Rattle.std.specs.Prelude.{count_by, find, Some, map, filter, slice_set, is_none}
+use Rattle.std.proofs.lemmas.Bool.{and_left}
+use Rattle.list_laws.proofs.Counts.{bit, count-ext, count-out, count-put}
 use Rattle.ffm_model.specs.declared.system.System.{System}
 use Rattle.ffm_model.specs.declared.machine.Handle.{Handle}
 use Rattle.ffm_model.specs.declared.objects.OpenConnection.{OpenConnection}
@@ -12,8 +14,7 @@ use Rattle.counting_law.specs.Objects.{same}
 use Rattle.ffm_model.specs.State.{SpmState, phase_of, has_handle, phase_put}
 use Rattle.counting_law.proofs.Balance.{Balanced}
 use Rattle.counting_law.specs.Objects.{PhaseFits, RisesTo, Mark, awaited_by, asked_by, called_by, wrongly_called, is_joining, is_opening, is_awaited, is_asking, is_accepted, awaited_of, asking_of, accepted_as, wrongly_shown, message_marked, connection_marked}
-use Rattle.counting_law.proofs.Counts.{bit, count-ext, count-put, count-out}
-use Rattle.counting_law.proofs.Parts.{phase_same, fitting-set, joining-set, rising-map, rising-filter, unique, off_left, off_right, and_off, flipped}
+use Rattle.counting_law.proofs.Parts.{phase_same, fitting-set, joining-set, rising-map, rising-filter, unique, off_left, off_right, flipped}
 
 abbrev pub in_phase : OpenConnection → ConnPhase → OpenConnection
 in_phase c ph = record c { phase = ph }
@@ -76,8 +77,8 @@ moved-keeps s limit b c ph p messages h paired fits shown =
           (λ x n e. omega (
             arith,
             change (accepted_as x n),
-            off_right (c.serial == n) ((a == x) && is_accepted c.phase) (and_off (a == x) (is_accepted c.phase) (flipped x a e)),
-            off_right (c.serial == n) ((a == x) && is_accepted ph) (and_off (a == x) (is_accepted ph) (flipped x a e)),
+            off_right (c.serial == n) ((a == x) && is_accepted c.phase) (and_left (a == x) (is_accepted c.phase) (flipped x a e)),
+            off_right (c.serial == n) ((a == x) && is_accepted ph) (and_left (a == x) (is_accepted ph) (flipped x a e)),
           ))
           h.balanced.fitting;
       shown = omega (
@@ -114,7 +115,7 @@ removed-keeps s limit b c p messages h paired fits =
           h.client fits
           (λ x e. omega (arith, h.calls x, change (awaited_of x), off_left (a == x) (is_awaited c.phase) (flipped x a e)))
           (λ x e. omega (arith, h.calls x, change (asking_of x), off_left (a == x) (is_asking c.phase) (flipped x a e)))
-          (λ x n e. omega (arith, change (accepted_as x n), off_right (c.serial == n) ((a == x) && is_accepted c.phase) (and_off (a == x) (is_accepted c.phase) (flipped x a e))))
+          (λ x n e. omega (arith, change (accepted_as x n), off_right (c.serial == n) ((a == x) && is_accepted c.phase) (and_left (a == x) (is_accepted c.phase) (flipped x a e))))
           h.balanced.fitting;
       shown = omega (
         arith,

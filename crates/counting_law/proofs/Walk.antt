@@ -6,12 +6,12 @@ use Rattle.std.proofs.Math.Seq.{get_or-append_seam}
 use Rattle.std.proofs.lemmas.Bool.Decides.{Decides-int_eq}
 use Rattle.std.proofs.lemmas.List.{append_assoc, append-nil, get_or_append_left}
 use Rattle.std.proofs.lemmas.List.Folds.{list_any-append}
+use Rattle.list_laws.proofs.Counts.{any-count, bit, count-cons, count-push}
 use Rattle.ffm_model.specs.declared.machine.Handle.{Handle}
 use Rattle.ffm_model.specs.declared.objects.PendingMessage.{PendingMessage}
 use Rattle.ffm_model.specs.State.{SpmState, delivered, handle_eq, is_undelivered}
 use Rattle.ffm_model.specs.Names.{NamesSoFar, SlotName, live_connections, name_of, next_slot, no_slot, slots_kept, with_connection, with_messages}
 use Rattle.counting_law.specs.Fresh.{slots_named}
-use Rattle.counting_law.proofs.Counts.{bit, any-count, count-cons, count-push}
 use Rattle.counting_law.proofs.Resume.{times, int_flip}
 use Rattle.counting_law.proofs.Pairs.{member-counts}
 use Rattle.counting_law.proofs.Slots.{count-le-at}

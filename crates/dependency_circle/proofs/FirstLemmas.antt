@@ -3,13 +3,12 @@ use Rattle.std.proofs.Common.{ℕ, ◌≡◌, ◌<◌, ◌≤◌, ◌+◌, ◌�
 use Rattle.std.specs.Prelude.{nat_lt, Option, Some, None, option_map}
 use Rattle.std.specs.List.{find, flat_map, list_all, range_with_len}
 use Rattle.std.specs.Option.{option_or}
-use Rattle.std.proofs.lemmas.Bool.{cases_eq}
+use Rattle.std.proofs.lemmas.Bool.{cases_eq, and_parts, and_from}
 use Rattle.std.proofs.lemmas.Bool.Decides.{nat_tests}
 use Rattle.std.proofs.lemmas.List.Folds.{find-append}
 use Rattle.ffm_model.specs.Circles.{is_circle, is_way, are_different, lists_up_to, first_circle}
 use Rattle.dependency_circle.specs.Circles.{is_not_after, IsFirstCircle, AnswersCircle}
 use Rattle.dependency_circle.proofs.Lists.{circle_fits}
-use Rattle.dependency_circle.proofs.WayLemmas.{and_left, and_right, both}
 
 -- ---- one answer
 
@@ -121,7 +120,7 @@ found_by n (suc k) p [] low fits h = by (p []) h
     by true e = refl
     by false e = cc
 found_by n (suc k) p (y ∷ d) low fits h =
-    by (p []) (found_in p n k y d (found_by n k (λ l. p (y ∷ l)) d (and_right (nat_lt y n) _ low) (omega arith) h) 0 n (omega arith) (below (and_left (nat_lt y n) _ low)))
+    by (p []) (found_in p n k y d (found_by n k (λ l. p (y ∷ l)) d (and_parts (nat_lt y n) _ low).1 (omega arith) h) 0 n (omega arith) (below (and_parts (nat_lt y n) _ low).0))
   where
     below : nat_lt y n ≡ true → y < 0 + n
     below e = grind (arith, nat_tests)
@@ -135,12 +134,12 @@ found_by n (suc k) p (y ∷ d) low fits h =
 way_below : (n : ℕ) (edge : ℕ → ℕ → Bool) (home x : ℕ) (ys : List ℕ) → is_way n edge home x ys ≡ true → list_all (λ z. nat_lt z n) ys ≡ true
 way_below n edge home x [] h = refl
 way_below n edge home x (y ∷ ys) h =
-    both (nat_lt y n) _ (and_left (nat_lt y n) _ h) (way_below n edge home y ys (and_right (edge x y) _ (and_right (nat_lt y n) _ h)))
+    and_from (nat_lt y n) _ (and_parts (nat_lt y n) _ h).0 (way_below n edge home y ys (and_parts (edge x y) _ (and_parts (nat_lt y n) _ h).1).1)
 
 circle_below : (n : ℕ) (edge : ℕ → ℕ → Bool) (c : List ℕ) → is_circle n edge c ≡ true → list_all (λ z. nat_lt z n) c ≡ true
 circle_below n edge [] h = refl
 circle_below n edge (x ∷ xs) h =
-    both (nat_lt x n) _ (and_left (nat_lt x n) _ h) (way_below n edge x x xs (and_right (are_different (x ∷ xs)) _ (and_right (nat_lt x n) _ h)))
+    and_from (nat_lt x n) _ (and_parts (nat_lt x n) _ h).0 (way_below n edge x x xs (and_parts (are_different (x ∷ xs)) _ (and_parts (nat_lt x n) _ h).1).1)
 
 circle_found : (n : ℕ) (edge : ℕ → ℕ → Bool) (d : List ℕ) → is_circle n edge d ≡ true → FoundBy (first_circle n edge) d
 circle_found n edge d h = found_by n n (is_circle n edge) d (circle_below n edge d h) (circle_fits n edge d h) h

@@ -2,7 +2,7 @@
 use Rattle.std.proofs.Common.{ℕ, ◌≡◌, ◌<◌, ◌≤◌, ◌-◌, ◌&&◌, ◌||◌, ◌⊎◌, inl, inr, not, List, [], ◌∷◌, ◌++◌, length, arith, ◌∙◌, ap, sym, refl, subst, Bool, true, false, append_assoc, length-append}
 use Rattle.std.specs.Prelude.{◌==◌, nat_lt, Some, None}
 use Rattle.std.specs.List.{list_any, IsDistinct, AllByRecursion}
-use Rattle.std.proofs.lemmas.Bool.{cases_eq}
+use Rattle.std.proofs.lemmas.Bool.{cases_eq, false_from_ne_true, and_parts}
 use Rattle.std.proofs.lemmas.Bool.Decides.{nat_tests}
 use Rattle.std.proofs.lemmas.Map.Steps.{length-le_from_distinct_below}
 use lib.Dec.{eqb}
@@ -79,14 +79,10 @@ pub least_more : (n : ℕ) (edge : ℕ → ℕ → Bool) (front : List ℕ) (k :
     → IsNext n edge front (Some k) → IsLeast n edge (front ++ k ∷ [])
 least_more n edge front k wide least next d closed = least_by n edge front d k wide closed next (before front d (least d closed))
 
-false_unless : (b : Bool) → (b ≡ true → ⊥) → b ≡ false
-false_unless true h = absurd (h refl)
-false_unless false h = refl
-
 pub none : (n : ℕ) (edge : ℕ → ℕ → Bool) (front : List ℕ) → is_circle n edge front ≡ false → (Begins n edge [] → Begins n edge front)
     → IsNext n edge front None → (d : List ℕ) → is_circle n edge d ≡ false
 none n edge front wide begun next d =
-    false_unless (is_circle n edge d) (λ (h : is_circle n edge d ≡ true).
+    false_from_ne_true (is_circle n edge d) (λ (h : is_circle n edge d ≡ true).
     let b : Begins n edge front = begun (record { rest = d; circle = h }) in
     let (j, (v, (is, more))) = rest_begins n edge front b.rest wide b.circle in next j more)
 
@@ -96,14 +92,6 @@ pub kept : (n : ℕ) (edge : ℕ → ℕ → Bool) (front now : List ℕ) (k : �
 kept n edge front now k wide least next is =
     let P : List ℕ → Type 0 = λ c. IsLeast n edge c × (Begins n edge [] → Begins n edge c) in
     subst P (sym is) (least_more n edge front k wide least next, λ _. next.0)
-
-both-left : (a b : Bool) → (a && b) ≡ true → a ≡ true
-both-left true b h = refl
-both-left false b h = cc
-
-both-right : (a b : Bool) → (a && b) ≡ true → b ≡ true
-both-right true b h = h
-both-right false b h = cc
 
 apart_all : (x : ℕ) (xs : List ℕ) → is_new x xs ≡ true → AllByRecursion (λ y. eqb x y ≡ false) xs
 apart_all x [] h = tt
@@ -119,13 +107,13 @@ apart_all x (y ∷ ys) h = (here x y (list_any (λ z. x == z) ys) h, apart_all x
 pub distinct : (xs : List ℕ) → are_different xs ≡ true → IsDistinct eqb xs
 unfolding IsDistinct
 distinct [] h = tt
-distinct (x ∷ xs) h = (apart_all x xs (both-left (is_new x xs) (are_different xs) h), distinct xs (both-right (is_new x xs) (are_different xs) h))
+distinct (x ∷ xs) h = (apart_all x xs (and_parts (is_new x xs) (are_different xs) h).0, distinct xs (and_parts (is_new x xs) (are_different xs) h).1)
 
 below_way : (n : ℕ) (edge : ℕ → ℕ → Bool) (home x : ℕ) (ys : List ℕ) → is_way n edge home x ys ≡ true → (q : ℕ) → list_any (eqb q) ys ≡ true → q < n
 below_way n edge home x [] h q found = cc
 below_way n edge home x (y ∷ ys) h q found =
-    first_or q y (list_any (eqb q) ys) n found (both-left (nat_lt y n) (edge x y && is_way n edge home y ys) h)
-    (below_way n edge home y ys (both-right (edge x y) (is_way n edge home y ys) (both-right (nat_lt y n) (edge x y && is_way n edge home y ys) h)) q)
+    first_or q y (list_any (eqb q) ys) n found (and_parts (nat_lt y n) (edge x y && is_way n edge home y ys) h).0
+    (below_way n edge home y ys (and_parts (edge x y) (is_way n edge home y ys) (and_parts (nat_lt y n) (edge x y && is_way n edge home y ys) h).1).1 q)
   where
     first_or : (q y : ℕ) (b : Bool) (n : ℕ) → (eqb q y || b) ≡ true → nat_lt y n ≡ true → (b ≡ true → q < n) → q < n
     first_or q y true n h low rest = rest refl
@@ -134,10 +122,10 @@ below_way n edge home x (y ∷ ys) h q found =
 pub circle_fits : (n : ℕ) (edge : ℕ → ℕ → Bool) (c : List ℕ) → is_circle n edge c ≡ true → length c ≤ n
 circle_fits n edge [] h = cc
 circle_fits n edge (x ∷ xs) h =
-    let inner : (are_different (x ∷ xs) && is_way n edge x x xs) ≡ true = both-right (nat_lt x n) (are_different (x ∷ xs) && is_way n edge x x xs) h in
-    let way : is_way n edge x x xs ≡ true = both-right (are_different (x ∷ xs)) (is_way n edge x x xs) inner in
-    length-le_from_distinct_below (x ∷ xs) n (distinct (x ∷ xs) (both-left (are_different (x ∷ xs)) (is_way n edge x x xs) inner))
-    (λ q. first_or q x (list_any (eqb q) xs) n (both-left (nat_lt x n) (are_different (x ∷ xs) && is_way n edge x x xs) h) (below_way n edge x x xs way q))
+    let inner : (are_different (x ∷ xs) && is_way n edge x x xs) ≡ true = (and_parts (nat_lt x n) (are_different (x ∷ xs) && is_way n edge x x xs) h).1 in
+    let way : is_way n edge x x xs ≡ true = (and_parts (are_different (x ∷ xs)) (is_way n edge x x xs) inner).1 in
+    length-le_from_distinct_below (x ∷ xs) n (distinct (x ∷ xs) (and_parts (are_different (x ∷ xs)) (is_way n edge x x xs) inner).0)
+    (λ q. first_or q x (list_any (eqb q) xs) n (and_parts (nat_lt x n) (are_different (x ∷ xs) && is_way n edge x x xs) h).0 (below_way n edge x x xs way q))
   where
     first_or : (q y : ℕ) (b : Bool) (n : ℕ) → nat_lt y n ≡ true → (b ≡ true → q < n) → (eqb q y || b) ≡ true → q < n
     first_or q y true n low rest h = rest refl

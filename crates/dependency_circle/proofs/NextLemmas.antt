@@ -1,21 +1,18 @@
 -- The least place that goes on to a circle.
 use Rattle.std.proofs.Common.{ℕ, ◌≡◌, ◌<◌, ◌+◌, ◌&&◌, ◌⊎◌, inl, inr, List, [], ◌∷◌, ◌++◌, get_or, arith, sym, refl, subst, Bool, true, false}
 use Rattle.std.specs.Prelude.{nat_lt}
-use Rattle.std.proofs.lemmas.Bool.{cases_eq}
+use Rattle.std.proofs.lemmas.Bool.{cases_eq, ltb-true, and_parts, and_from}
 use Rattle.std.proofs.lemmas.Bool.Decides.{nat_tests}
 use Rattle.ffm_model.specs.Circles.{is_way, is_new, are_different}
 use Rattle.dependency_circle.specs.Ways.{Begins, goes, are_apart, Homeward, TellsWays}
-use Rattle.dependency_circle.proofs.WayLemmas.{begins_by, goes_by, GoesOn, and_left, and_right, both, apart_none}
+use Rattle.dependency_circle.proofs.WayLemmas.{begins_by, goes_by, GoesOn, apart_none}
 
 pub goes_below : (n : ℕ) (edge : ℕ → ℕ → Bool) (home : ℕ) (t : List ℕ) (k : ℕ) → goes n edge home t k ≡ true → k < n
-goes_below n edge home [] k h = let e : nat_lt k n ≡ true = and_left (nat_lt k n) _ h in lower k n e
+goes_below n edge home [] k h = let e : nat_lt k n ≡ true = (and_parts (nat_lt k n) _ h).0 in lower k n e
   where
     lower : (k n : ℕ) → nat_lt k n ≡ true → k < n
     lower k n e = grind (arith, nat_tests)
-goes_below n edge home (y ∷ t) k h = goes_below n edge y t k (and_right (edge home y) _ (and_right (nat_lt y n) _ h))
-
-lower_test : (k n : ℕ) → nat_lt k n ≡ true → k < n
-lower_test k n e = grind (arith, nat_tests)
+goes_below n edge home (y ∷ t) k h = goes_below n edge y t k (and_parts (edge home y) _ (and_parts (nat_lt y n) _ h).1).1
 
 -- no place below k goes on from front
 abbrev pub NoneBelow : ℕ → (ℕ → ℕ → Bool) → List ℕ → ℕ → Type 0
@@ -43,13 +40,13 @@ pub after_found : (n : ℕ) (edge : ℕ → ℕ → Bool) (home : ℕ) (t front 
 after_found n edge home t front marks k e tells well h =
     let P : List ℕ → Type 0 = λ f. TellsWays n edge home f marks → (nat_lt home n && are_different f) ≡ true → goes_on n edge home t f marks k ≡ true → Begins n edge (f ++ k ∷ []) in
     subst P (sym e) (λ w g on.
-    let later : (is_new k (home ∷ t) && goes n edge home t k) ≡ true = and_right (get_or marks k false) _ on in
-    let gone : goes n edge home t k ≡ true = and_right (is_new k (home ∷ t)) _ later in
+    let later : (is_new k (home ∷ t) && goes n edge home t k) ≡ true = (and_parts (get_or marks k false) _ on).1 in
+    let gone : goes n edge home t k ≡ true = (and_parts (is_new k (home ∷ t)) _ later).1 in
     begins_by n edge home t k (record {
-      low = and_left (nat_lt home n) _ g;
-      different = and_right (nat_lt home n) _ g;
+      low = (and_parts (nat_lt home n) _ g).0;
+      different = (and_parts (nat_lt home n) _ g).1;
       gone = gone;
-      homeward = w.found k (goes_below n edge home t k gone) (and_left (is_new k (home ∷ t)) _ later) (and_left (get_or marks k false) _ on);
+      homeward = w.found k (goes_below n edge home t k gone) (and_parts (is_new k (home ∷ t)) _ later).0 (and_parts (get_or marks k false) _ on).0;
     })) tells well h
 
 pub after_not : (n : ℕ) (edge : ℕ → ℕ → Bool) (home : ℕ) (t front : List ℕ) (marks : List Bool) (k : ℕ) → front ≡ home ∷ t → TellsWays n edge home front marks
@@ -58,11 +55,11 @@ after_not n edge home t front marks k e tells h b =
     let P : List ℕ → Type 0 = λ f. TellsWays n edge home f marks → goes_on n edge home t f marks k ≡ false → Begins n edge (f ++ k ∷ []) → ⊥ in
     subst P (sym e) (λ w not_on g.
     let on : GoesOn n edge home t k = goes_by n edge home t k g in
-    clash (goes_on n edge home t (home ∷ t) marks k) not_on (both (get_or marks k false) _ (w.all k (goes_below n edge home t k on.gone) on.homeward)
-    (both (is_new k (home ∷ t)) _ (apart_first (home ∷ t) k on.homeward.rest on.homeward.apart) on.gone))) tells h b
+    clash (goes_on n edge home t (home ∷ t) marks k) not_on (and_from (get_or marks k false) _ (w.all k (goes_below n edge home t k on.gone) on.homeward)
+    (and_from (is_new k (home ∷ t)) _ (apart_first (home ∷ t) k on.homeward.rest on.homeward.apart) on.gone))) tells h b
   where
     apart_first : (front : List ℕ) (k : ℕ) (zs : List ℕ) → are_apart front (k ∷ zs) ≡ true → is_new k front ≡ true
-    apart_first front k zs h = and_left (is_new k front) _ h
+    apart_first front k zs h = (and_parts (is_new k front) _ h).0
 
 pub after_more : (n : ℕ) (edge : ℕ → ℕ → Bool) (home : ℕ) (t front : List ℕ) (marks : List Bool) (k : ℕ) → front ≡ home ∷ t → TellsWays n edge home front marks
     → NoneBelow n edge front k → goes_on n edge home t front marks k ≡ false → NoneBelow n edge front (k + 1)
@@ -78,21 +75,21 @@ pub after_badly : (n : ℕ) (edge : ℕ → ℕ → Bool) (home : ℕ) (t front 
 after_badly n edge home t front e bad j b =
     let P : List ℕ → Type 0 = λ f. (nat_lt home n && are_different f) ≡ false → Begins n edge (f ++ j ∷ []) → ⊥ in
     subst P (sym e) (λ h g. let on : GoesOn n edge home t j = goes_by n edge home t j g in
-    clash (nat_lt home n && are_different (home ∷ t)) h (both (nat_lt home n) _ on.low on.different)) bad b
+    clash (nat_lt home n && are_different (home ∷ t)) h (and_from (nat_lt home n) _ on.low on.different)) bad b
 
 pub first_found : (n : ℕ) (edge : ℕ → ℕ → Bool) (marks : List Bool) (k : ℕ) → k < n → TellsWays n edge k [] marks → get_or marks k false ≡ true → Begins n edge ([] ++ k ∷ [])
 first_found n edge marks k low tells h =
     let w : Homeward n edge k [] k = tells.found k low refl h in
-    record { rest = w.rest; circle = both (nat_lt k n) _ (test k n low) (both (are_different (k ∷ w.rest)) _ w.different w.way) }
+    record { rest = w.rest; circle = and_from (nat_lt k n) _ (test k n low) (and_from (are_different (k ∷ w.rest)) _ w.different w.way) }
   where
     test : (k n : ℕ) → k < n → nat_lt k n ≡ true
     test k n e = grind (arith, nat_tests)
 
 homeward_first : (n : ℕ) (edge : ℕ → ℕ → Bool) (k : ℕ) → (b : Begins n edge ([] ++ k ∷ [])) → (k < n) × Homeward n edge k [] k
 homeward_first n edge k b =
-    let inner : (are_different (k ∷ b.rest) && is_way n edge k k b.rest) ≡ true = and_right (nat_lt k n) _ b.circle in (
-      lower_test k n (and_left (nat_lt k n) _ b.circle),
-      record { rest = b.rest; way = and_right (are_different (k ∷ b.rest)) _ inner; different = and_left (are_different (k ∷ b.rest)) _ inner; apart = apart_none (k ∷ b.rest) },
+    let inner : (are_different (k ∷ b.rest) && is_way n edge k k b.rest) ≡ true = (and_parts (nat_lt k n) _ b.circle).1 in (
+      ltb-true k n (and_parts (nat_lt k n) _ b.circle).0,
+      record { rest = b.rest; way = (and_parts (are_different (k ∷ b.rest)) _ inner).1; different = (and_parts (are_different (k ∷ b.rest)) _ inner).0; apart = apart_none (k ∷ b.rest) },
     )
 
 pub first_more : (n : ℕ) (edge : ℕ → ℕ → Bool) (marks : List Bool) (k : ℕ) → TellsWays n edge k [] marks → NoneBelow n edge [] k → get_or marks k false ≡ false → NoneBelow n edge [] (k + 1)

@@ -6,15 +6,12 @@ use Rattle.std.proofs.lemmas.Bool.Decides.{nat_tests}
 use Rattle.std.proofs.lemmas.List.{take_all, take_more, take-append-le, get_or_default}
 use Rattle.std.proofs.lemmas.List.Folds.{list_any-append}
 use Rattle.std.proofs.lemmas.Map.Steps.{length-le_from_distinct_below}
+use Rattle.std.proofs.lemmas.Bool.{and_from, and_parts, or_left}
 use Rattle.ffm_model.specs.Circles.{is_new, are_different}
 use Rattle.dependency_circle.specs.Ways.{marked, are_apart, is_unmarked_before, IsMarked, MarksMore, TellsWays}
 use Rattle.dependency_circle.proofs.Lists.{distinct}
-use Rattle.dependency_circle.proofs.WayLemmas.{MarkedWay, IsSound, reached, way_by, different-append, and_left, and_right, both}
+use Rattle.dependency_circle.proofs.WayLemmas.{MarkedWay, IsSound, reached, way_by, different-append}
 use Rattle.dependency_circle.proofs.SpreadLemmas.{is_fresh, spread_from, spread_is, spread_marked, spreads, filter_marked, range_below}
-
-or_left : (a b : Bool) → a ≡ true → (a || b) ≡ true
-or_left true b h = refl
-or_left false b h = cc
 
 or_by : {P : Type 0} (a b : Bool) → (a || b) ≡ true → (a ≡ true → P) → (a ≡ false → b ≡ true → P) → P
 or_by true b h f g = f refl
@@ -22,7 +19,7 @@ or_by false b h f g = g refl h
 
 all_mono : (p q : ℕ → Bool) (zs : List ℕ) → ((z : ℕ) → p z ≡ true → q z ≡ true) → list_all p zs ≡ true → list_all q zs ≡ true
 all_mono p q [] f h = refl
-all_mono p q (z ∷ zs) f h = both (q z) _ (f z (and_left (p z) _ h)) (all_mono p q zs f (and_right (p z) _ h))
+all_mono p q (z ∷ zs) f h = and_from (q z) _ (f z (and_parts (p z) _ h).0) (all_mono p q zs f (and_parts (p z) _ h).1)
 
 marked_more : (old more : List ℕ) (z : ℕ) → marked old z ≡ true → marked (old ++ more) z ≡ true
 marked_more old more z h = list_any-append (λ y. z == y) old more ∙ or_left (marked old z) _ h
@@ -39,9 +36,9 @@ added n edge front y old x unmarked h =
     let there : (marked old x || (is_fresh edge front y old x && marked (range_with_len 0 n) x)) ≡ true =
     ap (λ b. marked old x || b) (sym (filter_marked (is_fresh edge front y old) (range_with_len 0 n) x)) ∙ sym (list_any-append (λ z. x == z) old _) ∙ h in
     let fresh : (is_fresh edge front y old x && marked (range_with_len 0 n) x) ≡ true = second (marked old x) _ unmarked there in
-    let is : is_fresh edge front y old x ≡ true = and_left (is_fresh edge front y old x) _ fresh in
-    let two : (is_new x front && edge x y) ≡ true = and_right (not (marked old x)) _ is in
-    record { low = range_below n x (and_right (is_fresh edge front y old x) _ fresh); unmarked = unmarked; new = and_left (is_new x front) _ two; step = and_right (is_new x front) _ two }
+    let is : is_fresh edge front y old x ≡ true = (and_parts (is_fresh edge front y old x) _ fresh).0 in
+    let two : (is_new x front && edge x y) ≡ true = (and_parts (not (marked old x)) _ is).1 in
+    record { low = range_below n x (and_parts (is_fresh edge front y old x) _ fresh).1; unmarked = unmarked; new = (and_parts (is_new x front) _ two).0; step = (and_parts (is_new x front) _ two).1 }
   where
     second : (a b : Bool) → a ≡ false → (a || b) ≡ true → b ≡ true
     second true b e h = cc
@@ -58,14 +55,14 @@ one_step : (n : ℕ) (edge : ℕ → ℕ → Bool) (home : ℕ) (front : List �
     → marked (spread_from n edge front y old) x ≡ true → Added n edge front y old x → (y ≡ home) ⊎ (marked old y ≡ true) → MarkedWay n edge home front (marked (spread_from n edge front y old)) x
 one_step n edge home front y old x sound there a (inl e) = record {
   below = a.low;
-  homeward = record { rest = []; way = ap (edge x) (sym e) ∙ a.step; different = refl; apart = both (is_new x front) true a.new refl };
-  all_marked = both (marked (spread_from n edge front y old) x) true there refl;
+  homeward = record { rest = []; way = ap (edge x) (sym e) ∙ a.step; different = refl; apart = and_from (is_new x front) true a.new refl };
+  all_marked = and_from (marked (spread_from n edge front y old) x) true there refl;
 }
 one_step n edge home front y old x sound there a (inr h) =
     let w : MarkedWay n edge home front (marked old) y = sound y h in record {
       below = a.low;
       homeward = way_by n edge home front (marked old) x y a.unmarked a.new a.step w;
-      all_marked = both (marked (spread_from n edge front y old) x) _ there
+      all_marked = and_from (marked (spread_from n edge front y old) x) _ there
           (all_mono (marked old) (marked (spread_from n edge front y old)) (y ∷ w.homeward.rest) (marked_more old _) w.all_marked);
     }
 
@@ -113,7 +110,7 @@ all_new p old [] f = refl
 all_new p old (x ∷ xs) f = by (p x) (f x) (all_new p old xs f)
   where
     by : (b : Bool) → (b ≡ true → is_new x old ≡ true) → are_apart old (filter p xs) ≡ true → are_apart old (cond b (x ∷ filter p xs) (filter p xs)) ≡ true
-    by true g h = both (is_new x old) _ (g refl) h
+    by true g h = and_from (is_new x old) _ (g refl) h
     by false g h = h
 
 not_before : (p : ℕ → Bool) (x a n : ℕ) → x < a → is_new x (filter p (range_with_len a n)) ≡ true
@@ -132,13 +129,13 @@ range_different p a zero = refl
 range_different p a (suc n) = by (p a) (range_different p (a + 1) n)
   where
     by : (b : Bool) → are_different (filter p (range_with_len (a + 1) n)) ≡ true → are_different (cond b (a ∷ filter p (range_with_len (a + 1) n)) (filter p (range_with_len (a + 1) n))) ≡ true
-    by true k = both (is_new a (filter p (range_with_len (a + 1) n))) _ (not_before p a (a + 1) n (omega arith)) k
+    by true k = and_from (is_new a (filter p (range_with_len (a + 1) n))) _ (not_before p a (a + 1) n (omega arith)) k
     by false k = k
 
 pub spread_different : (n : ℕ) (edge : ℕ → ℕ → Bool) (front : List ℕ) (y : ℕ) (old : List ℕ) → are_different old ≡ true → are_different (spread_from n edge front y old) ≡ true
 spread_different n edge front y old h =
-    different-append old _ ∙ both (are_different old) _ h (both (are_different (filter (is_fresh edge front y old) (range_with_len 0 n))) _ (range_different _ 0 n)
-    (all_new (is_fresh edge front y old) old (range_with_len 0 n) (λ z e. and_left (not (marked old z)) _ e)))
+    different-append old _ ∙ and_from (are_different old) _ h (and_from (are_different (filter (is_fresh edge front y old) (range_with_len 0 n))) _ (range_different _ 0 n)
+    (all_new (is_fresh edge front y old) old (range_with_len 0 n) (λ z e. (and_parts (not (marked old z)) _ e).0)))
 
 pub found_fits : (n : ℕ) (edge : ℕ → ℕ → Bool) (home : ℕ) (front found : List ℕ) → are_different found ≡ true → IsSound n edge home front (marked found) → length found ≤ n
 found_fits n edge home front found h sound = length-le_from_distinct_below found n (distinct found h) (λ q e. (sound q e).below)

@@ -7,6 +7,7 @@ use Rattle.std.proofs.lemmas.List.{append-nil, get_or-set_same, get_or-set_other
 use Rattle.std.proofs.lemmas.List.Folds.{list_any-append}
 use Rattle.std.proofs.lemmas.List.Elements.{filter-append}
 use Rattle.std.proofs.lemmas.Bool.Decides.{nat_tests}
+use Rattle.list_laws.proofs.Lists.{range_with_len-more}
 use Rattle.ffm_model.specs.Circles.{is_new}
 use Rattle.dependency_circle.specs.Ways.{marked, is_unmarked_before, IsMarked, MarksMore}
 
@@ -18,12 +19,8 @@ is_fresh edge front y found x = not (marked found x) && (is_new x front && edge 
 abbrev pub spread_from : ℕ → (ℕ → ℕ → Bool) → List ℕ → ℕ → List ℕ → List ℕ
 spread_from n edge front y old = old ++ filter (is_fresh edge front y old) (range_with_len 0 n)
 
-range_next : (a n : ℕ) → range_with_len a (suc n) ≡ range_with_len a n ++ (a + n) ∷ []
-range_next a zero = ap (λ k. k ∷ []) (omega arith)
-range_next a (suc n) = ap (λ t. a ∷ t) (range_next (a + 1) n ∙ ap (λ k. range_with_len (a + 1) n ++ k ∷ []) (omega arith))
-
 range_more : (a n : ℕ) → range_with_len a (n + 1) ≡ range_with_len a n ++ (a + n) ∷ []
-range_more a n = rw add-one (range_next a n)
+range_more a n = rw add-one (range_with_len-more a n)
 
 filtered_more : (p : ℕ → Bool) (x : ℕ) → filter p (range_with_len 0 (x + 1)) ≡ filter p (range_with_len 0 x) ++ cond (p x) (x ∷ []) []
 filtered_more p x = ap (filter p) (range_more 0 x) ∙ filter-append p (range_with_len 0 x) ((0 + x) ∷ []) ∙ ap (λ k. filter p (range_with_len 0 x) ++ cond (p k) (k ∷ []) []) (omega arith)

@@ -2,7 +2,7 @@
 use Rattle.std.proofs.Common.{ℕ, ◌≡◌, ◌<◌, ◌&&◌, ◌||◌, ◌⊎◌, not, List, [], ◌∷◌, ◌++◌, arith, ◌∙◌, ap, sym, refl, Bool, true, false, append_assoc}
 use Rattle.std.specs.Prelude.{◌==◌, nat_lt}
 use Rattle.std.specs.List.{list_any, list_all}
-use Rattle.std.proofs.lemmas.Bool.{cases_eq}
+use Rattle.std.proofs.lemmas.Bool.{cases_eq, and_parts, and_from, lt-ltb}
 use Rattle.std.proofs.lemmas.List.Folds.{list_any-append}
 use Rattle.std.proofs.lemmas.Bool.Decides.{nat_tests}
 use Rattle.ffm_model.specs.Circles.{is_circle, are_different, is_way, is_new}
@@ -22,17 +22,6 @@ abbrev pub IsClosed : ℕ → (ℕ → ℕ → Bool) → ℕ → List ℕ → (�
 IsClosed n edge home front marks = (x y : ℕ) → x < n → is_new x front ≡ true → edge x y ≡ true → ((y == home) || marks y) ≡ true → marks x ≡ true
 
 -- ---- tests
-pub and_left : (a b : Bool) → (a && b) ≡ true → a ≡ true
-and_left true b h = refl
-and_left false b h = cc
-
-pub and_right : (a b : Bool) → (a && b) ≡ true → b ≡ true
-and_right true b h = h
-and_right false b h = cc
-
-pub both : (a b : Bool) → a ≡ true → b ≡ true → (a && b) ≡ true
-both true b h k = k
-both false b h k = cc
 
 either_by : {P : Type 0} (a b : Bool) → (a || b) ≡ true → (a ≡ true → P) → (b ≡ true → P) → P
 either_by true b h f g = f refl
@@ -41,14 +30,14 @@ either_by false b h f g = g h
 -- ---- marks that are closed reach every way home
 pub reached : (n : ℕ) (edge : ℕ → ℕ → Bool) (home : ℕ) (front : List ℕ) (marks : ℕ → Bool) → IsClosed n edge home front marks
     → (x : ℕ) (rest : List ℕ) → x < n → is_way n edge home x rest ≡ true → are_apart front (x ∷ rest) ≡ true → marks x ≡ true
-reached n edge home front marks closed x [] low way apart = closed x home low (and_left (is_new x front) true apart) way (or_left home (marks home))
+reached n edge home front marks closed x [] low way apart = closed x home low (and_parts (is_new x front) true apart).0 way (or_left home (marks home))
   where
     or_left : (h : ℕ) (b : Bool) → ((h == h) || b) ≡ true
     or_left h b = grind (arith, nat_tests)
 reached n edge home front marks closed x (y ∷ ys) low way apart =
-    let later : (edge x y && is_way n edge home y ys) ≡ true = and_right (nat_lt y n) _ way in
-    let there : marks y ≡ true = reached n edge home front marks closed y ys (lower y n (and_left (nat_lt y n) _ way)) (and_right (edge x y) _ later) (and_right (is_new x front) _ apart) in
-    closed x y low (and_left (is_new x front) _ apart) (and_left (edge x y) _ later) (or_right (y == home) (marks y) there)
+    let later : (edge x y && is_way n edge home y ys) ≡ true = (and_parts (nat_lt y n) _ way).1 in
+    let there : marks y ≡ true = reached n edge home front marks closed y ys (lower y n (and_parts (nat_lt y n) _ way).0) (and_parts (edge x y) _ later).1 (and_parts (is_new x front) _ apart).1 in
+    closed x y low (and_parts (is_new x front) _ apart).0 (and_parts (edge x y) _ later).0 (or_right (y == home) (marks y) there)
   where
     lower : (y n : ℕ) → nat_lt y n ≡ true → y < n
     lower y n h = grind (arith, nat_tests)
@@ -61,7 +50,7 @@ reached n edge home front marks closed x (y ∷ ys) low way apart =
 pub new_of_unmarked : (marks : ℕ → Bool) (x : ℕ) (zs : List ℕ) → marks x ≡ false → list_all marks zs ≡ true → is_new x zs ≡ true
 new_of_unmarked marks x [] h all = refl
 new_of_unmarked marks x (z ∷ zs) h all =
-    step x z (list_any (λ y. x == y) zs) (differ (cases_eq x z)) (new_of_unmarked marks x zs h (and_right (marks z) (list_all marks zs) all))
+    step x z (list_any (λ y. x == y) zs) (differ (cases_eq x z)) (new_of_unmarked marks x zs h (and_parts (marks z) (list_all marks zs) all).1)
   where
     step : (x z : ℕ) (b : Bool) → (x ≡ z → ⊥) → not b ≡ true → not ((x == z) || b) ≡ true
     step x z b ne h = grind (arith, nat_tests)
@@ -70,19 +59,16 @@ new_of_unmarked marks x (z ∷ zs) h all =
     clash b e f = cc
 
     differ : (x ≡ z) ⊎ (x ≡ z → ⊥) → x ≡ z → ⊥
-    differ _ e = clash (marks x) h (ap marks e ∙ and_left (marks z) (list_all marks zs) all)
-
-pub below_test : (y n : ℕ) → y < n → nat_lt y n ≡ true
-below_test y n h = grind (arith, nat_tests)
+    differ _ e = clash (marks x) h (ap marks e ∙ (and_parts (marks z) (list_all marks zs) all).0)
 
 -- the way of a place x with an edge to y
 abbrev pub way_by : (n : ℕ) (edge : ℕ → ℕ → Bool) (home : ℕ) (front : List ℕ) (marks : ℕ → Bool) (x y : ℕ)
     → marks x ≡ false → is_new x front ≡ true → edge x y ≡ true → MarkedWay n edge home front marks y → Homeward n edge home front x
 way_by n edge home front marks x y unmarked new step w = record {
   rest = y ∷ w.homeward.rest;
-  way = both (nat_lt y n) _ (below_test y n w.below) (both (edge x y) _ step w.homeward.way);
-  different = both (is_new x (y ∷ w.homeward.rest)) _ (new_of_unmarked marks x (y ∷ w.homeward.rest) unmarked w.all_marked) w.homeward.different;
-  apart = both (is_new x front) _ new w.homeward.apart;
+  way = and_from (nat_lt y n) _ (lt-ltb y n w.below) (and_from (edge x y) _ step w.homeward.way);
+  different = and_from (is_new x (y ∷ w.homeward.rest)) _ (new_of_unmarked marks x (y ∷ w.homeward.rest) unmarked w.all_marked) w.homeward.different;
+  apart = and_from (is_new x front) _ new w.homeward.apart;
 }
 
 -- ---- circles that begin with front
@@ -159,32 +145,32 @@ pub begins_by : (n : ℕ) (edge : ℕ → ℕ → Bool) (home : ℕ) (t : List �
 begins_by n edge home t k w =
     let ys : List ℕ = w.homeward.rest in
     let all_different : are_different ((home ∷ t) ++ k ∷ ys) ≡ true =
-    different-append (home ∷ t) (k ∷ ys) ∙ both (are_different (home ∷ t)) _ w.different (both (are_different (k ∷ ys)) _ w.homeward.different w.homeward.apart) in
-    let way : is_way n edge home home (t ++ k ∷ ys) ≡ true = way-split n edge home home t k ys ∙ both (goes n edge home t k) _ w.gone w.homeward.way in
+    different-append (home ∷ t) (k ∷ ys) ∙ and_from (are_different (home ∷ t)) _ w.different (and_from (are_different (k ∷ ys)) _ w.homeward.different w.homeward.apart) in
+    let way : is_way n edge home home (t ++ k ∷ ys) ≡ true = way-split n edge home home t k ys ∙ and_from (goes n edge home t k) _ w.gone w.homeward.way in
     record {
       rest = ys;
       circle = ap (is_circle n edge) (append_assoc (home ∷ t) (k ∷ []) ys)
-          ∙ both (nat_lt home n) _ w.low (both (are_different ((home ∷ t) ++ k ∷ ys)) _ all_different way);
+          ∙ and_from (nat_lt home n) _ w.low (and_from (are_different ((home ∷ t) ++ k ∷ ys)) _ all_different way);
     }
 
 pub goes_by : (n : ℕ) (edge : ℕ → ℕ → Bool) (home : ℕ) (t : List ℕ) (k : ℕ) → Begins n edge ((home ∷ t) ++ k ∷ []) → GoesOn n edge home t k
 goes_by n edge home t k b =
     let ys : List ℕ = b.rest in
     let closed : is_circle n edge ((home ∷ t) ++ k ∷ ys) ≡ true = ap (is_circle n edge) (sym (append_assoc (home ∷ t) (k ∷ []) ys)) ∙ b.circle in
-    let inner : (are_different ((home ∷ t) ++ k ∷ ys) && is_way n edge home home (t ++ k ∷ ys)) ≡ true = and_right (nat_lt home n) _ closed in
+    let inner : (are_different ((home ∷ t) ++ k ∷ ys) && is_way n edge home home (t ++ k ∷ ys)) ≡ true = (and_parts (nat_lt home n) _ closed).1 in
     let parts : (are_different (home ∷ t) && (are_different (k ∷ ys) && are_apart (home ∷ t) (k ∷ ys))) ≡ true =
-    sym (different-append (home ∷ t) (k ∷ ys)) ∙ and_left (are_different ((home ∷ t) ++ k ∷ ys)) _ inner in
+    sym (different-append (home ∷ t) (k ∷ ys)) ∙ (and_parts (are_different ((home ∷ t) ++ k ∷ ys)) _ inner).0 in
     let ways : (goes n edge home t k && is_way n edge home k ys) ≡ true =
-    sym (way-split n edge home home t k ys) ∙ and_right (are_different ((home ∷ t) ++ k ∷ ys)) _ inner in
-    let two : (are_different (k ∷ ys) && are_apart (home ∷ t) (k ∷ ys)) ≡ true = and_right (are_different (home ∷ t)) _ parts in
+    sym (way-split n edge home home t k ys) ∙ (and_parts (are_different ((home ∷ t) ++ k ∷ ys)) _ inner).1 in
+    let two : (are_different (k ∷ ys) && are_apart (home ∷ t) (k ∷ ys)) ≡ true = (and_parts (are_different (home ∷ t)) _ parts).1 in
     record {
-      low = and_left (nat_lt home n) _ closed;
-      different = and_left (are_different (home ∷ t)) _ parts;
-      gone = and_left (goes n edge home t k) _ ways;
+      low = (and_parts (nat_lt home n) _ closed).0;
+      different = (and_parts (are_different (home ∷ t)) _ parts).0;
+      gone = (and_parts (goes n edge home t k) _ ways).0;
       homeward = record {
         rest = ys;
-        way = and_right (goes n edge home t k) _ ways;
-        different = and_left (are_different (k ∷ ys)) _ two;
-        apart = and_right (are_different (k ∷ ys)) _ two;
+        way = (and_parts (goes n edge home t k) _ ways).1;
+        different = (and_parts (are_different (k ∷ ys)) _ two).0;
+        apart = (and_parts (are_different (k ∷ ys)) _ two).1;
       };
     }

@@ -18,11 +18,11 @@ names-stay s d = names-same s d d refl refl
 
 -- where doorbells do
 pub names-doorbells : (s : System) (old new : TablesView) (doorbells : List Bool) → new ≡ record old { doorbells = doorbells } → KeepsNames s old new
-names-doorbells s old new doorbells e = names-same s old new (ap (λ (d : TablesView). d.linked) e) (ap (λ (d : TablesView). d.waiting) e)
+names-doorbells s old new doorbells e = names-same s old new (ap (λ (d : TablesView). d.connections) e) (ap (λ (d : TablesView). d.messages) e)
 
 -- where flags do
 pub names-flags : (s : System) (old new : TablesView) (flags : List SourceFlags) → new ≡ record old { flags = flags } → KeepsNames s old new
-names-flags s old new flags e = names-same s old new (ap (λ (d : TablesView). d.linked) e) (ap (λ (d : TablesView). d.waiting) e)
+names-flags s old new flags e = names-same s old new (ap (λ (d : TablesView). d.connections) e) (ap (λ (d : TablesView). d.messages) e)
 
 -- ---- connections and messages stay as they are
 

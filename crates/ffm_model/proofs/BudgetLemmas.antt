@@ -59,7 +59,7 @@ before-rises client service b c before =
     then-rises b.client.0 c.client.0 client (nat_cmp b.service service) (nat_cmp c.service service) clients
     (λ e. let services : b.service ≤ c.service = grind (arith, nat_tests) in cmp-rises b.service c.service service services)
 
-all-at : {X : Type 0} (p : X → Bool) (xs : List X) (k : ℕ) (d : X) → list_all p xs ≡ true → k < length xs → p (get_or xs k d) ≡ true
+pub all-at : {X : Type 0} (p : X → Bool) (xs : List X) (k : ℕ) (d : X) → list_all p xs ≡ true → k < length xs → p (get_or xs k d) ≡ true
 all-at p [] k d all lt = absurd (omega arith)
 all-at p (x ∷ xs) zero d all lt = (and_parts (p x) (list_all p xs) all).0
 all-at p (x ∷ xs) (suc k) d all lt = all-at p xs k d (and_parts (p x) (list_all p xs) all).1 (omega arith)

@@ -7,3 +7,4 @@ pub mod RunLemmas
 pub mod BudgetLemmas
 pub mod SourceLemmas
 pub mod PanicLemmas
+pub mod RecordLemmas

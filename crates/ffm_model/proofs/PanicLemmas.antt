@@ -9,7 +9,7 @@ use Rattle.ffm_model.specs.Panic.{disconnection, panic_effect, panic_steps, with
 use Rattle.ffm_model.specs.State.{SpmState}
 
 -- two choices, one after the other, are one
-chosen_twice : {A B C : Type 0} (g : A → Option B) (f : B → Option C) (xs : List A) → filter_map f (filter_map g xs) ≡ filter_map (λ x. option_and_then f (g x)) xs
+pub chosen_twice : {A B C : Type 0} (g : A → Option B) (f : B → Option C) (xs : List A) → filter_map f (filter_map g xs) ≡ filter_map (λ x. option_and_then f (g x)) xs
 chosen_twice g f [] = refl
 chosen_twice {B = B} {C = C} g f (x ∷ xs) =
     let rest : List B = filter_map g xs in

@@ -14,7 +14,7 @@ use Rattle.ffm_model.specs.Step.{step, step_on, Run, handle_shown, handle_allowe
 use Rattle.ffm_model.specs.TraceText.{IsActorOf}
 
 -- where no entry is a step any more, none is
-none-stays : (s : System) (es : List Entry) → fold (step_on s) None es ≡ None
+pub none-stays : (s : System) (es : List Entry) → fold (step_on s) None es ≡ None
 none-stays s [] = refl
 none-stays s (e ∷ es) = none-stays s es
 
@@ -29,7 +29,7 @@ step-actor s st e h =
     first_test (nat_lt e.actor.0 (actor_count s)) (enabled s st.spm e.actor.0 && returns_when_due e.call (phase_of st.spm e.actor.0))
     (handle_allowed s st e.actor.0 e.call (handle_shown e.outcome)) (outcome_eq due.outcome e.outcome) due.state h
 
-some-is : {X : Type 0} (o : Option X) → (o ≡ None → ⊥) → IsSome o
+pub some-is : {X : Type 0} (o : Option X) → (o ≡ None → ⊥) → IsSome o
 some-is (Some x) h = refl
 some-is None h = absurd (h refl)
 

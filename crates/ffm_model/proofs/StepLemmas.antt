@@ -1,9 +1,10 @@
 -- Laws of steps and runs, for the crates above.
 use Rattle.std.proofs.Common.{ℕ, ◌≡◌, Bool, true, ◌&&◌, List, [], ◌∷◌, ◌++◌, refl, ap, sym, ◌∙◌, ℤ, eq-eqb}
-use Rattle.std.specs.Prelude.{Some, None, option_and_then, ◌==◌, fold, if◌then◌else◌}
+use Rattle.std.specs.Prelude.{Some, None, option_and_then, fold, if◌then◌else◌}
 use Rattle.std.specs.Ordering.{int_eq}
 use Rattle.std.specs.Str.{bytes_eq}
 use Rattle.std.proofs.lemmas.Bool.Decides.{Decides-int_eq}
+use Rattle.std.proofs.lemmas.Bool.{and_from}
 use Rattle.ffm_model.specs.declared.system.System.{System}
 use Rattle.ffm_model.specs.declared.machine.Entry.{Entry}
 use Rattle.ffm_model.specs.declared.machine.Message.{Message}
@@ -32,25 +33,19 @@ named_after-push s m es e = fold-push (named_step_on s) (Some (first_named s m))
 pub int_eq-self : (z : ℤ) → int_eq z z ≡ true
 int_eq-self z = (Decides-int_eq z z).1 refl
 
-pub nat_eq-self : (n : ℕ) → (n == n) ≡ true
-nat_eq-self n = eq-eqb n n refl
-
-and_true : (a b : Bool) → a ≡ true → b ≡ true → (a && b) ≡ true
-and_true a b h k = rw (h, k) refl
-
 pub bytes_eq-self : (xs : List ℕ) → bytes_eq xs xs ≡ true
 bytes_eq-self [] = refl
-bytes_eq-self (x ∷ xs) = and_true _ _ (nat_eq-self x) (bytes_eq-self xs)
+bytes_eq-self (x ∷ xs) = and_from _ _ (eq-eqb x x refl) (bytes_eq-self xs)
 
 pub message_eq-self : (m : Message) → message_eq m m ≡ true
 message_eq-self m =
-    and_true _ _ (int_eq-self m.kind) (and_true _ _ (int_eq-self m.handle.0) (and_true _ _ (int_eq-self m.client_id)
-    (and_true _ _ (nat_eq-self m.rhandle) (and_true _ _ (bytes_eq-self m.in_size) (bytes_eq-self m.out_size)))))
+    and_from _ _ (int_eq-self m.kind) (and_from _ _ (int_eq-self m.handle.0) (and_from _ _ (int_eq-self m.client_id)
+    (and_from _ _ (eq-eqb m.rhandle m.rhandle refl) (and_from _ _ (bytes_eq-self m.in_size) (bytes_eq-self m.out_size)))))
 
 pub outcome_eq-self : (o : Outcome) → outcome_eq o o ≡ true
 outcome_eq-self (Value z) = int_eq-self z
-outcome_eq-self (Number n) = nat_eq-self n
-outcome_eq-self (Signals n) = nat_eq-self n
+outcome_eq-self (Number n) = eq-eqb n n refl
+outcome_eq-self (Signals n) = eq-eqb n n refl
 outcome_eq-self (Got m) = message_eq-self m
 outcome_eq-self Blocked = refl
 outcome_eq-self Done = refl

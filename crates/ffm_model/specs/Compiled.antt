@@ -14,7 +14,7 @@ use Rattle.ffm_model.specs.ManifestItems.{ManifestRecord, ServiceRecord, IrqReco
 use Rattle.ffm_model.specs.PartsItems.{PartsRecord}
 use Rattle.ffm_model.specs.Parts.{SystemParts, system_from}
 use Rattle.ffm_model.specs.Reading.{Stop, refused, missing}
-use Rattle.ffm_model.specs.Layout.{Located, domain_at, regions_of}
+use Rattle.ffm_model.specs.Layout.{Located, domain_at, regions_laid_out}
 use Rattle.ffm_model.specs.Permissions.{services_in, budgets_of}
 use Rattle.ffm_model.specs.Rules.{broken}
 
@@ -105,7 +105,7 @@ system_parts p = record {
   partitions = partitions_of p;
   services = services_of p;
   sources = sources_of p;
-  regions = regions_of p;
+  regions = regions_laid_out p;
   clients = p.clients;
   budgets = budgets_of p;
 }

@@ -10,7 +10,7 @@ use Rattle.ffm_model.specs.declared.machine.Call.TheVariants as call
 use Rattle.ffm_model.specs.declared.machine.Outcome.{Outcome}
 use Rattle.ffm_model.specs.declared.machine.Outcome.TheVariants as outcome
 use Rattle.ffm_model.specs.declared.system.System.{System}
-use Rattle.ffm_model.specs.PartitionRam.{ram_base, ram_size, heap_of}
+use Rattle.ffm_model.specs.PartitionRam.{ram_base, ram_size_of, heap_of}
 use Rattle.ffm_model.specs.State.{handle_eq}
 
 -- ---- the partition
@@ -31,7 +31,7 @@ pub record Holder : Type 0 where
 abbrev pub holder_of : System → ℕ → Holder
 holder_of s a = record {
   base = ram_base s a;
-  size = ram_size s a;
+  size = ram_size_of s a;
   heap = heap_of s a;
   services = map (λ v. record { signal = v.signal; mm = v.mm }) (filter (λ v. v.owner == a) s.services);
 }

@@ -89,8 +89,8 @@ abbrev pub mmio_of : PartsRecord → List (Located Region)
 mmio_of p = filter_map (mmio_placed p.regions) (mmio_items p)
 
 -- the regions of a system: the RAM of each partition, non-secure RAM, and the MMIO regions
-abbrev pub regions_of : PartsRecord → List Region
-regions_of p = rams_of p ++ non_secure_of p ∷ map (λ x. x.value) (mmio_of p)
+abbrev pub regions_laid_out : PartsRecord → List Region
+regions_laid_out p = rams_of p ++ non_secure_of p ∷ map (λ x. x.value) (mmio_of p)
 
 -- ---- regions that can't be
 
@@ -135,4 +135,4 @@ abbrev pub too_large : PartsRecord → List TooLarge
 too_large p =
     large_from p.regions 0 p.manifests
     ++ (only_if (is_large (rounded p.non_secure_ram)) non_secure_ram
-    ++ only_if (nat_lt MAX_IMAGE_BYTES (sum_by (λ r. r.size) (regions_of p))) all_regions)
+    ++ only_if (nat_lt MAX_IMAGE_BYTES (sum_by (λ r. r.size) (regions_laid_out p))) all_regions)

@@ -4,7 +4,7 @@ use Rattle.std.specs.Prelude.{ℕ, Option, option_and_then, slice_get}
 use Rattle.std.specs.Option.{option_map_or}
 use Rattle.ffm_model.specs.declared.system.Region.{Region}
 use Rattle.ffm_model.specs.declared.system.System.{System}
-use Rattle.ffm_model.specs.WellFormed.{ram_bytes}
+use Rattle.ffm_model.specs.WellFormed.{ram_size}
 
 abbrev pub ram_of : System → ℕ → Option Region
 ram_of s a = option_and_then (λ p. slice_get s.regions p.ram) (slice_get s.partitions a)
@@ -12,8 +12,8 @@ ram_of s a = option_and_then (λ p. slice_get s.regions p.ram) (slice_get s.part
 abbrev pub ram_base : System → ℕ → ℕ
 ram_base s a = option_map_or (λ r. r.base) (ram_of s a) 0
 
-abbrev pub ram_size : System → ℕ → ℕ
-ram_size s a = option_map_or (ram_bytes s.regions) (slice_get s.partitions a) 0
+abbrev pub ram_size_of : System → ℕ → ℕ
+ram_size_of s a = option_map_or (ram_size s.regions) (slice_get s.partitions a) 0
 
 abbrev pub heap_of : System → ℕ → ℕ
 heap_of s a = option_map_or (λ p. p.heap) (slice_get s.partitions a) 0

@@ -85,18 +85,18 @@ budgets_fit actors services budgets =
     && nat_le (sum_by (λ b. b.count) budgets) 256
 
 -- the bytes of a partition's RAM
-abbrev pub ram_bytes : List Region → Partition → ℕ
-ram_bytes regions p = option_map_or (λ r. r.size) (slice_get regions p.ram) 0
+abbrev pub ram_size : List Region → Partition → ℕ
+ram_size regions p = option_map_or (λ r. r.size) (slice_get regions p.ram) 0
 
 -- a partition whose services are functions has a service, and 48 bytes of RAM for its messages
 abbrev pub functions_fit : List Service → List Region → ℕ × Partition → Bool
-functions_fit services regions e = not e.1.sfn || (list_any (λ v. v.owner == e.0) services && nat_le 48 (ram_bytes regions e.1))
+functions_fit services regions e = not e.1.sfn || (list_any (λ v. v.owner == e.0) services && nat_le 48 (ram_size regions e.1))
 
 -- functions have what they need, and each heap lies in its partition's RAM
 abbrev pub models_fit : List Partition → List Service → List Region → Bool
 models_fit partitions services regions =
     list_all (functions_fit services regions) (enumerate_from 0 partitions)
-    && list_all (λ p. nat_le p.heap (ram_bytes regions p)) partitions
+    && list_all (λ p. nat_le p.heap (ram_size regions p)) partitions
 
 -- a pair of a stateless service has no connection
 abbrev pub budget_is_fitting : List Service → Budget → Bool

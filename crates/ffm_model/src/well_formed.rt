@@ -2,7 +2,7 @@
 ghost use Rattle.std.specs.Prelude.{◌≡◌, ℕ, ◌+◌, ◌<◌, ◌≤◌, ◌==◌, ◌^◌, ◌&&◌, ◌||◌, not, true, false, length, slice_get, sum_by, count_by, nat_lt, nat_le};
 ghost use Rattle.std.specs.List.{list_all, list_any, enumerate_from};
 ghost use Rattle.std.specs.Option.{option_map_or};
-ghost use Rattle.ffm_model.specs.WellFormed.{each_pair, apart, is_ram_in, is_ram, is_nonsecure, owner_below, regions_fit, is_signal_bit, signal_fits, signals_fit, is_well_formed, partitions_fit, budgets_fit, budget_before, budget_is_fitting, stateless_fit, ram_bytes, functions_fit, models_fit};
+ghost use Rattle.ffm_model.specs.WellFormed.{each_pair, apart, is_ram_in, is_ram, is_nonsecure, owner_below, regions_fit, is_signal_bit, signal_fits, signals_fit, is_well_formed, partitions_fit, budgets_fit, budget_before, budget_is_fitting, stateless_fit, ram_size, functions_fit, models_fit};
 ghost use Rattle.ffm_model.specs.declared.constants.TheConstants.{MAX_STATELESS};
 
 use crate::constants::MAX_STATELESS;
@@ -237,8 +237,8 @@ pub(crate) fn do_partitions_fit(partitions: &[Partition], regions: &[Region]) ->
         && is_each_ram_owned(regions, partitions)
 }
 
-fn ram_bytes(partition: &Partition, regions: &[Region]) -> u32
-    ensures { result ≡ ram_bytes regions.now partition.now }
+fn ram_size(partition: &Partition, regions: &[Region]) -> u32
+    ensures { result ≡ ram_size regions.now partition.now }
 {
     match regions.get(partition.ram as usize) {
         Some(region) => region.size,
@@ -260,7 +260,7 @@ fn do_functions_fit(
 ) -> bool
     ensures { result ≡ functions_fit services.now regions.now (place, partition.now) }
 {
-    !partition.sfn || (has_service(services, place) && 48 <= ram_bytes(partition, regions))
+    !partition.sfn || (has_service(services, place) && 48 <= ram_size(partition, regions))
 }
 
 fn do_all_functions_fit(partitions: &[Partition], services: &[Service], regions: &[Region]) -> bool
@@ -273,9 +273,9 @@ fn do_all_functions_fit(partitions: &[Partition], services: &[Service], regions:
 }
 
 fn do_heaps_fit(partitions: &[Partition], regions: &[Region]) -> bool
-    ensures { result ≡ list_all (λ p. nat_le p.heap (ram_bytes regions.now p)) partitions.now }
+    ensures { result ≡ list_all (λ p. nat_le p.heap (ram_size regions.now p)) partitions.now }
 {
-    partitions.iter().all(|p| p.heap <= ram_bytes(p, regions))
+    partitions.iter().all(|p| p.heap <= ram_size(p, regions))
 }
 
 /// Whether partitions with functions have what these need, and each heap lies in its RAM.

@@ -1,11 +1,11 @@
 -- The traces of runs, one after the other, and what is known of each of their entries.
-use Rattle.std.proofs.Common.{ℕ, suc, Bool, true, false, ◌&&◌, refl, ◌≡◌, ◌<◌, ◌≤◌, ◌+◌, ◌^◌, List, [], ◌∷◌, ◌++◌, length, map, take, drop, drop-cons, get_or, append_assoc, ap, ◌∙◌, subst, sym, arith}
-use Rattle.std.specs.Prelude.{Option, nat_le, nat_lt}
+use Rattle.std.proofs.Common.{ℕ, suc, true, ◌≡◌, ◌<◌, ◌≤◌, ◌+◌, ◌^◌, List, [], ◌∷◌, ◌++◌, length, map, take, drop, drop-cons, get_or, append_assoc, ap, ◌∙◌, subst, sym, arith}
+use Rattle.std.specs.Prelude.{Option}
 use Rattle.std.specs.List.{list_all}
 use Rattle.std.specs.Fmt.{decimal}
-use Rattle.std.proofs.lemmas.Bool.Decides.{nat_tests}
 use Rattle.std.proofs.lemmas.Fmt.{length-decimal-le}
 use Rattle.std.proofs.lemmas.List.{append-nil, length-map, length-take-le, map-append, take_more, take-append-drop}
+use Rattle.std.proofs.lemmas.Bool.{and_parts, leb-true, ltb-true}
 use Rattle.ffm_model.specs.declared.machine.Entry.{Entry}
 use Rattle.ffm_model.specs.declared.trace.Trace.{Trace}
 use Rattle.ffm_model.specs.Counts.{ActorCounts}
@@ -62,27 +62,13 @@ run_cut counts ts i d a b c lt p q =
 
 -- ---- entries
 
-and_left : (a b : Bool) → (a && b) ≡ true → a ≡ true
-and_left true b h = refl
-and_left false b h = cc
-
-and_right : (a b : Bool) → (a && b) ≡ true → b ≡ true
-and_right true b h = h
-and_right false b h = cc
-
-below_tested : (a n : ℕ) → nat_lt a n ≡ true → a < n
-below_tested a n h = grind (arith, nat_tests)
-
-most_tested : (a n : ℕ) → nat_le a n ≡ true → a ≤ n
-most_tested a n h = grind (arith, nat_tests)
-
 -- each entry is an actor's
 pub actor_at : (counts : ActorCounts) (t : Trace) (i : ℕ) (d : Entry) → i < length t.entries → fits_counts counts t ≡ true → IsActorOf counts (get_or t.entries i d).actor.0
-actor_at counts t i d lt fits = below_tested _ _ (holds_at _ t.entries i d lt (and_right _ _ fits))
+actor_at counts t i d lt fits = ltb-true _ _ (holds_at _ t.entries i d lt (and_parts _ _ fits).1)
 
 -- and they are few
 pub few_entries : (counts : ActorCounts) (t : Trace) → fits_counts counts t ≡ true → length t.entries ≤ 262144
-few_entries counts t fits = most_tested _ _ (and_left _ _ fits)
+few_entries counts t fits = leb-true _ _ (and_parts _ _ fits).0
 
 -- a number of 64 bits has at most twenty digits
 pub count_length : (n : ℕ) → n < 2 ^ 64 → length (decimal n) ≤ 20

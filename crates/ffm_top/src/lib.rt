@@ -10,5 +10,6 @@ mod run;
 mod steady;
 mod top;
 
+pub use lines::refusal_line;
 pub use steady::ffm_steady;
 pub use top::{asks_threads, ffm, ffm_alone};

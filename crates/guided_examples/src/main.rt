@@ -46,7 +46,7 @@ fn words_of(
     words.push(String::from_str(alloc, "ffm")?)?;
     words.push(String::from_str(alloc, command)?)?;
     for file in files {
-        words.push(format!(in alloc; "{name}_{file}")?)?;
+        words.push(format!(in alloc; "{name}/{file}")?)?;
     }
     Ok(words)
 }

@@ -3,17 +3,13 @@ use Rattle.std.proofs.Common.{ℕ, zero, suc, ◌≡◌, ◌≤◌, ◌+◌, ◌
 use Rattle.std.specs.Prelude.{count_by, find, Option, Some, None, All, slice_get}
 use Rattle.std.specs.Option.{option_map}
 use Rattle.std.proofs.lemmas.List.Elements.{All-head, All-tail, All-weaker}
+use Rattle.list_laws.proofs.Counts.{both-le-left, count-le, count-nth, bit, count-cons}
 use Rattle.object_pools.specs.declared.slot.Slot.{Slot}
 use Rattle.object_pools.specs.declared.slot.Held.{Held}
 use Rattle.object_pools.specs.Pool.{Places, IsKept, IsNamed, has_slot, is_at, item_at}
-use Rattle.object_pools.proofs.Counts.{bit, bit-le, count-cons}
 use Rattle.handle_table.specs.declared.handles.Family.{Family}
 use Rattle.handle_table.specs.Handles.{IsNameable, indices_of}
-use Rattle.handle_table.proofs.Twins.{find-passes, count-le}
-
-and_le : (b c : Bool) → bit (b && c) ≤ bit b
-and_le true c = bit-le c
-and_le false c = omega arith
+use Rattle.list_laws.proofs.Tests.{find-passes}
 
 pub both : (a b : Bool) → (a && b) ≡ true → (a ≡ true) × (b ≡ true)
 both true b e = (refl, e)
@@ -21,11 +17,6 @@ both false b e = cc
 
 pub has_own : (s : Slot) → ((s.index == s.index) && (s.generation == s.generation)) ≡ true
 has_own s = grind arith
-
-count-nth : {X : Type 0} (p : X → Bool) (xs : List X) (n : ℕ) (x : X) → slice_get xs n ≡ Some x → bit (p x) ≤ count_by p xs
-count-nth p [] n x e = cc
-count-nth p (y ∷ ys) zero x e = let it : y ≡ x = cc in omega (arith, count-cons p y ys, ap (λ z. bit (p z)) it)
-count-nth p (y ∷ ys) (suc n) x e = omega (arith, count-cons p y ys, count-nth p ys n x e)
 
 find-nth : {X : Type 0} (p : X → Bool) (xs : List X) (n : ℕ) (x : X) → slice_get xs n ≡ Some x → p x ≡ true → count_by p xs ≤ 1 → find p xs ≡ Some x
 find-nth p [] n x e passes one = cc
@@ -42,7 +33,7 @@ find-nth p (y ∷ ys) (suc n) x e passes one =
 module _ {T : Type 0} where
   pub one_slot : (capacity : ℕ) (p : Places T) (s : Slot) → IsKept capacity p → count_by (has_slot s) p.held ≤ 1
   one_slot capacity p s k =
-      omega (arith, k.once s.index, count-le (has_slot s) (is_at s.index) (λ h. and_le (h.slot.index == s.index) (h.slot.generation == s.generation)) p.held)
+      omega (arith, k.once s.index, count-le (has_slot s) (is_at s.index) (λ h. both-le-left (h.slot.index == s.index) (h.slot.generation == s.generation)) p.held)
 
   pub slot-is : (s : Slot) (h : Held T) → has_slot s h ≡ true → h.slot ≡ s
   slot-is s h e =

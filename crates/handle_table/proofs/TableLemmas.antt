@@ -6,16 +6,17 @@ use Rattle.std.proofs.lemmas.Bool.Decides.{Decides-int_eq}
 use Rattle.std.proofs.lemmas.List.Elements.{All-nil, All-cons, All-head, All-tail, All-push, All-filter, All-weaker, All-map}
 use Rattle.std.proofs.lemmas.List.Sums.{count_by_more_yes, count_by_more_no}
 use Rattle.std.proofs.lemmas.Option.{slice_get-map, slice_get_within, get_or_from_slice_get}
+use Rattle.std.proofs.lemmas.List.{map_push}
 use Rattle.ffm_model.specs.declared.machine.Handle.{Handle}
 use Rattle.ffm_model.specs.declared.objects.OpenConnection.{OpenConnection}
 use Rattle.ffm_model.specs.State.{has_handle}
 use Rattle.object_pools.specs.declared.slot.Slot.{Slot}
 use Rattle.object_pools.specs.declared.slot.Held.{Held}
 use Rattle.object_pools.specs.Pool.{Places, IsKept, has_slot, item_at, item_put, taken, with_item, without}
-use Rattle.object_pools.proofs.Counts.{bit, bit-le, count-cons}
+use Rattle.list_laws.proofs.Counts.{bit, bit-le, count-cons}
 use Rattle.handle_table.specs.declared.handles.Family.TheVariants.{Connection}
 use Rattle.handle_table.specs.Handles.{handle_at, IsNameable}
-use Rattle.handle_table.specs.Table.{connections, spm_of, Rises, IsTable, with_started}
+use Rattle.handle_table.specs.Table.{connections, spm_of_connections, Rises, IsTable, with_started}
 use Rattle.handle_table.proofs.SlotLemmas.{both, has_own, one_slot, slot-is, held-of, nameable}
 use Rattle.handle_table.proofs.Twins.{count-map, twin-put, twin-out, twin-find, find-all_fail, find-first, find-more}
 
@@ -109,8 +110,8 @@ connections-put capacity p s c g k t live =
       same_itself n = grind arith
 
 pub spm-put : (capacity : ℕ) (p : Places OpenConnection) (s : Slot) (c : OpenConnection) (g : OpenConnection → OpenConnection) → IsKept capacity p → IsTable p → item_at p s ≡ Some c
-    → spm_of (with_item p s (g c)) ≡ record (spm_of p) { connections = map (λ d. if d.serial == c.serial then g d else d) (connections p) }
-spm-put capacity p s c g k t live = λ j. record (spm_of p) { connections = connections-put capacity p s c g k t live j }
+    → spm_of_connections (with_item p s (g c)) ≡ record (spm_of_connections p) { connections = map (λ d. if d.serial == c.serial then g d else d) (connections p) }
+spm-put capacity p s c g k t live = λ j. record (spm_of_connections p) { connections = connections-put capacity p s c g k t live j }
 
 abbrev pub IsTold : Held OpenConnection → Type 0
 IsTold h = IfSome h.item.handle (λ k. k ≡ handle_at Connection h.slot)
@@ -152,19 +153,15 @@ IsTable-put capacity p s c g same k t live fits = record {
 
 -- ---- a connection is started
 
-map-push : {X Y : Type 0} (v : X → Y) (xs : List X) (x : X) → map v (xs ++ x ∷ []) ≡ map v xs ++ v x ∷ []
-map-push v [] x = refl
-map-push {Y = Y} v (y ∷ ys) x = ap (λ (zs : List Y). v y ∷ zs) (map-push v ys x)
-
 pub IsTable-start : (p : Places OpenConnection) (s : Slot) (c : OpenConnection) → IsTable p → c.serial ≡ p.takes → c.handle ≡ None → IsTable (taken p s c)
 IsTable-start p s c t serial none = record {
-  rising = subst (λ (cs : List OpenConnection). Rises 0 cs (p.takes + 1)) (sym (map-push (λ (h : Held OpenConnection). h.item) p.held (record { slot = s; item = c })))
+  rising = subst (λ (cs : List OpenConnection). Rises 0 cs (p.takes + 1)) (sym (map_push (λ (h : Held OpenConnection). h.item) p.held (record { slot = s; item = c })))
       (rises-push 0 p.takes (connections p) c t.rising serial);
   told = All-push IsTold p.held (record { slot = s; item = c }) t.told (subst (λ (o : Option Handle). IfSome o (λ k. k ≡ handle_at Connection s)) (sym none) tt);
 }
 
-pub spm-start : (p : Places OpenConnection) (s : Slot) (c : OpenConnection) → spm_of (taken p s c) ≡ with_started (spm_of p) c
-spm-start p s c = λ j. record (spm_of p) { connections = map-push (λ (h : Held OpenConnection). h.item) p.held (record { slot = s; item = c }) j; connections_made = p.takes + 1 }
+pub spm-start : (p : Places OpenConnection) (s : Slot) (c : OpenConnection) → spm_of_connections (taken p s c) ≡ with_started (spm_of_connections p) c
+spm-start p s c = λ j. record (spm_of_connections p) { connections = map_push (λ (h : Held OpenConnection). h.item) p.held (record { slot = s; item = c }) j; connections_made = p.takes + 1 }
 
 -- ---- a connection is freed
 
@@ -179,8 +176,8 @@ connections-out capacity p s c k t live =
       same_itself n = grind arith
 
 pub spm-out : (capacity : ℕ) (p : Places OpenConnection) (s : Slot) (c : OpenConnection) → IsKept capacity p → IsTable p → item_at p s ≡ Some c
-    → spm_of (without p s) ≡ record (spm_of p) { connections = filter (λ d. not (d.serial == c.serial)) (connections p) }
-spm-out capacity p s c k t live = λ j. record (spm_of p) { connections = connections-out capacity p s c k t live j }
+    → spm_of_connections (without p s) ≡ record (spm_of_connections p) { connections = filter (λ d. not (d.serial == c.serial)) (connections p) }
+spm-out capacity p s c k t live = λ j. record (spm_of_connections p) { connections = connections-out capacity p s c k t live j }
 
 pub IsTable-out : (capacity : ℕ) (p : Places OpenConnection) (s : Slot) (c : OpenConnection) → IsKept capacity p → IsTable p → item_at p s ≡ Some c → IsTable (without p s)
 IsTable-out capacity p s c k t live = record {

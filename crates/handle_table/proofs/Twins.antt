@@ -2,51 +2,13 @@
 use Rattle.std.proofs.Common.{ℕ, zero, suc, take, length, ◌≡◌, ◌≤◌, ◌+◌, Bool, true, false, cond, not, List, [], ◌∷◌, arith, ◌∙◌, ap, sym, refl}
 use Rattle.std.specs.Prelude.{count_by, find, Some, None, map, filter, if◌then◌else◌, All, slice_get, option_and_then}
 use Rattle.std.proofs.lemmas.List.Elements.{All-head, All-tail}
-use Rattle.object_pools.proofs.Counts.{bit, count-cons}
-
--- an item that passes is found, and what is found passes
-pub find-passes : {X : Type 0} (p : X → Bool) (xs : List X) (x : X) → find p xs ≡ Some x → p x ≡ true
-find-passes p [] x h = cc
-find-passes p (y ∷ ys) x h =
-    let go : (b : Bool) → p y ≡ b → cond b (Some y) (find p ys) ≡ Some x → p x ≡ true =
-    elim [ true ↦ λ e g. let it : y ≡ x = cc in ap p (sym it) ∙ e | false ↦ λ e g. find-passes p ys x g ] in
-    go (p y) refl h
-
-pub count-found : {X : Type 0} (p q : X → Bool) (xs : List X) (x : X) → find p xs ≡ Some x → bit (q x) ≤ count_by q xs
-count-found p q [] x h = cc
-count-found p q (y ∷ ys) x h =
-    let go : (b : Bool) → cond b (Some y) (find p ys) ≡ Some x → bit (q x) ≤ bit (q y) + count_by q ys =
-    elim [
-      | true ↦ λ g. let it : y ≡ x = cc in omega (arith, ap (λ z. bit (q z)) it)
-      | false ↦ λ g. omega (arith, count-found p q ys x g)
-    ] in
-    omega (arith, count-cons q y ys, go (p y) h)
-
-pub count-le : {X : Type 0} (p q : X → Bool) → ((x : X) → bit (p x) ≤ bit (q x)) → (xs : List X) → count_by p xs ≤ count_by q xs
-count-le p q le [] = omega arith
-count-le p q le (x ∷ xs) = omega (arith, count-cons p x xs, count-cons q x xs, le x, count-le p q le xs)
+use Rattle.list_laws.proofs.Counts.{filter-none, map-none, bit, count-cons}
+pub use Rattle.list_laws.proofs.Tests.{find-passes}
+pub use Rattle.list_laws.proofs.Counts.{count-found}
 
 pub count-map : {X Y : Type 0} (v : X → Y) (r : Y → Bool) (xs : List X) → count_by r (map v xs) ≡ count_by (λ x. r (v x)) xs
 count-map v r [] = refl
 count-map v r (x ∷ xs) = omega (arith, count-cons r (v x) (map v xs), count-cons (λ y. r (v y)) x xs, count-map v r xs)
-
-put-none : {Y : Type 0} (r : Y → Bool) (g : Y → Y) (ys : List Y) → count_by r ys ≡ 0 → map (λ z. if r z then g z else z) ys ≡ ys
-put-none r g [] h = refl
-put-none {Y = Y} r g (y ∷ ys) h =
-    let split : bit (r y) + count_by r ys ≡ 0 = sym (count-cons r y ys) ∙ h in
-    let rest : map (λ z. if r z then g z else z) ys ≡ ys = put-none r g ys (omega arith) in
-    let go : (b : Bool) → bit b + count_by r ys ≡ 0 → cond b (g y) y ∷ map (λ z. if r z then g z else z) ys ≡ y ∷ ys =
-    elim [ true ↦ λ k. absurd (omega arith) | false ↦ λ k. ap (λ (zs : List Y). y ∷ zs) rest ] in
-    go (r y) split
-
-out-none : {Y : Type 0} (r : Y → Bool) (ys : List Y) → count_by r ys ≡ 0 → filter (λ z. not (r z)) ys ≡ ys
-out-none r [] h = refl
-out-none {Y = Y} r (y ∷ ys) h =
-    let split : bit (r y) + count_by r ys ≡ 0 = sym (count-cons r y ys) ∙ h in
-    let rest : filter (λ z. not (r z)) ys ≡ ys = out-none r ys (omega arith) in
-    let go : (b : Bool) → bit b + count_by r ys ≡ 0 → cond (not b) (y ∷ filter (λ z. not (r z)) ys) (filter (λ z. not (r z)) ys) ≡ y ∷ ys =
-    elim [ true ↦ λ k. absurd (omega arith) | false ↦ λ k. ap (λ (zs : List Y). y ∷ zs) rest ] in
-    go (r y) split
 
 pub twin-put : {X Y : Type 0} (v : X → Y) (p : X → Bool) (r : Y → Bool) (f : X → X) (g : Y → Y) (x : X)
     → v (f x) ≡ g (v x) → r (v x) ≡ true → (xs : List X) → find p xs ≡ Some x → count_by p xs ≤ 1 → count_by (λ y. r (v y)) xs ≤ 1
@@ -62,8 +24,8 @@ twin-put {X = X} {Y = Y} v p r f g x same passes (y ∷ ys) found onep oner =
         | true ↦ λ e k m n h.
             let it : y ≡ x = cc in
             let head : v (f y) ≡ g (v y) = ap (λ (z : X). v (f z)) it ∙ same ∙ ap (λ (z : X). g (v z)) (sym it) in
-            let left : map (λ z. if p z then f z else z) ys ≡ ys = put-none p f ys (omega arith) in
-            let right : map (λ z. if r z then g z else z) (map v ys) ≡ map v ys = put-none r g (map v ys) (omega (arith, count-map v r ys)) in
+            let left : map (λ z. if p z then f z else z) ys ≡ ys = map-none p f ys (omega arith) in
+            let right : map (λ z. if r z then g z else z) (map v ys) ≡ map v ys = map-none r g (map v ys) (omega (arith, count-map v r ys)) in
             ap (λ (zs : List X). v (f y) ∷ map v zs) left ∙ ap (λ (z : Y). z ∷ map v ys) head ∙ ap (λ (zs : List Y). g (v y) ∷ zs) (sym right)
         | false ↦ λ e k m n h. let it : y ≡ x = cc in let t : r (v y) ≡ true = ap (λ (z : X). r (v z)) it ∙ passes in cc
       ]
@@ -85,7 +47,7 @@ twin-out {X = X} {Y = Y} v p r x passes (y ∷ ys) found onep oner =
     → map v (cond (not b) (y ∷ filter (λ z. not (p z)) ys) (filter (λ z. not (p z)) ys)) ≡ cond (not c) (v y ∷ filter (λ z. not (r z)) (map v ys)) (filter (λ z. not (r z)) (map v ys)) =
     elim [
       | true ↦ elim [
-        | true ↦ λ e k m n h. ap (map v) (out-none p ys (omega arith)) ∙ sym (out-none r (map v ys) (omega (arith, count-map v r ys)))
+        | true ↦ λ e k m n h. ap (map v) (filter-none p ys (omega arith)) ∙ sym (filter-none r (map v ys) (omega (arith, count-map v r ys)))
         | false ↦ λ e k m n h. let it : y ≡ x = cc in let t : r (v y) ≡ true = ap (λ (z : X). r (v z)) it ∙ passes in cc
       ]
       | false ↦ elim [

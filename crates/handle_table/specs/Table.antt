@@ -13,8 +13,8 @@ abbrev pub connections : Places OpenConnection → List OpenConnection
 connections p = map (λ h. h.item) p.held
 
 -- a state that has these connections and nothing else
-abbrev pub spm_of : Places OpenConnection → SpmState
-spm_of p = record { connections = connections p; connections_made = p.takes; messages = []; phases = []; doorbells = []; sources = [] }
+abbrev pub spm_of_connections : Places OpenConnection → SpmState
+spm_of_connections p = record { connections = connections p; connections_made = p.takes; messages = []; phases = []; doorbells = []; sources = [] }
 
 -- a connection is added last
 abbrev pub with_started : SpmState → OpenConnection → SpmState

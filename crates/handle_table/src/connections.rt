@@ -8,7 +8,7 @@ ghost use Rattle.handle_table.specs.declared.handles.Family.TheVariants as famil
 ghost use Rattle.handle_table.specs.declared.handles.Family.{Family as TheFamily};
 ghost use Rattle.object_pools.specs.declared.slot.Slot.{Slot as TheSlot};
 ghost use Rattle.handle_table.specs.Handles.{handle_at, IsNameable};
-ghost use Rattle.handle_table.specs.Table.{connections, spm_of, with_started, connection_of, is_owned_from, IsTable};
+ghost use Rattle.handle_table.specs.Table.{connections, spm_of_connections, with_started, connection_of, is_owned_from, IsTable};
 
 use crate::handles::{Family, handle_of, slot_of};
 use ffm_model::{ActorId, ConnPhase, Handle, OpenConnection};
@@ -73,7 +73,7 @@ fn is_between(connection: &OpenConnection, owner: ActorId, service: u32) -> bool
     connection.client.0 == owner.0 && connection.service == service
 }
 
-fn is_owned(connection: &OpenConnection, owner: ActorId, from: u32) -> bool
+fn is_owned_from(connection: &OpenConnection, owner: ActorId, from: u32) -> bool
     ensures { result ≡ is_owned_from owner.0 from connection.now }
 {
     connection.client.0 == owner.0 && from <= connection.serial
@@ -150,8 +150,8 @@ impl Connections {
         requires room { length self.old.held < length self.old.generations }
         requires few { self.old.takes < 1048575 }
         ensures slot { free_slot self.old ≡ Some result }
-        ensures after { self.new ≡ taken self.old result (new_connection (spm_of self.old) owner.0 service) }
-        ensures state { spm_of self.new ≡ with_started (spm_of self.old) (new_connection (spm_of self.old) owner.0 service) }
+        ensures after { self.new ≡ taken self.old result (new_connection (spm_of_connections self.old) owner.0 service) }
+        ensures state { spm_of_connections self.new ≡ with_started (spm_of_connections self.old) (new_connection (spm_of_connections self.old) owner.0 service) }
     {
         let connection = OpenConnection {
             serial: self.pool.takes(),
@@ -169,7 +169,7 @@ impl Connections {
 
     /// The connection of this owner that was told this handle, in constant time; None exactly where there is none.
     pub fn find(&self, owner: ActorId, handle: Handle) -> Option<Slot>
-        ensures connection { option_and_then (item_at self.now) result ≡ connection_held (spm_of self.now) owner.0 handle }
+        ensures connection { option_and_then (item_at self.now) result ≡ connection_held (spm_of_connections self.now) owner.0 handle }
         ensures live { IfSome result (λ slot. IsSome (item_at self.now slot)) }
     {
         self.pool.law();
@@ -201,7 +201,7 @@ impl Connections {
     pub fn set_phase(&mut self, slot: Slot, phase: ConnPhase)
         requires { IsSome (item_at self.old slot) }
         ensures item { IfSome (item_at self.old slot) (λ c. self.new ≡ with_item self.old slot (record c { phase = phase })) }
-        ensures state { IfSome (item_at self.old slot) (λ c. spm_of self.new ≡ with_connection_phase (spm_of self.old) c.serial phase) }
+        ensures state { IfSome (item_at self.old slot) (λ c. spm_of_connections self.new ≡ with_connection_phase (spm_of_connections self.old) c.serial phase) }
     {
         let mut connection = self.open_at(slot);
         connection.phase = phase;
@@ -212,7 +212,7 @@ impl Connections {
     pub fn set_rhandle(&mut self, slot: Slot, rhandle: u32)
         requires { IsSome (item_at self.old slot) }
         ensures item { IfSome (item_at self.old slot) (λ c. self.new ≡ with_item self.old slot (record c { rhandle = rhandle })) }
-        ensures state { IfSome (item_at self.old slot) (λ c. spm_of self.new ≡ with_rhandle (spm_of self.old) c.serial rhandle) }
+        ensures state { IfSome (item_at self.old slot) (λ c. spm_of_connections self.new ≡ with_rhandle (spm_of_connections self.old) c.serial rhandle) }
     {
         let mut connection = self.open_at(slot);
         connection.rhandle = rhandle;
@@ -224,7 +224,7 @@ impl Connections {
         requires { IsSome (item_at self.old slot) }
         ensures handle { result ≡ handle_at family.Connection slot }
         ensures item { IfSome (item_at self.old slot) (λ c. self.new ≡ with_item self.old slot (record c { handle = Some result })) }
-        ensures state { IfSome (item_at self.old slot) (λ c. spm_of self.new ≡ with_connection_handle (spm_of self.old) c.serial result) }
+        ensures state { IfSome (item_at self.old slot) (λ c. spm_of_connections self.new ≡ with_connection_handle (spm_of_connections self.old) c.serial result) }
     {
         let mut connection = self.open_at(slot);
         let handle = handle_of(Family::Connection, slot);
@@ -237,7 +237,7 @@ impl Connections {
     pub fn free(&mut self, slot: Slot)
         requires { IsSome (item_at self.old slot) }
         ensures rest { self.new ≡ without self.old slot }
-        ensures state { IfSome (item_at self.old slot) (λ c. spm_of self.new ≡ without_connection (spm_of self.old) c.serial) }
+        ensures state { IfSome (item_at self.old slot) (λ c. spm_of_connections self.new ≡ without_connection (spm_of_connections self.old) c.serial) }
     {
         self.pool.law();
         self.pool.put_back(slot);
@@ -245,7 +245,7 @@ impl Connections {
 
     /// How many connections there are between an owner and a service, in any phase.
     pub fn in_use(&self, owner: ActorId, service: u32) -> u32
-        ensures { result ≡ in_use (spm_of self.now) owner.0 service }
+        ensures { result ≡ in_use (spm_of_connections self.now) owner.0 service }
     {
         let mut count = 0;
         for place in 0..self.pool.live() {
@@ -266,7 +266,7 @@ impl Connections {
         self.pool.law();
         for place in 0..self.pool.live() {
             let candidate = self.pool.nth(place);
-            if is_owned(&candidate.item, owner, from) {
+            if is_owned_from(&candidate.item, owner, from) {
                 return Some(candidate.slot);
             }
         }

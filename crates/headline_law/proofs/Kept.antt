@@ -1,6 +1,7 @@
 -- Each entry of a run is a step from the state behind those before it.
 use Rattle.std.proofs.Common.{◌≡◌, List, [], ◌∷◌, ◌++◌, refl, subst}
 use Rattle.std.specs.Prelude.{Option, Some, None, IsSome, fold}
+use Rattle.ffm_model.proofs.RunLemmas.{none-stays}
 use Rattle.ffm_model.specs.declared.machine.Entry.{Entry}
 use Rattle.ffm_model.specs.declared.system.System.{System}
 use Rattle.ffm_model.specs.Memory.{ByteMap}
@@ -14,14 +15,10 @@ use Rattle.isolation_law.proofs.Within.{run-four}
 use Rattle.headline_law.specs.Promises.{IsNextEntry, KeepsHeadline}
 use Rattle.headline_law.proofs.Busy.{step-busy}
 
-ended : (s : System) (es : List Entry) → fold (step_on s) None es ≡ None
-ended s [] = refl
-ended s (e ∷ es) = ended s es
-
 -- a run goes on from a step
 went_on : (s : System) (o : Option State) (es : List Entry) → IsSome (fold (step_on s) o es) → (new : State) × (o ≡ Some new)
 went_on s (Some new) es h = (new, refl)
-went_on s None es h = absurd (let none = ended s es in cc)
+went_on s None es h = absurd (let none = none-stays s es in cc)
 
 next_from : (s : System) (o : Option State) (before later : List Entry) (st : State) (e : Entry) → fold (step_on s) o before ≡ Some st → IsSome (fold (step_on s) o (before ++ e ∷ later)) → (new : State) × (step s st e ≡ Some new)
 next_from s o [] later st e here h = went_on s (step s st e) later (subst (λ (x : Option State). IsSome (fold (step_on s) (step_on s x e) later)) here h)

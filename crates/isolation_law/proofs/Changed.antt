@@ -6,6 +6,8 @@ use Rattle.std.specs.Ordering.{int_eq}
 use Rattle.std.proofs.lemmas.List.{length-append, length-map, length-take}
 use Rattle.std.proofs.lemmas.Bool.{and_parts}
 use Rattle.std.proofs.lemmas.Bool.Decides.{nat_tests}
+use Rattle.list_laws.proofs.Tests.{fails, find-all}
+use Rattle.list_laws.proofs.Bools.{if_passes}
 use Rattle.ffm_model.specs.declared.constants.TheConstants.{PSA_IPC_CALL, PSA_IPC_CONNECT}
 use Rattle.ffm_model.specs.declared.system.System.{System}
 use Rattle.ffm_model.specs.declared.system.ActorKind.{ActorKind}
@@ -27,11 +29,10 @@ use Rattle.ffm_model.specs.Accesses.{raise, fire, store, is_access_size}
 use Rattle.ffm_model.specs.Calls.{call_case, error_effect, effect_of}
 use Rattle.ffm_model.specs.Step.{step}
 use Rattle.ffm_model.specs.Reach.{length_word_has, write_reach}
-use Rattle.message_vectors.specs.Bytes.{range_has}
+use Rattle.byte_lanes.specs.Differences.{range_covers}
 use Rattle.message_vectors.proofs.Reached.{store_number-outside, words_stored-outside, copy_bytes-outside, lengths_written-outside, range-part}
 use Rattle.isolation_law.specs.Vectors.{AreFour, HaveFour}
-use Rattle.isolation_law.proofs.Tests.{fails, found-all}
-use Rattle.isolation_law.proofs.Effects.{if_passes, effect-has}
+use Rattle.isolation_law.proofs.Effects.{effect-has}
 use Rattle.isolation_law.proofs.Reached.{buffer-written, range-written, rest-inside, output-written, length_word-written, request-held, request-kind}
 use Rattle.isolation_law.proofs.Steps.{step-leaves}
 
@@ -44,7 +45,7 @@ moves st x None = tt
 moves st x (Some m) = refl
 
 -- a valid buffer lies outside where the address does
-buffer-outside : (s : System) (b : SpmState) (a base len x : ℕ) → valid_buffer s a base len ≡ true → write_reach s b a x ≡ false → range_has x base len ≡ false
+buffer-outside : (s : System) (b : SpmState) (a base len x : ℕ) → valid_buffer s a base len ≡ true → write_reach s b a x ≡ false → range_covers (base, len) x ≡ false
 buffer-outside s b a base len x valid out = fails _ _ (buffer-written s b a base len x valid) out
 
 -- psa_get: a message's words take no more than psa_msg_t
@@ -58,7 +59,7 @@ words-fit s b m h four =
 got-outside : (s : System) (st : State) (a msg x i : ℕ) (h : Handle) (m : PendingMessage) → AreFour m.vectors → write_reach s st.spm a x ≡ false → valid_buffer s a msg message_size ≡ true → Stays st x (get_of s st i msg h m)
 got-outside s st a msg x i h m four out valid =
     words_stored-outside st.memory msg x (message_words (shown_message s st.spm m h))
-    (ap (range_has x msg) (words-fit s st.spm m h four) ∙ buffer-outside s st.spm a msg message_size x valid out)
+    (ap (λ (n : ℕ). range_covers (msg, n) x) (words-fit s st.spm m h four) ∙ buffer-outside s st.spm a msg message_size x valid out)
 
 gets : (s : System) (st : State) (a signal msg x : ℕ) (h : Handle) → HaveFour st.spm → write_reach s st.spm a x ≡ false → IfSome (psa_get s st a signal msg h) (Stays st x)
 gets s st a signal msg x h four out =
@@ -67,7 +68,7 @@ gets s st a signal msg x h four out =
     λ i. elim [
       | None ↦ λ e. tt
       | Some m ↦ λ e. if_passes (Stays st x) (valid_buffer s a msg message_size) (get_of s st i msg h m)
-          (got-outside s st a msg x i h m (found-all (λ (p : PendingMessage). AreFour p.vectors) (is_undelivered i) st.spm.messages m e four) out)
+          (got-outside s st a msg x i h m (find-all (λ (p : PendingMessage). AreFour p.vectors) (is_undelivered i) st.spm.messages m e four) out)
     ] in
     elim (service_of_signal s a signal) as (λ (o : Option ℕ). IfSome (option_and_then (λ i. option_and_then (of i) (find (is_undelivered i) st.spm.messages)) o) (Stays st x)) [
       | None ↦ tt

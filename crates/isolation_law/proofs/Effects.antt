@@ -1,5 +1,5 @@
 -- What is said of each effect of a call.
-use Rattle.std.proofs.Common.{ℕ, ◌≡◌, Bool, true, false, cond, refl}
+use Rattle.std.proofs.Common.{ℕ, Bool, true, false, cond}
 use Rattle.std.specs.Prelude.{Option, Some, None, IfSome}
 use Rattle.ffm_model.specs.declared.system.System.{System}
 use Rattle.ffm_model.specs.declared.system.ActorKind.{ActorKind}
@@ -9,11 +9,6 @@ use Rattle.ffm_model.specs.Actors.{kind_of}
 use Rattle.ffm_model.specs.State.{State}
 use Rattle.ffm_model.specs.ClientCalls.{Effect}
 use Rattle.ffm_model.specs.Calls.{has_call, call_case, error_effect, effect_or_error, effect_of}
-
--- what holds of a value if a test passes
-pub if_passes : {X : Type 0} (P : X → Type 0) (b : Bool) (x : X) → (b ≡ true → P x) → IfSome (cond b (Some x) None) P
-if_passes P true x h = h refl
-if_passes P false x h = tt
 
 -- what holds of a call's effect and of each PROGRAMMER ERROR's
 pub effect-has : (P : Effect → Type 0) (s : System) (st : State) (a : ℕ) (c : Call) (h : Handle) → ((k : ActorKind) → P (error_effect k s st a c)) → IfSome (call_case s st a c h) P → P (effect_of s st a c h)

@@ -1,4 +1,3 @@
-mod Tests
 mod Effects
 pub mod Reached
 pub mod Steps

@@ -8,6 +8,8 @@ use Rattle.std.proofs.lemmas.List.{length-append, length-set, length-take, set_p
 use Rattle.std.proofs.lemmas.List.Elements.{All-nil, All-cons, All-head, All-tail, All-replicate, All-append, All-push, All-weaker, All-map, All-filter}
 use Rattle.std.proofs.lemmas.Bool.Decides.{nat_tests}
 use Rattle.std.proofs.lemmas.Bool.{and_parts, cases_lt}
+use Rattle.list_laws.proofs.Tests.{find-all}
+use Rattle.list_laws.proofs.Bools.{if_passes}
 use Rattle.ffm_model.specs.declared.constants.TheConstants.{PSA_IPC_CALL, PSA_IPC_CONNECT, PSA_IPC_DISCONNECT, PSA_MAX_IOVEC, PSA_BLOCK, PSA_SUCCESS, PSA_NULL_HANDLE, PSA_ERROR_CONNECTION_REFUSED, PSA_ERROR_CONNECTION_BUSY, PSA_ERROR_COMMUNICATION_FAILURE, PSA_ERROR_PROGRAMMER_ERROR}
 use Rattle.ffm_model.specs.declared.system.System.{System}
 use Rattle.ffm_model.specs.declared.system.ActorKind.{ActorKind}
@@ -43,8 +45,7 @@ use Rattle.memory_image.specs.Pieces.{is_inside, ranges_of}
 use Rattle.message_vectors.specs.Vectors.{AreWithin, input_of, output_of, with_input_moved, with_output_moved}
 use Rattle.message_vectors.proofs.Moved.{read_within, input_within, output_within}
 use Rattle.isolation_law.specs.Vectors.{AreFour, HaveFour, LieWithin}
-use Rattle.isolation_law.proofs.Tests.{found-all}
-use Rattle.isolation_law.proofs.Effects.{if_passes, effect-has}
+use Rattle.isolation_law.proofs.Effects.{effect-has}
 use Rattle.isolation_law.proofs.Reached.{request-held}
 use Rattle.isolation_law.proofs.Steps.{step-has, run-has}
 
@@ -216,7 +217,7 @@ marks W s b a h rhandle all = elim (option_and_then (λ m. m.connection) (messag
 -- the vectors of a request that is held
 held-meets : (W : Vectors → Type 0) (s : System) (b : SpmState) (a : ℕ) (h : Handle) (index : ℕ) (m : PendingMessage) → request_held s b a h index ≡ Some m → AllMeet W b → W m.vectors
 held-meets W s b a h index m e all =
-    found-all (λ (p : PendingMessage). W p.vectors) (λ p. is_service_of s a p.service && has_handle p.handle h) b.messages m (request-held s b a h index m e).held all
+    find-all (λ (p : PendingMessage). W p.vectors) (λ p. is_service_of s a p.service && has_handle p.handle h) b.messages m (request-held s b a h index m e).held all
 
 input-moves : (W : Vectors → Type 0) (s : System) (b : SpmState) (a : ℕ) (h : Handle) (index len : ℕ) (m : PendingMessage) → IsKept s W → request_held s b a h index ≡ Some m → AllMeet W b
     → AllMeet W (with_vectors b h (input_moved m index (min len (rest_of (input_at m index)))))

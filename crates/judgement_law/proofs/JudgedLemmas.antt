@@ -5,6 +5,8 @@ use Rattle.std.specs.Option.{option_map_or}
 use Rattle.std.proofs.Math.Seq.{take-append_seam, get_or-append_seam}
 use Rattle.std.proofs.lemmas.Bool.Decides.{nat_tests, eqb_tells}
 use Rattle.std.proofs.lemmas.List.{length-append}
+use Rattle.std.proofs.lemmas.List.Sums.{fold-append}
+use Rattle.ffm_model.proofs.RunLemmas.{none-stays}
 use Rattle.ffm_model.specs.declared.system.System.{System}
 use Rattle.ffm_model.specs.declared.machine.Entry.{Entry}
 use Rattle.ffm_model.specs.declared.machine.Verdict.{Verdict}
@@ -42,14 +44,6 @@ verdict-there : (v : Verdict) (o : Option Verdict) → o ≡ Some v → option_m
 verdict-there v o e = rw e (verdict-own v)
 
 -- ---- runs
-
-fold-none : (s : System) (es : List Entry) → fold (step_on s) None es ≡ None
-fold-none s [] = refl
-fold-none s (e ∷ es) = fold-none s es
-
-fold-append : (s : System) (o : Option State) (xs ys : List Entry) → fold (step_on s) o (xs ++ ys) ≡ fold (step_on s) (fold (step_on s) o xs) ys
-fold-append s o [] ys = refl
-fold-append s o (x ∷ xs) ys = fold-append s (step_on s o x) xs ys
 
 -- the entries before a place, and the entry there, are those of any other way to part the list there
 same-before : (xs ys : List Entry) (x y : Entry) (us vs es : List Entry) → es ≡ xs ++ x ∷ us → es ≡ ys ++ y ∷ vs → length xs ≡ length ys → xs ≡ ys
@@ -141,7 +135,7 @@ long s m limit es done e left n st b =
 run-to : (s : System) (m : ByteMap) (limit : ℕ) (es done : List Entry) (e : Entry) (left : List Entry) (n : ℕ) (st : State) → Behind s m limit es done (e ∷ left) n st
     → after s m es ≡ fold (step_on s) (step s st e) left
 run-to s m limit es done e left n st b =
-    ap (after s m) b.parts ∙ fold-append s (Some (opening s m)) done (e ∷ left) ∙ ap (λ (o : Option State). fold (step_on s) (step_on s o e) left) b.state
+    ap (after s m) b.parts ∙ fold-append (step_on s) (Some (opening s m)) done (e ∷ left) ∙ ap (λ (o : Option State). fold (step_on s) (step_on s o e) left) b.state
 
 some-none : {A : Type 0} (x : A) → None ≡ Some x → ⊥
 some-none x e = cc
@@ -192,7 +186,7 @@ judged-plainly s m limit v es done (e ∷ left) n st b =
             place = ap (λ (k : ℕ). k + 1) (sym b.count);
             none = ap (λ (o : Option State). step_on s o e) b.state ∙ is;
           }))
-          (λ h. none-some (after s m es) (run-to s m limit es done e left n st b ∙ ap (λ (o : Option State). fold (step_on s) o left) is ∙ fold-none s left) h.run)
+          (λ h. none-some (after s m es) (run-to s m limit es done e left n st b ∙ ap (λ (o : Option State). fold (step_on s) o left) is ∙ none-stays s left) h.run)
       | Some new ↦ λ is below. judged-plainly s m limit v es (done ++ e ∷ []) left (n + 1) new (further s m limit es done e left n st new b below is)
     ] in
     let within : (c : Bool) → nat_le limit n ≡ c

@@ -21,16 +21,13 @@ const SYSTEM: &str = r#"{"isolation_level":3,"manifests":[
 {"name":"ADMIN","sid":"0x41","non_secure_clients":false,"version":2}]}],
 "non_secure_ram":"0x1000","clients":["NS","OTHER"]}"#;
 
-#[tactic(auto, using(memory_image::proofs::Systems::system_fits))]
+#[tactic(auto, using(memory_image::proofs::Systems::system_fits, memory_image::proofs::Systems::system_few))]
 pub fn manager(alloc: Global, limit: u32) -> Result<Spm, Fail>
     requires positive { 1 ≤ limit }
     requires limited { limit ≤ MAX_ENTRIES }
     ensures { IfOk result (λ m. m.history ≡ []) }
 {
     let system = system_of(alloc, SYSTEM)?;
-    if system.regions.len() >= 2147483648 {
-        return Err(Fail::from("too many regions"));
-    }
     let image = Image::new(alloc, &system.regions, &List::of(Vec::new(alloc)))?;
     Ok(Spm::new(alloc, system, image, limit)?)
 }

@@ -19,7 +19,7 @@ use Rattle.memory_image.specs.declared.image.Image.{Image}
 use Rattle.memory_image.specs.Pieces.{byte_at, ranges_of, regions_of}
 use Rattle.machine_calls.specs.declared.machine.Machine.{Machine}
 use Rattle.machine_calls.specs.declared.machine.Objects.{Objects}
-use Rattle.machine_calls.specs.Machine.{spm_of, state_of, IsMachineOf, MessagesFit, VectorsFit}
+use Rattle.machine_calls.specs.Machine.{spm_of_objects, state_of, IsMachineOf, MessagesFit, VectorsFit}
 
 -- ---- psa_get
 
@@ -67,7 +67,7 @@ found_fits regions q (y ∷ ys) m a is =
       some_same x z g = cc
 
 -- that of a partition's handle
-pub held_fits : (regions : List (ℕ × ℕ)) (s : System) (o : Objects) (a : ℕ) (h : Handle) (m : PendingMessage) → Some m ≡ message_held s (spm_of o) a h → MessagesFit regions o → VectorsFit regions m.vectors
+pub held_fits : (regions : List (ℕ × ℕ)) (s : System) (o : Objects) (a : ℕ) (h : Handle) (m : PendingMessage) → Some m ≡ message_held s (spm_of_objects o) a h → MessagesFit regions o → VectorsFit regions m.vectors
 held_fits regions s o a h m is k = found_fits regions _ o.messages.items m k (sym is)
 
 passed : (x : Option PendingMessage) (test : PendingMessage → Bool) (m : PendingMessage) → Some m ≡ option_and_then (λ y. if test y then Some y else None) x → x ≡ Some m
@@ -78,8 +78,8 @@ passed (Some y) test m is = go (test y) is where
   go false g = cc
 
 -- that of a request
-pub request_fits : (regions : List (ℕ × ℕ)) (s : System) (o : Objects) (a : ℕ) (h : Handle) (index : ℕ) (m : PendingMessage) → Some m ≡ request_held s (spm_of o) a h index → MessagesFit regions o → VectorsFit regions m.vectors
-request_fits regions s o a h index m is k = held_fits regions s o a h m (sym (passed (message_held s (spm_of o) a h) (λ m. int_le PSA_IPC_CALL m.kind && nat_lt index PSA_MAX_IOVEC) m is)) k
+pub request_fits : (regions : List (ℕ × ℕ)) (s : System) (o : Objects) (a : ℕ) (h : Handle) (index : ℕ) (m : PendingMessage) → Some m ≡ request_held s (spm_of_objects o) a h index → MessagesFit regions o → VectorsFit regions m.vectors
+request_fits regions s o a h index m is k = held_fits regions s o a h m (sym (passed (message_held s (spm_of_objects o) a h) (λ m. int_le PSA_IPC_CALL m.kind && nat_lt index PSA_MAX_IOVEC) m is)) k
 
 -- ---- the machine is still the system's
 
@@ -89,7 +89,7 @@ kept_messages s m o image k same fits = record { regions = same ∙ k.regions; m
 
 -- where the vectors of a message changed
 pub kept_vectors : (s : System) (m : Machine) (o : Objects) (image : Image) (h : Handle) (v : Vectors) → IsMachineOf s m → regions_of image ≡ regions_of m.memory
-    → spm_of o ≡ with_vectors (spm_of m.objects) h v → VectorsFit (ranges_of s.regions) v → IsMachineOf s (record { objects = o; memory = image })
+    → spm_of_objects o ≡ with_vectors (spm_of_objects m.objects) h v → VectorsFit (ranges_of s.regions) v → IsMachineOf s (record { objects = o; memory = image })
 kept_vectors s m o image h v k same is fits =
     kept_messages s m o image k same
     (All-same fit _ _ (ap (λ b. b.messages) is) (All-map fit (vectors_put h v) m.objects.messages.items (All-weaker fit (λ x. fit (vectors_put h v x)) put m.objects.messages.items k.messages))) where
@@ -114,7 +114,7 @@ delivered_fit regions service h (m ∷ ms) a = by (is_undelivered service m) (de
 
 -- where a message was delivered
 pub kept_delivered : (s : System) (m : Machine) (o : Objects) (image : Image) (service : ℕ) (h : Handle) → IsMachineOf s m → regions_of image ≡ regions_of m.memory
-    → spm_of o ≡ record (spm_of m.objects) { messages = delivered service h m.objects.messages.items } → IsMachineOf s (record { objects = o; memory = image })
+    → spm_of_objects o ≡ record (spm_of_objects m.objects) { messages = delivered service h m.objects.messages.items } → IsMachineOf s (record { objects = o; memory = image })
 kept_delivered s m o image service h k same is =
     kept_messages s m o image k same
     (All-same (λ x. VectorsFit (ranges_of s.regions) x.vectors) _ _ (ap (λ b. b.messages) is) (delivered_fit (ranges_of s.regions) service h m.objects.messages.items k.messages))
@@ -130,19 +130,19 @@ got s st a signal msg i h x at first room =
 
 pub got_due : (s : System) (old new : Machine) (given : List Handle) (a signal msg i : ℕ) (h : Handle) (x : PendingMessage) (shown : Message) (words : List ℕ)
     → Some i ≡ service_of_signal s a signal → Some x ≡ find (is_undelivered i) old.objects.messages.items → valid_buffer s a msg message_size ≡ true
-    → shown ≡ shown_message s (spm_of old.objects) x h → words ≡ message_words shown
-    → spm_of new.objects ≡ record (spm_of old.objects) { messages = delivered i h old.objects.messages.items } → byte_at new.memory ≡ words_stored (byte_at old.memory) msg words
+    → shown ≡ shown_message s (spm_of_objects old.objects) x h → words ≡ message_words shown
+    → spm_of_objects new.objects ≡ record (spm_of_objects old.objects) { messages = delivered i h old.objects.messages.items } → byte_at new.memory ≡ words_stored (byte_at old.memory) msg words
     → psa_get s (state_of old given) a signal msg h ≡ Some (effect (Got shown) (state_of new (given ++ h ∷ [])))
 got_due s old new given a signal msg i h x shown words at first room is words_are spm memory =
     got s (state_of old given) a signal msg i h x at first room
-    ∙ ap (λ m. Some (effect (Got m) (record { spm = record (spm_of old.objects) { messages = delivered i h old.objects.messages.items }; handles_given = given ++ h ∷ []; memory = words_stored (byte_at old.memory) msg (message_words m) }))) (sym is)
+    ∙ ap (λ m. Some (effect (Got m) (record { spm = record (spm_of_objects old.objects) { messages = delivered i h old.objects.messages.items }; handles_given = given ++ h ∷ []; memory = words_stored (byte_at old.memory) msg (message_words m) }))) (sym is)
     ∙ ap (λ b. Some (effect (Got shown) (record { spm = b; handles_given = given ++ h ∷ []; memory = words_stored (byte_at old.memory) msg (message_words shown) }))) (sym spm)
-    ∙ ap (λ m. Some (effect (Got shown) (record { spm = spm_of new.objects; handles_given = given ++ h ∷ []; memory = m }))) (sym (memory ∙ ap (words_stored (byte_at old.memory) msg) words_are))
+    ∙ ap (λ m. Some (effect (Got shown) (record { spm = spm_of_objects new.objects; handles_given = given ++ h ∷ []; memory = m }))) (sym (memory ∙ ap (words_stored (byte_at old.memory) msg) words_are))
 
 -- ---- psa_reply
 
 -- the messages that are left, where no call behind it changes one
-pub removed_fit : (regions : List (ℕ × ℕ)) (o n p : Objects) (h : Handle) → spm_of n ≡ without_message (spm_of o) h → p.messages ≡ n.messages → MessagesFit regions o → MessagesFit regions p
+pub removed_fit : (regions : List (ℕ × ℕ)) (o n p : Objects) (h : Handle) → spm_of_objects n ≡ without_message (spm_of_objects o) h → p.messages ≡ n.messages → MessagesFit regions o → MessagesFit regions p
 removed_fit regions o n p h is same fits =
     All-same (λ x. VectorsFit regions x.vectors) _ _ (ap (λ v. v.items) same ∙ ap (λ b. b.messages) is) (All-filter (λ m. not (has_handle m.handle h)) (λ x. VectorsFit regions x.vectors) o.messages.items fits)
 
@@ -154,5 +154,5 @@ left_out (Some y) test m is = go (test y) is where
   go false g = sym g
 
 -- the vectors of a message that may be answered
-pub reply_fits : (regions : List (ℕ × ℕ)) (s : System) (o : Objects) (a : ℕ) (h : Handle) (status : ℤ) (m : PendingMessage) → Some m ≡ reply_to s (spm_of o) a h status → MessagesFit regions o → VectorsFit regions m.vectors
-reply_fits regions s o a h status m is k = held_fits regions s o a h m (sym (left_out (message_held s (spm_of o) a h) (λ m. int_eq m.kind PSA_IPC_CONNECT && not (is_connect_status status)) m is)) k
+pub reply_fits : (regions : List (ℕ × ℕ)) (s : System) (o : Objects) (a : ℕ) (h : Handle) (status : ℤ) (m : PendingMessage) → Some m ≡ reply_to s (spm_of_objects o) a h status → MessagesFit regions o → VectorsFit regions m.vectors
+reply_fits regions s o a h status m is k = held_fits regions s o a h m (sym (left_out (message_held s (spm_of_objects o) a h) (λ m. int_eq m.kind PSA_IPC_CONNECT && not (is_connect_status status)) m is)) k

@@ -17,8 +17,8 @@ use Rattle.machine_calls.specs.declared.machine.Objects.{Objects}
 use Rattle.machine_calls.specs.declared.machine.Machine.{Machine}
 
 -- the state without its memory and without the handles of the past
-abbrev pub spm_of : Objects → SpmState
-spm_of o = record {
+abbrev pub spm_of_objects : Objects → SpmState
+spm_of_objects o = record {
   connections = o.connections.items;
   connections_made = o.connections_made;
   messages = o.messages.items;
@@ -29,11 +29,11 @@ spm_of o = record {
 
 -- the whole state, with the handles given so far
 abbrev pub state_of : Machine → List Handle → State
-state_of m given = record { spm = spm_of m.objects; handles_given = given; memory = byte_at m.memory }
+state_of m given = record { spm = spm_of_objects m.objects; handles_given = given; memory = byte_at m.memory }
 
 -- the outcome and the state are those due; a PROGRAMMER ERROR is told exactly where none are due, and then nothing changed
 abbrev pub Moves : Option Move → Objects → Result (Option Outcome) Memory → Objects → Type 0
-Moves due old (Ok (Some o)) new = due ≡ Some (move o (spm_of new))
+Moves due old (Ok (Some o)) new = due ≡ Some (move o (spm_of_objects new))
 Moves due old (Ok None) new = (due ≡ None) × (new ≡ old)
 Moves due old (Err e) new = Unit {0}
 

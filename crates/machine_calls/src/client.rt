@@ -7,7 +7,7 @@ ghost use Rattle.ffm_model.specs.Actors.{budget_of, is_stateless, stateless_inde
 ghost use Rattle.ffm_model.specs.State.{with_message, with_phase};
 ghost use Rattle.ffm_model.specs.ClientCalls.{in_state, call_to, connection_called, move, psa_call, psa_close, service_called, psa_connect, version_number, takes_version, is_service_panicked, connect_issued, connect_to, refuses_requests, call_on, close_on, is_busy};
 ghost use Rattle.ffm_model.specs.Panic.{is_dead};
-ghost use Rattle.machine_calls.specs.Machine.{spm_of, state_of, Moves, Does, VectorsFit, MessagesFit, IsMachineOf};
+ghost use Rattle.machine_calls.specs.Machine.{spm_of_objects, state_of, Moves, Does, VectorsFit, MessagesFit, IsMachineOf};
 
 use crate::machine::{Machine, Objects};
 use crate::snapshot::{NO_VECTORS, vectors_of};
@@ -87,7 +87,7 @@ fn is_busy(phase: ConnPhase) -> bool
 
 impl Objects {
     fn is_service_panicked(&self, system: &System, service: u32) -> bool
-        ensures { result ≡ is_service_panicked system.now (spm_of self.now) service }
+        ensures { result ≡ is_service_panicked system.now (spm_of_objects self.now) service }
     {
         match system.services.as_slice().get(service as usize) {
             Some(found) => matches!(self.phase(found.owner), ActorPhase::Panicked),
@@ -103,7 +103,7 @@ impl Objects {
         kind: i32,
         vectors: Vectors,
     ) -> Result<(), Memory>
-        ensures state { IfOk result (λ u. spm_of self.new ≡ with_phase (with_message (spm_of self.old) connection kind vectors) actor.0 phase.Blocked) }
+        ensures state { IfOk result (λ u. spm_of_objects self.new ≡ with_phase (with_message (spm_of_objects self.old) connection kind vectors) actor.0 phase.Blocked) }
         ensures made { self.new.connections_made ≡ self.old.connections_made }
         ensures fits { (regions : prelude.List (ℕ × ℕ)) → VectorsFit regions vectors → MessagesFit regions self.old → MessagesFit regions self.new }
     {
@@ -115,7 +115,7 @@ impl Objects {
     // Adds a connection and its message; the client waits.
     fn issue_connect(&mut self, actor: ActorId, service: u32) -> Result<(), Memory>
         requires few { self.old.connections_made < 2 ^ 31 }
-        ensures state { IfOk result (λ u. spm_of self.new ≡ connect_issued (spm_of self.old) actor.0 service) }
+        ensures state { IfOk result (λ u. spm_of_objects self.new ≡ connect_issued (spm_of_objects self.old) actor.0 service) }
         ensures made { self.new.connections_made ≤ self.old.connections_made + 1 }
         ensures fits { (regions : prelude.List (ℕ × ℕ)) → MessagesFit regions self.old → MessagesFit regions self.new }
     {
@@ -141,7 +141,7 @@ impl Objects {
     ) -> Result<Outcome, Memory>
         requires few { self.old.connections_made < 2 ^ 31 }
         requires budget { budget_of system.now actor.0 service ≡ Some budget }
-        ensures moves { IfOk result (λ o. connect_to system.now (spm_of self.old) actor.0 service ≡ move o (spm_of self.new)) }
+        ensures moves { IfOk result (λ o. connect_to system.now (spm_of_objects self.old) actor.0 service ≡ move o (spm_of_objects self.new)) }
         ensures made { self.new.connections_made ≤ self.old.connections_made + 1 }
         ensures fits { (regions : prelude.List (ℕ × ℕ)) → MessagesFit regions self.old → MessagesFit regions self.new }
     {
@@ -164,7 +164,7 @@ impl Objects {
         version: u32,
     ) -> Result<Option<Outcome>, Memory>
         requires few { self.old.connections_made < 2 ^ 31 }
-        ensures moves { Moves (psa_connect system.now (spm_of self.old) actor.0 sid version) self.old result self.new }
+        ensures moves { Moves (psa_connect system.now (spm_of_objects self.old) actor.0 sid version) self.old result self.new }
         ensures made { self.new.connections_made ≤ self.old.connections_made + 1 }
         ensures fits { (regions : prelude.List (ℕ × ℕ)) → MessagesFit regions self.old → MessagesFit regions self.new }
     {
@@ -188,7 +188,7 @@ impl Objects {
         kind: i32,
         vectors: Vectors,
     ) -> Result<Outcome, Memory>
-        ensures moves { IfOk result (λ o. call_on (spm_of self.old) actor.0 connection kind vectors ≡ move o (spm_of self.new)) }
+        ensures moves { IfOk result (λ o. call_on (spm_of_objects self.old) actor.0 connection kind vectors ≡ move o (spm_of_objects self.new)) }
         ensures made { self.new.connections_made ≡ self.old.connections_made }
         ensures fits { (regions : prelude.List (ℕ × ℕ)) → VectorsFit regions vectors → MessagesFit regions self.old → MessagesFit regions self.new }
     {
@@ -209,7 +209,7 @@ impl Objects {
         kind: i32,
         vectors: Vectors,
     ) -> Result<Outcome, Memory>
-        ensures moves { IfOk result (λ o. call_to system.now (spm_of self.old) actor.0 service kind vectors ≡ move o (spm_of self.new)) }
+        ensures moves { IfOk result (λ o. call_to system.now (spm_of_objects self.old) actor.0 service kind vectors ≡ move o (spm_of_objects self.new)) }
         ensures made { self.new.connections_made ≡ self.old.connections_made }
         ensures fits { (regions : prelude.List (ℕ × ℕ)) → VectorsFit regions vectors → MessagesFit regions self.old → MessagesFit regions self.new }
     {
@@ -222,7 +222,7 @@ impl Objects {
     }
 
     fn close_on(&mut self, actor: ActorId, connection: OpenConnection) -> Result<Outcome, Memory>
-        ensures moves { IfOk result (λ o. close_on (spm_of self.old) actor.0 connection ≡ move o (spm_of self.new)) }
+        ensures moves { IfOk result (λ o. close_on (spm_of_objects self.old) actor.0 connection ≡ move o (spm_of_objects self.new)) }
         ensures made { self.new.connections_made ≡ self.old.connections_made }
         ensures fits { (regions : prelude.List (ℕ × ℕ)) → MessagesFit regions self.old → MessagesFit regions self.new }
     {
@@ -237,7 +237,7 @@ impl Objects {
 
     /// `psa_close`: None for a PROGRAMMER ERROR.
     pub fn close(&mut self, actor: ActorId, handle: Handle) -> Result<Option<Outcome>, Memory>
-        ensures moves { Moves (psa_close (spm_of self.old) actor.0 handle) self.old result self.new }
+        ensures moves { Moves (psa_close (spm_of_objects self.old) actor.0 handle) self.old result self.new }
         ensures made { self.new.connections_made ≡ self.old.connections_made }
         ensures fits { (regions : prelude.List (ℕ × ℕ)) → MessagesFit regions self.old → MessagesFit regions self.new }
     {

@@ -2,7 +2,7 @@
 ghost use Rattle.std.specs.Prelude.{◌≡◌, ◌==◌, ◌&&◌, ◌++◌, ◌∷◌, [], not, ℕ, IfOk, find, filter, map, count_by};
 ghost use Rattle.std.specs.Prelude as prelude;
 ghost use Rattle.ffm_model.specs.State.{has_handle, connection_held, connection_by_serial, in_use, phase_put, rhandle_put, handle_put, with_connection_handle, with_connection_phase, with_message, with_request, with_rhandle, without_connection};
-ghost use Rattle.machine_calls.specs.Machine.{spm_of, VectorsFit, MessagesFit};
+ghost use Rattle.machine_calls.specs.Machine.{spm_of_objects, VectorsFit, MessagesFit};
 
 use crate::machine::Objects;
 use ffm_model::{ActorId, ConnPhase, Handle, Memory, OpenConnection, PendingMessage, Vectors};
@@ -86,21 +86,21 @@ fn remove(connections: &mut Vec<OpenConnection>, serial: u32)
 impl Objects {
     /// The connection that a client holds by a handle.
     pub fn connection_held(&self, client: u32, handle: Handle) -> Option<OpenConnection>
-        ensures { result ≡ connection_held (spm_of self.now) client handle }
+        ensures { result ≡ connection_held (spm_of_objects self.now) client handle }
     {
         held_by(self.connections.as_slice(), client, handle)
     }
 
     /// The connection with a serial number.
     pub fn connection_by_serial(&self, serial: u32) -> Option<OpenConnection>
-        ensures { result ≡ connection_by_serial (spm_of self.now) serial }
+        ensures { result ≡ connection_by_serial (spm_of_objects self.now) serial }
     {
         with_serial(self.connections.as_slice(), serial)
     }
 
     /// How many connections a client has to a service, in any phase.
     pub fn in_use(&self, client: u32, service: u32) -> usize
-        ensures { result ≡ in_use (spm_of self.now) client service }
+        ensures { result ≡ in_use (spm_of_objects self.now) client service }
     {
         let same = |c: &&OpenConnection| c.client.0 == client && c.service == service;
         self.connections.iter().filter(same).count()
@@ -108,7 +108,7 @@ impl Objects {
 
     /// Sets what the connection with a serial number does.
     pub fn set_connection_phase(&mut self, serial: u32, phase: ConnPhase)
-        ensures state { spm_of self.new ≡ with_connection_phase (spm_of self.old) serial phase }
+        ensures state { spm_of_objects self.new ≡ with_connection_phase (spm_of_objects self.old) serial phase }
         ensures messages { self.new.messages ≡ self.old.messages }
         ensures made { self.new.connections_made ≡ self.old.connections_made }
     {
@@ -117,7 +117,7 @@ impl Objects {
 
     /// Sets the value that comes with each message of the connection with a serial number.
     pub fn set_rhandle(&mut self, serial: u32, rhandle: u32)
-        ensures state { spm_of self.new ≡ with_rhandle (spm_of self.old) serial rhandle }
+        ensures state { spm_of_objects self.new ≡ with_rhandle (spm_of_objects self.old) serial rhandle }
         ensures messages { self.new.messages ≡ self.old.messages }
         ensures made { self.new.connections_made ≡ self.old.connections_made }
     {
@@ -126,7 +126,7 @@ impl Objects {
 
     /// Gives the connection with a serial number its handle.
     pub fn set_connection_handle(&mut self, serial: u32, handle: Handle)
-        ensures state { spm_of self.new ≡ with_connection_handle (spm_of self.old) serial handle }
+        ensures state { spm_of_objects self.new ≡ with_connection_handle (spm_of_objects self.old) serial handle }
         ensures messages { self.new.messages ≡ self.old.messages }
         ensures made { self.new.connections_made ≡ self.old.connections_made }
     {
@@ -134,8 +134,8 @@ impl Objects {
     }
 
     /// Removes the connection with a serial number.
-    pub fn remove_connection(&mut self, serial: u32)
-        ensures state { spm_of self.new ≡ without_connection (spm_of self.old) serial }
+    pub(crate) fn remove_connection(&mut self, serial: u32)
+        ensures state { spm_of_objects self.new ≡ without_connection (spm_of_objects self.old) serial }
         ensures messages { self.new.messages ≡ self.old.messages }
         ensures made { self.new.connections_made ≡ self.old.connections_made }
     {
@@ -143,13 +143,13 @@ impl Objects {
     }
 
     /// Adds a message of a connection; it goes last. It fits the regions where its vectors do.
-    pub fn add_message(
+    pub(crate) fn add_message(
         &mut self,
         connection: OpenConnection,
         kind: i32,
         vectors: Vectors,
     ) -> Result<(), Memory>
-        ensures state { IfOk result (λ u. spm_of self.new ≡ with_message (spm_of self.old) connection kind vectors) }
+        ensures state { IfOk result (λ u. spm_of_objects self.new ≡ with_message (spm_of_objects self.old) connection kind vectors) }
         ensures made { self.new.connections_made ≡ self.old.connections_made }
         ensures fits { (regions : prelude.List (ℕ × ℕ)) → VectorsFit regions vectors → MessagesFit regions self.old → MessagesFit regions self.new }
     {
@@ -165,14 +165,14 @@ impl Objects {
     }
 
     /// Adds a request by a stateless handle; it goes last, and has no connection. It fits the regions where its vectors do.
-    pub fn add_request(
+    pub(crate) fn add_request(
         &mut self,
         client: ActorId,
         service: u32,
         kind: i32,
         vectors: Vectors,
     ) -> Result<(), Memory>
-        ensures state { IfOk result (λ u. spm_of self.new ≡ with_request (spm_of self.old) client.0 service kind vectors) }
+        ensures state { IfOk result (λ u. spm_of_objects self.new ≡ with_request (spm_of_objects self.old) client.0 service kind vectors) }
         ensures made { self.new.connections_made ≡ self.old.connections_made }
         ensures fits { (regions : prelude.List (ℕ × ℕ)) → VectorsFit regions vectors → MessagesFit regions self.old → MessagesFit regions self.new }
     {

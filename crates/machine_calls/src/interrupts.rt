@@ -3,7 +3,7 @@ ghost use Rattle.std.specs.Prelude.{◌≡◌, Ok, false, get_or, slice_set};
 ghost use Rattle.ffm_model.specs.Accesses.{fire, raise};
 ghost use Rattle.ffm_model.specs.SignalCalls.{forwarded, has_flih, psa_notify, psa_clear, psa_eoi, psa_irq_enable, psa_irq_disable, psa_reset_signal, source_of_signal, with_doorbell, with_flags};
 ghost use Rattle.ffm_model.specs.State.{flags_at};
-ghost use Rattle.machine_calls.specs.Machine.{spm_of, Moves};
+ghost use Rattle.machine_calls.specs.Machine.{spm_of_objects, Moves};
 
 use crate::machine::Objects;
 use ffm_model::{ActorId, Outcome, SourceFlags, System};
@@ -67,7 +67,7 @@ impl Objects {
     }
 
     fn set_doorbell(&mut self, partition: usize, set: bool)
-        ensures state { spm_of self.new ≡ with_doorbell (spm_of self.old) partition set }
+        ensures state { spm_of_objects self.new ≡ with_doorbell (spm_of_objects self.old) partition set }
         ensures messages { self.new.messages ≡ self.old.messages }
         ensures made { self.new.connections_made ≡ self.old.connections_made }
     {
@@ -75,7 +75,7 @@ impl Objects {
     }
 
     fn flags(&self, source: usize) -> SourceFlags
-        ensures { result ≡ flags_at (spm_of self.now) source }
+        ensures { result ≡ flags_at (spm_of_objects self.now) source }
     {
         match self.sources.as_slice().get(source) {
             Some(flags) => *flags,
@@ -88,7 +88,7 @@ impl Objects {
     }
 
     fn set_flags(&mut self, source: usize, flags: SourceFlags)
-        ensures state { spm_of self.new ≡ with_flags (spm_of self.old) source flags }
+        ensures state { spm_of_objects self.new ≡ with_flags (spm_of_objects self.old) source flags }
         ensures messages { self.new.messages ≡ self.old.messages }
         ensures made { self.new.connections_made ≡ self.old.connections_made }
     {
@@ -97,7 +97,7 @@ impl Objects {
 
     /// `psa_notify` (`psa/service.h`). None where no partition has the ID.
     pub fn notify(&mut self, system: &System, partition: i32) -> Option<Outcome>
-        ensures moves { Moves (psa_notify system.now (spm_of self.old) partition) self.old (Ok result) self.new }
+        ensures moves { Moves (psa_notify system.now (spm_of_objects self.old) partition) self.old (Ok result) self.new }
         ensures messages { self.new.messages ≡ self.old.messages }
         ensures made { self.new.connections_made ≡ self.old.connections_made }
     {
@@ -111,7 +111,7 @@ impl Objects {
 
     /// `psa_clear` (`psa/service.h`). None where the actor's doorbell isn't set.
     pub fn clear(&mut self, actor: ActorId) -> Option<Outcome>
-        ensures moves { Moves (psa_clear (spm_of self.old) actor.0) self.old (Ok result) self.new }
+        ensures moves { Moves (psa_clear (spm_of_objects self.old) actor.0) self.old (Ok result) self.new }
         ensures messages { self.new.messages ≡ self.old.messages }
         ensures made { self.new.connections_made ≡ self.old.connections_made }
     {
@@ -124,7 +124,7 @@ impl Objects {
 
     /// `psa_eoi` (`psa/service.h`). None where it isn't the asserted signal of an interrupt source of the actor.
     pub fn eoi(&mut self, system: &System, actor: ActorId, signal: u32) -> Option<Outcome>
-        ensures moves { Moves (psa_eoi system.now (spm_of self.old) actor.0 signal) self.old (Ok result) self.new }
+        ensures moves { Moves (psa_eoi system.now (spm_of_objects self.old) actor.0 signal) self.old (Ok result) self.new }
         ensures messages { self.new.messages ≡ self.old.messages }
         ensures made { self.new.connections_made ≡ self.old.connections_made }
     {
@@ -143,7 +143,7 @@ impl Objects {
 
     /// An interrupt of the device. None where no source has the number.
     pub fn raise(&mut self, system: &System, source: u32) -> Option<Outcome>
-        ensures moves { Moves (raise system.now (spm_of self.old) source) self.old (Ok result) self.new }
+        ensures moves { Moves (raise system.now (spm_of_objects self.old) source) self.old (Ok result) self.new }
         ensures messages { self.new.messages ≡ self.old.messages }
         ensures made { self.new.connections_made ≡ self.old.connections_made }
     {
@@ -161,7 +161,7 @@ impl Objects {
 
     /// `psa_irq_enable` (`psa/service.h`). None where it isn't the signal of an interrupt source of the actor.
     pub fn irq_enable(&mut self, system: &System, actor: ActorId, signal: u32) -> Option<Outcome>
-        ensures moves { Moves (psa_irq_enable system.now (spm_of self.old) actor.0 signal) self.old (Ok result) self.new }
+        ensures moves { Moves (psa_irq_enable system.now (spm_of_objects self.old) actor.0 signal) self.old (Ok result) self.new }
         ensures messages { self.new.messages ≡ self.old.messages }
         ensures made { self.new.connections_made ≡ self.old.connections_made }
     {
@@ -176,7 +176,7 @@ impl Objects {
 
     /// `psa_irq_disable` (`psa/service.h`). None where it isn't the signal of an interrupt source of the actor.
     pub fn irq_disable(&mut self, system: &System, actor: ActorId, signal: u32) -> Option<Outcome>
-        ensures moves { Moves (psa_irq_disable system.now (spm_of self.old) actor.0 signal) self.old (Ok result) self.new }
+        ensures moves { Moves (psa_irq_disable system.now (spm_of_objects self.old) actor.0 signal) self.old (Ok result) self.new }
         ensures messages { self.new.messages ≡ self.old.messages }
         ensures made { self.new.connections_made ≡ self.old.connections_made }
     {
@@ -192,7 +192,7 @@ impl Objects {
 
     /// `psa_reset_signal` (`psa/service.h`). None where it isn't the asserted signal of an interrupt source of the actor with FLIH.
     pub fn reset_signal(&mut self, system: &System, actor: ActorId, signal: u32) -> Option<Outcome>
-        ensures moves { Moves (psa_reset_signal system.now (spm_of self.old) actor.0 signal) self.old (Ok result) self.new }
+        ensures moves { Moves (psa_reset_signal system.now (spm_of_objects self.old) actor.0 signal) self.old (Ok result) self.new }
         ensures messages { self.new.messages ≡ self.old.messages }
         ensures made { self.new.connections_made ≡ self.old.connections_made }
     {
@@ -211,7 +211,7 @@ impl Objects {
 
     /// An interrupt of the device with its handler's answer. None where no source with FLIH has the number, or the answer is above 1.
     pub fn fire(&mut self, system: &System, source: u32, answer: u32) -> Option<Outcome>
-        ensures moves { Moves (fire system.now (spm_of self.old) source answer) self.old (Ok result) self.new }
+        ensures moves { Moves (fire system.now (spm_of_objects self.old) source answer) self.old (Ok result) self.new }
         ensures messages { self.new.messages ≡ self.old.messages }
         ensures made { self.new.connections_made ≡ self.old.connections_made }
     {

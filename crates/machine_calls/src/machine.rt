@@ -2,7 +2,7 @@
 
 ghost use Rattle.std.specs.Prelude.{◌≡◌, slice_set};
 ghost use Rattle.ffm_model.specs.State.{phase_of, with_phase};
-ghost use Rattle.machine_calls.specs.Machine.{spm_of};
+ghost use Rattle.machine_calls.specs.Machine.{spm_of_objects};
 
 use ffm_model::{ActorPhase, OpenConnection, PendingMessage, SourceFlags};
 use memory_image::Image;
@@ -40,7 +40,7 @@ fn put_phase(phases: &mut [ActorPhase], actor: u32, phase: ActorPhase)
 impl Objects {
     /// What an actor does; one that isn't there has ended.
     pub fn phase(&self, actor: u32) -> ActorPhase
-        ensures { result ≡ phase_of (spm_of self.now) actor }
+        ensures { result ≡ phase_of (spm_of_objects self.now) actor }
     {
         match self.phases.as_slice().get(actor as usize) {
             Some(phase) => *phase,
@@ -50,7 +50,7 @@ impl Objects {
 
     /// Sets what an actor does.
     pub fn set_phase(&mut self, actor: u32, phase: ActorPhase)
-        ensures state { spm_of self.new ≡ with_phase (spm_of self.old) actor phase }
+        ensures state { spm_of_objects self.new ≡ with_phase (spm_of_objects self.old) actor phase }
         ensures messages { self.new.messages ≡ self.old.messages }
         ensures made { self.new.connections_made ≡ self.old.connections_made }
     {

@@ -3,7 +3,7 @@ ghost use Rattle.std.specs.Prelude.{◌≡◌, ◌&&◌, find, filter, map, not}
 ghost use Rattle.ffm_model.specs.Actors.{is_service_of};
 ghost use Rattle.ffm_model.specs.ServiceCalls.{request_held};
 ghost use Rattle.ffm_model.specs.State.{delivered, has_handle, is_undelivered, message_held, vectors_put, with_vectors, without_message};
-ghost use Rattle.machine_calls.specs.Machine.{spm_of};
+ghost use Rattle.machine_calls.specs.Machine.{spm_of_objects};
 
 use crate::machine::Objects;
 use ffm_model::{Handle, PSA_IPC_CALL, PSA_MAX_IOVEC, PendingMessage, System, Vectors};
@@ -103,7 +103,7 @@ impl Objects {
         partition: u32,
         handle: Handle,
     ) -> Option<PendingMessage>
-        ensures { result ≡ message_held system.now (spm_of self.now) partition handle }
+        ensures { result ≡ message_held system.now (spm_of_objects self.now) partition handle }
     {
         held_by(self.messages.as_slice(), system, partition, handle)
     }
@@ -116,7 +116,7 @@ impl Objects {
         handle: Handle,
         index: u32,
     ) -> Option<PendingMessage>
-        ensures { result ≡ request_held system.now (spm_of self.now) partition handle index }
+        ensures { result ≡ request_held system.now (spm_of_objects self.now) partition handle index }
     {
         let message = self.message_held(system, partition, handle)?;
         if message.kind >= PSA_IPC_CALL && index < PSA_MAX_IOVEC {
@@ -128,14 +128,14 @@ impl Objects {
 
     /// The oldest message of a service that waits for `psa_get`.
     pub fn first_undelivered(&self, service: usize) -> Option<PendingMessage>
-        ensures { result ≡ find (is_undelivered service) (spm_of self.now).messages }
+        ensures { result ≡ find (is_undelivered service) (spm_of_objects self.now).messages }
     {
         undelivered(self.messages.as_slice(), service)
     }
 
     /// Delivers the oldest message of a service that waits for `psa_get`, under a handle.
     pub fn deliver(&mut self, service: usize, handle: Handle)
-        ensures state { spm_of self.new ≡ record (spm_of self.old) { messages = delivered service handle (spm_of self.old).messages } }
+        ensures state { spm_of_objects self.new ≡ record (spm_of_objects self.old) { messages = delivered service handle (spm_of_objects self.old).messages } }
         ensures made { self.new.connections_made ≡ self.old.connections_made }
     {
         deliver(self.messages.as_mut_slice(), service, handle);
@@ -143,15 +143,15 @@ impl Objects {
 
     /// Sets the vectors of the message with a handle.
     pub fn set_vectors(&mut self, handle: Handle, vectors: Vectors)
-        ensures state { spm_of self.new ≡ with_vectors (spm_of self.old) handle vectors }
+        ensures state { spm_of_objects self.new ≡ with_vectors (spm_of_objects self.old) handle vectors }
         ensures made { self.new.connections_made ≡ self.old.connections_made }
     {
         put_all_vectors(self.messages.as_mut_slice(), handle, vectors);
     }
 
     /// Removes the message with a handle.
-    pub fn remove_message(&mut self, handle: Handle)
-        ensures state { spm_of self.new ≡ without_message (spm_of self.old) handle }
+    pub(crate) fn remove_message(&mut self, handle: Handle)
+        ensures state { spm_of_objects self.new ≡ without_message (spm_of_objects self.old) handle }
         ensures made { self.new.connections_made ≡ self.old.connections_made }
     {
         remove(&mut self.messages, handle);

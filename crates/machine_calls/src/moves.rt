@@ -51,7 +51,7 @@ fn next_byte(memory: &Image, span: &Span) -> u32
 }
 
 /// Copies the next bytes of a vector to a buffer.
-pub fn copy_from(memory: &mut Image, span: &Span, buffer: u32, count: u32)
+pub(crate) fn copy_from(memory: &mut Image, span: &Span, buffer: u32, count: u32)
     requires inside { is_inside span.now.base span.now.len (regions_of memory.old) ≡ true }
     requires rest { span.now.moved + count ≤ span.now.len }
     requires buffer { is_inside buffer count (regions_of memory.old) ≡ true }
@@ -65,7 +65,7 @@ pub fn copy_from(memory: &mut Image, span: &Span, buffer: u32, count: u32)
 }
 
 /// Copies a buffer to the next bytes of a vector.
-pub fn copy_to(memory: &mut Image, span: &Span, buffer: u32, count: u32)
+pub(crate) fn copy_to(memory: &mut Image, span: &Span, buffer: u32, count: u32)
     requires inside { is_inside span.now.base span.now.len (regions_of memory.old) ≡ true }
     requires rest { span.now.moved + count ≤ span.now.len }
     requires buffer { is_inside buffer count (regions_of memory.old) ≡ true }

@@ -9,7 +9,7 @@ ghost use Rattle.ffm_model.specs.Actors.{is_service_of};
 ghost use Rattle.ffm_model.specs.Memory.{no_vectors};
 ghost use Rattle.ffm_model.specs.Panic.{callers_answered, client_answered, clients_answered, without_service, without_client, disconnection, panic_effect};
 ghost use Rattle.machine_calls.specs.Leaving.{left_of, disconnection_left, Leaves};
-ghost use Rattle.machine_calls.specs.Machine.{spm_of, VectorsFit, MessagesFit};
+ghost use Rattle.machine_calls.specs.Machine.{spm_of_objects, VectorsFit, MessagesFit};
 
 use crate::machine::Objects;
 use crate::messages::is_service_of;
@@ -223,7 +223,7 @@ impl Objects {
     /// Dead, and their clients are answered where they wait. All messages to its services are gone. Then each connection of
     /// its own is freed where it is Dead, and else is Closing, with a disconnection for which nobody waits.
     pub fn panic(&mut self, system: &System, partition: ActorId) -> Result<(), Memory>
-        ensures state { IfOk result (λ u. spm_of self.new ≡ panic_effect system.now (spm_of self.old) partition.0) }
+        ensures state { IfOk result (λ u. spm_of_objects self.new ≡ panic_effect system.now (spm_of_objects self.old) partition.0) }
         ensures made { self.new.connections_made ≡ self.old.connections_made }
         ensures fits { (regions : prelude.List (ℕ × ℕ)) → MessagesFit regions self.old → MessagesFit regions self.new }
     {

@@ -4,7 +4,7 @@ ghost use Rattle.std.specs.Prelude as prelude;
 ghost use Rattle.ffm_model.specs.Actors.{is_partition, kind_of};
 ghost use Rattle.ffm_model.specs.ServiceCalls.{answered, close_answered, connect_answered, is_connect_status, owes_panic, psa_reply, replied, reply_to, request_answered, request_failed, with_request_phase};
 ghost use Rattle.ffm_model.specs.Panic.{panic_effect};
-ghost use Rattle.machine_calls.specs.Machine.{spm_of, state_of, Does, IsMachineOf, MessagesFit};
+ghost use Rattle.machine_calls.specs.Machine.{spm_of_objects, state_of, Does, IsMachineOf, MessagesFit};
 
 use crate::machine::{Machine, Objects};
 use crate::moves::tell_lengths;
@@ -40,7 +40,7 @@ fn owes_panic(system: &System, message: PendingMessage, status: i32) -> bool
 
 impl Objects {
     fn answer_connect(&mut self, serial: u32, message: PendingMessage, status: i32)
-        ensures state { spm_of self.new ≡ connect_answered (spm_of self.old) serial message status }
+        ensures state { spm_of_objects self.new ≡ connect_answered (spm_of_objects self.old) serial message status }
         ensures messages { self.new.messages ≡ self.old.messages }
         ensures made { self.new.connections_made ≡ self.old.connections_made }
     {
@@ -55,7 +55,7 @@ impl Objects {
 
     // Nobody waits where the client panicked.
     fn answer_close(&mut self, serial: u32, message: PendingMessage)
-        ensures state { spm_of self.new ≡ close_answered (spm_of self.old) serial message }
+        ensures state { spm_of_objects self.new ≡ close_answered (spm_of_objects self.old) serial message }
         ensures messages { self.new.messages ≡ self.old.messages }
         ensures made { self.new.connections_made ≡ self.old.connections_made }
     {
@@ -67,7 +67,7 @@ impl Objects {
 
     // The connection of a request, where it has one.
     fn set_request_phase(&mut self, message: PendingMessage, phase: ConnPhase)
-        ensures state { spm_of self.new ≡ with_request_phase (spm_of self.old) message phase }
+        ensures state { spm_of_objects self.new ≡ with_request_phase (spm_of_objects self.old) message phase }
         ensures messages { self.new.messages ≡ self.old.messages }
         ensures made { self.new.connections_made ≡ self.old.connections_made }
     {
@@ -78,7 +78,7 @@ impl Objects {
 
     // A non-secure client is told, and a partition stays Blocked and owes its panic.
     fn fail_request(&mut self, system: &System, message: PendingMessage)
-        ensures state { spm_of self.new ≡ request_failed system.now (spm_of self.old) message }
+        ensures state { spm_of_objects self.new ≡ request_failed system.now (spm_of_objects self.old) message }
         ensures messages { self.new.messages ≡ self.old.messages }
         ensures made { self.new.connections_made ≡ self.old.connections_made }
     {
@@ -90,7 +90,7 @@ impl Objects {
     }
 
     fn answer_request(&mut self, system: &System, message: PendingMessage, status: i32)
-        ensures state { spm_of self.new ≡ request_answered system.now (spm_of self.old) message status }
+        ensures state { spm_of_objects self.new ≡ request_answered system.now (spm_of_objects self.old) message status }
         ensures messages { self.new.messages ≡ self.old.messages }
         ensures made { self.new.connections_made ≡ self.old.connections_made }
     {
@@ -103,7 +103,7 @@ impl Objects {
     }
 
     fn answer(&mut self, system: &System, message: PendingMessage, status: i32)
-        ensures state { spm_of self.new ≡ answered system.now (spm_of self.old) message status }
+        ensures state { spm_of_objects self.new ≡ answered system.now (spm_of_objects self.old) message status }
         ensures messages { self.new.messages ≡ self.old.messages }
         ensures made { self.new.connections_made ≡ self.old.connections_made }
     {
@@ -128,7 +128,7 @@ impl Objects {
         status: i32,
         message: PendingMessage,
     )
-        ensures state { spm_of self.new ≡ replied system.now (spm_of self.old) handle status message }
+        ensures state { spm_of_objects self.new ≡ replied system.now (spm_of_objects self.old) handle status message }
         ensures fits { (regions : prelude.List (ℕ × ℕ)) → MessagesFit regions self.old → MessagesFit regions self.new }
         ensures made { self.new.connections_made ≡ self.old.connections_made }
     {
@@ -144,7 +144,7 @@ impl Objects {
         handle: Handle,
         status: i32,
     ) -> Option<PendingMessage>
-        ensures { result ≡ reply_to system.now (spm_of self.now) partition handle status }
+        ensures { result ≡ reply_to system.now (spm_of_objects self.now) partition handle status }
     {
         let message = self.message_held(system, partition, handle)?;
         if message.kind == PSA_IPC_CONNECT && !is_connect_status(status) {
@@ -162,7 +162,7 @@ impl Objects {
         status: i32,
         message: PendingMessage,
     ) -> Result<(), Memory>
-        ensures state { IfOk result (λ u. spm_of self.new ≡ (if owes_panic system.now message status then panic_effect system.now (replied system.now (spm_of self.old) handle status message) message.client.0 else replied system.now (spm_of self.old) handle status message)) }
+        ensures state { IfOk result (λ u. spm_of_objects self.new ≡ (if owes_panic system.now message status then panic_effect system.now (replied system.now (spm_of_objects self.old) handle status message) message.client.0 else replied system.now (spm_of_objects self.old) handle status message)) }
         ensures fits { IfOk result (λ u. (regions : prelude.List (ℕ × ℕ)) → MessagesFit regions self.old → MessagesFit regions self.new) }
         ensures made { self.new.connections_made ≡ self.old.connections_made }
     {

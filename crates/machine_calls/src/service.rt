@@ -6,7 +6,7 @@ ghost use Rattle.std.specs.Ordering.{int_eq};
 ghost use Rattle.ffm_model.specs.Actors.{client_id_of};
 ghost use Rattle.ffm_model.specs.ServiceCalls.{message_words, psa_wait, psa_get, psa_set_rhandle, psa_read, psa_skip, psa_write, service_of_signal, shown_message, sizes_of};
 ghost use Rattle.ffm_model.specs.State.{connection_by_serial};
-ghost use Rattle.machine_calls.specs.Machine.{spm_of, state_of, Moves, Does, Gets, IsMachineOf};
+ghost use Rattle.machine_calls.specs.Machine.{spm_of_objects, state_of, Moves, Does, Gets, IsMachineOf};
 
 use crate::machine::{Machine, Objects};
 use crate::moves::{advance, copy_from, copy_to, skip};
@@ -89,7 +89,7 @@ fn words_of(message: Message) -> [u32; 12]
 impl Objects {
     // The rhandle that a message carries: 0 for that of a `psa_connect`, else its connection's.
     fn rhandle_of(&self, message: PendingMessage) -> u32
-        ensures { result ≡ (if int_eq message.kind PSA_IPC_CONNECT then 0 else option_map_or (λ c. c.rhandle) (option_and_then (connection_by_serial (spm_of self.now)) message.connection) 0) }
+        ensures { result ≡ (if int_eq message.kind PSA_IPC_CONNECT then 0 else option_map_or (λ c. c.rhandle) (option_and_then (connection_by_serial (spm_of_objects self.now)) message.connection) 0) }
     {
         if message.kind == PSA_IPC_CONNECT {
             return 0;
@@ -105,7 +105,7 @@ impl Objects {
 
     // What a partition is told of a message that it gets.
     fn shown(&self, system: &System, message: PendingMessage, handle: Handle) -> Message
-        ensures { result ≡ shown_message system.now (spm_of self.now) message handle }
+        ensures { result ≡ shown_message system.now (spm_of_objects self.now) message handle }
     {
         Message {
             kind: message.kind,
@@ -125,7 +125,7 @@ impl Objects {
         mask: u32,
         timeout: u32,
     ) -> Option<Outcome>
-        ensures moves { Moves (psa_wait system.now (spm_of self.old) actor.0 mask timeout) self.old (Ok result) self.new }
+        ensures moves { Moves (psa_wait system.now (spm_of_objects self.old) actor.0 mask timeout) self.old (Ok result) self.new }
         ensures messages { self.new.messages ≡ self.old.messages }
         ensures made { self.new.connections_made ≡ self.old.connections_made }
     {
@@ -147,7 +147,7 @@ impl Objects {
         handle: Handle,
         rhandle: u32,
     ) -> Option<Outcome>
-        ensures moves { Moves (psa_set_rhandle system.now (spm_of self.old) actor.0 handle rhandle) self.old (Ok result) self.new }
+        ensures moves { Moves (psa_set_rhandle system.now (spm_of_objects self.old) actor.0 handle rhandle) self.old (Ok result) self.new }
         ensures messages { self.new.messages ≡ self.old.messages }
         ensures made { self.new.connections_made ≡ self.old.connections_made }
     {
@@ -196,7 +196,7 @@ impl Machine {
         len: u32,
     ) -> Option<Outcome>
         requires { IsMachineOf system.now self.old }
-        ensures does { Does (λ given. option_map (in_state (state_of self.old given)) (psa_skip system.now (spm_of self.old.objects) actor.0 handle index len)) self.old (Ok result) self.new }
+        ensures does { Does (λ given. option_map (in_state (state_of self.old given)) (psa_skip system.now (spm_of_objects self.old.objects) actor.0 handle index len)) self.old (Ok result) self.new }
         ensures made { self.new.objects.connections_made ≡ self.old.objects.connections_made }
         ensures kept { IsMachineOf system.now self.new }
     {

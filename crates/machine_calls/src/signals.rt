@@ -3,7 +3,7 @@ ghost use Rattle.std.specs.Prelude.{◌≡◌, ◌==◌, map, filter, get_or, fa
 ghost use Rattle.std.specs.List.{list_any};
 ghost use Rattle.ffm_model.specs.Signals.{assigned_to, enabled, signals_of, union_of};
 ghost use Rattle.ffm_model.specs.State.{is_undelivered, no_flags};
-ghost use Rattle.machine_calls.specs.Machine.{spm_of};
+ghost use Rattle.machine_calls.specs.Machine.{spm_of_objects};
 ghost use Rattle.machine_calls.specs.Signals.{services_asserted, sources_asserted};
 
 use crate::machine::Objects;
@@ -94,7 +94,7 @@ pub fn assigned_to(system: &System, partition: u32) -> u32
 impl Objects {
     /// The asserted signals of a partition.
     pub fn signals(&self, system: &System, partition: u32) -> u32
-        ensures { result ≡ signals_of system.now (spm_of self.now) partition }
+        ensures { result ≡ signals_of system.now (spm_of_objects self.now) partition }
     {
         let services = system.services.as_slice();
         let sources = system.sources.as_slice();
@@ -106,7 +106,7 @@ impl Objects {
 
     /// Whether an actor can go on: it runs, its answer is there, or a signal came that it waits for.
     pub fn is_enabled(&self, system: &System, actor: u32) -> bool
-        ensures { result ≡ enabled system.now (spm_of self.now) actor }
+        ensures { result ≡ enabled system.now (spm_of_objects self.now) actor }
     {
         match self.phase(actor) {
             ActorPhase::Running | ActorPhase::Ready(_) | ActorPhase::Connected(_) => true,

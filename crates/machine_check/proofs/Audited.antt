@@ -12,7 +12,7 @@ use Rattle.ffm_model.specs.Memory.{ByteMap}
 use Rattle.ffm_model.specs.State.{State, opening}
 use Rattle.ffm_model.specs.Step.{step}
 use Rattle.ffm_model.specs.Verdicts.{Legal, IllegalAt, judged, verdict_at, verdict_eq}
-use Rattle.machine_calls.specs.Machine.{spm_of, state_of}
+use Rattle.machine_calls.specs.Machine.{spm_of_objects, state_of}
 use Rattle.memory_image.specs.Pieces.{byte_at, ranges_of, regions_of}
 use Rattle.machine_check.specs.declared.auditing.AuditReport.{AuditReport}
 use Rattle.machine_check.specs.declared.auditing.Auditor.{Auditor}
@@ -147,7 +147,7 @@ was_audited s limit a new all e false audits is = absurd (cc)
 
 -- what an accepted entry wrote
 pub covered : (s : System) (old : Auditor) (mid : Checker) (limit : ℕ) (e : Entry) (w : Ranges) (r : IsReady s old) → IsAccepted s limit old.checker r.all e mid → HasFourSizes e.outcome
-    → w ≡ written s (spm_of old.checker.machine.objects) e → IsCovered s (byte_at old.checker.machine.memory) (byte_at mid.machine.memory) w
+    → w ≡ written s (spm_of_objects old.checker.machine.objects) e → IsCovered s (byte_at old.checker.machine.memory) (byte_at mid.machine.memory) w
 covered s old mid limit e w r accepted sizes is =
     subst (IsCovered s (byte_at old.checker.machine.memory) (byte_at mid.machine.memory)) (sym is)
     (step-covered s (state_of old.checker.machine r.all) (state_of mid.machine accepted.given) e r.kept.messages sizes accepted.is_step)

@@ -5,6 +5,7 @@ use Rattle.std.specs.List.{range_with_len}
 use Rattle.std.proofs.Math.Path.{fun_ext}
 use Rattle.std.proofs.lemmas.Bool.Decides.{nat_tests}
 use Rattle.std.proofs.lemmas.List.Sums.{sum_by-cons}
+use Rattle.list_laws.proofs.Bools.{or_false}
 use Rattle.byte_lanes.specs.Differences.{any_covers, count_in, differs, lesser, range_covers, IsLeast}
 use Rattle.byte_lanes.proofs.Ranges.{least_same, lesser_of}
 use Rattle.ffm_model.specs.declared.system.System.{System}
@@ -19,10 +20,6 @@ use Rattle.machine_check.specs.Written.{ranges_from, taken_from, AreDifferences,
 use Rattle.machine_check.proofs.OwnRam.{own-whole}
 
 -- ---- one range
-
-or_false : (b : Bool) → (b || false) ≡ b
-or_false true = refl
-or_false false = refl
 
 pub one-least : (p : ℕ → Bool) (a len : ℕ) (found : Option ℕ) → IsLeast (λ x. p x && range_covers (a, len) x) found → IsLeast (λ x. p x && any_covers ((a, len) ∷ []) x) found
 one-least p a len found least = least_same _ _ found (λ x. ap (λ b. p x && b) (sym (or_false (range_covers (a, len) x)))) least

@@ -3,11 +3,12 @@ use Rattle.std.proofs.Common.{ℕ, zero, suc, ◌≡◌, ◌≤◌, ◌<◌, ◌
 use Rattle.std.specs.Prelude.{ℤ, int_lt, int_le, nat_le, nat_lt, ◌==◌, min, find, All, Option, Some, None, IfSome, option_and_then, if◌then◌else◌}
 use Rattle.std.specs.Option.{option_map, option_map_or}
 use Rattle.std.specs.Ordering.{int_eq}
-use Rattle.std.proofs.lemmas.Bool.{and_parts}
+use Rattle.std.proofs.lemmas.Bool.{and_parts, or_parts}
 use Rattle.std.proofs.lemmas.Bool.Decides.{nat_tests}
 use Rattle.std.proofs.lemmas.List.{get_or_past, length-append, length-take}
 use Rattle.std.proofs.lemmas.List.Elements.{All-head, All-tail}
 use Rattle.std.proofs.lemmas.Slice.Eq.{bytes_eq-Decides}
+use Rattle.list_laws.proofs.Bools.{if_passes}
 use Rattle.byte_lanes.specs.Differences.{any_covers, range_covers}
 use Rattle.ffm_model.specs.declared.constants.TheConstants.{PSA_ERROR_PROGRAMMER_ERROR, PSA_FRAMEWORK_VERSION, PSA_IPC_CALL, PSA_IPC_CONNECT, PSA_MAX_IOVEC}
 use Rattle.ffm_model.specs.declared.system.System.{System}
@@ -71,14 +72,6 @@ lengths-outside m at x (v ∷ vs) out =
 
 -- ---- ranges
 
-off_first : (b c : Bool) → (b || c) ≡ false → b ≡ false
-off_first true c h = h
-off_first false c h = refl
-
-off_rest : (b c : Bool) → (b || c) ≡ false → c ≡ false
-off_rest true c h = cc
-off_rest false c h = h
-
 at_last : (first len k n x : ℕ) → k ≡ n → range_covers (first + 8 * n, len) x ≡ false → range_covers (first + 8 * k, len) x ≡ false
 at_last first len k n x same out = grind (arith, nat_tests)
 
@@ -90,8 +83,8 @@ pub each-outside : (first len n x : ℕ) → any_covers (ranges_from first len n
 each-outside first len zero x out k below = absurd (omega arith)
 each-outside first len (suc n) x out k below =
     let go : (b : Bool) → nat_lt k n ≡ b → range_covers (first + 8 * k, len) x ≡ false = elim [
-      | true ↦ λ less. each-outside first len n x (off_rest (range_covers (first + 8 * n, len) x) _ out) k (grind (arith, nat_tests))
-      | false ↦ λ more. at_last first len k n x (the_last k n below more) (off_first (range_covers (first + 8 * n, len) x) _ out)
+      | true ↦ λ less. each-outside first len n x (or_parts (range_covers (first + 8 * n, len) x) _ out).1 k (grind (arith, nat_tests))
+      | false ↦ λ more. at_last first len k n x (the_last k n below more) (or_parts (range_covers (first + 8 * n, len) x) _ out).0
     ] in
     go (nat_lt k n) refl
 
@@ -165,11 +158,6 @@ span-fits regions vs index fit = by_test (nat_lt index (length vs)) refl where
 -- where an effect's outcome is told, the ranges are all that it wrote
 abbrev pub TellsCovered : System → State → ℕ → Call → Effect → Type 0
 TellsCovered s st a c e = (told : Outcome) → outcome_eq e.outcome told ≡ true → HasFourSizes told → IsCovered s st.memory e.state.memory (written_by s st.spm a told c)
-
--- what holds of a value if a test passes
-if_passes : {X : Type 0} (P : X → Type 0) (b : Bool) (x : X) → (b ≡ true → P x) → IfSome (cond b (Some x) None) P
-if_passes P true x h = h refl
-if_passes P false x h = tt
 
 only_got : (shown : Message) (P : Outcome → Type 0) → ((m : Message) → message_eq shown m ≡ true → P (Got m)) → (told : Outcome) → outcome_eq (Got shown) told ≡ true → P told
 only_got shown P h (Got m) same = h m same

@@ -25,7 +25,7 @@ use Rattle.ffm_model.specs.Calls.{effect_of, effect_or_error, has_call, call_cas
 use Rattle.ffm_model.specs.Step.{may_call, gives_handle, handle_allowed, handle_shown}
 use Rattle.ffm_model.proofs.StepLemmas.{step-effect}
 use Rattle.machine_calls.specs.declared.machine.Machine.{Machine}
-use Rattle.machine_calls.specs.Machine.{spm_of, state_of}
+use Rattle.machine_calls.specs.Machine.{spm_of_objects, state_of}
 use Rattle.machine_check.specs.Performed.{gave_handle, given_after, is_left, phase_in, Knows, Performs}
 use Rattle.machine_check.specs.Reaching.{IsDue}
 use Rattle.machine_check.proofs.Allowed.{allowed_gave}
@@ -94,7 +94,7 @@ there : {X : Type 0} (o : Option X) (x : X) → o ≡ Some x → IsSome o
 there o x e = rw e refl
 
 -- with the outcome that is due the call is a step, where a handle that it gives is a fresh one
-due_is_step : (s : System) (m n : Machine) (all : List Handle) (a : ℕ) (c : Call) (h : Handle) (o : Outcome) → may_call s (spm_of m.objects) a c ≡ true
+due_is_step : (s : System) (m n : Machine) (all : List Handle) (a : ℕ) (c : Call) (h : Handle) (o : Outcome) → may_call s (spm_of_objects m.objects) a c ≡ true
     → Performs s a c h m (Ok o) n → (gave_handle (phase_in m a) c o ≡ true → fresh (state_of m all) h ≡ true) → IsDue s (state_of m all) a c (Some o)
 due_is_step s m n all a c h o may performs new =
     let st = state_of m all in
@@ -148,7 +148,7 @@ more_given set n has here k some below =
 
 -- ---- with the handle that is left, or with none
 
-pub due_with : (s : System) (m n : Machine) (set : BTreeSet ℤ) (all : List Handle) (a : ℕ) (c : Call) (left : Option Handle) (none : Handle) (o : Outcome) → Knows set all → may_call s (spm_of m.objects) a c ≡ true
+pub due_with : (s : System) (m n : Machine) (set : BTreeSet ℤ) (all : List Handle) (a : ℕ) (c : Call) (left : Option Handle) (none : Handle) (o : Outcome) → Knows set all → may_call s (spm_of_objects m.objects) a c ≡ true
     → MatchOption left ((h : Handle) → is_left set h ≡ false) (λ h. is_left set h ≡ true) → Performs s a c (unwrap_or left none) m (Ok o) n → (is_some left ≡ false → gave_handle (phase_in m a) c o ≡ false) → IsDue s (state_of m all) a c (Some o)
 due_with s m n set all a c (Some h) none o knows may found performs gives = due_is_step s m n all a c h o may performs (λ gave. sym (left_fresh (state_of m all) set h knows) ∙ found)
 due_with s m n set all a c None none o knows may found performs gives =

@@ -5,6 +5,8 @@ use Rattle.std.specs.Option.{option_map_or}
 use Rattle.std.proofs.Math.Seq.{take-append_seam, take-length}
 use Rattle.std.proofs.lemmas.List.{length-take-le}
 use Rattle.std.proofs.lemmas.List.Sums.{fold-append}
+use Rattle.std.proofs.lemmas.Bool.{le-leb, lt-leb}
+use Rattle.ffm_model.proofs.RunLemmas.{none-stays}
 use Rattle.ffm_model.specs.declared.system.System.{System}
 use Rattle.ffm_model.specs.declared.machine.Entry.{Entry}
 use Rattle.ffm_model.specs.declared.machine.Verdict.{Verdict}
@@ -17,7 +19,7 @@ use Rattle.machine_calls.specs.Machine.{state_of}
 use Rattle.machine_check.specs.declared.judging.Checker.{Checker}
 use Rattle.machine_check.specs.Checking.{Accepts, ChecksTo, IsAccepted, Starts, Stops}
 use Rattle.machine_check.specs.Reaching.{IsBehind, IsReached}
-use Rattle.machine_check.proofs.Judged.{at_limit, below_limit, either, first, second}
+use Rattle.machine_check.proofs.Judged.{either, first, second}
 
 -- ---- entry by entry
 
@@ -67,10 +69,6 @@ stopped s m limit front rest es old new k e false parts within accepts is = reco
 }
 
 -- ---- the state that is reached
-
-none-stays : (s : System) (es : List Entry) → fold (step_on s) None es ≡ None
-none-stays s [] = refl
-none-stays s (e ∷ es) = none-stays s es
 
 no_more : (s : System) (m : ByteMap) (front back : List Entry) → after s m front ≡ None → after s m (front ++ back) ≡ None
 no_more s m front back none = fold-append (step_on s) (Some (opening s m)) front back ∙ ap (λ o. fold (step_on s) o back) none ∙ none-stays s back
@@ -135,7 +133,7 @@ judged_behind s limit v n (e ∷ es) back st new is within =
       | None ↦ λ h. absurd (let none = none-stays s es in cc)
       | Some mid ↦ λ h. judged_behind s limit v (n + 1) es back mid new h (omega arith)
     ] in
-    second (nat_le limit n) _ _ (below_limit limit n (omega arith)) ∙ go (step s st e) is ∙ ap (λ i. judged_from s limit v i back new) place
+    second (nat_le limit n) _ _ (lt-leb limit n (omega arith)) ∙ go (step s st e) is ∙ ap (λ i. judged_from s limit v i back new) place
 
 -- all entries were followed: the verdict decides
 pub all_checked : (s : System) (m : ByteMap) (limit : ℕ) (es : List Entry) (v : Verdict) (c : Checker) → IsBehind s m es c → c.count ≤ limit → ChecksTo s limit v (judged s m limit es v) c []
@@ -162,7 +160,7 @@ part_checked s m limit es v n k =
     let left : judged s m limit es v ≡ judged_from s limit v n (k.entry ∷ k.rest) it.0 =
     ap (λ l. judged_from s limit v 0 l (opening s m)) k.parts ∙ judged_behind s limit v 0 k.front (k.entry ∷ k.rest) (opening s m) it.0 it.1 (omega (arith, k.count, k.within))
     ∙ ap (λ i. judged_from s limit v i (k.entry ∷ k.rest) it.0) (omega (arith, k.count)) in
-    left ∙ ⊎_elim (λ (full : n ≡ limit). first (nat_le limit n) _ _ (at_limit limit n (omega arith)))
+    left ∙ ⊎_elim (λ (full : n ≡ limit). first (nat_le limit n) _ _ (le-leb limit n (omega arith)))
     (λ (none : after s m (k.front ++ k.entry ∷ []) ≡ None).
     let stop : step s it.0 k.entry ≡ None = ap (option_and_then (λ x. step s x k.entry)) (sym it.1) ∙ sym (after-push s m k.front k.entry) ∙ none in
     either (nat_le limit n) _ _ (ap (λ o. option_map_or (λ st. judged_from s limit v (n + 1) k.rest st) o (IllegalAt (n + 1))) stop)) k.next

@@ -1,10 +1,10 @@
 -- The judgement of a trace, one entry further.
 use Rattle.std.proofs.Common.{arith, ℕ, ◌≡◌, ◌<◌, ◌≤◌, ◌+◌, Bool, true, false, List, [], ◌∷◌, refl, ap, sym, ◌∙◌, inl, inr, ◌⊎◌}
-use Rattle.std.proofs.lemmas.Bool.Decides.{nat_tests}
 use Rattle.std.specs.Prelude.{nat_le, None, Ok, if◌then◌else◌}
 use Rattle.std.specs.Option.{option_map_or}
 use Rattle.std.specs.BTreeSet.{BTreeSet}
 use Rattle.std.specs.Prelude.{ℤ}
+use Rattle.std.proofs.lemmas.Bool.{le-leb, lt-leb}
 use Rattle.ffm_model.specs.declared.system.System.{System}
 use Rattle.ffm_model.specs.declared.machine.Entry.{Entry}
 use Rattle.ffm_model.specs.declared.machine.Handle.{Handle}
@@ -49,12 +49,6 @@ pub either : (b : Bool) (x y : Judgement) → y ≡ x → (if b then x else y) �
 either true x y h = refl
 either false x y h = h
 
-pub below_limit : (limit n : ℕ) → n < limit → nat_le limit n ≡ false
-below_limit limit n h = grind (arith, nat_tests)
-
-pub at_limit : (limit n : ℕ) → limit ≤ n → nat_le limit n ≡ true
-at_limit limit n h = grind (arith, nat_tests)
-
 -- before the first entry
 unfoldable pub from_start : (s : System) (m : ByteMap) (limit : ℕ) (v : Verdict) (es : List Entry) (c : Checker) → Starts s m c → ChecksTo s limit v (judged s m limit es v) c es
 from_start s m limit v es c start = record {
@@ -71,7 +65,7 @@ pub no_entry : (s : System) (limit : ℕ) (v : Verdict) (j : Judgement) (c new :
 no_entry s limit v j c new e es true k accepts is = absurd (cc)
 no_entry s limit v j c new e es false k accepts is = (k.judged ∙ illegal accepts.0, accepts.1) where
   illegal : (limit ≤ c.count) ⊎ (step s (state_of c.machine k.all) e ≡ None) → judged_from s limit v c.count (e ∷ es) (state_of c.machine k.all) ≡ IllegalAt (c.count + 1)
-  illegal (inl over) = first (nat_le limit c.count) _ _ (at_limit limit c.count over)
+  illegal (inl over) = first (nat_le limit c.count) _ _ (le-leb limit c.count over)
   illegal (inr none) = either (nat_le limit c.count) _ _ (ap (λ o. option_map_or (λ st. judged_from s limit v (c.count + 1) es st) o (IllegalAt (c.count + 1))) none)
 
 -- it was, and the others decide
@@ -83,7 +77,7 @@ next_entry s limit v j c new e es k it = record {
   kept = it.kept;
   made = it.made;
   judged =
-      k.judged ∙ second (nat_le limit c.count) _ _ (below_limit limit c.count it.below)
+      k.judged ∙ second (nat_le limit c.count) _ _ (lt-leb limit c.count it.below)
       ∙ ap (λ o. option_map_or (λ st. judged_from s limit v (c.count + 1) es st) o (IllegalAt (c.count + 1))) it.is_step
       ∙ ap (λ n. judged_from s limit v n es (state_of new.machine it.given)) (sym it.count);
 }

@@ -15,7 +15,7 @@ use Rattle.ffm_model.specs.ClientCalls.{Effect, effect}
 use Rattle.ffm_model.specs.Calls.{effect_of}
 use Rattle.ffm_model.specs.Step.{step, may_call, handle_allowed, handle_shown, outcome_eq}
 use Rattle.machine_calls.specs.declared.machine.Machine.{Machine}
-use Rattle.machine_calls.specs.Machine.{spm_of, state_of}
+use Rattle.machine_calls.specs.Machine.{spm_of_objects, state_of}
 use Rattle.machine_check.specs.Performed.{gave_handle, given_after, is_left, phase_in, Knows, Performs, Steps}
 use Rattle.machine_check.proofs.Allowed.{allowed_gave}
 
@@ -72,7 +72,7 @@ given_one : (b f : Bool) → b ≡ true → (not b || f) ≡ f
 given_one b f h = rw h refl
 
 -- the call gave no handle
-pub some_without : (s : System) (m n : Machine) (all : List Handle) (e : Entry) (due : Outcome) → may_call s (spm_of m.objects) e.actor.0 e.call ≡ true
+pub some_without : (s : System) (m n : Machine) (all : List Handle) (e : Entry) (due : Outcome) → may_call s (spm_of_objects m.objects) e.actor.0 e.call ≡ true
     → Performs s e.actor.0 e.call (handle_shown e.outcome) m (Ok due) n → outcome_eq due e.outcome ≡ true → gave_handle (phase_in m e.actor.0) e.call due ≡ false
     → step s (state_of m all) e ≡ Some (state_of n all)
 some_without s m n all e due may is same gave =
@@ -84,7 +84,7 @@ some_without s m n all e due may is same gave =
     ∙ ap (λ b. Some (state_of n (given_after b all h))) gave
 
 -- the call gave a fresh handle
-some_with : (s : System) (m n : Machine) (all : List Handle) (e : Entry) (due : Outcome) → may_call s (spm_of m.objects) e.actor.0 e.call ≡ true
+some_with : (s : System) (m n : Machine) (all : List Handle) (e : Entry) (due : Outcome) → may_call s (spm_of_objects m.objects) e.actor.0 e.call ≡ true
     → Performs s e.actor.0 e.call (handle_shown e.outcome) m (Ok due) n → outcome_eq due e.outcome ≡ true → gave_handle (phase_in m e.actor.0) e.call due ≡ true
     → fresh (state_of m all) (handle_shown e.outcome) ≡ true → step s (state_of m all) e ≡ Some (state_of n (all ++ handle_shown e.outcome ∷ []))
 some_with s m n all e due may is same gave new =
@@ -123,7 +123,7 @@ left_fresh st set h knows = ap (λ b. int_le (pos 1) h.0 && int_le h.0 (pos 0x3f
 
 -- the entry of a call that gave a handle, by whether the handle is a fresh one
 pub by_given : (s : System) (m n : Machine) (set more : BTreeSet ℤ) (all : List Handle) (e : Entry) (due : Outcome) (r : Result Bool Memory)
-    → may_call s (spm_of m.objects) e.actor.0 e.call ≡ true
+    → may_call s (spm_of_objects m.objects) e.actor.0 e.call ≡ true
     → Performs s e.actor.0 e.call (handle_shown e.outcome) m (Ok due) n → outcome_eq due e.outcome ≡ true → gave_handle (phase_in m e.actor.0) e.call due ≡ true
     → Knows set all
     → IfOk r (λ b. b ≡ is_left set (handle_shown e.outcome))

@@ -3,6 +3,7 @@ use Rattle.std.proofs.Common.{ℕ, ◌≡◌, ◌<◌, ◌+◌, ◌-◌, Bool, t
 use Rattle.std.specs.Prelude.{nat_le, nat_lt}
 use Rattle.std.specs.List.{cons_option}
 use Rattle.std.proofs.lemmas.Bool.Decides.{nat_tests}
+use Rattle.std.proofs.lemmas.Bool.{and_left}
 use Rattle.byte_lanes.specs.Differences.{differs, IsLeast}
 use Rattle.ffm_model.specs.Memory.{ByteMap, store_number}
 use Rattle.machine_check.specs.declared.auditing.Change.{Change}
@@ -38,9 +39,6 @@ same_byte a x =
     ] in
     go (is_at a x) refl
 
-left_out : (a b : Bool) → a ≡ false → (a && b) ≡ false
-left_out a b h = rw h refl
-
 covered : (a b : Bool) → b ≡ true → (a && not b) ≡ false
 covered true b h = rw h refl
 covered false b h = refl
@@ -52,7 +50,7 @@ none_outside : (x : ℕ) → (differs zeros (stored 0x30000004 7) x && not (own_
 none_outside x =
     let go : (b : Bool) → is_at 0x30000004 x ≡ b → (differs zeros (stored 0x30000004 7) x && not (own_ram neighbour_system 0 x)) ≡ false = elim [
       | true ↦ λ at. covered _ _ (in_ram x at)
-      | false ↦ λ at. left_out _ _ (same_elsewhere 0x30000004 7 x at)
+      | false ↦ λ at. and_left _ _ (same_elsewhere 0x30000004 7 x at)
     ] in
     go (is_at 0x30000004 x) refl
 
@@ -71,7 +69,7 @@ outside_byte = record {
   place = refl;
   lowest = (refl, same_below 0x30000020 7);
   count = refl;
-  outside = (refl, λ x l. left_out _ _ (same_below 0x30000020 7 x l));
+  outside = (refl, λ x l. and_left _ _ (same_below 0x30000020 7 x l));
 }
 
 -- ---- what an audit tells of one entry

@@ -1,9 +1,9 @@
 -- What differs in the ranges that an entry may write is what it changed.
-use Rattle.std.proofs.Common.{ℕ, zero, suc, ◌≡◌, ◌<◌, ◌≤◌, ◌+◌, ◌*◌, Bool, true, false, not, ◌&&◌, ◌||◌, List, [], ◌∷◌, Option, Some, None, arith, ◌∙◌, ap, sym, refl, inl, inr, ◌⊎◌, nat_eq}
+use Rattle.std.proofs.Common.{ℕ, zero, suc, ◌≡◌, ◌<◌, ◌≤◌, ◌+◌, ◌*◌, Bool, true, false, not, ◌&&◌, List, [], ◌∷◌, Option, Some, None, arith, ◌∙◌, ap, sym, refl, inl, inr, ◌⊎◌, nat_eq}
 use Rattle.std.specs.Prelude.{nat_le, sum_by}
 use Rattle.std.specs.List.{list_all}
 use Rattle.std.specs.Option.{option_map}
-use Rattle.std.proofs.lemmas.Bool.{and_parts}
+use Rattle.std.proofs.lemmas.Bool.{and_parts, or_from, and_left}
 use Rattle.std.proofs.lemmas.Bool.Decides.{nat_tests}
 use Rattle.byte_lanes.specs.Differences.{any_covers, count_in, differs, range_covers, AreApart, IsLeast}
 use Rattle.byte_lanes.proofs.Ranges.{count_in_ranges, least_same}
@@ -26,15 +26,11 @@ use Rattle.machine_check.proofs.Compared.{placed}
 off_other : (a n b k x : ℕ) → share_no_byte (a, n) (b, k) ≡ true → range_covers (a, n) x ≡ true → range_covers (b, k) x ≡ false
 off_other a n b k x apart inside = grind (arith, nat_tests)
 
-off_both : (b c : Bool) → b ≡ false → c ≡ false → (b || c) ≡ false
-off_both true c h k = h
-off_both false c h k = k
-
 apart_from : (r : ℕ × ℕ) (rs : List (ℕ × ℕ)) (x : ℕ) → list_all (share_no_byte r) rs ≡ true → range_covers r x ≡ true → any_covers rs x ≡ false
 apart_from r [] x apart inside = refl
 apart_from r (q ∷ rs) x apart inside =
     let parts = and_parts (share_no_byte r q) (list_all (share_no_byte r) rs) apart in
-    off_both (range_covers q x) (any_covers rs x) (off_other r.0 r.1 q.0 q.1 x parts.0 inside) (apart_from r rs x parts.1 inside)
+    or_from (range_covers q x) (any_covers rs x) (off_other r.0 r.1 q.0 q.1 x parts.0 inside) (apart_from r rs x parts.1 inside)
 
 ends_by : (a n : ℕ) → nat_le (a + n) 4294967296 ≡ true → a + n ≤ 4294967296
 ends_by a n h = grind (arith, nat_tests)
@@ -58,7 +54,7 @@ system-apart s =
 -- behind all of the first n
 above : (first len n x : ℕ) → len ≤ 8 → first + 8 * n ≤ x → any_covers (ranges_from first len n) x ≡ false
 above first len zero x small high = refl
-above first len (suc n) x small high = off_both (range_covers (first + 8 * n, len) x) (any_covers (ranges_from first len n) x) (grind (arith, nat_tests)) (above first len n x small (omega arith))
+above first len (suc n) x small high = or_from (range_covers (first + 8 * n, len) x) (any_covers (ranges_from first len n) x) (grind (arith, nat_tests)) (above first len n x small (omega arith))
 
 at_least : (a len x : ℕ) → range_covers (a, len) x ≡ true → a ≤ x
 at_least a len x inside = grind (arith, nat_tests)
@@ -90,10 +86,6 @@ within true true h = refl
 within true false h = sym (h refl)
 within false q h = refl
 
-first_off : (p q : Bool) → p ≡ false → (p && q) ≡ false
-first_off true q h = cc
-first_off false q h = refl
-
 pub change-told : (s : System) (k a : ℕ) (old new : List Bytes) (w : Ranges) (d : Differences) → regions_of old ≡ ranges_of s.regions → regions_of new ≡ ranges_of s.regions
     → AreInside (ranges_of s.regions) w → ((x : ℕ) → any_covers (ranges_in w) x ≡ false → byte_at new x ≡ byte_at old x)
     → AreDifferences s a (byte_at old) (byte_at new) (ranges_in w) d → IsChangeOf s k a (byte_at old) (byte_at new) (change_of k d)
@@ -110,7 +102,7 @@ change-told s k a old new w d old_regions new_regions inside stays found =
     (λ x h. true_or (differs m n x) (any_covers rs x) (off x) h) (λ x h. true_or (differs m n x) (any_covers (ranges_of s.regions) x) (off_regions x) h) in
     let outside : IsLeast (λ x. differs m n x && not (own_ram s a x)) d.outside =
     least_same (λ x. (differs m n x && not (own_ram s a x)) && any_covers rs x) (λ x. differs m n x && not (own_ram s a x)) d.outside
-    (λ x. within (differs m n x && not (own_ram s a x)) (any_covers rs x) (λ out. first_off (differs m n x) (not (own_ram s a x)) (off x out))) found.outside in
+    (λ x. within (differs m n x && not (own_ram s a x)) (any_covers rs x) (λ out. and_left (differs m n x) (not (own_ram s a x)) (off x out))) found.outside in
     let told : (o : Option ℕ) → IsLeast (differs m n) o → IsChangeOf s k a m n (option_map (λ x. record { place = k; lowest = x; count = d.count; outside = d.outside }) o) =
     elim [ None ↦ λ least. least | Some x ↦ λ least. record { place = refl; lowest = least; count = count; outside = outside } ] in
     told d.lowest lowest

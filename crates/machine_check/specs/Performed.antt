@@ -20,7 +20,7 @@ use Rattle.ffm_model.specs.ClientCalls.{effect}
 use Rattle.ffm_model.specs.Calls.{call_case, effect_of, error_effect}
 use Rattle.ffm_model.specs.Step.{step}
 use Rattle.machine_calls.specs.declared.machine.Machine.{Machine}
-use Rattle.machine_calls.specs.Machine.{spm_of, state_of}
+use Rattle.machine_calls.specs.Machine.{spm_of_objects, state_of}
 
 -- a call with this outcome gave a handle: psa_get, or the return of psa_connect
 abbrev pub gave_handle : ActorPhase → Call → Outcome → Bool
@@ -32,7 +32,7 @@ abbrev pub given_after : Bool → List Handle → Handle → List Handle
 given_after gave given h = if gave then given ++ h ∷ [] else given
 
 abbrev pub phase_in : Machine → ℕ → ActorPhase
-phase_in m a = phase_of (spm_of m.objects) a
+phase_in m a = phase_of (spm_of_objects m.objects) a
 
 -- the outcome and the state are those due, and the handle is given where the call gives one; nothing is due at a PROGRAMMER ERROR
 abbrev pub Attempts : System → ℕ → Call → Handle → Machine → Result (Option Outcome) Memory → Machine → Type 0

@@ -7,6 +7,7 @@ ghost use Rattle.machine_check.specs.Auditing.{own_ram};
 ghost use Rattle.machine_check.specs.Written.{taken_from, ranges_in, AreDifferences, AreInside};
 
 use crate::written::Ranges;
+use byte_lanes::lesser;
 use ffm_model::{ActorId, Region, System};
 use memory_image::{Image, valid_buffer};
 
@@ -19,17 +20,6 @@ pub struct Differences {
     pub count: u32,
     /// The least address outside of an actor's own RAM.
     pub outside: Option<u32>,
-}
-
-// The lesser of two addresses, each of which may be missing.
-fn lesser(one: Option<u32>, other: Option<u32>) -> Option<u32>
-    ensures { result ≡ lesser one other }
-{
-    match (one, other) {
-        (None, _) => other,
-        (Some(_), None) => one,
-        (Some(a), Some(b)) => { if a < b { one } else { other } }
-    }
 }
 
 fn covers(region: &Region, address: u32) -> bool

@@ -9,7 +9,7 @@ ghost use Rattle.machine_check.specs.Answers.{judgement};
 ghost use Rattle.machine_check.specs.Checking.{Accepts, ChecksTo, Follows, Starts};
 ghost use Rattle.machine_check.specs.Performed.{Knows};
 ghost use Rattle.machine_check.specs.Reaching.{IsReached};
-ghost use Rattle.machine_calls.specs.Machine.{spm_of, IsMachineOf};
+ghost use Rattle.machine_calls.specs.Machine.{spm_of_objects, IsMachineOf};
 
 use crate::step::step;
 use ffm_model::{ActorPhase, Entry, Memory, Source, SourceFlags, System, Trace, Verdict};
@@ -54,7 +54,7 @@ fn opening_flags(alloc: Global, sources: &[Source]) -> Result<Vec<SourceFlags>, 
 
 // The state that a run begins with.
 fn opening(alloc: Global, system: &System) -> Result<Objects, Memory>
-    ensures { IfOk result (λ o. spm_of o ≡ opening_spm system.now) }
+    ensures { IfOk result (λ o. spm_of_objects o ≡ opening_spm system.now) }
 {
     let actors = system.actor_count() as usize;
     Ok(Objects {
@@ -68,13 +68,13 @@ fn opening(alloc: Global, system: &System) -> Result<Objects, Memory>
 }
 
 fn is_some_enabled(objects: &Objects, system: &System) -> bool
-    ensures { result ≡ some_enabled system.now (spm_of objects.now) }
+    ensures { result ≡ some_enabled system.now (spm_of_objects objects.now) }
 {
     (0..system.actor_count()).any(|actor| objects.is_enabled(system, actor))
 }
 
 fn is_some_blocked(objects: &Objects, system: &System) -> bool
-    ensures { result ≡ some_blocked system.now (spm_of objects.now) }
+    ensures { result ≡ some_blocked system.now (spm_of_objects objects.now) }
 {
     (0..system.actor_count()).any(|actor| matches!(objects.phase(actor), ActorPhase::Blocked))
 }
@@ -131,7 +131,7 @@ impl Checker {
     /// The verdict of a run that ends here and may have at most so many entries. None where it isn't ended: an
     /// actor can go on, and the entries are not as many as the limit.
     pub fn verdict(&self, system: &System, limit: u32) -> Option<Verdict>
-        ensures { result ≡ verdict_at system.now limit self.now.count (spm_of self.now.machine.objects) }
+        ensures { result ≡ verdict_at system.now limit self.now.count (spm_of_objects self.now.machine.objects) }
     {
         let objects = &self.machine.objects;
         if is_some_enabled(objects, system) {

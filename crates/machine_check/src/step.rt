@@ -9,7 +9,7 @@ ghost use Rattle.ffm_model.specs.Actors.{actor_count};
 ghost use Rattle.ffm_model.specs.Groups.{group_of};
 ghost use Rattle.ffm_model.specs.Signals.{may_resume};
 ghost use Rattle.ffm_model.specs.Step.{handle_shown, may_call, outcome_eq, returns_when_due};
-ghost use Rattle.machine_calls.specs.Machine.{spm_of, IsMachineOf};
+ghost use Rattle.machine_calls.specs.Machine.{spm_of_objects, IsMachineOf};
 ghost use Rattle.machine_check.specs.Performed.{gave_handle, is_left, Attempts, Knows, Performs, Refuses, Steps};
 
 use ffm_model::{
@@ -354,7 +354,7 @@ fn returns_when_due(call: Call, phase: ActorPhase) -> bool
 
 /// The actor exists, is enabled, and makes no call while one is to return.
 pub fn may_call(system: &System, objects: &Objects, actor: ActorId, call: Call) -> bool
-    ensures { result ≡ may_call system.now (spm_of objects.now) actor.0 call }
+    ensures { result ≡ may_call system.now (spm_of_objects objects.now) actor.0 call }
 {
     actor.0 < system.actor_count()
         && objects.is_enabled(system, actor.0)

@@ -3,7 +3,7 @@ ghost use Rattle.std.specs.Prelude.{◌≡◌, length};
 ghost use Rattle.std.specs.Option.{option_map_or};
 ghost use Rattle.ffm_model.specs.ServiceCalls.{output_at, request_held};
 ghost use Rattle.ffm_model.specs.State.{message_held};
-ghost use Rattle.machine_calls.specs.Machine.{spm_of, IsMachineOf, SpanFits, VectorsFit};
+ghost use Rattle.machine_calls.specs.Machine.{spm_of_objects, IsMachineOf, SpanFits, VectorsFit};
 ghost use Rattle.memory_image.specs.Pieces.{regions_of};
 ghost use Rattle.machine_check.specs.Written.{by_done, by_get, by_read, length_words, next_bytes, nothing, one_range, written, HasFourSizes};
 
@@ -103,7 +103,7 @@ fn written_by_write(
     len: u32,
 ) -> Ranges
     requires { IsMachineOf system.now machine.now }
-    ensures { result ≡ option_map_or (λ m. next_bytes (output_at m index) len) (request_held system.now (spm_of machine.now.objects) actor.0 handle index) nothing }
+    ensures { result ≡ option_map_or (λ m. next_bytes (output_at m index) len) (request_held system.now (spm_of_objects machine.now.objects) actor.0 handle index) nothing }
 {
     match machine.objects.request_held(system, actor.0, handle, index) {
         Some(message) => {
@@ -120,7 +120,7 @@ fn written_by_write(
 // What `psa_reply` may change.
 fn written_by_reply(machine: &Machine, system: &System, actor: ActorId, handle: Handle) -> Ranges
     requires { IsMachineOf system.now machine.now }
-    ensures { result ≡ option_map_or length_words (message_held system.now (spm_of machine.now.objects) actor.0 handle) nothing }
+    ensures { result ≡ option_map_or length_words (message_held system.now (spm_of_objects machine.now.objects) actor.0 handle) nothing }
 {
     match machine.objects.message_held(system, actor.0, handle) {
         Some(message) => length_words(&machine.memory, &message),
@@ -131,7 +131,7 @@ fn written_by_reply(machine: &Machine, system: &System, actor: ActorId, handle: 
 // What a call that is done may change.
 fn written_by_done(machine: &Machine, system: &System, actor: ActorId, call: Call) -> Ranges
     requires { IsMachineOf system.now machine.now }
-    ensures { result ≡ by_done system.now (spm_of machine.now.objects) actor.0 call }
+    ensures { result ≡ by_done system.now (spm_of_objects machine.now.objects) actor.0 call }
 {
     match call {
         Call::Write {
@@ -149,7 +149,7 @@ fn written_by_done(machine: &Machine, system: &System, actor: ActorId, call: Cal
 /// The ranges outside of which an entry, where it is a step, changes no byte.
 pub fn written(machine: &Machine, system: &System, entry: &Entry) -> Ranges
     requires { IsMachineOf system.now machine.now }
-    ensures written { result ≡ written system.now (spm_of machine.now.objects) entry.now }
+    ensures written { result ≡ written system.now (spm_of_objects machine.now.objects) entry.now }
     ensures sizes { HasFourSizes entry.now.outcome }
 {
     match entry.outcome {

@@ -69,6 +69,33 @@ partitions_refused p asked r s was same k a b c d e f g h =
     (subst P (ap (λ rules. rules ++ since_partitions p) (sym h) ∙ since_regions p a b c d e f g)
     (first_more s (too_many_partitions p) rest (first_by asked s (too_many_partitions p) was k)))
 
+-- where no rule before those on indices is broken
+since_indices : (p : PartsRecord) → too_many_partitions p ≡ [] → too_many_connections p ≡ [] → budgets_without_permission p ≡ [] → duplicate_sources p ≡ [] → memory_too_large p ≡ []
+    → duplicate_indices p ++ too_many_stateless p ≡ since_partitions p
+since_indices p a b c d e = sym (rw (a, b, c, d, e) refl)
+
+pub indices_refused : {A B : Type 0} (p : PartsRecord) (asked : Result A ReadError) (r : Result B ReadError) (e : ReadError) → asked ≡ Err e → IsErrAnd r (λ y. y ≡ e)
+    → Keeps asked (duplicate_indices p)
+    → duplicate_partitions p ≡ [] → duplicate_services p ≡ [] → duplicate_sids p ≡ [] → unknown_dependencies p ≡ [] → self_dependencies p ≡ [] → dependency_cycle p ≡ [] → too_many_signals p ≡ []
+    → unknown_regions p ++ overlapping_regions p ≡ [] → too_many_partitions p ≡ [] → too_many_connections p ≡ [] → budgets_without_permission p ≡ [] → duplicate_sources p ≡ [] → memory_too_large p ≡ []
+    → Keeps r (broken p)
+indices_refused p asked r s was same k a b c d e f g h i j l m n =
+    let P : List Refusal → Type 0 = IsFirst s in
+    keeps_first r s (broken p) same
+    (subst P (since_indices p i j l m n ∙ (ap (λ rules. rules ++ since_partitions p) (sym h) ∙ since_regions p a b c d e f g))
+    (first_more s (duplicate_indices p) (too_many_stateless p) (first_by asked s (duplicate_indices p) was k)))
+
+pub stateless_refused : {A B : Type 0} (p : PartsRecord) (asked : Result A ReadError) (r : Result B ReadError) (e : ReadError) → asked ≡ Err e → IsErrAnd r (λ y. y ≡ e)
+    → Keeps asked (too_many_stateless p)
+    → duplicate_partitions p ≡ [] → duplicate_services p ≡ [] → duplicate_sids p ≡ [] → unknown_dependencies p ≡ [] → self_dependencies p ≡ [] → dependency_cycle p ≡ [] → too_many_signals p ≡ []
+    → unknown_regions p ++ overlapping_regions p ≡ [] → too_many_partitions p ≡ [] → too_many_connections p ≡ [] → budgets_without_permission p ≡ [] → duplicate_sources p ≡ [] → memory_too_large p ≡ []
+    → duplicate_indices p ≡ [] → Keeps r (broken p)
+stateless_refused p asked r s was same k a b c d e f g h i j l m n o =
+    let P : List Refusal → Type 0 = IsFirst s in
+    keeps_first r s (broken p) same
+    (subst P (ap (λ rules. rules ++ too_many_stateless p) (sym o) ∙ (since_indices p i j l m n ∙ (ap (λ rules. rules ++ since_partitions p) (sym h) ∙ since_regions p a b c d e f g)))
+    (first_by asked s (too_many_stateless p) was k))
+
 -- what is refused is not compiled
 pub reads_refusal : {A : Type 0} (p : PartsRecord) (asked : Result A ReadError) (r : Result System ReadError) (e : ReadError) → asked ≡ Err e → IsErrAnd r (λ y. y ≡ e) → Keeps asked (broken p)
     → Reads (λ s. s) r (compiled p)

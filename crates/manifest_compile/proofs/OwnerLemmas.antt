@@ -11,11 +11,12 @@ use Rattle.std.specs.BTreeMap.{BTreeMap}
 use Rattle.std.proofs.lemmas.Bool.{or_from, and_right}
 use Rattle.std.proofs.lemmas.Bool.Decides.{same_from_decides, Decides-like}
 use Rattle.std.proofs.lemmas.Slice.Eq.{bytes_eq-Decides}
+use Rattle.list_laws.proofs.Lists.{map_nil}
 use denote.Ref.{Bor}
 use Rattle.ffm_model.specs.PartsItems.{PartsRecord}
 use Rattle.ffm_model.specs.Permissions.{services_in}
 use Rattle.ffm_model.specs.Rules.{duplicate_services}
-use Rattle.admitted_systems.proofs.Lists.{Pairs, each_weaker, repeated_nil, map_nil}
+use Rattle.admitted_systems.proofs.Lists.{Pairs, each_weaker, repeated_nil}
 use Rattle.manifest_compile.specs.Owners.{Owns, owner_of}
 
 -- the service has the name

@@ -1,13 +1,14 @@
 -- The parts of a system, where no rule is broken.
 use Rattle.std.proofs.Common.{ℕ, ◌≡◌, ◌≤◌, ◌+◌, List, [], ◌∷◌, ◌++◌, Option, Some, Err, length, map, flat_map, All, ap, sym, ◌∙◌, subst}
 use Rattle.std.specs.List.{enumerate_from}
+use Rattle.list_laws.proofs.Lists.{append_nil}
 use Rattle.ffm_model.specs.declared.system.Budget.{Budget}
 use Rattle.ffm_model.specs.declared.system.Partition.{Partition}
 use Rattle.ffm_model.specs.declared.system.Region.{Region}
 use Rattle.ffm_model.specs.declared.system.Service.{Service}
 use Rattle.ffm_model.specs.declared.system.Source.{Source}
 use Rattle.ffm_model.specs.Compiled.{partition_of, partitions_of, services_of, sources_of, sources_of_manifest, system_parts, compiled, compiled_by}
-use Rattle.ffm_model.specs.Layout.{regions_of}
+use Rattle.ffm_model.specs.Layout.{regions_laid_out}
 use Rattle.ffm_model.specs.ManifestItems.{ManifestRecord}
 use Rattle.ffm_model.specs.Parts.{SystemParts, system_from}
 use Rattle.ffm_model.specs.PartsItems.{PartsRecord}
@@ -17,7 +18,6 @@ use Rattle.ffm_model.specs.Repeats.{first}
 use Rattle.ffm_model.specs.declared.place.Refusal.{Refusal}
 use Rattle.ffm_model.specs.declared.system.System.{System}
 use Rattle.ffm_model.specs.Rules.{broken, duplicate_partitions, duplicate_services, duplicate_sids, unknown_dependencies, self_dependencies, dependency_cycle, too_many_signals}
-use Rattle.admitted_systems.proofs.Lists.{append_nil}
 use Rattle.admitted_systems.proofs.Numbered.{each_unnumbered}
 use Rattle.admitted_systems.proofs.Signals.{few_signals}
 use Rattle.manifest_compile.proofs.GraphLemmas.{each_at}
@@ -50,7 +50,7 @@ parts_with level partitions services sources regions clients budgets =
     record { level = level; partitions = partitions; services = services; sources = sources; regions = regions; clients = clients; budgets = budgets }
 
 pub same_parts : (p : PartsRecord) (level : ℕ) (partitions : List Partition) (services : List Service) (sources : List Source) (regions : List Region) (clients : List (List ℕ)) (budgets : List Budget)
-    → level ≡ p.level → partitions ≡ partitions_of p → services ≡ services_of p → sources ≡ sources_of p → regions ≡ regions_of p → clients ≡ p.clients → budgets ≡ budgets_of p
+    → level ≡ p.level → partitions ≡ partitions_of p → services ≡ services_of p → sources ≡ sources_of p → regions ≡ regions_laid_out p → clients ≡ p.clients → budgets ≡ budgets_of p
     → parts_with level partitions services sources regions clients budgets ≡ system_parts p
 same_parts p level partitions services sources regions clients budgets a b c d e f g =
     λ i. record { level = a i; partitions = b i; services = c i; sources = d i; regions = e i; clients = f i; budgets = g i }

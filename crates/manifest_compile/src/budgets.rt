@@ -1,9 +1,9 @@
 //! How many connections each permitted pair may have.
-ghost use Rattle.std.specs.Prelude.{◌≡◌, ◌&&◌, [], not, length, map, filter, nat_lt, sum_by, option_map, IfOk};
+ghost use Rattle.std.specs.Prelude.{◌≡◌, [], ◌&&◌, not, length, map, filter, nat_lt, sum_by, option_map, IfOk};
 ghost use Rattle.std.specs.List.{list_any, enumerate_from};
 ghost use Rattle.ffm_model.specs.Permissions.{permitted, is_for, budgets_of};
 ghost use Rattle.ffm_model.specs.Repeats.{first};
-ghost use Rattle.ffm_model.specs.Rules.{too_many_signals, too_many_partitions, too_many_connections, budgets_without_permission};
+ghost use Rattle.ffm_model.specs.Rules.{too_many_connections, too_many_partitions, too_many_signals, budgets_without_permission};
 ghost use Rattle.manifest_compile.specs.Keeps.{Keeps};
 ghost use Rattle.manifest_compile.specs.Pairs.{pair_seen};
 ghost use Rattle.manifest_compile.specs.Budgets.{has_pair, TellsCounts, HasPairs, budget_by};
@@ -61,15 +61,17 @@ fn budget_of<'a>(counts: &BTreeMap<(&'a str, &'a str), u32>, pair: &Pair<'a>) ->
 }
 
 // The budgets of all permitted pairs.
-fn all_budgets(alloc: Global, parts: &Parts) -> Result<Vec<Budget>, AllocError>
-    requires signals { too_many_signals parts.now ≡ [] }
-    requires partitions { too_many_partitions parts.now ≡ [] }
+fn all_budgets<'a>(
+    alloc: Global,
+    parts: &'a Parts,
+    pairs: &[Pair<'a>],
+) -> Result<Vec<Budget>, AllocError>
+    requires { map pair_seen pairs.now ≡ permitted parts.now }
     ensures { IfOk result (λ budgets. budgets.items ≡ budgets_of parts.now) }
 {
-    let pairs = pairs(alloc, parts)?;
     let counts = counts_of(alloc, parts.connections.as_slice())?;
     let mut budgets = Vec::new(alloc);
-    for pair in &pairs {
+    for pair in pairs {
         budgets.push(budget_of(&counts, pair))?;
     }
     Ok(budgets)
@@ -88,15 +90,17 @@ fn are_too_many(budgets: &[Budget]) -> bool
     false
 }
 
-/// The budgets of all permitted pairs. Refused where their connections are too many. No partition may
-/// have too many signals, and there may not be too many partitions.
-pub fn budgets(alloc: Global, parts: &Parts) -> Result<Vec<Budget>, ReadError>
-    requires signals { too_many_signals parts.now ≡ [] }
-    requires partitions { too_many_partitions parts.now ≡ [] }
+// The budgets of all permitted pairs. Refused where their connections are too many.
+fn budgets<'a>(
+    alloc: Global,
+    parts: &'a Parts,
+    pairs: &[Pair<'a>],
+) -> Result<Vec<Budget>, ReadError>
+    requires { map pair_seen pairs.now ≡ permitted parts.now }
     ensures keeps { Keeps result (too_many_connections parts.now) }
     ensures budgets { IfOk result (λ budgets. budgets.items ≡ budgets_of parts.now) }
 {
-    let budgets = all_budgets(alloc, parts)?;
+    let budgets = all_budgets(alloc, parts, pairs)?;
     if are_too_many(budgets.as_slice()) {
         return refused(
             alloc,
@@ -105,6 +109,23 @@ pub fn budgets(alloc: Global, parts: &Parts) -> Result<Vec<Budget>, ReadError>
         );
     }
     Ok(budgets)
+}
+
+/// All permitted pairs, with their budgets. No partition may have too many signals, and there may
+/// not be too many partitions. Refused where the connections are too many.
+pub fn pairs_with_budgets(
+    alloc: Global,
+    parts: &Parts,
+) -> Result<(Vec<Pair<'_>>, Vec<Budget>), ReadError>
+    requires signals { too_many_signals parts.now ≡ [] }
+    requires partitions { too_many_partitions parts.now ≡ [] }
+    ensures keeps { Keeps result (too_many_connections parts.now) }
+    ensures pairs { IfOk result (λ found. map pair_seen found.0.items ≡ permitted parts.now) }
+    ensures budgets { IfOk result (λ found. found.1.items ≡ budgets_of parts.now) }
+{
+    let pairs = pairs(alloc, parts)?;
+    let budgets = budgets(alloc, parts, pairs.as_slice())?;
+    Ok((pairs, budgets))
 }
 
 // Each number fits 32 bits where there is memory for so many items.
@@ -139,13 +160,15 @@ fn is_permitted<'a>(names: &BTreeSet<(&'a str, &'a str)>, connection: &'a Connec
 
 // The place of the first item of `connections` that is for no permitted pair, or for one of a
 // stateless service.
-fn first_without_permission(alloc: Global, parts: &Parts) -> Result<Option<u32>, AllocError>
-    requires signals { too_many_signals parts.now ≡ [] }
-    requires partitions { too_many_partitions parts.now ≡ [] }
+fn first_without_permission<'a>(
+    alloc: Global,
+    parts: &'a Parts,
+    pairs: &[Pair<'a>],
+) -> Result<Option<u32>, AllocError>
+    requires { map pair_seen pairs.now ≡ permitted parts.now }
     ensures { IfOk result (λ found. found ≡ option_map (λ e. e.0) (first (filter (λ e. not (list_any (λ pair. pair.connects && is_for pair e.1) (permitted parts.now))) (enumerate_from 0 parts.now.connections)))) }
 {
-    let pairs = pairs(alloc, parts)?;
-    let names = names_of_pairs(alloc, pairs.as_slice())?;
+    let names = names_of_pairs(alloc, pairs)?;
     for (place, connection) in parts.connections.as_slice().iter().enumerate() {
         if !is_permitted(&names, connection) {
             return Ok(Some(number(place)?));
@@ -154,14 +177,17 @@ fn first_without_permission(alloc: Global, parts: &Parts) -> Result<Option<u32>,
     Ok(None)
 }
 
-/// Refuses the first item of `connections` that is for no permitted pair, or for one of a stateless
-/// service. No partition may have too many signals, and there may not be too many partitions.
-pub fn budgets_are_permitted(alloc: Global, parts: &Parts) -> Result<(), ReadError>
-    requires signals { too_many_signals parts.now ≡ [] }
-    requires partitions { too_many_partitions parts.now ≡ [] }
+/// Refuses the first item of `connections` that is for none of the permitted pairs, or for one of a
+/// stateless service.
+pub fn budgets_are_permitted<'a>(
+    alloc: Global,
+    parts: &'a Parts,
+    pairs: &[Pair<'a>],
+) -> Result<(), ReadError>
+    requires { map pair_seen pairs.now ≡ permitted parts.now }
     ensures { Keeps result (budgets_without_permission parts.now) }
 {
-    match first_without_permission(alloc, parts)? {
+    match first_without_permission(alloc, parts, pairs)? {
         Some(place) => refused(
             alloc,
             BUDGET_WITHOUT_PERMISSION,

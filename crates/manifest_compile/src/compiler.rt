@@ -1,13 +1,13 @@
 //! The rules in their order, and then the system.
 ghost use Rattle.std.specs.Prelude.{◌≡◌, IfOk};
 ghost use Rattle.ffm_model.specs.Compiled.{compiled};
-ghost use Rattle.ffm_model.specs.Layout.{regions_of};
+ghost use Rattle.ffm_model.specs.Layout.{regions_laid_out};
 ghost use Rattle.ffm_model.specs.Permissions.{budgets_of};
 ghost use Rattle.ffm_model.specs.Reading.{Reads};
 ghost use Rattle.ffm_model.specs.Rules.{broken};
 ghost use Rattle.manifest_compile.specs.Keeps.{Keeps};
 
-use crate::budgets::{budgets, budgets_are_permitted};
+use crate::budgets::{budgets_are_permitted, pairs_with_budgets};
 use crate::dependencies::{
     dependencies_are_known, dependencies_are_others, dependencies_end, owners,
 };
@@ -22,7 +22,7 @@ use std::alloc::Global;
 // The regions and the budgets of the system. Refused where a rule is broken, for the first one.
 fn keep_rules(alloc: Global, parts: &Parts) -> Result<(List<Region>, List<Budget>), ReadError>
     ensures keeps { Keeps result (broken parts.now) }
-    ensures regions { IfOk result (λ made. made.0 ≡ regions_of parts.now) }
+    ensures regions { IfOk result (λ made. made.0 ≡ regions_laid_out parts.now) }
     ensures budgets { IfOk result (λ made. made.1 ≡ budgets_of parts.now) }
 {
     partitions_differ(alloc, parts)?;
@@ -35,8 +35,8 @@ fn keep_rules(alloc: Global, parts: &Parts) -> Result<(List<Region>, List<Budget
     signals_are_few(alloc, parts)?;
     let regions = regions(alloc, parts)?;
     partitions_are_few(alloc, parts)?;
-    let budgets = budgets(alloc, parts)?;
-    budgets_are_permitted(alloc, parts)?;
+    let (pairs, budgets) = pairs_with_budgets(alloc, parts)?;
+    budgets_are_permitted(alloc, parts, pairs.as_slice())?;
     sources_differ(alloc, parts)?;
     let regions = small_regions(alloc, regions)?;
     indices_differ(alloc, parts)?;

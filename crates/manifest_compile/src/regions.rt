@@ -1,6 +1,6 @@
 //! The regions of a system, or why it has none.
 ghost use Rattle.std.specs.Prelude.{◌≡◌, ◌++◌, IfOk};
-ghost use Rattle.ffm_model.specs.Layout.{regions_of};
+ghost use Rattle.ffm_model.specs.Layout.{regions_laid_out};
 ghost use Rattle.ffm_model.specs.PartsItems.{PartsRecord};
 ghost use Rattle.ffm_model.specs.Rules.{unknown_regions, overlapping_regions, memory_too_large};
 ghost use Rattle.manifest_compile.specs.Keeps.{Keeps};
@@ -76,7 +76,7 @@ pub fn small_regions(
     regions: Result<List<Region>, List<PathStep>>,
 ) -> Result<List<Region>, ReadError>
     ensures keeps { (p : PartsRecord) → HasSizes p regions → Keeps result (memory_too_large p) }
-    ensures regions { (p : PartsRecord) → HasSizes p regions → IfOk result (λ made. made ≡ regions_of p) }
+    ensures regions { (p : PartsRecord) → HasSizes p regions → IfOk result (λ made. made ≡ regions_laid_out p) }
 {
     match regions {
         Ok(regions) => Ok(regions),

@@ -2,7 +2,7 @@
 ghost use Rattle.std.specs.Prelude.{◌≡◌, ℕ, ◌+◌, ◌++◌, ◌<◌, ◌≤◌, [], length, map, All, IfOk, OnOk};
 ghost use Rattle.std.specs.List.{flat_map, enumerate_from};
 ghost use Rattle.ffm_model.specs.Compiled.{partition_of, service_of, services_from, services_of, source_of, sources_of_manifest, system_parts};
-ghost use Rattle.ffm_model.specs.Layout.{domain_at, located_from, regions_of};
+ghost use Rattle.ffm_model.specs.Layout.{domain_at, located_from, regions_laid_out};
 ghost use Rattle.ffm_model.specs.Parts.{parts_of_system};
 ghost use Rattle.ffm_model.specs.PartsItems.{PartsRecord};
 ghost use Rattle.ffm_model.specs.Permissions.{budgets_of};
@@ -182,7 +182,7 @@ pub fn system_of(
     budgets: List<Budget>,
 ) -> Result<System, AllocError>
     requires none { broken parts.now ≡ [] }
-    requires regions { regions ≡ regions_of parts.now }
+    requires regions { regions ≡ regions_laid_out parts.now }
     requires budgets { budgets ≡ budgets_of parts.now }
     ensures { IfOk result (λ s. parts_of_system s ≡ system_parts parts.now) }
 {

@@ -1,7 +1,6 @@
 -- Reading a list item by item, each behind those before it.
 use Rattle.std.proofs.Common.{◌≡◌, ℕ, suc, ◌+◌, ◌<◌, ◌≤◌, List, [], ◌∷◌, ◌++◌, length, drop, get_or, Result, Ok, Err, refl, sym, ap, ◌∙◌, drop-cons, add-one}
 use Rattle.std.proofs.lemmas.List.{drop_all}
-use Rattle.std.specs.List.{AllByRecursion}
 use Rattle.serde_json.specs.Data.{Data}
 use Rattle.serde_json.specs.View.{view, items_view}
 use Rattle.serde_json.specs.declared.value.Value.{Value}
@@ -38,8 +37,3 @@ unfolding items_after
 is_done read front vs i total past so_far =
     let one : items_after read front i (items_view (drop i vs)) ≡ Ok front = rw (drop_all i vs past) refl in
     sym so_far ∙ one
-
--- a range that each item keeps
-pub kept_push : {A : Type 0} (P : A → Type 0) (xs : List A) (x : A) → AllByRecursion P xs → P x → AllByRecursion P (xs ++ x ∷ [])
-kept_push P [] x all here = (here, tt)
-kept_push P (y ∷ xs) x all here = (all.0, kept_push P xs x all.1 here)

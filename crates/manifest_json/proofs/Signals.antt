@@ -4,7 +4,7 @@ use Rattle.std.specs.Prelude.{nat_le, codes}
 use Rattle.std.specs.Char.{is_ascii_digit}
 use Rattle.std.specs.List.{list_all}
 use Rattle.std.specs.Str.{bytes_eq}
-use Rattle.std.proofs.lemmas.Bool.{and_parts}
+use Rattle.std.proofs.lemmas.Bool.{and_parts, and_from}
 use Rattle.std.proofs.lemmas.Bool.Decides.{nat_tests}
 use Rattle.std.proofs.lemmas.List.Folds.{list_all-append}
 use Rattle.std.proofs.lemmas.Slice.Eq.{bytes_eq-Decides}
@@ -17,9 +17,6 @@ not_equal xs ys longer =
       | true ↦ λ e. absurd (let same : xs ≡ ys = (bytes_eq-Decides xs ys).0 e in omega (arith, ap length same))
       | false ↦ λ e. refl
     ] refl
-
-both : (a b : Bool) → a ≡ true → b ≡ true → (a && b) ≡ true
-both a b p q = rw (p, q) refl
 
 pub is_signal_name : (s : List ℕ) → is_name s ≡ true → length s ≤ 57 → is_name (s ++ codes "_SIGNAL") ≡ true
 unfolding is_name
@@ -37,4 +34,4 @@ is_signal_name (c ∷ cs) is short =
     let other : bytes_eq signal (codes "device") ≡ false = not_equal signal (codes "device") (omega arith) in
     let no_device : not (bytes_eq signal (codes "device")) ≡ true = rw other refl in
     let all : list_all is_word_byte signal ≡ true = rw (list_all-append, words.1) refl in
-    both _ _ (both _ _ (both _ _ (both _ _ some few) digit.1) no_device) all
+    and_from _ _ (and_from _ _ (and_from _ _ (and_from _ _ some few) digit.1) no_device) all

@@ -12,7 +12,7 @@ mod values;
 mod words;
 
 pub use error::{PartError, placed, refused, refused_at, under};
-pub use lengths::{ListUpTo, SomeOf};
+pub use lengths::ListUpTo;
 pub use manifest::{ManifestReader, read_manifest};
 pub use quote::quote_decimals;
 pub use reader::{
@@ -20,6 +20,5 @@ pub use reader::{
 };
 pub use trees::read_tree;
 pub use values::{
-    BooleanReader, NameReader, NumberReader, SourceReader, WholeReader, hex_number, is_name,
-    object, whole,
+    NameReader, NumberReader, SourceReader, WholeReader, hex_number, is_name, object, whole,
 };

@@ -4,6 +4,7 @@ use Rattle.std.specs.Prelude.{ℤ, pos, int_lt, int_le, bit_and, nat_lt, nat_le,
 use Rattle.std.specs.List.{AllByRecursion}
 use Rattle.std.specs.Option.{option_map, option_map_or, unwrap_or}
 use Rattle.std.specs.Ordering.{int_eq}
+use Rattle.list_laws.proofs.Bools.{if_passes}
 use Rattle.ffm_model.specs.declared.constants.TheConstants.{PSA_BLOCK, PSA_MAX_IOVEC, PSA_IPC_CALL, PSA_IPC_CONNECT, PSA_IPC_DISCONNECT, PSA_NULL_HANDLE, PSA_ERROR_CONNECTION_REFUSED, PSA_ERROR_CONNECTION_BUSY, PSA_ERROR_COMMUNICATION_FAILURE}
 use Rattle.ffm_model.specs.declared.system.System.{System}
 use Rattle.ffm_model.specs.declared.system.ActorKind.{ActorKind}
@@ -237,16 +238,12 @@ marks s b a h rhandle d P k =
 
 -- ---- the calls on messages, with what each needs
 
-passes-if : {X : Type 0} (P : X → Type 0) (b : Bool) (x : X) → (b ≡ true → P x) → IfSome (cond b (Some x) None) P
-passes-if P true x h = h refl
-passes-if P false x h = tt
-
 pub get-made : (s : System) (st : State) (a signal msg : ℕ) (h : Handle) (Q : Effect → Type 0)
     → ((v : ℕ) (m : PendingMessage) → service_of_signal s a signal ≡ Some v → find (is_undelivered v) st.spm.messages ≡ Some m → valid_buffer s a msg message_size ≡ true → Q (get_of s st v msg h m)) → IfSome (psa_get s st a signal msg h) Q
 get-made s st a signal msg h Q f =
     let on : (v : ℕ) (o : Option PendingMessage) → service_of_signal s a signal ≡ Some v → find (is_undelivered v) st.spm.messages ≡ o
     → IfSome (option_and_then (λ m. if valid_buffer s a msg message_size then Some (get_of s st v msg h m) else None) o) Q =
-    λ v. elim [ None ↦ λ e g. tt | Some m ↦ λ e g. passes-if Q (valid_buffer s a msg message_size) (get_of s st v msg h m) (f v m e g) ] in
+    λ v. elim [ None ↦ λ e g. tt | Some m ↦ λ e g. if_passes Q (valid_buffer s a msg message_size) (get_of s st v msg h m) (f v m e g) ] in
     let go : (o : Option ℕ) → service_of_signal s a signal ≡ o
     → IfSome (option_and_then (λ v. option_and_then (λ m. if valid_buffer s a msg message_size then Some (get_of s st v msg h m) else None) (find (is_undelivered v) st.spm.messages)) o) Q =
     elim [ None ↦ λ e. tt | Some v ↦ λ e. on v (find (is_undelivered v) st.spm.messages) e refl ] in

@@ -4,6 +4,7 @@ use Rattle.std.specs.Prelude.{ℤ, pos, Option, Some, None, if◌then◌else◌,
 use Rattle.std.specs.Option.{option_map_or}
 use Rattle.std.proofs.lemmas.Bool.{and_parts}
 use Rattle.std.proofs.lemmas.Bool.Decides.{nat_tests}
+use Rattle.ffm_model.proofs.RecordLemmas.{entries_of-own}
 use Rattle.ffm_model.specs.declared.constants.TheConstants.{PSA_IPC_CALL, PSA_MAX_IOVEC}
 use Rattle.ffm_model.specs.declared.system.System.{System}
 use Rattle.ffm_model.specs.declared.system.ActorKind.{ActorKind}
@@ -30,7 +31,7 @@ use Rattle.ffm_model.specs.HeldPlans.{Holding, holding_none, held_arrived, held_
 use Rattle.counting_law.proofs.Parts.{is_itself}
 use Rattle.mapped_runs.specs.Windows.{InputsAreCopied, IsEvent, OutputsAreCopied, standing_at}
 use Rattle.mapped_runs.proofs.Fits.{AreHeld, IsMappable, Match, mappable, mapped-unwritten}
-use Rattle.mapped_runs.proofs.Kept.{Kept, arrived-held, entries-mine, is-partition, may-alive, run-kept, standing, unmapped_in}
+use Rattle.mapped_runs.proofs.Kept.{Kept, arrived-held, is-partition, may-alive, run-kept, standing, unmapped_in}
 use Rattle.mapped_runs.proofs.Lines.{map_in-call, plan-call, runs-back, unmap_out-call}
 use Rattle.mapped_runs.proofs.Own.{Own, done-is, own-step}
 use Rattle.mapped_runs.proofs.Ranges.{copied, window-valid}
@@ -56,7 +57,7 @@ at-event s m a script es e old new c event is off =
     let x : Holding = standing s a script os in
     let plan = held_plan (holder_of s a) script in
     let mine : (e.actor.0 == a) ≡ true = ap (λ (y : ℕ). y == a) event.own ∙ is_itself a in
-    let back = runs-back plan [] (entries_of a es) e (subst (PlanRun plan) (entries-mine a es e mine) event.run) in
+    let back = runs-back plan [] (entries_of a es) e (subst (PlanRun plan) (entries_of-own a es e mine) event.run) in
     let kept : Kept s a script es old = run-kept s a script m es old event.partition event.before in
     let follows = kept.follows back.0 in
     let own = own-step s old new e a c event.behind event.own is in

@@ -1,13 +1,14 @@
 -- In each run a partition's table fits the machine's messages.
-use Rattle.std.proofs.Common.{ℕ, zero, suc, ◌≡◌, ◌≤◌, ◌<◌, ◌+◌, ◌==◌, Bool, true, false, ◌&&◌, List, [], ◌∷◌, ◌++◌, length, get_or, refl, ap, ap₂, sym, ◌∙◌, subst, arith, append_assoc, inl, inr}
-use Rattle.std.specs.Prelude.{Option, Some, nat_le, nat_lt, position, slice_get, replicate, if◌then◌else◌}
+use Rattle.std.proofs.Common.{ℕ, ◌≡◌, ◌≤◌, ◌<◌, ◌+◌, ◌==◌, Bool, true, false, ◌&&◌, List, [], ◌∷◌, ◌++◌, length, get_or, refl, ap, ap₂, sym, ◌∙◌, subst, arith, append_assoc, inl, inr}
+use Rattle.std.specs.Prelude.{Option, Some, nat_le, nat_lt, position, slice_get, if◌then◌else◌}
 use Rattle.std.specs.Option.{option_map_or}
 use Rattle.std.proofs.lemmas.Bool.{and_parts}
 use Rattle.std.proofs.lemmas.Bool.Decides.{nat_tests}
-use Rattle.std.proofs.lemmas.List.{append-nil}
-use Rattle.std.proofs.lemmas.List.Elements.{filter-append}
 use Rattle.std.proofs.lemmas.List.Quantifiers.{position-Some}
 use Rattle.std.proofs.lemmas.Option.{slice_get-get_or}
+use Rattle.list_laws.proofs.Counts.{count-push}
+use Rattle.ffm_model.proofs.RecordLemmas.{ends_blocked-push, engine_after-push, entries_of-other, entries_of-own, outcomes_of-push}
+use Rattle.counting_law.proofs.Returns.{open-phase, turned-sound}
 use Rattle.ffm_model.specs.declared.system.System.{System}
 use Rattle.ffm_model.specs.declared.system.Service.{Service}
 use Rattle.ffm_model.specs.declared.system.ActorKind.TheVariants as kind
@@ -36,17 +37,16 @@ use Rattle.ffm_model.specs.Held.{Holder, HeldMessage, held, holder_of, holds, is
 use Rattle.ffm_model.specs.Held.VectorState.{mapped, unmapped}
 use Rattle.ffm_model.specs.HeldPlans.{Holding, holding_none, held_arrived, held_behind, held_call, held_engine, held_plan, table_noted}
 use Rattle.counting_law.proofs.Balance.{Balanced}
-use Rattle.counting_law.proofs.Counts.{count-push}
 use Rattle.counting_law.proofs.Events.{EachKind}
 use Rattle.counting_law.proofs.Parts.{flipped, is_itself, same_or_not}
 use Rattle.counting_law.proofs.Resume.{times}
 use Rattle.counting_law.proofs.Runs.{opening-balanced, run-has, step-keeps}
 use Rattle.counting_law.proofs.Steps.{step-is, step-kind}
-use Rattle.counting_law.proofs.Turns.{Turned, Turns, is_sound, is_told, kinds-turn}
+use Rattle.counting_law.proofs.Turns.{Turned, Turns, is_sound, kinds-turn}
 use Rattle.mapped_runs.specs.Windows.{WasUnmapped}
 use Rattle.mapped_runs.proofs.Changes.{effect-changes, is_vector_call}
 use Rattle.mapped_runs.proofs.Fits.{AreHeld, Fits, holds-at, map_out-held, mapped-input, mapped-is, mapped-unwritten, told-more, touched-apart, touched-input, touched-output, unmap_in-held, unmapped-output}
-use Rattle.mapped_runs.proofs.Lines.{arrived-has, behind-table, ends-push, engine-push, get-noted, other-keeps, outcomes-push, plan-call, read-noted, reply-noted, runs-back, skip-noted, write-noted}
+use Rattle.mapped_runs.proofs.Lines.{arrived-has, behind-table, get-noted, other-keeps, plan-call, read-noted, reply-noted, runs-back, skip-noted, write-noted}
 use Rattle.mapped_runs.proofs.Messages.{AreWaiting, HoldsStill, IsKept, others-kept, own-kept, waiting-kept}
 use Rattle.mapped_runs.proofs.Own.{AreGiven, Behind, Own, get-behind, own-step, read-behind, reply-behind, skip-behind, write-behind}
 use Rattle.mapped_runs.proofs.Tables.{changed-count, large-there, moved-here}
@@ -70,29 +70,7 @@ owned-in a signal (w ∷ ws) v found = owner-at a signal (w ∷ ws) v w found
 service-owned : (s : System) (a v signal : ℕ) → service_of_signal s a signal ≡ Some v → is_service_of s a v ≡ true
 service-owned s a v signal found = owned-in a signal s.services v found
 
--- ---- one entry more
-
-pub entries-mine : (a : ℕ) (es : List Entry) (e : Entry) → (e.actor.0 == a) ≡ true → entries_of a (es ++ e ∷ []) ≡ entries_of a es ++ e ∷ []
-entries-mine a es e h = filter-append (λ d. d.actor.0 == a) es (e ∷ []) ∙ ap (λ (b : Bool). entries_of a es ++ (if b then e ∷ [] else [])) h
-
-pub entries-else : (a : ℕ) (es : List Entry) (e : Entry) → (e.actor.0 == a) ≡ false → entries_of a (es ++ e ∷ []) ≡ entries_of a es
-entries-else a es e h = filter-append (λ d. d.actor.0 == a) es (e ∷ []) ∙ ap (λ (b : Bool). entries_of a es ++ (if b then e ∷ [] else [])) h ∙ append-nil (entries_of a es)
-
 -- ---- phases
-
-told-sound : (p : ActorPhase) → is_told p ≡ true → is_sound p ≡ true
-told-sound (Ready o) e = e
-told-sound (Connected c) e = refl
-told-sound Running e = cc
-told-sound Blocked e = cc
-told-sound (Waiting mask) e = cc
-told-sound Ended e = cc
-told-sound Panicked e = cc
-
-turned-sound : (p q : ActorPhase) → Turned p q → is_sound p ≡ true → is_sound q ≡ true
-turned-sound p q (inl e) h = ap is_sound (sym e) ∙ h
-turned-sound p q (inr (inl k)) h = told-sound q k.1
-turned-sound p q (inr (inr k)) h = ap is_sound k.1
 
 turned-alive : (p q : ActorPhase) → Turned p q → is_panicked q ≡ false → is_panicked p ≡ false
 turned-alive p q (inl e) h = ap is_panicked e ∙ h
@@ -337,7 +315,7 @@ step-kept s a script inside es st new e r h =
       follows = λ run. same_or_not a e.actor.0 (FollowsAt s a (unmapped_in s a script (es ++ e ∷ [])) script (outcomes_of (entries_of a (es ++ e ∷ []))) new)
           (λ k.
           let mine : (e.actor.0 == a) ≡ true = ap (λ (x : ℕ). e.actor.0 == x) k ∙ is_itself e.actor.0 in
-          let pushed = entries-mine a es e mine in
+          let pushed = entries_of-own a es e mine in
           let plan = held_plan (holder_of s a) script in
           let os : List Outcome = outcomes_of (entries_of a es) in
           let x : Holding = standing s a script os in
@@ -347,11 +325,11 @@ step-kept s a script inside es st new e r h =
           let event : OwnEvent s a st new e = record { partition = is-partition s a inside; balanced = r.balanced; waiting = r.waiting; is_step = h; mine = sym k; grown = grown } in
           let next = own-by T s a script x st new e (ends_blocked os) (is_vector_call e.call) event old is refl (λ operands j index buffer len line write. record { earlier = es; entry = e; later = []; operands = operands; buffer = buffer; place = refl; own = sym k; is_line = line; is_write = write }) in
           let at : FollowsAt s a T script (os ++ e.outcome ∷ []) new =
-          subst (λ (b : Bool). Follows s a T script (standing s a script (os ++ e.outcome ∷ [])) b new) (sym (ends-push os e.outcome))
-          (subst (λ (y : Holding). Follows s a T script y (is_blocked_outcome e.outcome) new) (sym (engine-push (held_engine (holder_of s a) script) holding_none os e.outcome)) next) in
-          subst (λ (l : List Outcome). FollowsAt s a T script l new) (sym (ap outcomes_of pushed ∙ outcomes-push (entries_of a es) e)) at)
+          subst (λ (b : Bool). Follows s a T script (standing s a script (os ++ e.outcome ∷ [])) b new) (sym (ends_blocked-push os e.outcome))
+          (subst (λ (y : Holding). Follows s a T script y (is_blocked_outcome e.outcome) new) (sym (engine_after-push (held_engine (holder_of s a) script) holding_none os e.outcome)) next) in
+          subst (λ (l : List Outcome). FollowsAt s a T script l new) (sym (ap outcomes_of pushed ∙ outcomes_of-push (entries_of a es) e)) at)
           (λ k.
-          let same = entries-else a es e (flipped a e.actor.0 k) in
+          let same = entries_of-other a es e (flipped a e.actor.0 k) in
           let old = follows-more (unmapped_in s a script es) T s a script _ _ st (was-more s a script es e) (r.follows (subst (PlanRun (held_plan (holder_of s a) script)) same run)) in
           let apart : e.actor.0 ≡ a → ⊥ = λ z. let yes : (a == e.actor.0) ≡ true = ap (λ (y : ℕ). a == y) z ∙ is_itself a in cc in
           let kept : IsKept s st.spm a new.spm =
@@ -361,11 +339,6 @@ step-kept s a script inside es st new e r h =
           (others-follow T s a script _ _ st new kept (turned-alive _ _ (turns.others a k)) grown old));
     }
 
-open-sound : (n a : ℕ) → is_sound (get_or (replicate n Running) a Ended) ≡ true
-open-sound zero a = refl
-open-sound (suc n) zero = refl
-open-sound (suc n) (suc a) = open-sound n a
-
 start-follows : (s : System) (a : ℕ) (script : List Instruction) (m : ByteMap) → FollowsAt s a (unmapped_in s a script []) script [] (opening s m)
 unfolding engine_after ends_blocked
 start-follows s a script m = record { held = λ alive k x e. cc; given = λ k. omega arith; waits = λ z. cc }
@@ -373,5 +346,5 @@ start-follows s a script m = record { held = λ alive k x e. cc; given = λ k. o
 pub run-kept : (s : System) (a : ℕ) (script : List Instruction) (m : ByteMap) (es : List Entry) (st : State) → a < length s.partitions → after s m es ≡ Some st → Kept s a script es st
 run-kept s a script m es st inside run =
     run-has s m (Kept s a script)
-    (record { balanced = opening-balanced s; sound = λ x. open-sound (actor_count s) x; waiting = tt; follows = λ r. start-follows s a script m })
+    (record { balanced = opening-balanced s; sound = λ x. open-phase is_sound true refl refl (actor_count s) x; waiting = tt; follows = λ r. start-follows s a script m })
     (λ xs x new e. step-kept s a script inside xs x new e) es st run

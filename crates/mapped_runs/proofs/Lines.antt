@@ -14,8 +14,8 @@ use Rattle.ffm_model.specs.declared.script.MapName.{MapName}
 use Rattle.ffm_model.specs.declared.script.MapName.TheVariants.{MapIn, UnmapIn, MapOut, UnmapOut}
 use Rattle.ffm_model.specs.declared.script.Instruction.{Instruction}
 use Rattle.ffm_model.specs.declared.script.Instruction.TheVariants as line
-use Rattle.ffm_model.specs.Plans.{Plan, RunFrom, Engine, engine_answered, engine_after, plan_of}
-use Rattle.ffm_model.specs.Records.{is_blocked_outcome, ends_blocked, outcomes_of}
+use Rattle.ffm_model.specs.Plans.{Plan, RunFrom, Engine, engine_after, plan_of}
+use Rattle.ffm_model.specs.Records.{ends_blocked, outcomes_of}
 use Rattle.ffm_model.specs.ScriptRuns.{most_lines, line_call}
 use Rattle.ffm_model.specs.Held.{Holder, HeldMessage, can_map_in, can_map_out, can_unmap_in, can_unmap_out, changed_at, input_size, input_window, is_refused, output_window, table_behind, table_touched, touched, with_input, with_output}
 use Rattle.ffm_model.specs.Held.VectorState.{mapped, unmapped}
@@ -247,21 +247,6 @@ runs-back plan os [] e r = (tt, r.0 ∙ ap plan (sym (append-nil os)))
 runs-back plan os (x ∷ xs) e r =
     let rest = runs-back plan (os ++ x.outcome ∷ []) xs e r.1 in
     ((r.0, rest.0), rest.1 ∙ ap plan (append_assoc os (x.outcome ∷ []) (outcomes_of xs)))
-
-pub outcomes-push : (xs : List Entry) (e : Entry) → outcomes_of (xs ++ e ∷ []) ≡ outcomes_of xs ++ e.outcome ∷ []
-outcomes-push [] e = refl
-outcomes-push (x ∷ xs) e = ap (λ (os : List Outcome). x.outcome ∷ os) (outcomes-push xs e)
-
-pub engine-push : {X : Type 0} (m : Engine X) (x : X) (os : List Outcome) (o : Outcome) → engine_after m x (os ++ o ∷ []) ≡ engine_answered m o (engine_after m x os)
-unfolding engine_after
-engine-push m x [] o = refl
-engine-push m x (p ∷ os) o = engine-push m (engine_answered m p x) os o
-
-pub ends-push : (os : List Outcome) (o : Outcome) → ends_blocked (os ++ o ∷ []) ≡ is_blocked_outcome o
-unfolding ends_blocked
-ends-push [] o = refl
-ends-push (p ∷ []) o = refl
-ends-push (p ∷ q ∷ os) o = ends-push (q ∷ os) o
 
 -- the call that the plan makes
 pub plan-call : {X : Type 0} (m : Engine X) (x : X) (os : List Outcome) (b : Bool) → ends_blocked os ≡ b → plan_of m x os ≡ (if b then call.Resume else m.call (engine_after m x os))

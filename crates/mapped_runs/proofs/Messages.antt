@@ -3,8 +3,10 @@ use Rattle.std.proofs.Common.{ℕ, ◌≡◌, ◌≤◌, ◌+◌, ◌==◌, Bool
 use Rattle.std.specs.Prelude.{ℤ, pos, Option, Some, None, option_and_then, find, count_by, filter, map, is_none, if◌then◌else◌, slice_get}
 use Rattle.std.specs.List.{AllByRecursion, filter_map, cons_option}
 use Rattle.std.specs.Option.{option_map, option_map_or, option_or}
-use Rattle.std.proofs.lemmas.Bool.{and_parts, and_from, false_from_ne_true}
+use Rattle.std.proofs.lemmas.Bool.{and_parts, and_from, false_from_ne_true, and_right, and_left}
 use Rattle.std.proofs.lemmas.List.Folds.{find-append}
+use Rattle.list_laws.proofs.Counts.{bit, count-cons, find-narrow}
+use Rattle.list_laws.proofs.Tests.{find-passes}
 use Rattle.ffm_model.specs.declared.system.System.{System}
 use Rattle.ffm_model.specs.declared.system.Service.{Service}
 use Rattle.ffm_model.specs.declared.machine.Handle.{Handle}
@@ -20,7 +22,6 @@ use Rattle.ffm_model.specs.Panic.{panic_effect, without_service, disconnection, 
 use Rattle.ffm_model.specs.ServiceCalls.{service_of_signal}
 use Rattle.counting_law.specs.Objects.{accepted_as}
 use Rattle.counting_law.proofs.Balance.{Balanced}
-use Rattle.counting_law.proofs.Counts.{bit, count-cons, find-narrow, find-passes}
 use Rattle.counting_law.proofs.Keeps.{ready-quiet, request-ready}
 use Rattle.counting_law.proofs.Parts.{is_there, off_from, running-quiet}
 use Rattle.counting_law.proofs.Reply.{settled, settled-keeps}
@@ -70,10 +71,6 @@ owners-apart : (o : Option Service) (x p : ℕ) → option_map_or (λ v. v.owner
 owners-apart None x p own apart = refl
 owners-apart (Some v) x p own apart = false_from_ne_true (v.owner == p) (λ e. apart (sym (eqb-true v.owner p e) ∙ eqb-true v.owner x own))
 
-and-off : (x y : Bool) → y ≡ false → (x && y) ≡ false
-and-off true y e = e
-and-off false y e = refl
-
 -- ---- what is held is held still
 
 abbrev pub HoldsStill : System → SpmState → ℕ → SpmState → Type 0
@@ -103,7 +100,7 @@ panic-still s b p a apart k m found =
 deliver-by : (s : System) (a v : ℕ) (h k : Handle) (m : PendingMessage) (ms : List PendingMessage) (b : Bool) → is_undelivered v m ≡ b → (is_undelivered v m ≡ true → is_mine s a k (record m { handle = Some h }) ≡ false)
     → find (is_mine s a k) (delivered v h ms) ≡ find (is_mine s a k) ms → find (is_mine s a k) (if b then record m { handle = Some h } ∷ ms else m ∷ delivered v h ms) ≡ find (is_mine s a k) (m ∷ ms)
 deliver-by s a v h k m ms true e off go =
-    let was : is_mine s a k m ≡ false = and-off (is_service_of s a m.service) (has_handle m.handle k) (has-none m.handle k (and_parts (is_none m.handle) (m.service == v) e).0) in
+    let was : is_mine s a k m ≡ false = and_right (is_service_of s a m.service) (has_handle m.handle k) (has-none m.handle k (and_parts (is_none m.handle) (m.service == v) e).0) in
     ap (λ (x : Bool). if x then Some (record m { handle = Some h }) else find (is_mine s a k) ms) (off e) ∙ sym (ap (λ (x : Bool). if x then Some m else find (is_mine s a k) ms) was)
 deliver-by s a v h k m ms false e off go = ap (λ (o : Option PendingMessage). if is_mine s a k m then Some m else o) go
 
@@ -113,16 +110,12 @@ deliver-other s a v h k off [] = refl
 deliver-other s a v h k off (m ∷ ms) = deliver-by s a v h k m ms (is_undelivered v m) refl (off m) (deliver-other s a v h k off ms)
 
 pub get-still : (s : System) (b : SpmState) (a v : ℕ) (h k : Handle) → handle_eq h k ≡ false → message_held s (record b { messages = delivered v h b.messages }) a k ≡ message_held s b a k
-get-still s b a v h k apart = deliver-other s a v h k (λ m e. and-off (is_service_of s a m.service) (handle_eq h k) apart) b.messages
-
-left-off : (x y : Bool) → x ≡ false → (x && y) ≡ false
-left-off true y e = cc
-left-off false y e = refl
+get-still s b a v h k apart = deliver-other s a v h k (λ m e. and_right (is_service_of s a m.service) (handle_eq h k) apart) b.messages
 
 get-elsewhere : (s : System) (b : SpmState) (a v : ℕ) (h k : Handle) → is_service_of s a v ≡ false → message_held s (record b { messages = delivered v h b.messages }) a k ≡ message_held s b a k
 get-elsewhere s b a v h k other =
     deliver-other s a v h k
-    (λ m e. left-off (is_service_of s a m.service) (handle_eq h k) (ap (is_service_of s a) (eqb-true m.service v (and_parts (is_none m.handle) (m.service == v) e).1) ∙ other)) b.messages
+    (λ m e. and_left (is_service_of s a m.service) (handle_eq h k) (ap (is_service_of s a) (eqb-true m.service v (and_parts (is_none m.handle) (m.service == v) e).1) ∙ other)) b.messages
 
 found-by : (s : System) (a v : ℕ) (h : Handle) (m first : PendingMessage) (ms : List PendingMessage) (b : Bool) → is_undelivered v m ≡ b → is_service_of s a v ≡ true → handle_eq h h ≡ true
     → (if b then Some m else find (is_undelivered v) ms) ≡ Some first → has_handle m.handle h ≡ false
@@ -134,7 +127,7 @@ found-by s a v h m first ms true e own itself found none go =
     and_from (is_service_of s a m.service) (handle_eq h h) (ap (is_service_of s a) (eqb-true m.service v (and_parts (is_none m.handle) (m.service == v) e).1) ∙ own) itself in
     ap (λ (x : Bool). if x then Some (record m { handle = Some h }) else find (is_mine s a h) ms) mine ∙ ap (λ (x : PendingMessage). Some (record x { handle = Some h })) same
 found-by s a v h m first ms false e own itself found none go =
-    ap (λ (x : Bool). if x then Some m else find (is_mine s a h) (delivered v h ms)) (and-off (is_service_of s a m.service) (has_handle m.handle h) none) ∙ go found
+    ap (λ (x : Bool). if x then Some m else find (is_mine s a h) (delivered v h ms)) (and_right (is_service_of s a m.service) (has_handle m.handle h) none) ∙ go found
 
 get-found-in : (s : System) (a v : ℕ) (h : Handle) (first : PendingMessage) → is_service_of s a v ≡ true → handle_eq h h ≡ true → (ms : List PendingMessage) → find (is_undelivered v) ms ≡ Some first
     → count_by (λ m. has_handle m.handle h) ms ≡ 0 → find (is_mine s a h) (delivered v h ms) ≡ Some (record first { handle = Some h })

@@ -5,6 +5,8 @@ use Rattle.std.specs.List.{list_any}
 use Rattle.std.specs.Option.{option_map, option_map_or, option_or}
 use Rattle.std.proofs.lemmas.Bool.{and_parts, false_from_ne_true}
 use Rattle.std.proofs.lemmas.List.Folds.{find-append}
+use Rattle.list_laws.proofs.Counts.{none-count}
+use Rattle.ffm_model.proofs.RecordLemmas.{engine_after-push, entries_of-other, entries_of-own, outcomes_of-push}
 use Rattle.ffm_model.specs.declared.system.System.{System}
 use Rattle.ffm_model.specs.declared.machine.Handle.{Handle}
 use Rattle.ffm_model.specs.declared.machine.Status.{Status}
@@ -29,7 +31,6 @@ use Rattle.ffm_model.specs.Held.{Holder, HolderService, HeldMessage, HeldVector,
 use Rattle.ffm_model.specs.Held.VectorState.{fresh, used, mapped, unmapped}
 use Rattle.ffm_model.specs.HeldPlans.{Holding, held_arrived, held_behind, held_call, held_engine, held_plan, holding_none, table_noted}
 use Rattle.ffm_model.proofs.StepLemmas.{after-push}
-use Rattle.counting_law.proofs.Counts.{none-count}
 use Rattle.counting_law.proofs.Parts.{flipped, is_itself, same_or_not}
 use Rattle.counting_law.proofs.Resume.{times}
 use Rattle.counting_law.proofs.Runs.{run-has}
@@ -37,8 +38,8 @@ use Rattle.mapped_runs.specs.Windows.{IsEvent, WasUnmapped, line_at, standing_at
 use Rattle.mapped_runs.proofs.Changes.{is_vector_call}
 use Rattle.mapped_runs.proofs.Copies.{at-event, outputs-are-copied, tested}
 use Rattle.mapped_runs.proofs.Fits.{holds-at, mappable}
-use Rattle.mapped_runs.proofs.Kept.{Kept, arrived-given, entries-else, entries-mine, is-partition, run-kept, standing, step-grows}
-use Rattle.mapped_runs.proofs.Lines.{arrived-has, behind-table, engine-push, get-noted, other-keeps, outcomes-push, plan-call, read-noted, reply-noted, runs-back, skip-noted, unmap_out-call}
+use Rattle.mapped_runs.proofs.Kept.{Kept, arrived-given, is-partition, run-kept, standing, step-grows}
+use Rattle.mapped_runs.proofs.Lines.{arrived-has, behind-table, get-noted, other-keeps, plan-call, read-noted, reply-noted, runs-back, skip-noted, unmap_out-call}
 use Rattle.mapped_runs.proofs.Own.{AreGiven, Own, get-new, own-step}
 use Rattle.mapped_runs.proofs.Tables.{changed-other, changed-same, handle-same, is_unmapped, none-held, same_handle, without-other, without-same}
 
@@ -320,7 +321,7 @@ own-once s m a script es e st new event before =
     let y : Holding = standing_at s a script es in
     let plan = held_plan p script in
     let mine : (e.actor.0 == a) ≡ true = ap (λ (z : ℕ). z == a) event.own ∙ is_itself a in
-    let back = runs-back plan [] (entries_of a es) e (subst (PlanRun plan) (entries-mine a es e mine) event.run) in
+    let back = runs-back plan [] (entries_of a es) e (subst (PlanRun plan) (entries_of-own a es e mine) event.run) in
     let kept : Kept s a script es st = run-kept s a script m es st event.partition event.before in
     let follows = kept.follows back.0 in
     let given : AreGiven y.table st.handles_given = arrived-given s a script x st.handles_given follows.given in
@@ -357,12 +358,12 @@ step-once s m a script inside es st new e o h = record {
       (λ k.
       let mine : (e.actor.0 == a) ≡ true = ap (λ (x : ℕ). e.actor.0 == x) k ∙ is_itself e.actor.0 in
       let os : List Outcome = outcomes_of (entries_of a es) in
-      let pushed : outcomes_of (entries_of a (es ++ e ∷ [])) ≡ os ++ e.outcome ∷ [] = ap outcomes_of (entries-mine a es e mine) ∙ outcomes-push (entries_of a es) e in
-      let place = ap (standing s a script) pushed ∙ engine-push (held_engine (holder_of s a) script) holding_none os e.outcome in
+      let pushed : outcomes_of (entries_of a (es ++ e ∷ [])) ≡ os ++ e.outcome ∷ [] = ap outcomes_of (entries_of-own a es e mine) ∙ outcomes_of-push (entries_of a es) e in
+      let place = ap (standing s a script) pushed ∙ engine_after-push (held_engine (holder_of s a) script) holding_none os e.outcome in
       subst (λ (x : Holding). OnceAt s a script (es ++ e ∷ []) x new) (sym place)
       (own-once s m a script es e st new (record { partition = inside; own = sym k; before = o.run; behind = h; run = run }) o.once))
       (λ k.
-      let same = entries-else a es e (flipped a e.actor.0 k) in
+      let same = entries_of-other a es e (flipped a e.actor.0 k) in
       let old = o.once (subst (PlanRun (held_plan (holder_of s a) script)) same run) in
       let grown = step-grows s st new e h in
       let back : (j : Handle) (i n : ℕ) → WasUnmapped s a script (es ++ e ∷ []) j i n → WasUnmapped s a script es j i n =
@@ -401,7 +402,7 @@ unmapped-once s m a script es e st new h index event =
     let p : Holder = holder_of s a in
     let plan = held_plan p script in
     let mine : (e.actor.0 == a) ≡ true = ap (λ (z : ℕ). z == a) event.own ∙ is_itself a in
-    let back = runs-back plan [] (entries_of a es) e (subst (PlanRun plan) (entries-mine a es e mine) event.run) in
+    let back = runs-back plan [] (entries_of a es) e (subst (PlanRun plan) (entries_of-own a es e mine) event.run) in
     let once = (run-once s m a script es st event.partition event.before).once back.0 in
     record {
       gone = λ n y was at. not-mapped (vector_at y.output index).state (arrived-gone p script (standing s a script (outcomes_of (entries_of a es))) h index (once.gone h index n was) y at);

@@ -1,5 +1,5 @@
 -- A partition's own calls on its messages, with the table behind them.
-use Rattle.std.proofs.Common.{ℕ, zero, suc, ◌≡◌, ◌≤◌, Bool, true, false, not, ◌&&◌, ◌||◌, List, [], ◌∷◌, ◌++◌, length, refl, ap, ap₂, sym, ◌∙◌, subst, arith}
+use Rattle.std.proofs.Common.{ℕ, zero, suc, ◌≡◌, ◌≤◌, Bool, true, false, ◌&&◌, List, [], ◌∷◌, ◌++◌, length, refl, ap, ap₂, sym, ◌∙◌, subst, arith}
 use Rattle.std.specs.Prelude.{pos, ◌==◌, Option, Some, None, IfSome, find, count_by, map, get_or, is_none, nat_lt, option_and_then, if◌then◌else◌}
 use Rattle.std.specs.List.{list_any}
 use Rattle.std.specs.Option.{option_map_or, option_or}
@@ -8,6 +8,7 @@ use Rattle.std.specs.Str.{bytes_eq}
 use Rattle.std.proofs.lemmas.Bool.{and_parts}
 use Rattle.std.proofs.lemmas.Slice.Eq.{bytes_eq-Decides}
 use Rattle.std.proofs.lemmas.List.Folds.{find-append}
+use Rattle.list_laws.proofs.Counts.{bit, count-push, none-count}
 use Rattle.ffm_model.specs.declared.constants.TheConstants.{PSA_MAX_IOVEC}
 use Rattle.ffm_model.specs.declared.system.System.{System}
 use Rattle.ffm_model.specs.declared.system.ActorKind.{ActorKind}
@@ -36,10 +37,9 @@ use Rattle.ffm_model.specs.Step.{step, may_call, handle_allowed, gives_handle, h
 use Rattle.ffm_model.specs.Records.{is_blocked_outcome}
 use Rattle.ffm_model.specs.Held.{Holder, HolderService, HeldMessage, HeldVector, changed_at, fresh_vector, held, holder_of, is_held_as, most_held, table_behind, vector_at, with_message_of, without}
 use Rattle.counting_law.proofs.Balance.{Balanced}
-use Rattle.counting_law.proofs.Counts.{bit, count-push, none-count}
 use Rattle.counting_law.proofs.Events.{caller-running}
 use Rattle.counting_law.proofs.Resume.{fresh-new, int_same, times}
-use Rattle.counting_law.proofs.Steps.{step-is}
+use Rattle.counting_law.proofs.Steps.{step-is, new_handle}
 use Rattle.counting_law.proofs.Walk.{handle-self}
 use Rattle.mapped_runs.proofs.Changes.{AreNew, Unmoved, effect-has, get-made, read-made, reply-leaves, reply-made, request-is, skip-made, write-made}
 use Rattle.mapped_runs.proofs.Fits.{AreHeld, Fits, InputUse, Match, OutputUse, input-fits, moved-held, output-fits}
@@ -214,11 +214,6 @@ get-is s st a signal msg h = refl
 gives-get : (p : ActorPhase) (signal msg : ℕ) → gives_handle p (call.Get signal msg) ≡ true
 gives-get p signal msg = refl
 
-fresh-by : (wrong gives new : Bool) → wrong ≡ false → gives ≡ true → (wrong || (not gives || new)) ≡ true → new ≡ true
-fresh-by true gives new e f h = cc
-fresh-by false true new e f h = h
-fresh-by false false new e f h = cc
-
 -- the handle that it gives is new
 get-fresh : (s : System) (st : State) (a signal msg v : ℕ) (m : PendingMessage) (h : Handle) → kind_of s a ≡ Partition → service_of_signal s a signal ≡ Some v → find (is_undelivered v) st.spm.messages ≡ Some m
     → valid_buffer s a msg message_size ≡ true → handle_allowed s st a (call.Get signal msg) h ≡ true → list_any (handle_eq h) st.handles_given ≡ false
@@ -231,7 +226,7 @@ get-fresh s st a signal msg v m h kind found first room allowed =
     ∙ (ap₂ (λ (x : Option ℕ) (b : Bool). get-choice s st a signal msg zero_handle Partition x (λ i. find (is_undelivered i) st.spm.messages) b) found room
     ∙ ap (λ (x : Option PendingMessage). option_and_then (λ m. Some (get_of s st v msg zero_handle m)) x) first)) in
     let right : programmer_error s st a (call.Get signal msg) ≡ false = ap (λ (x : Option Effect). is_none x) made in
-    fresh-new st h (fresh-by (programmer_error s st a (call.Get signal msg)) (gives_handle (phase_of st.spm a) (call.Get signal msg)) (fresh st h) right (gives-get (phase_of st.spm a) signal msg) allowed)
+    fresh-new st h (new_handle (programmer_error s st a (call.Get signal msg)) (gives_handle (phase_of st.spm a) (call.Get signal msg)) (fresh st h) right (gives-get (phase_of st.spm a) signal msg) allowed)
 
 -- no message that was shown comes again
 pub get-new : (s : System) (st new : State) (a signal msg : ℕ) (m : Message) → kind_of s a ≡ Partition → Own s st new a (call.Get signal msg) (outcome.Got m) → list_any (handle_eq m.handle) st.handles_given ≡ false

@@ -1,10 +1,11 @@
 -- The windows of a partition lie in its own RAM, and a copy leaves the bytes that it read.
 use Rattle.std.proofs.Common.{ℕ, zero, suc, ◌+◌, ◌-◌, ◌*◌, ◌/◌, ◌<◌, ◌≤◌, ◌≡◌, ◌==◌, List, [], ◌∷◌, length, get_or, refl, ap, ap₂, sym, ◌∙◌, arith, Bool, true, false}
 use Rattle.std.specs.Prelude.{Option, Some, None, if◌then◌else◌, ◌&&◌, nat_lt, nat_le, option_and_then, slice_get, slice_index}
-use Rattle.std.specs.List.{list_all, list_any}
+use Rattle.std.specs.List.{list_all}
 use Rattle.std.specs.Option.{option_map_or}
-use Rattle.std.proofs.lemmas.Bool.{and_parts, and_from, or_left, or_right}
+use Rattle.std.proofs.lemmas.Bool.{and_parts, and_from, or_right}
 use Rattle.std.proofs.lemmas.Bool.Decides.{nat_tests}
+use Rattle.list_laws.proofs.Tests.{list_all-at, list_any-at}
 use Rattle.ffm_model.specs.declared.system.ActorKind.TheVariants as kind
 use Rattle.ffm_model.specs.declared.system.Class.{Class}
 use Rattle.ffm_model.specs.declared.system.Class.TheVariants.{Ram, NonSecure, Mmio}
@@ -14,21 +15,11 @@ use Rattle.ffm_model.specs.declared.system.System.{System}
 use Rattle.ffm_model.specs.Actors.{is_partition, kind_of}
 use Rattle.ffm_model.specs.Held.{holder_of, window, window_size}
 use Rattle.ffm_model.specs.Memory.{ByteMap, bytes_at, copy_bytes, domain_of, is_ram_of, lies_in, valid_buffer, write_bytes}
-use Rattle.ffm_model.specs.PartitionRam.{heap_of, ram_base, ram_size}
-use Rattle.ffm_model.specs.WellFormed.{is_ram_in, ram_bytes}
+use Rattle.ffm_model.specs.PartitionRam.{heap_of, ram_base, ram_size_of}
+use Rattle.ffm_model.specs.WellFormed.{is_ram_in, ram_size}
 use Rattle.ffm_model.proofs.WellFormedLemmas.{models_hold, partitions_hold}
 
 -- ---- lists
-
-all-at : {X : Type 0} (p : X → Bool) (xs : List X) (i : ℕ) (x : X) → list_all p xs ≡ true → slice_get xs i ≡ Some x → p x ≡ true
-all-at p [] i x h e = absurd (cc)
-all-at p (y ∷ ys) zero x h e = let same : y ≡ x = cc in ap p (sym same) ∙ (and_parts (p y) (list_all p ys) h).0
-all-at p (y ∷ ys) (suc i) x h e = all-at p ys i x (and_parts (p y) (list_all p ys) h).1 e
-
-any-at : {X : Type 0} (p : X → Bool) (xs : List X) (i : ℕ) (x : X) → slice_get xs i ≡ Some x → p x ≡ true → list_any p xs ≡ true
-any-at p [] i x e h = absurd (cc)
-any-at p (y ∷ ys) zero x e h = let same : y ≡ x = cc in or_left (p y) (list_any p ys) (ap p same ∙ h)
-any-at p (y ∷ ys) (suc i) x e h = or_right (p y) (list_any p ys) (any-at p ys i x e h)
 
 some-at : {X : Type 0} (xs : List X) (i : ℕ) → i < length xs → (x : X) × (slice_get xs i ≡ Some x)
 some-at [] i lt = absurd (omega (arith, lt))
@@ -60,26 +51,26 @@ own-ram s a domain NonSecure partition own h = absurd (cc)
 own-ram s a domain (Mmio owner writable) partition own h = absurd (cc)
 
 window-by : (s : System) (a i len : ℕ) (p : Partition) (o : Option Region) → kind_of s a ≡ kind.Partition → slice_get s.partitions a ≡ Some p → slice_get s.regions p.ram ≡ o → option_map_or (λ r. is_ram_in p.domain r.class) o false ≡ true
-    → nat_le p.heap (ram_bytes s.regions p) ≡ true → i < 8 → len ≤ window_size (holder_of s a) → valid_buffer s a (window (holder_of s a) i) len ≡ true
+    → nat_le p.heap (ram_size s.regions p) ≡ true → i < 8 → len ≤ window_size (holder_of s a) → valid_buffer s a (window (holder_of s a) i) len ≡ true
 window-by s a i len p None partition at there own fits few short = absurd (cc)
 window-by s a i len p (Some r) partition at there own fits few short =
     let base : ram_base s a ≡ r.base =
     ap (λ (o : Option Partition). option_map_or (λ r. r.base) (option_and_then (λ p. slice_get s.regions p.ram) o) 0) at ∙ ap (λ (o : Option Region). option_map_or (λ r. r.base) o 0) there in
-    let size : ram_size s a ≡ r.size = ap (λ (o : Option Partition). option_map_or (ram_bytes s.regions) o 0) at ∙ ap (λ (o : Option Region). option_map_or (λ r. r.size) o 0) there in
-    let heap : nat_le (heap_of s a) (ram_size s a) ≡ true = ap₂ (λ x y. nat_le x y) (ap (λ (o : Option Partition). option_map_or (λ p. p.heap) o 0) at) (ap (λ (o : Option Partition). option_map_or (ram_bytes s.regions) o 0) at) ∙ fits in
+    let size : ram_size_of s a ≡ r.size = ap (λ (o : Option Partition). option_map_or (ram_size s.regions) o 0) at ∙ ap (λ (o : Option Region). option_map_or (λ r. r.size) o 0) there in
+    let heap : nat_le (heap_of s a) (ram_size_of s a) ≡ true = ap₂ (λ x y. nat_le x y) (ap (λ (o : Option Partition). option_map_or (λ p. p.heap) o 0) at) (ap (λ (o : Option Partition). option_map_or (ram_size s.regions) o 0) at) ∙ fits in
     let domain : p.domain ≡ domain_of s a = sym (ap (λ (o : Option Partition). option_map_or (λ q. q.domain) o 0) at) in
     let mine : is_ram_of s a r.class ≡ true = own-ram s a p.domain r.class (ap is_partition partition) domain own in
-    or_right (len == 0) _ (any-at (λ r. is_ram_of s a r.class && lies_in (window (holder_of s a) i) len r) s.regions p.ram r there
-    (and_from (is_ram_of s a r.class) (lies_in (window (holder_of s a) i) len r) mine (window-inside (ram_base s a) (ram_size s a) (heap_of s a) i len r base size heap few short)))
+    or_right (len == 0) _ (list_any-at (λ r. is_ram_of s a r.class && lies_in (window (holder_of s a) i) len r) s.regions p.ram r there
+    (and_from (is_ram_of s a r.class) (lies_in (window (holder_of s a) i) len r) mine (window-inside (ram_base s a) (ram_size_of s a) (heap_of s a) i len r base size heap few short)))
 
 -- a partition may hand its windows to a call
 pub window-valid : (s : System) (a i len : ℕ) → kind_of s a ≡ kind.Partition → a < length s.partitions → i < 8 → len ≤ window_size (holder_of s a) → valid_buffer s a (window (holder_of s a) i) len ≡ true
 window-valid s a i len partition inside few short =
     let p = some-at s.partitions a inside in
-    let all = and_parts _ (list_all (λ p. nat_le p.heap (ram_bytes s.regions p)) s.partitions) (models_hold s) in
+    let all = and_parts _ (list_all (λ p. nat_le p.heap (ram_size s.regions p)) s.partitions) (models_hold s) in
     let rams = (and_parts _ _ (and_parts _ _ (partitions_hold s)).0).0 in
-    window-by s a i len p.0 (slice_get s.regions p.0.ram) partition p.1 refl (all-at (λ q. option_map_or (λ r. is_ram_in q.domain r.class) (slice_get s.regions q.ram) false) s.partitions a p.0 rams p.1)
-    (all-at (λ q. nat_le q.heap (ram_bytes s.regions q)) s.partitions a p.0 all.1 p.1) few short
+    window-by s a i len p.0 (slice_get s.regions p.0.ram) partition p.1 refl (list_all-at (λ q. option_map_or (λ r. is_ram_in q.domain r.class) (slice_get s.regions q.ram) false) s.partitions a p.0 rams p.1)
+    (list_all-at (λ q. nat_le q.heap (ram_size s.regions q)) s.partitions a p.0 all.1 p.1) few short
 
 -- ---- copies
 

@@ -2,6 +2,7 @@
 use Rattle.std.proofs.Common.{ℕ, zero, suc, ◌≡◌, ◌≤◌, ◌<◌, ◌+◌, Bool, true, false, List, [], ◌∷◌, length, refl, ap, sym, ◌∙◌, subst, arith}
 use Rattle.std.specs.Prelude.{ℤ, Option, Some, None, count_by, map, get_or, slice_set, if◌then◌else◌}
 use Rattle.std.specs.Option.{option_map}
+use Rattle.list_laws.proofs.Counts.{bit, count-cons}
 use Rattle.ffm_model.specs.declared.machine.Handle.{Handle}
 use Rattle.ffm_model.specs.declared.objects.Span.{Span}
 use Rattle.ffm_model.specs.Memory.{no_span}
@@ -9,7 +10,6 @@ use Rattle.ffm_model.specs.ServiceCalls.{moved_by, sizes_of}
 use Rattle.ffm_model.specs.State.{handle_eq}
 use Rattle.ffm_model.specs.Held.{HeldMessage, HeldVector, VectorState, changed_at, fresh_vector, held, is_fresh, is_held_as, is_mapped, is_or_was_mapped, touched, vector_at, with_state, without}
 use Rattle.ffm_model.specs.Held.VectorState.{fresh, used, mapped, unmapped}
-use Rattle.counting_law.proofs.Counts.{bit, count-cons}
 use Rattle.counting_law.proofs.Resume.{int_flip, int_same}
 
 -- ---- handles

@@ -5,6 +5,7 @@ use Rattle.std.proofs.lemmas.List.Sums.{sum_by-cons, count_by-le-length}
 use Rattle.std.proofs.lemmas.List.FromFn.{length-range_with_len}
 use Rattle.std.proofs.lemmas.Slice.Zip.{length-zip}
 use Rattle.std.specs.List.{zip, position, position_or_len, range_with_len}
+use Rattle.std.proofs.lemmas.Bool.{and_from}
 use Rattle.byte_lanes.specs.Unequal.{are_unequal}
 use Rattle.byte_lanes.specs.Differences.{differs, range_covers, IsLeast}
 use Rattle.ffm_model.specs.Memory.{ByteMap, bytes_at}
@@ -68,10 +69,6 @@ told_none : (b : Bool) (d : ℕ) → None ≡ cond b (Some d) None → b ≡ fal
 told_none true d e = absurd (grind (arith, e))
 told_none false d e = refl
 
-both_true : (b c : Bool) → b ≡ true → c ≡ true → (b && c) ≡ true
-both_true true c h k = k
-both_true false c h k = h
-
 left_false : (b c : Bool) → (c ≡ true → b ≡ false) → (b && c) ≡ false
 left_false true true h = h refl
 left_false true false h = refl
@@ -90,7 +87,7 @@ least_at m k a n i e =
     let t = told _ _ i e in
     let below = place_within m k a n i e in
     let there : differs m k (a + i) ≡ true = ap (λ d. differs m k (a + d)) t.1 ∙ run.stops (omega (arith, t.1, below)) in (
-      both_true _ _ there (grind (arith, nat_tests, below)),
+      and_from _ _ there (grind (arith, nat_tests, below)),
       λ x low. left_false (differs m k x) (range_covers (a, n) x)
           (λ c. let from : a ≤ x = grind (arith, nat_tests) in run.before x from (omega (arith, t.1, low))),
     )

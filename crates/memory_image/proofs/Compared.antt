@@ -6,6 +6,7 @@ use Rattle.std.proofs.lemmas.Bool.Decides.{nat_tests}
 use Rattle.std.proofs.lemmas.List.{get_or-map, length-map, take_all}
 use Rattle.std.proofs.lemmas.List.Folds.{list_any_more, list_any_at}
 use Rattle.std.proofs.lemmas.List.Sums.{sum_by_more, sum_by_more_le, sum_by-le-sum_by}
+use Rattle.std.proofs.lemmas.Bool.{and_left, and_parts, or_parts, or_right}
 use Rattle.byte_lanes.specs.Differences.{differs, range_covers, any_covers, count_in, IsLeast, lesser}
 use Rattle.byte_lanes.proofs.Ranges.{lesser_of, least_same}
 use Rattle.ffm_model.specs.declared.scenario.Bytes.{Bytes}
@@ -14,7 +15,6 @@ use Rattle.ffm_model.specs.Memory.{ByteMap}
 use Rattle.memory_image.specs.Pieces.{byte_at, range_of, has_range, share_no_byte, regions_of, is_inside, fit_an_image}
 use Rattle.ffm_model.specs.WellFormed.{each_pair}
 use Rattle.memory_image.proofs.Changed.{counted_le}
-use Rattle.memory_image.proofs.Places.{and_right}
 
 -- ---- one region of an image
 
@@ -29,22 +29,18 @@ piece_at ps items k n p d same below is long = record {
   range = get_or-map range_of ps k d (0, 0) (omega (arith, ap length same)) ∙ ap (λ l. range_of (get_or l k d)) (sym same) ∙ ap range_of (sym is) ∙ ap (λ m. (p.address, m)) (sym long);
 }
 
-has_itself : (a n : ℕ) → has_range a n (a, n) ≡ true
+pub has_itself : (a n : ℕ) → has_range a n (a, n) ≡ true
 has_itself a n = grind (arith, nat_tests)
 
-or_holds : (a b : Bool) → b ≡ true → (a || b) ≡ true
-or_holds true b h = refl
-or_holds false b h = h
-
 pub region_inside : (rs : List (ℕ × ℕ)) (k a n : ℕ) → IsRegionAt rs k a n → is_inside a n rs ≡ true
-region_inside rs k a n at = or_holds _ _ (list_any_at (has_range a n) rs k (0, 0) at.exists (ap (has_range a n) at.range ∙ has_itself a n))
+region_inside rs k a n at = or_right _ _ (list_any_at (has_range a n) rs k (0, 0) at.exists (ap (has_range a n) at.range ∙ has_itself a n))
 
 -- all regions together are small
 regions_small : (rs : List (ℕ × ℕ)) → fit_an_image rs ≡ true → sum_by (λ e. e.1) rs ≤ 16777216
 unfolding fit_an_image
 regions_small rs fit =
     let each = each_pair share_no_byte rs && list_all (λ e. nat_le (e.0 + e.1) 4294967296) rs in
-    let sum : nat_le (sum_by (λ e. e.1) rs) MAX_IMAGE_BYTES ≡ true = and_right each _ fit in
+    let sum : nat_le (sum_by (λ e. e.1) rs) MAX_IMAGE_BYTES ≡ true = (and_parts each _ fit).1 in
     grind (arith, nat_tests)
 
 -- and so is each
@@ -85,14 +81,10 @@ least_last p rs k least all inside one =
 
 -- ---- outside of the regions
 
-first_off : (a b : Bool) → (a || b) ≡ false → (a ≡ false) × (b ≡ false)
-first_off true b e = cc
-first_off false b e = (refl, e)
-
 zero_outside : (ps : List Bytes) (x : ℕ) → any_covers (regions_of ps) x ≡ false → byte_at ps x ≡ 0
 zero_outside [] x off = refl
 zero_outside (p ∷ ps) x off =
-    let parts = first_off (range_covers (range_of p) x) (any_covers (regions_of ps) x) off in
+    let parts = or_parts (range_covers (range_of p) x) (any_covers (regions_of ps) x) off in
     rw parts.0 (zero_outside ps x parts.1)
 
 same_byte : (a b : ℕ) → a ≡ 0 → b ≡ 0 → not (nat_eq a b) ≡ false
@@ -103,12 +95,8 @@ pub same_outside : (ps qs : List Bytes) → regions_of ps ≡ regions_of qs → 
 same_outside ps qs same x off =
     same_byte _ _ (zero_outside ps x off) (zero_outside qs x (ap (λ rs. any_covers rs x) (sym same) ∙ off))
 
-left_off : (b c : Bool) → b ≡ false → (b && c) ≡ false
-left_off true c h = cc
-left_off false c h = refl
-
 pub same_outside_too : (ps qs : List Bytes) (s : ℕ → Bool) → regions_of ps ≡ regions_of qs → (x : ℕ) → any_covers (regions_of ps) x ≡ false → (differs (byte_at ps) (byte_at qs) x && s x) ≡ false
-same_outside_too ps qs s same x off = left_off _ (s x) (same_outside ps qs same x off)
+same_outside_too ps qs s same x off = and_left _ (s x) (same_outside ps qs same x off)
 
 -- ---- the count, region by region
 

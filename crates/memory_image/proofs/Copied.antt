@@ -4,11 +4,12 @@ use Rattle.std.specs.Prelude.{slice_index}
 use Rattle.std.proofs.lemmas.List.{get_or_default, get_or_append_left, get_or-append-add, set-append_left, set-append_right}
 use Rattle.std.proofs.lemmas.Bool.Decides.{nat_tests}
 use Rattle.std.proofs.lemmas.List.Folds.{list_all-map}
+use Rattle.std.proofs.lemmas.Bool.{and_parts}
 use Rattle.ffm_model.specs.declared.scenario.Bytes.{Bytes}
 use Rattle.ffm_model.specs.Memory.{ByteMap, write_bytes, bytes_at, copy_bytes}
 use Rattle.ffm_model.specs.WellFormed.{each_pair}
 use Rattle.memory_image.specs.Pieces.{byte_at, range_of, has_range, share_no_byte, IsPut, regions_of}
-use Rattle.memory_image.proofs.Places.{and_left, and_right, holds_at}
+use Rattle.memory_image.proofs.Places.{holds_at}
 use Rattle.memory_image.proofs.Stored.{stored, regions-kept}
 
 read_behind : (p r : Bytes) (ps : List Bytes) (x n : ℕ) → share_no_byte (range_of p) (range_of r) ≡ true → has_range x 1 (range_of r) ≡ true
@@ -23,8 +24,8 @@ byte_of (p ∷ ps) zero d x below apart range = grind (arith, nat_tests)
 byte_of (p ∷ ps) (suc i) d x below apart range =
     let inside : i < length ps = omega arith in
     let apart_from : share_no_byte (range_of p) (range_of (get_or ps i d)) ≡ true =
-    holds_at (λ r. share_no_byte (range_of p) (range_of r)) ps i d inside (sym (list_all-map (share_no_byte (range_of p)) range_of ps) ∙ and_left _ _ apart) in
-    read_behind p (get_or ps i d) ps x _ apart_from range (byte_of ps i d x inside (and_right _ _ apart) range)
+    holds_at (λ r. share_no_byte (range_of p) (range_of r)) ps i d inside (sym (list_all-map (share_no_byte (range_of p)) range_of ps) ∙ (and_parts _ _ apart).0) in
+    read_behind p (get_or ps i d) ps x _ apart_from range (byte_of ps i d x inside (and_parts _ _ apart).1 range)
 
 -- a part of a list that the memory agrees with
 part_read : (m : ByteMap) (c : List ℕ) (o at len : ℕ) → o + len ≤ length c → ((x y : ℕ) → at ≤ x → x < at + len → x + o ≡ y + at → m x ≡ slice_index c y)

@@ -3,7 +3,7 @@ use Rattle.std.proofs.Common.{ℕ, zero, suc, ◌≡◌, ◌<◌, ◌≤◌, ◌
 use Rattle.std.specs.Prelude.{◌==◌, nat_le, if◌then◌else◌, map, All, Contains, Some, None}
 use Rattle.std.specs.List.{list_any}
 use Rattle.std.specs.List.Sorted.{IsPartitionPoint}
-use Rattle.std.proofs.lemmas.Bool.{cases_lt}
+use Rattle.std.proofs.lemmas.Bool.{cases_lt, and_parts}
 use Rattle.std.proofs.lemmas.Bool.Decides.{nat_tests}
 use Rattle.std.proofs.lemmas.List.{get_or-map, get_or_default, length-map}
 use Rattle.std.proofs.lemmas.List.Folds.{list_any_at, list_any_none}
@@ -14,7 +14,7 @@ use Rattle.ffm_model.specs.WellFormed.{each_pair}
 use Rattle.memory_image.specs.declared.index.Start.{Start}
 use Rattle.memory_image.specs.Pieces.{range_of, has_range, share_no_byte, regions_of, ranges_of, zero_piece, fit_an_image, no_piece, HasRangeAt}
 use Rattle.memory_image.specs.Index.{address_of, starts_from, IsIndexOf, IsOnlyPlace, IsImage}
-use Rattle.memory_image.proofs.Places.{and_left, and_right, holds_at}
+use Rattle.memory_image.proofs.Places.{holds_at}
 use Rattle.memory_image.proofs.Opened.{regions_of-zero}
 
 -- the start is that of a region with a byte, where the first region's place is k
@@ -63,8 +63,8 @@ starts_have k (r ∷ rs) (suc i) below some =
 apart_at : (rs : List (ℕ × ℕ)) (i j : ℕ) → i < j → j < length rs → each_pair share_no_byte rs ≡ true → share_no_byte (get_or rs i (0, 0)) (get_or rs j (0, 0)) ≡ true
 apart_at [] i j less below apart = absurd (omega arith)
 apart_at (r ∷ rs) i zero less below apart = absurd (omega arith)
-apart_at (r ∷ rs) zero (suc j) less below apart = holds_at (share_no_byte r) rs j (0, 0) (omega arith) (and_left _ _ apart)
-apart_at (r ∷ rs) (suc i) (suc j) less below apart = apart_at rs i j (omega arith) (omega arith) (and_right _ _ apart)
+apart_at (r ∷ rs) zero (suc j) less below apart = holds_at (share_no_byte r) rs j (0, 0) (omega arith) (and_parts _ _ apart).0
+apart_at (r ∷ rs) (suc i) (suc j) less below apart = apart_at rs i j (omega arith) (omega arith) (and_parts _ _ apart).1
 
 -- a range that isn't empty lies in one region at most
 same_region : (rs : List (ℕ × ℕ)) (i j at : ℕ) → each_pair share_no_byte rs ≡ true → i < length rs → j < length rs

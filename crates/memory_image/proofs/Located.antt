@@ -4,6 +4,7 @@ use Rattle.std.specs.Prelude.{◌==◌, not, Some, None}
 use Rattle.std.specs.List.{list_any, list_all}
 use Rattle.std.proofs.lemmas.Bool.Decides.{nat_tests}
 use Rattle.std.proofs.lemmas.List.{get_or-map, length-map}
+use Rattle.std.proofs.lemmas.Bool.{and_parts, or_from, or_parts}
 use Rattle.ffm_model.specs.declared.scenario.Bytes.{Bytes}
 use Rattle.ffm_model.specs.declared.system.Class.{Class}
 use Rattle.ffm_model.specs.declared.system.Region.{Region}
@@ -12,7 +13,7 @@ use Rattle.ffm_model.specs.Memory.{lies_in, is_ram_of, is_mmio_of, is_writable_m
 use Rattle.ffm_model.specs.WellFormed.{each_pair}
 use Rattle.memory_image.specs.Pieces.{range_of, fit_an_image, has_range, share_no_byte, regions_of, ranges_of, no_piece, HasRangeAt}
 use Rattle.memory_image.specs.Index.{IsOnlyPlace}
-use Rattle.memory_image.proofs.Places.{and_left, and_right, holds_at}
+use Rattle.memory_image.proofs.Places.{holds_at}
 use Rattle.memory_image.proofs.Stored.{stay_apart}
 
 abbrev own : Region → ℕ × ℕ
@@ -31,19 +32,12 @@ hasnt p base len r some off = by (p r.class) _ (lies base len r some ∙ off) wh
   by true b e = e
   by false b e = refl
 
-neither : (a b : Bool) → a ≡ false → b ≡ false → (a || b) ≡ false
-neither a b e f = rw (e, f) refl
-
-first_off : (a b : Bool) → (a || b) ≡ false → (a ≡ false) × (b ≡ false)
-first_off true b e = cc
-first_off false b e = (refl, e)
-
 -- no region has the range
 pub none_of : (p : Class → Bool) (rs : List Region) (base len : ℕ) → 0 < len → list_any (has_range base len) (ranges_of rs) ≡ false → list_any (has_it p base len) rs ≡ false
 none_of p [] base len some off = refl
 none_of p (r ∷ rs) base len some off =
-    let parts = first_off (has_range base len (own r)) _ off in
-    neither _ _ (hasnt p base len r some parts.0) (none_of p rs base len some parts.1)
+    let parts = or_parts (has_range base len (own r)) _ off in
+    or_from _ _ (hasnt p base len r some parts.0) (none_of p rs base len some parts.1)
 
 other : (base len : ℕ) (r q : ℕ × ℕ) → 0 < len → share_no_byte r q ≡ true → has_range base len r ≡ true → has_range base len q ≡ false
 other base len r q some apart has = by (has_range base len q) refl where
@@ -55,14 +49,14 @@ others : (p : Class → Bool) (base len : ℕ) (r : Region) (rs : List Region) �
     → list_any (has_it p base len) rs ≡ false
 others p base len r [] some apart has = refl
 others p base len r (q ∷ qs) some apart has =
-    neither _ _ (hasnt p base len q some (other base len (own r) (own q) some (and_left _ _ apart) has)) (others p base len r qs some (and_right _ _ apart) has)
+    or_from _ _ (hasnt p base len q some (other base len (own r) (own q) some (and_parts _ _ apart).0 has)) (others p base len r qs some (and_parts _ _ apart).1 has)
 
 -- the region at i has the range
 pub one_of : (p : Class → Bool) (rs : List Region) (i base len : ℕ) (d : Region) → each_pair share_no_byte (ranges_of rs) ≡ true → 0 < len → i < length rs
     → has_range base len (own (get_or rs i d)) ≡ true → list_any (has_it p base len) rs ≡ p (get_or rs i d).class
 one_of p [] i base len d apart some below has = absurd (omega arith)
 one_of p (r ∷ rs) zero base len d apart some below has =
-    by (p r.class) _ _ (lies base len r some ∙ has) (others p base len r rs some (and_left _ _ apart) has) where
+    by (p r.class) _ _ (lies base len r some ∙ has) (others p base len r rs some (and_parts _ _ apart).0 has) where
       by : (a b c : Bool) → b ≡ true → c ≡ false → ((a && b) || c) ≡ a
       by true b c e f = rw e refl
       by false b c e f = f
@@ -70,9 +64,9 @@ one_of p (r ∷ rs) (suc i) base len d apart some below has =
     let inside : i < length rs = omega arith in
     let counted : length (ranges_of rs) ≡ length rs = length-map rs own in
     let at : get_or (ranges_of rs) i (0, 0) ≡ own (get_or rs i d) = get_or-map own rs i d (0, 0) inside in
-    let all : share_no_byte (own r) (get_or (ranges_of rs) i (0, 0)) ≡ true = holds_at (share_no_byte (own r)) (ranges_of rs) i (0, 0) (omega arith) (and_left _ _ apart) in
+    let all : share_no_byte (own r) (get_or (ranges_of rs) i (0, 0)) ≡ true = holds_at (share_no_byte (own r)) (ranges_of rs) i (0, 0) (omega arith) (and_parts _ _ apart).0 in
     let here : share_no_byte (own r) (own (get_or rs i d)) ≡ true = ap (share_no_byte (own r)) (sym at) ∙ all in
-    by (has_it p base len r) _ _ (hasnt p base len r some (off here)) (one_of p rs i base len d (and_right _ _ apart) some inside has) where
+    by (has_it p base len r) _ _ (hasnt p base len r some (off here)) (one_of p rs i base len d (and_parts _ _ apart).1 some inside has) where
       by : (a b c : Bool) → a ≡ false → b ≡ c → (a || b) ≡ c
       by a b c e f = rw e f
 

@@ -7,7 +7,8 @@ use Rattle.std.proofs.Math.Path.{fun_ext}
 use Rattle.ffm_model.specs.declared.scenario.Bytes.{Bytes}
 use Rattle.ffm_model.specs.declared.system.Region.{Region}
 use Rattle.ffm_model.specs.Memory.{opening_memory, lies_in}
-use Rattle.memory_image.specs.Pieces.{byte_at, has_address, has_range, regions_of, ranges_of, zero_piece, is_inside, open_within}
+use Rattle.byte_lanes.specs.Differences.{range_covers}
+use Rattle.memory_image.specs.Pieces.{byte_at, has_range, range_of, regions_of, ranges_of, zero_piece, is_inside, open_within}
 use Rattle.memory_image.proofs.Places.{holds_at}
 
 pub regions_of-zero : (rs : List Region) → regions_of (map zero_piece rs) ≡ ranges_of rs
@@ -25,7 +26,7 @@ same_either false m n k first second = second
 
 pub byte_at-zero : (rs : List Region) (x : ℕ) → byte_at (map zero_piece rs) x ≡ 0
 byte_at-zero [] x = refl
-byte_at-zero (r ∷ rs) x = same_either (has_address (zero_piece r) x) _ _ 0 (zeros r.size (x - r.base)) (byte_at-zero rs x)
+byte_at-zero (r ∷ rs) x = same_either (range_covers (range_of (zero_piece r)) x) _ _ 0 (zeros r.size (x - r.base)) (byte_at-zero rs x)
 
 inside_later : (b c d e : Bool) → ((b || c) || d) ≡ true → (d ≡ true → (b || e) ≡ true) → (b || (c || e)) ≡ true
 inside_later true c d e h rest = refl

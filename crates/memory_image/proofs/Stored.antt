@@ -10,11 +10,10 @@ use Rattle.ffm_model.specs.Memory.{ByteMap, write_bytes}
 use Rattle.ffm_model.specs.WellFormed.{each_pair}
 use Rattle.memory_image.specs.Pieces.{byte_at, range_of, has_range, share_no_byte, IsPut, regions_of, fit_an_image, is_inside}
 use Rattle.std.proofs.lemmas.List.Folds.{list_all-map}
-use Rattle.memory_image.proofs.Places.{and_left, and_right, holds_at}
-
-or_right : (a b : Bool) → b ≡ true → (a || b) ≡ true
-or_right true b h = refl
-or_right false b h = h
+use Rattle.std.proofs.lemmas.Bool.{and_parts, or_right}
+use Rattle.list_laws.proofs.Tests.{list_any-more}
+use Rattle.list_laws.proofs.Bools.{or_rest}
+use Rattle.memory_image.proofs.Places.{holds_at}
 
 either_more : (a b c d : Bool) → (a || c) ≡ true → (a ≡ true → b ≡ true) → (c ≡ true → d ≡ true) → (b || d) ≡ true
 either_more true b c d h first rest = let holds : b ≡ true = first refl in rw holds refl
@@ -24,23 +23,15 @@ or_then : (a b : Bool) (P : Type 0) → (a || b) ≡ true → (a ≡ true → P)
 or_then true b P h first second = first refl
 or_then false b P h first second = second h
 
-right_of : (a b : Bool) → a ≡ false → (a || b) ≡ true → b ≡ true
-right_of true b none h = cc
-right_of false b none h = h
-
-list_any-mono : {X : Type 0} (p q : X → Bool) → ((x : X) → p x ≡ true → q x ≡ true) → (xs : List X) → list_any p xs ≡ true → list_any q xs ≡ true
-list_any-mono p q more [] h = cc
-list_any-mono p q more (x ∷ xs) h = either_more (p x) (q x) _ _ h (more x) (list_any-mono p q more xs)
-
 range_ends : (at len : ℕ) (regions : List (ℕ × ℕ)) → list_all (λ e. nat_le (e.0 + e.1) 4294967296) regions ≡ true → list_any (has_range at len) regions ≡ true → at + len ≤ 4294967296
 range_ends at len [] fits inside = absurd cc
 range_ends at len (e ∷ es) fits inside =
-    or_then (has_range at len e) _ (at + len ≤ 4294967296) inside (λ here. let end : nat_le (e.0 + e.1) 4294967296 ≡ true = and_left _ _ fits in grind (arith, nat_tests))
-    (range_ends at len es (and_right _ _ fits))
+    or_then (has_range at len e) _ (at + len ≤ 4294967296) inside (λ here. let end : nat_le (e.0 + e.1) 4294967296 ≡ true = (and_parts _ _ fits).0 in grind (arith, nat_tests))
+    (range_ends at len es (and_parts _ _ fits).1)
 
 pub stay_apart : (ranges : List (ℕ × ℕ)) → fit_an_image ranges ≡ true → each_pair share_no_byte ranges ≡ true
 unfolding fit_an_image
-stay_apart ranges h = and_left _ _ (and_left _ _ h)
+stay_apart ranges h = (and_parts _ _ (and_parts _ _ h).0).0
 
 put_head : (p q : Bytes) (ps : List Bytes) (at : ℕ) (bs : List ℕ) → IsPut p q at bs → (x : ℕ) → byte_at (q ∷ ps) x ≡ write_bytes (byte_at (p ∷ ps)) at bs x
 put_head p q ps at bs put x =
@@ -61,9 +52,9 @@ stored (p ∷ ps) zero q d at bs below apart put x = put_head p q ps at bs put x
 stored (p ∷ ps) (suc i) q d at bs below apart put x =
     let inside : i < length ps = omega arith in
     let apart_from : share_no_byte (range_of p) (range_of (get_or ps i d)) ≡ true =
-    holds_at (λ r. share_no_byte (range_of p) (range_of r)) ps i d inside (sym (list_all-map (share_no_byte (range_of p)) range_of ps) ∙ and_left _ _ apart) in
+    holds_at (λ r. share_no_byte (range_of p) (range_of r)) ps i d inside (sym (list_all-map (share_no_byte (range_of p)) range_of ps) ∙ (and_parts _ _ apart).0) in
     put_behind p (get_or ps i d) ps (set ps i q) at bs apart_from put.inside x
-    (stored ps i q d at bs inside (and_right _ _ apart) put x)
+    (stored ps i q d at bs inside (and_parts _ _ apart).1 put x)
 
 -- the regions stay
 pub regions-kept : (ps : List Bytes) (i : ℕ) (q d : Bytes) → i < length ps → range_of q ≡ range_of (get_or ps i d) → regions_of (set ps i q) ≡ regions_of ps
@@ -78,7 +69,7 @@ pub ends_below : (at len : ℕ) (regions : List (ℕ × ℕ)) → fit_an_image r
 unfolding fit_an_image
 ends_below at len regions fits inside some =
     let empty : (len == 0) ≡ false = grind (arith, nat_tests) in
-    range_ends at len regions (and_right _ _ (and_left _ _ fits)) (right_of _ _ empty inside)
+    range_ends at len regions (and_parts _ _ (and_parts _ _ fits).0).1 (or_rest _ _ empty inside)
 
 -- a part of a range lies in the same region
 pub part_inside : (at len b n : ℕ) (regions : List (ℕ × ℕ)) → at ≤ b → b + n ≤ at + len → is_inside at len regions ≡ true → is_inside b n regions ≡ true
@@ -86,7 +77,7 @@ part_inside at len b zero regions low high inside = refl
 part_inside at len b (suc n) regions low high inside =
     let empty : (len == 0) ≡ false = grind (arith, nat_tests) in
     let part : list_any (has_range b (suc n)) regions ≡ true =
-    list_any-mono (has_range at len) (has_range b (suc n)) (λ e h. grind (arith, nat_tests)) regions (right_of _ _ empty inside) in
+    list_any-more (has_range at len) (has_range b (suc n)) (λ e h. grind (arith, nat_tests)) regions (or_rest _ _ empty inside) in
     or_right _ _ part
 
 whole : {X : Type 0} (xs ys : List X) (n : ℕ) → length ys ≡ n → take n (ys ++ drop (length ys) xs) ≡ ys

@@ -1,7 +1,8 @@
 -- An image as contracts see it: one piece for each region, in the order of the regions, with the region's bytes.
 -- Source: FF-M 1.0, memory isolation of partitions; the limits of a system's memory are this profile's.
-use Rattle.std.specs.Prelude.{ℕ, ◌+◌, ◌-◌, ◌==◌, nat_le, nat_lt, Bool, true, ◌&&◌, ◌||◌, if◌then◌else◌, ◌≡◌, List, [], ◌∷◌, length, slice_index, slice_index_or, slice_get, ◌<◌, IsSomeAnd, map, sum_by, replicate}
+use Rattle.std.specs.Prelude.{ℕ, ◌+◌, ◌-◌, ◌==◌, nat_le, Bool, true, ◌&&◌, ◌||◌, if◌then◌else◌, ◌≡◌, List, [], ◌∷◌, length, slice_index, slice_index_or, slice_get, ◌<◌, IsSomeAnd, map, sum_by, replicate}
 use Rattle.std.specs.List.{list_any, list_all}
+use Rattle.byte_lanes.specs.Differences.{range_covers}
 use Rattle.ffm_model.specs.declared.constants.TheConstants.{MAX_IMAGE_BYTES}
 use Rattle.ffm_model.specs.declared.scenario.Bytes.{Bytes}
 use Rattle.ffm_model.specs.declared.system.Region.{Region}
@@ -20,13 +21,10 @@ regions_of pieces = map range_of pieces
 abbrev pub ranges_of : List Region → List (ℕ × ℕ)
 ranges_of regions = map (λ (r : Region). (r.base, r.size)) regions
 
-abbrev pub has_address : Bytes → ℕ → Bool
-has_address p x = nat_le p.address x && nat_lt x (p.address + length p.content)
-
 -- the byte at an address, and 0 where no region has the address
 abbrev pub byte_at : List Bytes → ℕ → ℕ
 byte_at [] x = 0
-byte_at (p ∷ ps) x = if has_address p x then slice_index p.content (x - p.address) else byte_at ps x
+byte_at (p ∷ ps) x = if range_covers (range_of p) x then slice_index p.content (x - p.address) else byte_at ps x
 
 -- the range lies whole in this one
 abbrev pub has_range : ℕ → ℕ → ℕ × ℕ → Bool

@@ -1,12 +1,12 @@
 //! Where two images differ, and in how many places. Bytes are compared 32 at a time.
 ghost use Rattle.std.specs.Prelude.{◌≡◌, true, not, ◌&&◌, count_by};
 ghost use Rattle.std.specs.List.{range_with_len};
-ghost use Rattle.byte_lanes.specs.Differences.{differs, range_covers, count_in, IsLeast, lesser};
+ghost use Rattle.byte_lanes.specs.Differences.{differs, range_covers, count_in, IsLeast};
 ghost use Rattle.ffm_model.specs.Reach.{covers};
 ghost use Rattle.memory_image.specs.Pieces.{byte_at, regions_of, is_inside};
 
 use crate::image::Image;
-use byte_lanes::{count_unequal, first_unequal};
+use byte_lanes::{count_unequal, first_unequal, lesser};
 use ffm_model::Region;
 
 impl Image {
@@ -37,17 +37,6 @@ impl Image {
         let before = self.bytes(address, len as usize);
         let after = other.bytes(address, len as usize);
         count_unequal(before, after) as u32
-    }
-}
-
-// The lesser of two addresses, each of which may be missing.
-fn lesser(one: Option<u32>, other: Option<u32>) -> Option<u32>
-    ensures { result ≡ lesser one other }
-{
-    match (one, other) {
-        (None, _) => other,
-        (Some(_), None) => one,
-        (Some(a), Some(b)) => { if a < b { one } else { other } }
     }
 }
 

@@ -3,6 +3,7 @@ use Rattle.std.proofs.Common.{ℕ, zero, suc, ◌≡◌, ◌≤◌, ◌+◌, ◌
 use Rattle.std.specs.Prelude.{nat_le, nat_lt, ◌==◌, min, replicate, if◌then◌else◌, Option, Some, None}
 use Rattle.std.specs.List.{list_any, list_all}
 use Rattle.std.proofs.lemmas.Bool.Decides.{nat_tests}
+use Rattle.memory_image.proofs.Changed.{length-bytes_at}
 use Rattle.ffm_model.specs.declared.system.System.{System}
 use Rattle.ffm_model.specs.declared.system.Region.{Region}
 use Rattle.ffm_model.specs.declared.constants.TheConstants.{PSA_MAX_IOVEC}
@@ -11,43 +12,40 @@ use Rattle.ffm_model.specs.declared.objects.Vectors.{Vectors}
 use Rattle.ffm_model.specs.Memory.{ByteMap, write_bytes, store_number, low_bytes, copy_bytes, bytes_at, span_at, spans_at, vectors_read, vectors_of, valid_buffer, lies_in, is_ram_of, lengths_written, no_span, number_of, load_number, words_stored}
 use Rattle.ffm_model.specs.Reach.{covers, span_has, length_word_has}
 use Rattle.ffm_model.specs.ServiceCalls.{rest_of}
-use Rattle.message_vectors.specs.Bytes.{range_has, ram_has, AgreeWhere, TellsNothingAt}
-
-pub length-bytes_at : (m : ByteMap) (a n : ℕ) → length (bytes_at m a n) ≡ n
-length-bytes_at m a zero = refl
-length-bytes_at m a (suc n) = ap suc (length-bytes_at m (a + 1) n)
+use Rattle.byte_lanes.specs.Differences.{range_covers}
+use Rattle.message_vectors.specs.Bytes.{ram_has, AgreeWhere, TellsNothingAt}
 
 length-low_bytes : (n v : ℕ) → length (low_bytes n v) ≡ n
 length-low_bytes zero v = refl
 length-low_bytes (suc n) v = ap suc (length-low_bytes n (v / 256))
 
 -- outside of the bytes that are put, memory stays
-write_bytes-outside : (m : ByteMap) (a : ℕ) (bs : List ℕ) (n x : ℕ) → length bs ≡ n → range_has x a n ≡ false → write_bytes m a bs x ≡ m x
+write_bytes-outside : (m : ByteMap) (a : ℕ) (bs : List ℕ) (n x : ℕ) → length bs ≡ n → range_covers (a, n) x ≡ false → write_bytes m a bs x ≡ m x
 write_bytes-outside m a bs n x long out = grind (arith, nat_tests)
 
 -- a number changes its own bytes alone
-pub store_number-outside : (m : ByteMap) (at size v x : ℕ) → range_has x at size ≡ false → store_number m at size v x ≡ m x
+pub store_number-outside : (m : ByteMap) (at size v x : ℕ) → range_covers (at, size) x ≡ false → store_number m at size v x ≡ m x
 store_number-outside m at size v x out = write_bytes-outside m at (low_bytes size v) size x (length-low_bytes size v) out
 
 -- and words theirs
-pub words_stored-outside : (m : ByteMap) (at x : ℕ) (ws : List ℕ) → range_has x at (4 * length ws) ≡ false → words_stored m at ws x ≡ m x
+pub words_stored-outside : (m : ByteMap) (at x : ℕ) (ws : List ℕ) → range_covers (at, 4 * length ws) x ≡ false → words_stored m at ws x ≡ m x
 words_stored-outside m at x [] out = refl
 words_stored-outside m at x (w ∷ ws) out =
     words_stored-outside (store_number m at 4 w) (at + 4) x ws (grind (arith, nat_tests)) ∙ store_number-outside m at 4 w x (grind (arith, nat_tests))
 
 -- where the same bytes are put
 pub write_bytes-tells : (one other : ByteMap) (a : ℕ) (bs : List ℕ) (x : ℕ) → TellsNothingAt x one other (write_bytes one a bs) (write_bytes other a bs)
-write_bytes-tells one other a bs x = by_test (range_has x a (length bs)) refl where
-  by_test : (b : Bool) → range_has x a (length bs) ≡ b → TellsNothingAt x one other (write_bytes one a bs) (write_bytes other a bs)
+write_bytes-tells one other a bs x = by_test (range_covers (a, length bs) x) refl where
+  by_test : (b : Bool) → range_covers (a, length bs) x ≡ b → TellsNothingAt x one other (write_bytes one a bs) (write_bytes other a bs)
   by_test true inside = inl (rw inside refl)
   by_test false outside = inr (write_bytes-outside one a bs _ x refl outside, write_bytes-outside other a bs _ x refl outside)
 
 -- a copy changes its target alone
-pub copy_bytes-outside : (m : ByteMap) (from to len x : ℕ) → range_has x to len ≡ false → copy_bytes m from to len x ≡ m x
+pub copy_bytes-outside : (m : ByteMap) (from to len x : ℕ) → range_covers (to, len) x ≡ false → copy_bytes m from to len x ≡ m x
 copy_bytes-outside m from to len x out = write_bytes-outside m to (bytes_at m from len) len x (length-bytes_at m from len) out
 
 -- bytes of memories that agree there
-pub bytes_at-same : (one other : ByteMap) (a len : ℕ) → AgreeWhere (λ x. range_has x a len) one other → bytes_at one a len ≡ bytes_at other a len
+pub bytes_at-same : (one other : ByteMap) (a len : ℕ) → AgreeWhere (λ x. range_covers (a, len) x) one other → bytes_at one a len ≡ bytes_at other a len
 bytes_at-same one other a zero same = refl
 bytes_at-same one other a (suc len) same =
     let here : one a ≡ other a = same a (grind (arith, nat_tests)) in
@@ -55,11 +53,11 @@ bytes_at-same one other a (suc len) same =
     rw (here, rest) refl
 
 -- a number is read from its own bytes alone
-pub load_number-same : (one other : ByteMap) (at size : ℕ) → AgreeWhere (λ x. range_has x at size) one other → load_number one at size ≡ load_number other at size
+pub load_number-same : (one other : ByteMap) (at size : ℕ) → AgreeWhere (λ x. range_covers (at, size) x) one other → load_number one at size ≡ load_number other at size
 load_number-same one other at size same = ap number_of (bytes_at-same one other at size same)
 
 -- a copy reads its source alone
-pub copy_bytes-tells : (one other : ByteMap) (from to len x : ℕ) → AgreeWhere (λ y. range_has y from len) one other
+pub copy_bytes-tells : (one other : ByteMap) (from to len x : ℕ) → AgreeWhere (λ y. range_covers (from, len) y) one other
     → TellsNothingAt x one other (copy_bytes one from to len) (copy_bytes other from to len)
 copy_bytes-tells one other from to len x same = rw (bytes_at-same one other from len same) (write_bytes-tells one other to (bytes_at other from len) x)
 
@@ -91,7 +89,7 @@ lengths_written-tells one other at x (v ∷ vs) =
     (lengths_written-tells (store_number one (at + 4) 4 v.moved) (store_number other (at + 4) 4 v.moved) (at + 8) x vs)
 
 -- an address of a range that lies in a region is the region's
-lies-covers : (base len x : ℕ) (r : Region) → range_has x base len ≡ true → lies_in base len r ≡ true → covers r x ≡ true
+lies-covers : (base len x : ℕ) (r : Region) → range_covers (base, len) x ≡ true → lies_in base len r ≡ true → covers r x ≡ true
 lies-covers base len x r inside lies = grind (arith, nat_tests)
 
 and_right_more : (a b c : Bool) → (b ≡ true → c ≡ true) → (a && b) ≡ true → (a && c) ≡ true
@@ -104,7 +102,7 @@ any_more true false c d first rest h = absurd (let no : false ≡ true = first r
 any_more false true c d first rest h = refl
 any_more false false c d first rest h = rest h
 
-ram-covers : (s : System) (a base len x : ℕ) (rs : List Region) → range_has x base len ≡ true
+ram-covers : (s : System) (a base len x : ℕ) (rs : List Region) → range_covers (base, len) x ≡ true
     → list_any (λ r. is_ram_of s a r.class && lies_in base len r) rs ≡ true → list_any (λ r. is_ram_of s a r.class && covers r x) rs ≡ true
 ram-covers s a base len x [] inside h = h
 ram-covers s a base len x (r ∷ rs) inside h =
@@ -112,7 +110,7 @@ ram-covers s a base len x (r ∷ rs) inside h =
     (and_right_more (is_ram_of s a r.class) (lies_in base len r) (covers r x) (lies-covers base len x r inside)) (ram-covers s a base len x rs inside) h
 
 -- each byte of a valid buffer lies in the actor's RAM
-pub buffer-ram : (s : System) (a base len x : ℕ) → valid_buffer s a base len ≡ true → range_has x base len ≡ true → ram_has s a x ≡ true
+pub buffer-ram : (s : System) (a base len x : ℕ) → valid_buffer s a base len ≡ true → range_covers (base, len) x ≡ true → ram_has s a x ≡ true
 buffer-ram s a base len x valid inside = ram-covers s a base len x s.regions inside (second (len == 0) _ valid some) where
   some : (len == 0) ≡ false
   some = grind (arith, nat_tests)
@@ -122,10 +120,10 @@ buffer-ram s a base len x valid inside = ram-covers s a base len x s.regions ins
   second false c h none = h
 
 -- the next bytes of a vector lie in it
-pub rest-vector : (v : Span) (n x : ℕ) → v.moved + n ≤ v.len → range_has x (v.base + v.moved) n ≡ true → span_has x v ≡ true
+pub rest-vector : (v : Span) (n x : ℕ) → v.moved + n ≤ v.len → range_covers (v.base + v.moved, n) x ≡ true → span_has x v ≡ true
 rest-vector v n x within inside = grind (arith, nat_tests)
 
-span_at-same : (one other : ByteMap) (a : ℕ) → AgreeWhere (λ x. range_has x a 8) one other → span_at one a ≡ span_at other a
+span_at-same : (one other : ByteMap) (a : ℕ) → AgreeWhere (λ x. range_covers (a, 8) x) one other → span_at one a ≡ span_at other a
 span_at-same one other a same = both (load_number one a 4) (load_number other a 4) _ _ base len where
   span : ℕ → ℕ → Span
   span b l = record { base = b; len = l; moved = 0 }
@@ -139,14 +137,14 @@ span_at-same one other a same = both (load_number one a 4) (load_number other a 
   both : (b c l n : ℕ) → b ≡ c → l ≡ n → span b l ≡ span c n
   both b c l n base len = ap (λ x. span x l) base ∙ ap (span c) len
 
-spans_at-same : (one other : ByteMap) (a n : ℕ) → AgreeWhere (λ x. range_has x a (8 * n)) one other → spans_at one a n ≡ spans_at other a n
+spans_at-same : (one other : ByteMap) (a n : ℕ) → AgreeWhere (λ x. range_covers (a, 8 * n) x) one other → spans_at one a n ≡ spans_at other a n
 spans_at-same one other a zero same = refl
 spans_at-same one other a (suc n) same =
     let here : span_at one a ≡ span_at other a = span_at-same one other a (λ x h. same x (grind (arith, nat_tests))) in
     let rest : spans_at one (a + 8) n ≡ spans_at other (a + 8) n = spans_at-same one other (a + 8) n (λ x h. same x (grind (arith, nat_tests))) in
     rw (here, rest) refl
 
-vectors_read-same : (one other : ByteMap) (a n : ℕ) → AgreeWhere (λ x. range_has x a (8 * n)) one other → vectors_read one a n ≡ vectors_read other a n
+vectors_read-same : (one other : ByteMap) (a n : ℕ) → AgreeWhere (λ x. range_covers (a, 8 * n) x) one other → vectors_read one a n ≡ vectors_read other a n
 vectors_read-same one other a n same =
     ap (λ spans. take 4 (spans ++ replicate 4 no_span)) (spans_at-same one other a (min n 4) (λ x h. same x (grind (arith, nat_tests))))
 
@@ -182,8 +180,8 @@ vectors_of-same s one other a in_vec in_len out_vec out_len same = by_tests _ _ 
       ap (λ vs. vectors_with vs (vectors_read one out_vec out_len)) inputs ∙ ap (λ vs. vectors_with (vectors_read other in_vec in_len) vs) outputs
 
 -- fewer bytes at the same address
-pub range-part : (x base len n : ℕ) → n ≤ len → range_has x base len ≡ false → range_has x base n ≡ false
+pub range-part : (x base len n : ℕ) → n ≤ len → range_covers (base, len) x ≡ false → range_covers (base, n) x ≡ false
 range-part x base len n fewer out = grind (arith, nat_tests)
 
-pub rest-outside : (v : Span) (at n x : ℕ) → at ≡ v.base + v.moved → n ≤ rest_of v → v.moved ≤ v.len → span_has x v ≡ false → range_has x at n ≡ false
+pub rest-outside : (v : Span) (at n x : ℕ) → at ≡ v.base + v.moved → n ≤ rest_of v → v.moved ≤ v.len → span_has x v ≡ false → range_covers (at, n) x ≡ false
 rest-outside v at n x is fits moved out = grind (arith, nat_tests)

@@ -1,14 +1,10 @@
 -- Which addresses a call on vectors reads and changes.
 -- Source: FF-M 1.0, isolation of partitions.
-use Rattle.std.specs.Prelude.{ℕ, ◌+◌, ◌≡◌, ◌⊎◌, nat_le, nat_lt, Bool, true, ◌&&◌}
+use Rattle.std.specs.Prelude.{ℕ, ◌≡◌, ◌⊎◌, Bool, true, ◌&&◌}
 use Rattle.std.specs.List.{list_any}
 use Rattle.ffm_model.specs.declared.system.System.{System}
 use Rattle.ffm_model.specs.Memory.{ByteMap, is_ram_of}
 use Rattle.ffm_model.specs.Reach.{covers}
-
--- the address lies in a range of n bytes
-abbrev pub range_has : ℕ → ℕ → ℕ → Bool
-range_has x base n = nat_le base x && nat_lt x (base + n)
 
 -- the address lies in RAM of the actor's domain
 abbrev pub ram_has : System → ℕ → ℕ → Bool

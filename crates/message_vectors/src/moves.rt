@@ -4,7 +4,7 @@ ghost use Rattle.ffm_model.specs.Memory.{copy_bytes, lengths_written};
 ghost use Rattle.ffm_model.specs.Reach.{span_has, length_word_has};
 ghost use Rattle.ffm_model.specs.ServiceCalls.{rest_of};
 ghost use Rattle.memory_image.specs.Pieces.{byte_at, regions_of, is_inside};
-ghost use Rattle.message_vectors.specs.Bytes.{range_has};
+ghost use Rattle.byte_lanes.specs.Differences.{range_covers};
 ghost use Rattle.message_vectors.specs.Vectors.{AreMovedWithin, AreWithin, input_of, output_of, with_input_moved, with_output_moved};
 
 use ffm_model::{Fault, PSA_MAX_IOVEC, Span, Vectors};
@@ -49,7 +49,7 @@ pub fn read(image: &mut Image, vectors: &mut Vectors, index: u32, buffer: u32, l
     ensures number { result ≡ min len (rest_of (input_of vectors.old index)) }
     ensures vectors { vectors.new ≡ with_input_moved vectors.old index result }
     ensures bytes { let v = input_of vectors.old index in byte_at image.new ≡ copy_bytes (byte_at image.old) (v.base + v.moved) buffer result }
-    ensures changed { (x : ℕ) → range_has x buffer len ≡ false → byte_at image.new x ≡ byte_at image.old x }
+    ensures changed { (x : ℕ) → range_covers (buffer, len) x ≡ false → byte_at image.new x ≡ byte_at image.old x }
     ensures regions { regions_of image.new ≡ regions_of image.old }
     ensures within { AreWithin (regions_of image.new) vectors.new }
 {

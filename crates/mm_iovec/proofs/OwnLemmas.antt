@@ -11,21 +11,15 @@ use Rattle.std.proofs.lemmas.List.FromFn.{length-range_with_len}
 use Rattle.std.proofs.lemmas.List.Filters.{length-filter_more}
 use Rattle.std.proofs.lemmas.Map.Made.{length-le_from_is_member}
 use Rattle.std.proofs.lemmas.Option.{slice_get_within}
+use Rattle.list_laws.proofs.Tests.{list_all-at}
 use Rattle.ffm_model.specs.declared.system.Partition.{Partition}
 use Rattle.ffm_model.specs.declared.system.Region.{Region}
 use Rattle.ffm_model.specs.declared.system.Service.{Service}
 use Rattle.ffm_model.specs.declared.system.System.{System}
 use Rattle.ffm_model.specs.Held.{Holder, HolderService, holder_of}
-use Rattle.ffm_model.specs.WellFormed.{each_pair, is_ram_in, is_signal_bit, owner_below, ram_bytes, signal_fits}
+use Rattle.ffm_model.specs.WellFormed.{each_pair, is_ram_in, is_signal_bit, owner_below, ram_size, signal_fits}
 use Rattle.ffm_model.proofs.WellFormedLemmas.{models_hold, partitions_hold, regions_hold, signals_hold, service_signals_hold}
 use Rattle.mm_iovec.specs.Items.{own_services}
-
--- ---- lists
-
-all-at : {A : Type 0} (p : A → Bool) (xs : List A) (k : ℕ) (x : A) → list_all p xs ≡ true → slice_get xs k ≡ Some x → p x ≡ true
-all-at p [] k x h e = cc e
-all-at p (y ∷ xs) zero x h e = let at : y ≡ x = cc in subst (λ z. p z ≡ true) at (and_parts (p y) _ h).0
-all-at p (y ∷ xs) (suc k) x h e = all-at p xs k x (and_parts (p y) _ h).1 e
 
 -- ---- at most 28 services
 
@@ -128,7 +122,7 @@ ram-by rs k (Some r) f e h = slice_get_within rs k r e
 
 pub ram_there : (s : System) (a : ℕ) (p : Partition) → slice_get s.partitions a ≡ Some p → p.ram < length s.regions
 ram_there s a p e =
-    let has : has_ram s.regions p ≡ true = all-at (has_ram s.regions) s.partitions a p (and_parts _ _ (and_parts _ _ (partitions_hold s)).0).0 e in
+    let has : has_ram s.regions p ≡ true = list_all-at (has_ram s.regions) s.partitions a p (and_parts _ _ (and_parts _ _ (partitions_hold s)).0).0 e in
     ram-by s.regions p.ram (slice_get s.regions p.ram) (λ r. is_ram_in p.domain r.class) refl has
 
 -- its end is an address or 2^32, and the heap lies in it
@@ -143,10 +137,10 @@ heap-by p r (Some q) e h = let at : q ≡ r = cc in let size : q.size ≡ r.size
 pub ram_fits : (s : System) (a : ℕ) (p : Partition) (r : Region) → slice_get s.partitions a ≡ Some p → slice_get s.regions p.ram ≡ Some r → RamFits p r
 ram_fits s a p r at ram =
     let heaps = (and_parts _ _ (models_hold s)).1 in
-    let heap : nat_le p.heap (ram_bytes s.regions p) ≡ true = all-at (λ q. nat_le q.heap (ram_bytes s.regions q)) s.partitions a p heaps at in
+    let heap : nat_le p.heap (ram_size s.regions p) ≡ true = list_all-at (λ q. nat_le q.heap (ram_size s.regions q)) s.partitions a p heaps at in
     let ends = (and_parts _ _ (and_parts _ _ (and_parts _ _ (regions_hold s)).0).0).1 in
     let end : (owner_below (length s.partitions) r.class && nat_le r.size 1048576 && nat_le (r.base + r.size) 4294967296) ≡ true =
-    all-at (λ q. owner_below (length s.partitions) q.class && nat_le q.size 1048576 && nat_le (q.base + q.size) 4294967296) s.regions p.ram r ends ram in
+    list_all-at (λ q. owner_below (length s.partitions) q.class && nat_le q.size 1048576 && nat_le (q.base + q.size) 4294967296) s.regions p.ram r ends ram in
     let last : nat_le (r.base + r.size) 4294967296 ≡ true = (and_parts (owner_below (length s.partitions) r.class && nat_le r.size 1048576) _ end).1 in
     record { end = grind (arith, nat_tests); heap = heap-by p r (slice_get s.regions p.ram) ram heap }
 
@@ -159,7 +153,7 @@ holder_made s a p r vs at ram own = rw (at, own) (rw ram refl)
 
 ram_some : (s : System) (a : ℕ) (p : Partition) → slice_get s.partitions a ≡ Some p → slice_get s.regions p.ram ≡ None → ⊥
 ram_some s a p at none =
-    let has : has_ram s.regions p ≡ true = all-at (has_ram s.regions) s.partitions a p (and_parts _ _ (and_parts _ _ (partitions_hold s)).0).0 at in
+    let has : has_ram s.regions p ≡ true = list_all-at (has_ram s.regions) s.partitions a p (and_parts _ _ (and_parts _ _ (partitions_hold s)).0).0 at in
     let off : has_ram s.regions p ≡ false = ap (λ (o : Option Region). option_map_or (λ r. is_ram_in p.domain r.class) o false) none in
     cc (has, off)
 

@@ -3,7 +3,7 @@ use Rattle.std.proofs.Common.{ℕ, zero, suc, ◌≡◌, ◌<◌, Bool, true, fa
 use Rattle.std.specs.Prelude.{Option, Some, None, nat_lt, nat_le, int_le, pos, find, slice_set, ◌==◌, if◌then◌else◌}
 use Rattle.std.specs.List.{list_all}
 use Rattle.std.specs.Option.{option_map_or}
-use Rattle.std.proofs.lemmas.Bool.{and_parts}
+use Rattle.std.proofs.lemmas.Bool.{and_parts, and_from, not-true}
 use Rattle.std.proofs.lemmas.Bool.Decides.{nat_tests}
 use Rattle.std.proofs.lemmas.List.Folds.{list_all-append}
 use Rattle.ffm_model.specs.declared.machine.Handle.{Handle}
@@ -25,14 +25,10 @@ use Rattle.mm_iovec.specs.Lines.{can_do, maps_in, table_done, table_read, table_
 abbrev is_off : HeldVector → Bool
 is_off v = not (is_mapped v.state)
 
-both : (a b : Bool) → a ≡ true → b ≡ true → (a && b) ≡ true
-both true b h k = k
-both false b h k = cc h
-
 off-set : (vs : List HeldVector) (i : ℕ) (v : HeldVector) → is_off v ≡ true → list_all is_off vs ≡ true → list_all is_off (slice_set vs i v) ≡ true
 off-set [] i v o h = refl
-off-set (w ∷ vs) zero v o h = both (is_off v) _ o (and_parts (is_off w) _ h).1
-off-set (w ∷ vs) (suc i) v o h = let hs = and_parts (is_off w) _ h in both (is_off w) _ hs.0 (off-set vs i v o hs.1)
+off-set (w ∷ vs) zero v o h = and_from (is_off v) _ o (and_parts (is_off w) _ h).1
+off-set (w ∷ vs) (suc i) v o h = let hs = and_parts (is_off w) _ h in and_from (is_off w) _ hs.0 (off-set vs i v o hs.1)
 
 off-fresh : (sizes : List ℕ) → list_all is_off (map fresh_vector sizes) ≡ true
 off-fresh [] = refl
@@ -52,8 +48,8 @@ off-unmapped i m h = off-set m.output i _ refl h
 
 changed-by : (b : Bool) (f : HeldMessage → HeldMessage) (m : HeldMessage) (ms rest : List HeldMessage) → (is_output_unmapped m ≡ true → is_output_unmapped (f m) ≡ true)
     → list_all is_output_unmapped (m ∷ ms) ≡ true → list_all is_output_unmapped rest ≡ true → list_all is_output_unmapped (if b then f m ∷ ms else m ∷ rest) ≡ true
-changed-by true f m ms rest keeps h k = let hs = and_parts (is_output_unmapped m) _ h in both (is_output_unmapped (f m)) _ (keeps hs.0) hs.1
-changed-by false f m ms rest keeps h k = both (is_output_unmapped m) _ (and_parts (is_output_unmapped m) _ h).0 k
+changed-by true f m ms rest keeps h k = let hs = and_parts (is_output_unmapped m) _ h in and_from (is_output_unmapped (f m)) _ (keeps hs.0) hs.1
+changed-by false f m ms rest keeps h k = and_from (is_output_unmapped m) _ (and_parts (is_output_unmapped m) _ h).0 k
 
 off-changed : (h : Handle) (f : HeldMessage → HeldMessage) → ((m : HeldMessage) → is_output_unmapped m ≡ true → is_output_unmapped (f m) ≡ true)
     → (t : List HeldMessage) → list_all is_output_unmapped t ≡ true → list_all is_output_unmapped (changed_at h f t) ≡ true
@@ -65,7 +61,7 @@ off-changed h f keeps (m ∷ ms) o =
 without-by : (b : Bool) (m : HeldMessage) (ms rest : List HeldMessage) → list_all is_output_unmapped (m ∷ ms) ≡ true → list_all is_output_unmapped rest ≡ true
     → list_all is_output_unmapped (if b then ms else m ∷ rest) ≡ true
 without-by true m ms rest h k = (and_parts (is_output_unmapped m) _ h).1
-without-by false m ms rest h k = both (is_output_unmapped m) _ (and_parts (is_output_unmapped m) _ h).0 k
+without-by false m ms rest h k = and_from (is_output_unmapped m) _ (and_parts (is_output_unmapped m) _ h).0 k
 
 off-without : (h : Handle) (t : List HeldMessage) → list_all is_output_unmapped t ≡ true → list_all is_output_unmapped (without h t) ≡ true
 unfolding without
@@ -74,7 +70,7 @@ off-without h (m ∷ ms) o = without-by (is_held_as h m) m ms (without h ms) o (
 
 got-by : (b : Bool) (v : HolderService) (m : Message) (t : List HeldMessage) → list_all is_output_unmapped t ≡ true
     → list_all is_output_unmapped (if b then t ++ record { handle = m.handle; kind = m.kind; mm = v.mm; input = map fresh_vector m.in_size; output = map fresh_vector m.out_size } ∷ [] else t) ≡ true
-got-by true v m t o = list_all-append is_output_unmapped t _ ∙ both (list_all is_output_unmapped t) _ o (both (list_all is_off (map fresh_vector m.out_size)) true (off-fresh m.out_size) refl)
+got-by true v m t o = list_all-append is_output_unmapped t _ ∙ and_from (list_all is_output_unmapped t) _ o (and_from (list_all is_off (map fresh_vector m.out_size)) true (off-fresh m.out_size) refl)
 got-by false v m t o = o
 
 got-in : (o : Option HolderService) (m : Message) (t : List HeldMessage) → list_all is_output_unmapped t ≡ true
@@ -111,13 +107,9 @@ mappable-out p t h i e = mappable-at p i (λ m. vector_at m.output i) _ (held t 
 
 -- ---- a mapped output shows that there are windows
 
-off-not : (b : Bool) → not b ≡ true → b ≡ false
-off-not true e = cc e
-off-not false e = refl
-
 off-at : (vs : List HeldVector) (i : ℕ) → list_all is_off vs ≡ true → is_mapped (vector_at vs i).state ≡ false
 off-at [] i h = refl
-off-at (v ∷ vs) zero h = off-not (is_mapped v.state) (and_parts (is_off v) _ h).0
+off-at (v ∷ vs) zero h = not-true (is_mapped v.state) (and_parts (is_off v) _ h).0
 off-at (v ∷ vs) (suc i) h = off-at vs i (and_parts (is_off v) _ h).1
 
 found-by : (b : Bool) (m k : HeldMessage) (ms : List HeldMessage) (o : Option HeldMessage) → list_all is_output_unmapped (m ∷ ms) ≡ true

@@ -1,9 +1,10 @@
 -- A write through a `&mut` to a live item is the item put at its slot.
-use Rattle.std.proofs.Common.{ℕ, ◌≡◌, ◌<◌, ◌≤◌, ◌==◌, true, false, List, length, get_or, set, arith, ◌∙◌, ap, refl, inl, inr, sym}
+use Rattle.std.proofs.Common.{ℕ, ◌≡◌, ◌<◌, ◌≤◌, ◌==◌, List, length, get_or, set, ◌∙◌, ap, refl, inl, inr, sym}
 use Rattle.std.specs.Prelude.{Option, Some, None, option_and_then, if◌then◌else◌, ◌⊎◌}
 use Rattle.std.proofs.Common.{cond}
 use Rattle.std.proofs.lemmas.List.{set-get_or}
 use Rattle.std.proofs.lemmas.Option.{slice_get_read, slice_get_past}
+use Rattle.std.proofs.lemmas.Bool.{eq-eqb, ne_eqb}
 use Rattle.object_pools.specs.declared.slot.Slot.{Slot}
 use Rattle.object_pools.specs.declared.cells.Cell.{Cell}
 use Rattle.object_pools.specs.Pool.{Places, item_at, with_item}
@@ -11,24 +12,18 @@ use Rattle.object_pools.specs.Cells.{item_in, places_of, Stored}
 use Rattle.object_pools.proofs.Stores.{at-slot}
 use Rattle.object_pools.proofs.Updates.{rewritten, places-put}
 
-same_itself : (k : ℕ) → (k == k) ≡ true
-same_itself k = grind arith
-
-not_equal : (k i : ℕ) → (k ≡ i → ⊥) → (k == i) ≡ false
-not_equal k i apart = grind arith
-
 module _ {T : Type 0} where
   -- the live item that a cell with the slot's generation has
   pub lent-live : (cells : List (Cell T)) (s : Slot) (c : Cell T) (o : Option T) → s.index < length cells → c ≡ get_or cells s.index c → c.generation ≡ s.generation → c.item ≡ o → item_in cells s ≡ o
   lent-live cells s c o inside is same item =
       ap (option_and_then (λ (x : Cell T). if x.generation == s.generation then x.item else None)) (slice_get_read cells (length cells) s.index c refl inside is)
-      ∙ ap (λ b. cond b c.item None) (ap (λ k. k == s.generation) same ∙ same_itself s.generation)
+      ∙ ap (λ b. cond b c.item None) (ap (λ k. k == s.generation) same ∙ eq-eqb s.generation s.generation refl)
       ∙ item
 
   pub lent-other : (cells : List (Cell T)) (s : Slot) (c : Cell T) → s.index < length cells → c ≡ get_or cells s.index c → (c.generation ≡ s.generation → ⊥) → item_in cells s ≡ None
   lent-other cells s c inside is other =
       ap (option_and_then (λ (x : Cell T). if x.generation == s.generation then x.item else None)) (slice_get_read cells (length cells) s.index c refl inside is)
-      ∙ ap (λ b. cond b c.item None) (not_equal c.generation s.generation other)
+      ∙ ap (λ b. cond b c.item None) (ne_eqb c.generation s.generation other)
 
   pub lent-past : (cells : List (Cell T)) (s : Slot) → length cells ≤ s.index → item_in cells s ≡ None
   lent-past cells s past = ap (option_and_then (λ (x : Cell T). if x.generation == s.generation then x.item else None)) (slice_get_past cells s.index past)

@@ -6,7 +6,7 @@ use Rattle.std.proofs.lemmas.Option.{same_Some}
 use Rattle.std.proofs.lemmas.List.Elements.{All-nil, All-cons}
 use Rattle.object_pools.specs.declared.slot.Held.{Held}
 use Rattle.object_pools.specs.Pool.{is_at}
-use Rattle.object_pools.proofs.Counts.{bit, count-cons}
+use Rattle.list_laws.proofs.Counts.{bit, count-cons}
 
 -- how often an index stands in a list
 abbrev pub times : ℕ → List ℕ → ℕ

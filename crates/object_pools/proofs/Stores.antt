@@ -6,12 +6,14 @@ use Rattle.std.specs.Option.{option_map}
 use Rattle.std.proofs.Math.ListN.{length-set}
 use Rattle.std.proofs.lemmas.List.{get_or-set_same, length-map}
 use Rattle.std.proofs.lemmas.Option.{same_Some, slice_get_read}
+use Rattle.std.proofs.lemmas.Bool.{and_parts, eq-eqb}
 use Rattle.object_pools.specs.declared.slot.Slot.{Slot}
 use Rattle.object_pools.specs.declared.slot.Held.{Held}
 use Rattle.object_pools.specs.declared.cells.Cell.{Cell}
 use Rattle.object_pools.specs.Pool.{is_at, has_slot, item_at, free_index}
 use Rattle.object_pools.specs.Cells.{under_slot, held_in, held_at, item_in, generations_of, places_of, Stored}
-use Rattle.object_pools.proofs.Counts.{bit, any-count, none-count, find-same}
+use Rattle.list_laws.proofs.Counts.{bit, any-count, none-count}
+use Rattle.list_laws.proofs.Tests.{find-same}
 use Rattle.object_pools.proofs.Orders.{times, Owns, Narrow, Filled, count-held, find-here, find-none, length-held, nth-held, same_number}
 
 -- ---- a list with one element written
@@ -29,13 +31,6 @@ get-set_other (y ∷ ys) (suc i) (suc k) x apart = get-set_other ys i k x (λ sa
 
 -- ---- items at an index
 
-both : (a b : Bool) → (a && b) ≡ true → (a ≡ true) × (b ≡ true)
-both true b e = (refl, e)
-both false b e = cc
-
-eq_self : (k : ℕ) → (k == k) ≡ true
-eq_self k = grind arith
-
 module _ {T : Type 0} where
   pub slot_of : (i g : ℕ) (o : Option T) (h : Held T) → option_map (under_slot (record { index = i; generation = g })) o ≡ Some h → h.slot ≡ record { index = i; generation = g }
   slot_of i g None h e = cc
@@ -52,7 +47,7 @@ module _ {T : Type 0} where
   Narrow-at i = record { index = λ h e. same_number h.slot.index i e }
 
   pub Narrow-slot : (s : Slot) → Narrow {T = T} (has_slot s) s.index
-  Narrow-slot s = record { index = λ h e. same_number h.slot.index s.index (both (h.slot.index == s.index) (h.slot.generation == s.generation) e).0 }
+  Narrow-slot s = record { index = λ h e. same_number h.slot.index s.index (and_parts (h.slot.index == s.index) (h.slot.generation == s.generation) e).0 }
 
   pub Filled-order : (capacity : ℕ) (cells : List (Cell T)) (order : List ℕ) (takes : ℕ) → Stored capacity cells order takes → Filled (held_at cells) order
   Filled-order capacity cells order takes st = record {
@@ -77,7 +72,7 @@ module _ {T : Type 0} where
         | None ↦ λ e. find-none (held_at cells) (is_at i) i order (Owns-held cells) (Narrow-at i) (λ h here. cc)
         | Some h ↦ λ e.
             let own : h.slot.index ≡ i = (Owns-held cells).own i h e in
-            find-here (held_at cells) (is_at i) i h order (Owns-held cells) (Narrow-at i) e (ap (λ k. k == i) own ∙ eq_self i)
+            find-here (held_at cells) (is_at i) i h order (Owns-held cells) (Narrow-at i) e (ap (λ k. k == i) own ∙ eq-eqb i i refl)
             (omega (arith, st.once i, ap (λ (x : Option (Held T)). bit (is_some x)) e))
       ] in
       go (held_at cells i) refl
@@ -97,7 +92,7 @@ module _ {T : Type 0} where
             let h : Held T = record { slot = record { index = s.index; generation = c.generation }; item = x } in
             let here : held_at cells s.index ≡ Some h =
             ap (option_and_then (held_in s.index)) e ∙ ap (option_map (under_slot (record { index = s.index; generation = c.generation }))) k in
-            let passes : has_slot s h ≡ true = ap (λ b. b && (c.generation == s.generation)) (eq_self s.index) ∙ same in
+            let passes : has_slot s h ≡ true = ap (λ b. b && (c.generation == s.generation)) (eq-eqb s.index s.index refl) ∙ same in
             let inside : 1 ≤ times s.index order = omega (arith, st.once s.index, ap (λ (y : Option (Held T)). bit (is_some y)) here) in
             ap (option_map (λ (y : Held T). y.item)) (find-here (held_at cells) (has_slot s) s.index h order (Owns-held cells) (Narrow-slot s) here passes inside)
       ] in
@@ -111,7 +106,7 @@ module _ {T : Type 0} where
               | true ↦ λ same. live c e same c.item refl
               | false ↦ λ other. missing (λ h here.
                   let slot : h.slot ≡ record { index = s.index; generation = c.generation } = slot_of s.index c.generation c.item h (sym (ap (option_and_then (held_in s.index)) e) ∙ here) in
-                  ap (λ (z : Slot). (z.index == s.index) && (z.generation == s.generation)) slot ∙ ap (λ b. b && (c.generation == s.generation)) (eq_self s.index) ∙ other)
+                  ap (λ (z : Slot). (z.index == s.index) && (z.generation == s.generation)) slot ∙ ap (λ b. b && (c.generation == s.generation)) (eq-eqb s.index s.index refl) ∙ other)
             ] in
             test (c.generation == s.generation) refl
       ] in

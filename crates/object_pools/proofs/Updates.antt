@@ -13,7 +13,7 @@ use Rattle.object_pools.specs.declared.slot.Held.{Held}
 use Rattle.object_pools.specs.declared.cells.Cell.{Cell}
 use Rattle.object_pools.specs.Pool.{has_slot, item_put, item_at, free_slot, taken, without, with_item, IsNamed, IsKept}
 use Rattle.object_pools.specs.Cells.{under_slot, held_in, held_at, item_in, generations_of, generation_at, places_of, Stored}
-use Rattle.object_pools.proofs.Counts.{bit, bit-le, count-cons, count-push}
+use Rattle.list_laws.proofs.Counts.{bit, bit-le, count-cons, count-push}
 use Rattle.object_pools.proofs.Orders.{times, same-else, filter-out, map-put, all-held, same_number, other_number, same_bit, other_bit}
 use Rattle.object_pools.proofs.Pigeons.{Once, Below, fits, has_room, is_full, found-free, index-below}
 use Rattle.object_pools.proofs.Stores.{Owns-held, Narrow-slot, Filled-order, live-length, count-at, free-is, held-set_same, held-set_other, live-cell, slot_of, at-slot, at-place}

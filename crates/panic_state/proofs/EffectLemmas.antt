@@ -5,6 +5,7 @@ use Rattle.std.specs.List.{cons_option, filter_map}
 use Rattle.std.specs.Option.{option_map}
 use Rattle.std.proofs.Math.ListN.{length-set}
 use Rattle.std.proofs.lemmas.List.{length-map, get_or-map}
+use Rattle.ffm_model.proofs.PanicLemmas.{chosen_twice}
 use Rattle.ffm_model.specs.declared.system.System.{System}
 use Rattle.ffm_model.specs.declared.objects.OpenConnection.{OpenConnection}
 use Rattle.ffm_model.specs.declared.objects.PendingMessage.{PendingMessage}
@@ -34,7 +35,7 @@ use Rattle.slot_names.proofs.Moves.{relinks-some}
 use Rattle.slot_names.proofs.Panics.{names-panicked, takes-first}
 use Rattle.slot_names.proofs.Removals.{fitting-pairs-off}
 use Rattle.panic_state.specs.Losses.{left_by, in_slot, held_without_service, held_without_client, as_client, disconnect_messages}
-use Rattle.panic_state.proofs.Lists.{map-left, left-twice, map-kept, All-left}
+use Rattle.panic_state.proofs.Lists.{map-left, map-kept, All-left}
 use Rattle.panic_state.proofs.ServiceLemmas.{services-known}
 use Rattle.panic_state.proofs.Walks.{items}
 use Rattle.counting_law.proofs.Owed.{set-twice}
@@ -47,67 +48,67 @@ seen-left : (h : Held OpenConnection) (o : Option OpenConnection) → option_map
 seen-left h None = refl
 seen-left h (Some c) = refl
 
-connections-served : (s : System) (p : ℕ) (d : TablesView) → items (as_client s p d).linked.held ≡ filter_map (without_service s p) (connections d.linked)
-connections-served s p d = map-left (λ (h : Held OpenConnection). h.item) (held_without_service s p) (without_service s p) (λ h. seen-left h (without_service s p h.item)) d.linked.held
+connections-served : (s : System) (p : ℕ) (d : TablesView) → items (as_client s p d).connections.held ≡ filter_map (without_service s p) (connections d.connections)
+connections-served s p d = map-left (λ (h : Held OpenConnection). h.item) (held_without_service s p) (without_service s p) (λ h. seen-left h (without_service s p h.item)) d.connections.held
 
-disconnects-are : (s : System) (p : ℕ) (d : TablesView) → disconnect_messages p (as_client s p d).linked ≡ filter_map (λ c. option_and_then (disconnection p) (without_service s p c)) (connections d.linked)
-disconnects-are s p d = ap (filter_map (disconnection p)) (connections-served s p d) ∙ left-twice (without_service s p) (disconnection p) (connections d.linked)
+disconnects-are : (s : System) (p : ℕ) (d : TablesView) → disconnect_messages p (as_client s p d).connections ≡ filter_map (λ c. option_and_then (disconnection p) (without_service s p c)) (connections d.connections)
+disconnects-are s p d = ap (filter_map (disconnection p)) (connections-served s p d) ∙ chosen_twice (without_service s p) (disconnection p) (connections d.connections)
 
 connections-are : (s : System) (p : ℕ) (d : TablesView)
-    → connections (left_by (held_without_client p) (as_client s p d).linked) ≡ filter_map (λ c. option_and_then (without_client p) (without_service s p c)) (connections d.linked)
+    → connections (left_by (held_without_client p) (as_client s p d).connections) ≡ filter_map (λ c. option_and_then (without_client p) (without_service s p c)) (connections d.connections)
 connections-are s p d =
-    map-left (λ (h : Held OpenConnection). h.item) (held_without_client p) (without_client p) (λ h. seen-left h (without_client p h.item)) (as_client s p d).linked.held
-    ∙ ap (filter_map (without_client p)) (connections-served s p d) ∙ left-twice (without_service s p) (without_client p) (connections d.linked)
+    map-left (λ (h : Held OpenConnection). h.item) (held_without_client p) (without_client p) (λ h. seen-left h (without_client p h.item)) (as_client s p d).connections.held
+    ∙ ap (filter_map (without_client p)) (connections-served s p d) ∙ chosen_twice (without_service s p) (without_client p) (connections d.connections)
 
-messages-kept : (s : System) (p : ℕ) (d : TablesView) → map held_message (as_client s p d).waiting.held ≡ filter (λ m. not (is_service_of s p m.service)) (map held_message d.waiting.held)
-messages-kept s p d = map-kept held_message (λ m. not (is_service_of s p m.service)) d.waiting.held
+messages-kept : (s : System) (p : ℕ) (d : TablesView) → map held_message (as_client s p d).messages.held ≡ filter (λ m. not (is_service_of s p m.service)) (map held_message d.messages.held)
+messages-kept s p d = map-kept held_message (λ m. not (is_service_of s p m.service)) d.messages.held
 
 -- ---- the effect
 
-pub effect-is : (s : System) (p : ℕ) (d mid new : TablesView) → mid ≡ as_client s p d → new.linked ≡ left_by (held_without_client p) mid.linked
-    → map held_message new.waiting.held ≡ map held_message mid.waiting.held ++ disconnect_messages p mid.linked → new ≡ record mid { linked = new.linked; waiting = new.waiting } → spm_of new ≡ panic_effect s (spm_of d) p
+pub effect-is : (s : System) (p : ℕ) (d mid new : TablesView) → mid ≡ as_client s p d → new.connections ≡ left_by (held_without_client p) mid.connections
+    → map held_message new.messages.held ≡ map held_message mid.messages.held ++ disconnect_messages p mid.connections → new ≡ record mid { connections = new.connections; messages = new.messages } → spm_of new ≡ panic_effect s (spm_of d) p
 effect-is s p d mid new before linked messages rest =
-    let at : record mid { linked = new.linked; waiting = new.waiting } ≡ record (as_client s p d) { linked = new.linked; waiting = new.waiting } = ap (λ (x : TablesView). record x { linked = new.linked; waiting = new.waiting }) before in
-    let is : new ≡ record (as_client s p d) { linked = new.linked; waiting = new.waiting } = rest ∙ at in
-    let made : new.linked ≡ left_by (held_without_client p) (as_client s p d).linked = linked ∙ ap (λ (x : TablesView). left_by (held_without_client p) x.linked) before in
+    let at : record mid { connections = new.connections; messages = new.messages } ≡ record (as_client s p d) { connections = new.connections; messages = new.messages } = ap (λ (x : TablesView). record x { connections = new.connections; messages = new.messages }) before in
+    let is : new ≡ record (as_client s p d) { connections = new.connections; messages = new.messages } = rest ∙ at in
+    let made : new.connections ≡ left_by (held_without_client p) (as_client s p d).connections = linked ∙ ap (λ (x : TablesView). left_by (held_without_client p) x.connections) before in
     let cs = ap connections made ∙ connections-are s p d in
     let count = ap (λ (x : Places OpenConnection). x.takes) made in
-    let ms = messages ∙ ap (λ (x : TablesView). map held_message x.waiting.held ++ disconnect_messages p x.linked) before
-    ∙ ap (λ (xs : List PendingMessage). xs ++ disconnect_messages p (as_client s p d).linked) (messages-kept s p d)
-    ∙ ap (λ (xs : List PendingMessage). filter (λ m. not (is_service_of s p m.service)) (map held_message d.waiting.held) ++ xs) (disconnects-are s p d) in
+    let ms = messages ∙ ap (λ (x : TablesView). map held_message x.messages.held ++ disconnect_messages p x.connections) before
+    ∙ ap (λ (xs : List PendingMessage). xs ++ disconnect_messages p (as_client s p d).connections) (messages-kept s p d)
+    ∙ ap (λ (xs : List PendingMessage). filter (λ m. not (is_service_of s p m.service)) (map held_message d.messages.held) ++ xs) (disconnects-are s p d) in
     ap spm_of is ∙ (λ j. record (spm_of (as_client s p d)) { connections = cs j; connections_made = count j; messages = ms j })
 
 -- ---- the room
 
 -- the messages that stay and those that come are no more than there can be at once
 pub room-of : (s : System) (p : ℕ) (d : TablesView) → MadeFor d s → p < length s.partitions → ObjectsFit s (with_phase (spm_of d) p Running)
-    → length (as_client s p d).waiting.held + length (disconnect_messages p (as_client s p d).linked) ≤ message_capacity s
+    → length (as_client s p d).messages.held + length (disconnect_messages p (as_client s p d).connections) ≤ message_capacity s
 room-of s p d made inside fits =
     let there : p < length d.phases = omega (arith, ap (λ (x : Shape). x.actors) made) in
     let running : phase_of (with_phase (spm_of d) p Running) p ≡ Running = phase_same d.phases p Running there in
-    let kept : List PendingMessage = filter (λ m. not (is_service_of s p m.service)) (map held_message d.waiting.held) in
-    let sent : List PendingMessage = filter_map (λ c. option_and_then (disconnection p) (without_service s p c)) (connections d.linked) in
+    let kept : List PendingMessage = filter (λ m. not (is_service_of s p m.service)) (map held_message d.messages.held) in
+    let sent : List PendingMessage = filter_map (λ c. option_and_then (disconnection p) (without_service s p c)) (connections d.connections) in
     omega (
       arith,
       panic-room s (with_phase (spm_of d) p Running) p fits running,
       length-append kept sent,
       ap (λ (ms : List PendingMessage). length ms) (messages-kept s p d),
       ap (λ (ms : List PendingMessage). length ms) (disconnects-are s p d),
-      length-map (as_client s p d).waiting.held held_message,
+      length-map (as_client s p d).messages.held held_message,
     )
 
 -- ---- the services of the connections
 
-pub services-of : (s : System) (p : ℕ) (d : TablesView) → MadeFor d s → ObjectsFit s (with_phase (spm_of d) p Running) → All (λ h. h.item.service < length (as_client s p d).services) (as_client s p d).linked.held
+pub services-of : (s : System) (p : ℕ) (d : TablesView) → MadeFor d s → ObjectsFit s (with_phase (spm_of d) p Running) → All (λ h. h.item.service < length (as_client s p d).services) (as_client s p d).connections.held
 services-of s p d made fit =
     let count : length d.services ≡ length s.services = ap (λ (x : Shape). length x.services) made ∙ length-map s.services service_signal in
-    let all : All (λ h. h.item.service < length d.services) d.linked.held =
+    let all : All (λ h. h.item.service < length d.services) d.connections.held =
     λ k h lt.
-    let at : get_or (connections d.linked) k h.item ≡ (get_or d.linked.held k h).item = get_or-map (λ (x : Held OpenConnection). x.item) d.linked.held k h h.item lt in
-    let here : (get_or (connections d.linked) k h.item).service < length s.services =
-    services-known s (with_phase (spm_of d) p Running) fit.budgets k h.item (omega (arith, lt, length-map d.linked.held (λ (x : Held OpenConnection). x.item))) in
+    let at : get_or (connections d.connections) k h.item ≡ (get_or d.connections.held k h).item = get_or-map (λ (x : Held OpenConnection). x.item) d.connections.held k h h.item lt in
+    let here : (get_or (connections d.connections) k h.item).service < length s.services =
+    services-known s (with_phase (spm_of d) p Running) fit.budgets k h.item (omega (arith, lt, length-map d.connections.held (λ (x : Held OpenConnection). x.item))) in
     omega (arith, here, count, ap (λ (c : OpenConnection). c.service) at) in
-    All-left (λ h. h.item.service < length d.services) (held_without_service s p) same_service d.linked.held all where
+    All-left (λ h. h.item.service < length d.services) (held_without_service s p) same_service d.connections.held all where
       same_service : (x y : Held OpenConnection) → held_without_service s p x ≡ Some y → x.item.service < length d.services → y.item.service < length d.services
       same_service x y e below = omega (arith, below, same_one x y (is_service_of s p x.item.service) (lost x.item.phase) e) where
         same_one : (x y : Held OpenConnection) (b : Bool) (l : Option ConnPhase) → in_slot x (if b then option_map (λ f. record x.item { phase = f }) l else Some x.item) ≡ Some y → x.item.service ≡ y.item.service
@@ -141,15 +142,15 @@ callers-length s p (m ∷ ms) phases =
     let go : (b : Bool) → length (cond b told phases) ≡ length phases = elim [ true ↦ length-set phases m.client.0 (Ready (Value PSA_ERROR_COMMUNICATION_FAILURE)) | false ↦ refl ] in
     callers-length s p ms (cond (is_lost_request s p m) told phases) ∙ go (is_lost_request s p m)
 
-pub shape-is : (s : System) (p : ℕ) (d mid new : TablesView) → mid ≡ as_client s p d → new.linked ≡ left_by (held_without_client p) mid.linked
-    → length new.waiting.generations ≡ length mid.waiting.generations → new ≡ record mid { linked = new.linked; waiting = new.waiting } → shape_of new ≡ shape_of d
+pub shape-is : (s : System) (p : ℕ) (d mid new : TablesView) → mid ≡ as_client s p d → new.connections ≡ left_by (held_without_client p) mid.connections
+    → length new.messages.generations ≡ length mid.messages.generations → new ≡ record mid { connections = new.connections; messages = new.messages } → shape_of new ≡ shape_of d
 shape-is s p d mid new before linked size rest =
-    let is : new ≡ record (as_client s p d) { linked = new.linked; waiting = new.waiting } = rest ∙ ap (λ (x : TablesView). record x { linked = new.linked; waiting = new.waiting }) before in
-    let made = ap (λ (x : Places OpenConnection). length x.generations) (linked ∙ ap (λ (x : TablesView). left_by (held_without_client p) x.linked) before) in
-    let room = size ∙ ap (λ (x : TablesView). length x.waiting.generations) before in
+    let is : new ≡ record (as_client s p d) { connections = new.connections; messages = new.messages } = rest ∙ ap (λ (x : TablesView). record x { connections = new.connections; messages = new.messages }) before in
+    let made = ap (λ (x : Places OpenConnection). length x.generations) (linked ∙ ap (λ (x : TablesView). left_by (held_without_client p) x.connections) before) in
+    let room = size ∙ ap (λ (x : TablesView). length x.messages.generations) before in
     let phases =
-    callers-length s p (map held_message d.waiting.held) (clients_answered s p (connections d.linked) (slice_set d.phases p Panicked))
-    ∙ clients-length s p (connections d.linked) (slice_set d.phases p Panicked) ∙ length-set d.phases p Panicked in
+    callers-length s p (map held_message d.messages.held) (clients_answered s p (connections d.connections) (slice_set d.phases p Panicked))
+    ∙ clients-length s p (connections d.connections) (slice_set d.phases p Panicked) ∙ length-set d.phases p Panicked in
     ap shape_of is ∙ (λ j. record (shape_of d) { actors = phases j; connections = made j; messages = room j })
 
 length-some : {X Y : Type 0} (f : X → Option Y) (xs : List X) → length (filter_map f xs) ≤ length xs
@@ -159,12 +160,12 @@ length-some {Y = Y} f (x ∷ xs) =
     omega (arith, go (f x))
 
 -- a connection has one disconnection at most
-pub few-disconnects : (s : System) (p : ℕ) (d : TablesView) → ObjectsFit s (with_phase (spm_of d) p Running) → length (disconnect_messages p (as_client s p d).linked) ≤ 256
+pub few-disconnects : (s : System) (p : ℕ) (d : TablesView) → ObjectsFit s (with_phase (spm_of d) p Running) → length (disconnect_messages p (as_client s p d).connections) ≤ 256
 few-disconnects s p d fit =
     omega (
       arith,
       ap (λ (ms : List PendingMessage). length ms) (disconnects-are s p d),
-      length-some (λ c. option_and_then (disconnection p) (without_service s p c)) (connections d.linked),
+      length-some (λ c. option_and_then (disconnection p) (without_service s p c)) (connections d.connections),
       few-connections s (with_phase (spm_of d) p Running) fit,
       few_connections s,
     )
@@ -172,18 +173,18 @@ few-disconnects s p d fit =
 -- ---- the names
 
 pub names-are : (s : System) (p : ℕ) (d mid new : TablesView) → MadeFor d s → ObjectsFit s (with_phase (spm_of d) p Running) → mid ≡ as_client s p d → spm_of new ≡ panic_effect s (spm_of d) p
-    → ((first : TablesView) (kept : List SlotName) → TakesOn (length mid.waiting.generations) first kept 0 mid → TakesOn (length mid.waiting.generations) first kept (length (disconnect_messages p mid.linked)) new) → KeepsNames s d new
+    → ((first : TablesView) (kept : List SlotName) → TakesOn (length mid.messages.generations) first kept 0 mid → TakesOn (length mid.messages.generations) first kept (length (disconnect_messages p mid.connections)) new) → KeepsNames s d new
 names-are s p d mid new made fit before effect more =
     let off : PairsOff (with_phase (spm_of d) p Running) = fitting-pairs-off s (with_phase (spm_of d) p Running) fit in
     let pairs : PairsOff (spm_of d) = record { paired = off.paired; calls = off.calls; rising = off.rising } in
-    let kept : List SlotName = names_of (λ h. not (is_service_of s p h.item.service)) d.waiting in
-    let size : length mid.waiting.generations ≡ message_capacity s = ap (λ (x : TablesView). length x.waiting.generations) before ∙ ap (λ (x : Shape). x.messages) made in
-    let linked : KeepsConnectionNames d.linked (as_client s p d).linked =
-    relinks-some d.linked (held_without_service s p) (λ h g e. (same_slot h g (is_service_of s p h.item.service) (lost h.item.phase) e, same_serial h g (is_service_of s p h.item.service) (lost h.item.phase) e)) in
+    let kept : List SlotName = names_of (λ h. not (is_service_of s p h.item.service)) d.messages in
+    let size : length mid.messages.generations ≡ message_capacity s = ap (λ (x : TablesView). length x.messages.generations) before ∙ ap (λ (x : Shape). x.messages) made in
+    let linked : KeepsConnectionNames d.connections (as_client s p d).connections =
+    relinks-some d.connections (held_without_service s p) (λ h g e. (same_slot h g (is_service_of s p h.item.service) (lost h.item.phase) e, same_serial h g (is_service_of s p h.item.service) (lost h.item.phase) e)) in
     let gone : TakesOn (message_capacity s) d kept 0 (as_client s p d) = takes-first (message_capacity s) d (as_client s p d) (λ h. not (is_service_of s p h.item.service)) linked refl in
-    let there : TakesOn (length mid.waiting.generations) d kept 0 mid = subst (λ (n : ℕ). TakesOn n d kept 0 mid) (sym size) (subst (λ (x : TablesView). TakesOn (message_capacity s) d kept 0 x) (sym before) gone) in
-    let all : TakesOn (message_capacity s) d kept (length (disconnect_messages p mid.linked)) new = subst (λ (n : ℕ). TakesOn n d kept (length (disconnect_messages p mid.linked)) new) size (more d kept there) in
-    names-panicked s d new p kept (length (disconnect_messages p mid.linked)) pairs effect refl all where
+    let there : TakesOn (length mid.messages.generations) d kept 0 mid = subst (λ (n : ℕ). TakesOn n d kept 0 mid) (sym size) (subst (λ (x : TablesView). TakesOn (message_capacity s) d kept 0 x) (sym before) gone) in
+    let all : TakesOn (message_capacity s) d kept (length (disconnect_messages p mid.connections)) new = subst (λ (n : ℕ). TakesOn n d kept (length (disconnect_messages p mid.connections)) new) size (more d kept there) in
+    names-panicked s d new p kept (length (disconnect_messages p mid.connections)) pairs effect refl all where
       same_slot : (x y : Held OpenConnection) (b : Bool) (l : Option ConnPhase) → in_slot x (if b then option_map (λ f. record x.item { phase = f }) l else Some x.item) ≡ Some y → y.slot ≡ x.slot
       same_slot x y true None f = cc
       same_slot x y true (Some ph) f = let it : record x { item = record x.item { phase = ph } } ≡ y = cc in ap (λ (h : Held OpenConnection). h.slot) (sym it)

@@ -24,54 +24,54 @@ use Rattle.panic_state.proofs.PlaceLemmas.{with_item-at, without-at}
 use Rattle.panic_state.proofs.Walks.{items}
 
 abbrev pub messages_of : TablesView → List PendingMessage
-messages_of d = map held_message d.waiting.held
+messages_of d = map held_message d.messages.held
 
 -- the disconnections of the connections from a place on
 abbrev pub disconnect_messages_from : ℕ → ℕ → TablesView → List PendingMessage
-disconnect_messages_from p n d = filter_map (disconnection p) (items (drop n d.linked.held))
+disconnect_messages_from p n d = filter_map (disconnection p) (items (drop n d.connections.held))
 
 abbrev IsServed : TablesView → Held OpenConnection → Type 0
 IsServed old h = h.item.service < length old.services
 
 -- the names go on to n more messages
 abbrev pub NamesGoOn : TablesView → ℕ → TablesView → Type 0
-NamesGoOn old n d = (first : TablesView) (kept : List SlotName) → TakesOn (length old.waiting.generations) first kept 0 old → TakesOn (length old.waiting.generations) first kept n d
+NamesGoOn old n d = (first : TablesView) (kept : List SlotName) → TakesOn (length old.messages.generations) first kept 0 old → TakesOn (length old.messages.generations) first kept n d
 
 pub record Leaves (p : ℕ) (old : TablesView) (n : ℕ) (d : TablesView) : Type 0 where
-  pub linked : record d.linked { held = left_from (held_without_client p) n d.linked.held } ≡ left_by (held_without_client p) old.linked
-  pub messages : messages_of d ++ disconnect_messages_from p n d ≡ messages_of old ++ disconnect_messages p old.linked
-  pub rest : d ≡ record old { linked = d.linked; waiting = d.waiting }
-  pub size : length d.waiting.generations ≡ length old.waiting.generations
+  pub connections : record d.connections { held = left_from (held_without_client p) n d.connections.held } ≡ left_by (held_without_client p) old.connections
+  pub messages : messages_of d ++ disconnect_messages_from p n d ≡ messages_of old ++ disconnect_messages p old.connections
+  pub rest : d ≡ record old { connections = d.connections; messages = d.messages }
+  pub size : length d.messages.generations ≡ length old.messages.generations
   -- how many disconnections were sent
   pub sent : ℕ
-  pub counted : sent + length (disconnect_messages_from p n d) ≡ length (disconnect_messages p old.linked)
-  pub takes : d.waiting.takes ≡ old.waiting.takes + sent
+  pub counted : sent + length (disconnect_messages_from p n d) ≡ length (disconnect_messages p old.connections)
+  pub takes : d.messages.takes ≡ old.messages.takes + sent
   pub names : NamesGoOn old sent d
-  pub services : All (IsServed old) (drop n d.linked.held)
+  pub services : All (IsServed old) (drop n d.connections.held)
 
-pub leaves-none : (p : ℕ) (old : TablesView) → All (IsServed old) old.linked.held → Leaves p old 0 old
-leaves-none p old served = record { linked = refl; messages = refl; rest = refl; size = refl; sent = 0; counted = omega arith; takes = omega arith; names = λ first kept so_far. so_far; services = served }
+pub leaves-none : (p : ℕ) (old : TablesView) → All (IsServed old) old.connections.held → Leaves p old 0 old
+leaves-none p old served = record { connections = refl; messages = refl; rest = refl; size = refl; sent = 0; counted = omega arith; takes = omega arith; names = λ first kept so_far. so_far; services = served }
 
-disconnects-all : (p n : ℕ) (d : TablesView) → length d.linked.held ≤ n → disconnect_messages_from p n d ≡ []
-disconnects-all p n d past = ap (λ (hs : List (Held OpenConnection)). filter_map (disconnection p) (items hs)) (drop-all d.linked.held n past)
+disconnects-all : (p n : ℕ) (d : TablesView) → length d.connections.held ≤ n → disconnect_messages_from p n d ≡ []
+disconnects-all p n d past = ap (λ (hs : List (Held OpenConnection)). filter_map (disconnection p) (items hs)) (drop-all d.connections.held n past)
 
 append-none : (ms : List PendingMessage) → ms ++ [] ≡ ms
 append-none [] = refl
 append-none (m ∷ ms) = ap (λ (ns : List PendingMessage). m ∷ ns) (append-none ms)
 
 -- at the end
-pub left-linked : (p n : ℕ) (old d : TablesView) → Leaves p old n d → length d.linked.held ≤ n → d.linked ≡ left_by (held_without_client p) old.linked
-left-linked p n old d l past = sym (λ j. record d.linked { held = left_from-all (held_without_client p) d.linked.held n past j }) ∙ l.linked
+pub left-linked : (p n : ℕ) (old d : TablesView) → Leaves p old n d → length d.connections.held ≤ n → d.connections ≡ left_by (held_without_client p) old.connections
+left-linked p n old d l past = sym (λ j. record d.connections { held = left_from-all (held_without_client p) d.connections.held n past j }) ∙ l.connections
 
-pub left-messages : (p n : ℕ) (old d : TablesView) → Leaves p old n d → length d.linked.held ≤ n → messages_of d ≡ messages_of old ++ disconnect_messages p old.linked
+pub left-messages : (p n : ℕ) (old d : TablesView) → Leaves p old n d → length d.connections.held ≤ n → messages_of d ≡ messages_of old ++ disconnect_messages p old.connections
 left-messages p n old d l past = sym (append-none (messages_of d)) ∙ ap (λ (ms : List PendingMessage). messages_of d ++ ms) (sym (disconnects-all p n d past)) ∙ l.messages
 
-pub left-takes : (p n : ℕ) (old d : TablesView) → Leaves p old n d → length d.linked.held ≤ n → d.waiting.takes ≡ old.waiting.takes + length (disconnect_messages p old.linked)
+pub left-takes : (p n : ℕ) (old d : TablesView) → Leaves p old n d → length d.connections.held ≤ n → d.messages.takes ≡ old.messages.takes + length (disconnect_messages p old.connections)
 left-takes p n old d l past = omega (arith, l.takes, l.counted, ap (λ (ms : List PendingMessage). length ms) (disconnects-all p n d past))
 
-pub left-names : (p n : ℕ) (old d : TablesView) → Leaves p old n d → length d.linked.held ≤ n → NamesGoOn old (length (disconnect_messages p old.linked)) d
+pub left-names : (p n : ℕ) (old d : TablesView) → Leaves p old n d → length d.connections.held ≤ n → NamesGoOn old (length (disconnect_messages p old.connections)) d
 left-names p n old d l past =
-    let all : l.sent ≡ length (disconnect_messages p old.linked) = omega (arith, l.counted, ap (λ (ms : List PendingMessage). length ms) (disconnects-all p n d past)) in
+    let all : l.sent ≡ length (disconnect_messages p old.connections) = omega (arith, l.counted, ap (λ (ms : List PendingMessage). length ms) (disconnects-all p n d past)) in
     subst (λ (m : ℕ). NamesGoOn old m d) all l.names
 
 -- ---- one further
@@ -79,23 +79,23 @@ left-names p n old d l past =
 abbrev disconnect_of : ℕ → OpenConnection → List PendingMessage → List PendingMessage
 disconnect_of p c ms = cons_option (disconnection p c) ms
 
-disconnects-next : (p n : ℕ) (d : TablesView) (h : Held OpenConnection) → slice_get d.linked.held n ≡ Some h → disconnect_messages_from p n d ≡ disconnect_of p h.item (filter_map (disconnection p) (items (drop (n + 1) d.linked.held)))
-disconnects-next p n d h here = ap (λ (hs : List (Held OpenConnection)). filter_map (disconnection p) (items hs)) (drop-nth d.linked.held n h here)
+disconnects-next : (p n : ℕ) (d : TablesView) (h : Held OpenConnection) → slice_get d.connections.held n ≡ Some h → disconnect_messages_from p n d ≡ disconnect_of p h.item (filter_map (disconnection p) (items (drop (n + 1) d.connections.held)))
+disconnects-next p n d h here = ap (λ (hs : List (Held OpenConnection)). filter_map (disconnection p) (items hs)) (drop-nth d.connections.held n h here)
 
-served-next : (n : ℕ) (old d : TablesView) (h : Held OpenConnection) → slice_get d.linked.held n ≡ Some h → All (IsServed old) (drop n d.linked.held) → IsServed old h × All (IsServed old) (drop (n + 1) d.linked.held)
+served-next : (n : ℕ) (old d : TablesView) (h : Held OpenConnection) → slice_get d.connections.held n ≡ Some h → All (IsServed old) (drop n d.connections.held) → IsServed old h × All (IsServed old) (drop (n + 1) d.connections.held)
 served-next n old d h here served =
-    let all : All (IsServed old) (h ∷ drop (n + 1) d.linked.held) = subst (λ (hs : List (Held OpenConnection)). All (IsServed old) hs) (drop-nth d.linked.held n h here) served in
-    (All-head (IsServed old) h (drop (n + 1) d.linked.held) all, All-tail (IsServed old) h (drop (n + 1) d.linked.held) all)
+    let all : All (IsServed old) (h ∷ drop (n + 1) d.connections.held) = subst (λ (hs : List (Held OpenConnection)). All (IsServed old) hs) (drop-nth d.connections.held n h here) served in
+    (All-head (IsServed old) h (drop (n + 1) d.connections.held) all, All-tail (IsServed old) h (drop (n + 1) d.connections.held) all)
 
 -- another's connection
-pub leaves-other : (p n : ℕ) (old d : TablesView) (h : Held OpenConnection) → Leaves p old n d → slice_get d.linked.held n ≡ Some h → (h.item.client.0 == p) ≡ false → Leaves p old (n + 1) d
+pub leaves-other : (p n : ℕ) (old d : TablesView) (h : Held OpenConnection) → Leaves p old n d → slice_get d.connections.held n ≡ Some h → (h.item.client.0 == p) ≡ false → Leaves p old (n + 1) d
 leaves-other p n old d h l here other =
     let kept : held_without_client p h ≡ Some h = ap (λ (b : Bool). in_slot h (if b then (if is_dead h.item.phase then None else Some (record h.item { phase = Closing })) else Some h.item)) other in
     let none : disconnection p h.item ≡ None = ap (λ (b : Bool). if b && not (is_dead h.item.phase) then Some (disconnect_message h.item) else None) other in
     let same : disconnect_messages_from p n d ≡ disconnect_messages_from p (n + 1) d = disconnects-next p n d h here ∙ ap (λ (o : Option PendingMessage). cons_option o (disconnect_messages_from p (n + 1) d)) none in
-    let held = left_from-same (held_without_client p) d.linked.held n h here kept in
+    let held = left_from-same (held_without_client p) d.connections.held n h here kept in
     record {
-      linked = (λ j. record d.linked { held = held j }) ∙ l.linked;
+      connections = (λ j. record d.connections { held = held j }) ∙ l.connections;
       messages = ap (λ (ms : List PendingMessage). messages_of d ++ ms) (sym same) ∙ l.messages;
       rest = l.rest;
       size = l.size;
@@ -107,99 +107,99 @@ leaves-other p n old d h l here other =
     }
 
 -- one of its own that is dead
-pub leaves-dead : (p n : ℕ) (old d new : TablesView) (h : Held OpenConnection) → Leaves p old n d → IsKept 256 d.linked → slice_get d.linked.held n ≡ Some h → (h.item.client.0 == p) ≡ true → is_dead h.item.phase ≡ true
-    → new ≡ record d { linked = without d.linked h.slot } → Leaves p old n new
+pub leaves-dead : (p n : ℕ) (old d new : TablesView) (h : Held OpenConnection) → Leaves p old n d → IsKept 256 d.connections → slice_get d.connections.held n ≡ Some h → (h.item.client.0 == p) ≡ true → is_dead h.item.phase ≡ true
+    → new ≡ record d { connections = without d.connections h.slot } → Leaves p old n new
 leaves-dead p n old d new h l k here own dead after =
     let gone : held_without_client p h ≡ None =
     ap (λ (b : Bool). in_slot h (if b then (if is_dead h.item.phase then None else Some (record h.item { phase = Closing })) else Some h.item)) own
     ∙ ap (λ (b : Bool). in_slot h (if b then None else Some (record h.item { phase = Closing }))) dead in
     let none : disconnection p h.item ≡ None = ap (λ (b : Bool). if b && not (is_dead h.item.phase) then Some (disconnect_message h.item) else None) own ∙ ap (λ (b : Bool). if not b then Some (disconnect_message h.item) else None) dead in
     let same : disconnect_messages_from p n d ≡ disconnect_messages_from p (n + 1) d = disconnects-next p n d h here ∙ ap (λ (o : Option PendingMessage). cons_option o (disconnect_messages_from p (n + 1) d)) none in
-    let out = without-at 256 d.linked n h k here in
-    let tail : drop n (without d.linked h.slot).held ≡ drop (n + 1) d.linked.held = ap (drop n) out ∙ drop-out d.linked.held n in
-    let byes : filter_map (disconnection p) (items (drop n (without d.linked h.slot).held)) ≡ disconnect_messages_from p n d = ap (λ (hs : List (Held OpenConnection)). filter_map (disconnection p) (items hs)) tail ∙ sym same in
-    let held = ap (left_from (held_without_client p) n) out ∙ left_from-out (held_without_client p) d.linked.held n h here gone in
+    let out = without-at 256 d.connections n h k here in
+    let tail : drop n (without d.connections h.slot).held ≡ drop (n + 1) d.connections.held = ap (drop n) out ∙ drop-out d.connections.held n in
+    let byes : filter_map (disconnection p) (items (drop n (without d.connections h.slot).held)) ≡ disconnect_messages_from p n d = ap (λ (hs : List (Held OpenConnection)). filter_map (disconnection p) (items hs)) tail ∙ sym same in
+    let held = ap (left_from (held_without_client p) n) out ∙ left_from-out (held_without_client p) d.connections.held n h here gone in
     subst (λ (x : TablesView). Leaves p old n x) (sym after) (record {
-      linked = (λ j. record d.linked { held = held j }) ∙ l.linked;
+      connections = (λ j. record d.connections { held = held j }) ∙ l.connections;
       messages = ap (λ (ms : List PendingMessage). messages_of d ++ ms) byes ∙ l.messages;
-      rest = ap (λ (x : TablesView). record x { linked = without d.linked h.slot }) l.rest;
+      rest = ap (λ (x : TablesView). record x { connections = without d.connections h.slot }) l.rest;
       size = l.size;
       sent = l.sent;
       counted = omega (arith, l.counted, ap (λ (ms : List PendingMessage). length ms) byes);
       takes = l.takes;
       names = λ first kept so_far.
-          takes-relinked (length old.waiting.generations) first d (record d { linked = without d.linked h.slot }) kept l.sent (l.names first kept so_far) (relinks-without d.linked h.slot) refl;
+          takes-relinked (length old.messages.generations) first d (record d { connections = without d.connections h.slot }) kept l.sent (l.names first kept so_far) (relinks-without d.connections h.slot) refl;
       services = subst (λ (hs : List (Held OpenConnection)). All (IsServed old) hs) (sym tail) (served-next n old d h here l.services).1;
     })
 
-pub dead-shorter : (n : ℕ) (d new : TablesView) (h : Held OpenConnection) → IsKept 256 d.linked → slice_get d.linked.held n ≡ Some h → new ≡ record d { linked = without d.linked h.slot } → length new.linked.held + 1 ≡ length d.linked.held
+pub dead-shorter : (n : ℕ) (d new : TablesView) (h : Held OpenConnection) → IsKept 256 d.connections → slice_get d.connections.held n ≡ Some h → new ≡ record d { connections = without d.connections h.slot } → length new.connections.held + 1 ≡ length d.connections.held
 dead-shorter n d new h k here after =
-    ap (λ (x : TablesView). length x.linked.held + 1) after ∙ ap (λ (hs : List (Held OpenConnection)). length hs + 1) (without-at 256 d.linked n h k here) ∙ length-out d.linked.held n h here
+    ap (λ (x : TablesView). length x.connections.held + 1) after ∙ ap (λ (hs : List (Held OpenConnection)). length hs + 1) (without-at 256 d.connections n h k here) ∙ length-out d.connections.held n h here
 
 -- one of its own that is not dead has a disconnection to come
-own-disconnect : (p n : ℕ) (d : TablesView) (h : Held OpenConnection) → slice_get d.linked.held n ≡ Some h → (h.item.client.0 == p) ≡ true → is_dead h.item.phase ≡ false → disconnect_messages_from p n d ≡ disconnect_message h.item ∷ disconnect_messages_from p (n + 1) d
+own-disconnect : (p n : ℕ) (d : TablesView) (h : Held OpenConnection) → slice_get d.connections.held n ≡ Some h → (h.item.client.0 == p) ≡ true → is_dead h.item.phase ≡ false → disconnect_messages_from p n d ≡ disconnect_message h.item ∷ disconnect_messages_from p (n + 1) d
 own-disconnect p n d h here own alive =
     let some : disconnection p h.item ≡ Some (disconnect_message h.item) =
     ap (λ (b : Bool). if b && not (is_dead h.item.phase) then Some (disconnect_message h.item) else None) own ∙ ap (λ (b : Bool). if not b then Some (disconnect_message h.item) else None) alive in
     disconnects-next p n d h here ∙ ap (λ (o : Option PendingMessage). cons_option o (disconnect_messages_from p (n + 1) d)) some
 
 -- for which there is room
-pub room-left : (p n : ℕ) (old d : TablesView) (h : Held OpenConnection) → Leaves p old n d → slice_get d.linked.held n ≡ Some h → (h.item.client.0 == p) ≡ true → is_dead h.item.phase ≡ false
-    → length (messages_of old) + length (disconnect_messages p old.linked) ≤ length old.waiting.generations → length (messages_of d) < length d.waiting.generations
+pub room-left : (p n : ℕ) (old d : TablesView) (h : Held OpenConnection) → Leaves p old n d → slice_get d.connections.held n ≡ Some h → (h.item.client.0 == p) ≡ true → is_dead h.item.phase ≡ false
+    → length (messages_of old) + length (disconnect_messages p old.connections) ≤ length old.messages.generations → length (messages_of d) < length d.messages.generations
 room-left p n old d h l here own alive room =
     omega (
       arith,
       l.size,
       ap (λ (ms : List PendingMessage). length ms) l.messages,
       length-append (messages_of d) (disconnect_messages_from p n d),
-      length-append (messages_of old) (disconnect_messages p old.linked),
+      length-append (messages_of old) (disconnect_messages p old.connections),
       ap (λ (ms : List PendingMessage). length ms) (own-disconnect p n d h here own alive),
     )
 
-pub takes-left : (p n : ℕ) (old d : TablesView) (h : Held OpenConnection) → Leaves p old n d → slice_get d.linked.held n ≡ Some h → (h.item.client.0 == p) ≡ true → is_dead h.item.phase ≡ false
-    → old.waiting.takes + length (disconnect_messages p old.linked) ≤ 1048575 → d.waiting.takes < 1048575
+pub takes-left : (p n : ℕ) (old d : TablesView) (h : Held OpenConnection) → Leaves p old n d → slice_get d.connections.held n ≡ Some h → (h.item.client.0 == p) ≡ true → is_dead h.item.phase ≡ false
+    → old.messages.takes + length (disconnect_messages p old.connections) ≤ 1048575 → d.messages.takes < 1048575
 takes-left p n old d h l here own alive few = omega (arith, l.takes, l.counted, ap (λ (ms : List PendingMessage). length ms) (own-disconnect p n d h here own alive))
 
-pub service-known : (p n : ℕ) (old d : TablesView) (h : Held OpenConnection) → Leaves p old n d → slice_get d.linked.held n ≡ Some h → h.item.service < length d.services
+pub service-known : (p n : ℕ) (old d : TablesView) (h : Held OpenConnection) → Leaves p old n d → slice_get d.connections.held n ≡ Some h → h.item.service < length d.services
 service-known p n old d h l here = omega (arith, (served-next n old d h here l.services).0, ap (λ (x : TablesView). length x.services) l.rest)
 
 -- its disconnection is taken in, and then it is closing
-pub closing-both : (d mid new : TablesView) (w : Places QueuedMessage) (s : Slot) (c : OpenConnection) → mid ≡ record d { waiting = w } → item_at d.linked s ≡ Some c
-    → IfSome (item_at mid.linked s) (λ x. new ≡ record mid { linked = with_item mid.linked s (record x { phase = Closing }) })
-    → new ≡ record d { linked = with_item d.linked s (record c { phase = Closing }); waiting = w }
+pub closing-both : (d mid new : TablesView) (w : Places QueuedMessage) (s : Slot) (c : OpenConnection) → mid ≡ record d { messages = w } → item_at d.connections s ≡ Some c
+    → IfSome (item_at mid.connections s) (λ x. new ≡ record mid { connections = with_item mid.connections s (record x { phase = Closing }) })
+    → new ≡ record d { connections = with_item d.connections s (record c { phase = Closing }); messages = w }
 closing-both d mid new w s c after live change =
-    let there : IfSome (item_at d.linked s) (λ x. new ≡ record d { linked = with_item d.linked s (record x { phase = Closing }); waiting = w }) =
-    subst (λ (e : TablesView). IfSome (item_at e.linked s) (λ x. new ≡ record e { linked = with_item e.linked s (record x { phase = Closing }) })) after change in
-    subst (λ (o : Option OpenConnection). IfSome o (λ x. new ≡ record d { linked = with_item d.linked s (record x { phase = Closing }); waiting = w })) live there
+    let there : IfSome (item_at d.connections s) (λ x. new ≡ record d { connections = with_item d.connections s (record x { phase = Closing }); messages = w }) =
+    subst (λ (e : TablesView). IfSome (item_at e.connections s) (λ x. new ≡ record e { connections = with_item e.connections s (record x { phase = Closing }) })) after change in
+    subst (λ (o : Option OpenConnection). IfSome o (λ x. new ≡ record d { connections = with_item d.connections s (record x { phase = Closing }); messages = w })) live there
 
-pub closing-length : (d new : TablesView) (w : Places QueuedMessage) (s : Slot) (c : OpenConnection) → new ≡ record d { linked = with_item d.linked s (record c { phase = Closing }); waiting = w } → length new.linked.held ≡ length d.linked.held
-closing-length d new w s c after = ap (λ (x : TablesView). length x.linked.held) after ∙ length-map d.linked.held (item_put s (record c { phase = Closing }))
+pub closing-length : (d new : TablesView) (w : Places QueuedMessage) (s : Slot) (c : OpenConnection) → new ≡ record d { connections = with_item d.connections s (record c { phase = Closing }); messages = w } → length new.connections.held ≡ length d.connections.held
+closing-length d new w s c after = ap (λ (x : TablesView). length x.connections.held) after ∙ length-map d.connections.held (item_put s (record c { phase = Closing }))
 
-pub leaves-closing : (p n : ℕ) (old d new : TablesView) (h : Held OpenConnection) (place : Slot) (m : QueuedMessage) → Leaves p old n d → IsKept 256 d.linked → slice_get d.linked.held n ≡ Some h
-    → item_at d.linked h.slot ≡ Some h.item → free_slot d.waiting ≡ Some place → (h.item.client.0 == p) ≡ true → is_dead h.item.phase ≡ false → map held_message (taken d.waiting place m).held ≡ messages_of d ++ disconnect_message h.item ∷ []
-    → new ≡ record d { linked = with_item d.linked h.slot (record h.item { phase = Closing }); waiting = taken d.waiting place m } → Leaves p old (n + 1) new
+pub leaves-closing : (p n : ℕ) (old d new : TablesView) (h : Held OpenConnection) (place : Slot) (m : QueuedMessage) → Leaves p old n d → IsKept 256 d.connections → slice_get d.connections.held n ≡ Some h
+    → item_at d.connections h.slot ≡ Some h.item → free_slot d.messages ≡ Some place → (h.item.client.0 == p) ≡ true → is_dead h.item.phase ≡ false → map held_message (taken d.messages place m).held ≡ messages_of d ++ disconnect_message h.item ∷ []
+    → new ≡ record d { connections = with_item d.connections h.slot (record h.item { phase = Closing }); messages = taken d.messages place m } → Leaves p old (n + 1) new
 leaves-closing p n old d new h place m l k here live free own alive sent after =
     let closed : Held OpenConnection = record h { item = record h.item { phase = Closing } } in
     let left : held_without_client p h ≡ Some closed =
     ap (λ (b : Bool). in_slot h (if b then (if is_dead h.item.phase then None else Some (record h.item { phase = Closing })) else Some h.item)) own
     ∙ ap (λ (b : Bool). in_slot h (if b then None else Some (record h.item { phase = Closing }))) alive in
-    let put = with_item-at 256 d.linked n h (record h.item { phase = Closing }) k here in
-    let tail : drop (n + 1) (with_item d.linked h.slot (record h.item { phase = Closing })).held ≡ drop (n + 1) d.linked.held = ap (drop (n + 1)) put ∙ drop-set d.linked.held n closed in
-    let later : List PendingMessage = filter_map (disconnection p) (items (drop (n + 1) (with_item d.linked h.slot (record h.item { phase = Closing })).held)) in
+    let put = with_item-at 256 d.connections n h (record h.item { phase = Closing }) k here in
+    let tail : drop (n + 1) (with_item d.connections h.slot (record h.item { phase = Closing })).held ≡ drop (n + 1) d.connections.held = ap (drop (n + 1)) put ∙ drop-set d.connections.held n closed in
+    let later : List PendingMessage = filter_map (disconnection p) (items (drop (n + 1) (with_item d.connections h.slot (record h.item { phase = Closing })).held)) in
     let byes : later ≡ disconnect_messages_from p (n + 1) d = ap (λ (hs : List (Held OpenConnection)). filter_map (disconnection p) (items hs)) tail in
     let bye : disconnect_messages_from p n d ≡ disconnect_message h.item ∷ disconnect_messages_from p (n + 1) d = own-disconnect p n d h here own alive in
-    let held = ap (left_from (held_without_client p) (n + 1)) put ∙ left_from-set (held_without_client p) d.linked.held n h closed here left in
+    let held = ap (left_from (held_without_client p) (n + 1)) put ∙ left_from-set (held_without_client p) d.connections.held n h closed here left in
     subst (λ (x : TablesView). Leaves p old (n + 1) x) (sym after) (record {
-      linked = (λ j. record d.linked { held = held j }) ∙ l.linked;
+      connections = (λ j. record d.connections { held = held j }) ∙ l.connections;
       messages = ap (λ (ms : List PendingMessage). ms ++ later) sent ∙ append_assoc (messages_of d) (disconnect_message h.item ∷ []) later
           ∙ ap (λ (ms : List PendingMessage). messages_of d ++ disconnect_message h.item ∷ ms) byes ∙ ap (λ (ms : List PendingMessage). messages_of d ++ ms) (sym bye) ∙ l.messages;
-      rest = ap (λ (x : TablesView). record x { linked = with_item d.linked h.slot (record h.item { phase = Closing }); waiting = taken d.waiting place m }) l.rest;
-      size = length-set d.waiting.generations place.index place.generation ∙ l.size;
+      rest = ap (λ (x : TablesView). record x { connections = with_item d.connections h.slot (record h.item { phase = Closing }); messages = taken d.messages place m }) l.rest;
+      size = length-set d.messages.generations place.index place.generation ∙ l.size;
       sent = l.sent + 1;
       counted = omega (arith, l.counted, ap (λ (ms : List PendingMessage). length ms) byes, ap (λ (ms : List PendingMessage). length ms) bye);
       takes = omega (arith, l.takes);
       names = λ first kept so_far.
-          takes-more (length old.waiting.generations) first d (record d { linked = with_item d.linked h.slot (record h.item { phase = Closing }); waiting = taken d.waiting place m })
-          kept l.sent place m (l.names first kept so_far) l.size free (relinks-item 256 d.linked h.slot h.item (record h.item { phase = Closing }) k live refl) refl;
+          takes-more (length old.messages.generations) first d (record d { connections = with_item d.connections h.slot (record h.item { phase = Closing }); messages = taken d.messages place m })
+          kept l.sent place m (l.names first kept so_far) l.size free (relinks-item 256 d.connections h.slot h.item (record h.item { phase = Closing }) k live refl) refl;
       services = subst (λ (hs : List (Held OpenConnection)). All (IsServed old) hs) (sym tail) (served-next n old d h here l.services).1;
     })

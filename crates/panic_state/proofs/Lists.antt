@@ -1,10 +1,10 @@
 -- A list that is changed from its front on, item by item: an item is kept, changed or gone.
 use Rattle.std.proofs.Common.{ℕ, zero, suc, ◌≡◌, ◌≤◌, ◌+◌, Bool, true, false, cond, not, List, [], ◌∷◌, length, map, filter, drop, set, arith, ◌∙◌, ap, sym, refl}
-use Rattle.std.specs.Prelude.{count_by, Option, Some, None, if◌then◌else◌, option_and_then, slice_get, All}
+use Rattle.std.specs.Prelude.{count_by, Option, Some, None, if◌then◌else◌, slice_get, All}
 use Rattle.std.specs.List.{filter_map, cons_option}
 use Rattle.std.specs.Option.{option_map}
 use Rattle.std.proofs.lemmas.List.Elements.{All-nil, All-cons, All-head, All-tail}
-use Rattle.object_pools.proofs.Counts.{bit, count-cons}
+use Rattle.list_laws.proofs.Counts.{count-nth, filter-none, map-none, bit, count-cons}
 
 -- the item at a place is gone
 abbrev pub out_at : {X : Type 0} → List X → ℕ → List X
@@ -19,29 +19,6 @@ left_from f (suc n) [] = []
 left_from f (suc n) (x ∷ xs) = x ∷ left_from f n xs
 
 -- ---- one item is changed or gone
-
-count-nth : {X : Type 0} (p : X → Bool) (xs : List X) (n : ℕ) (x : X) → slice_get xs n ≡ Some x → bit (p x) ≤ count_by p xs
-count-nth p [] n x e = cc
-count-nth p (y ∷ ys) zero x e = let it : y ≡ x = cc in omega (arith, count-cons p y ys, ap (λ z. bit (p z)) it)
-count-nth p (y ∷ ys) (suc n) x e = omega (arith, count-cons p y ys, count-nth p ys n x e)
-
-map-none : {X : Type 0} (p : X → Bool) (g : X → X) (xs : List X) → count_by p xs ≡ 0 → map (λ y. if p y then g y else y) xs ≡ xs
-map-none p g [] none = refl
-map-none {X = X} p g (x ∷ xs) none =
-    let split : bit (p x) + count_by p xs ≡ 0 = sym (count-cons p x xs) ∙ none in
-    let rest : map (λ y. if p y then g y else y) xs ≡ xs = map-none p g xs (omega arith) in
-    let go : (b : Bool) → bit b + count_by p xs ≡ 0 → cond b (g x) x ∷ map (λ y. if p y then g y else y) xs ≡ x ∷ xs =
-    elim [ true ↦ λ k. absurd (omega arith) | false ↦ λ k. ap (λ (ys : List X). x ∷ ys) rest ] in
-    go (p x) split
-
-filter-none : {X : Type 0} (p : X → Bool) (xs : List X) → count_by p xs ≡ 0 → filter (λ y. not (p y)) xs ≡ xs
-filter-none p [] none = refl
-filter-none {X = X} p (x ∷ xs) none =
-    let split : bit (p x) + count_by p xs ≡ 0 = sym (count-cons p x xs) ∙ none in
-    let rest : filter (λ y. not (p y)) xs ≡ xs = filter-none p xs (omega arith) in
-    let go : (b : Bool) → bit b + count_by p xs ≡ 0 → cond (not b) (x ∷ filter (λ y. not (p y)) xs) (filter (λ y. not (p y)) xs) ≡ x ∷ xs =
-    elim [ true ↦ λ k. absurd (omega arith) | false ↦ λ k. ap (λ (ys : List X). x ∷ ys) rest ] in
-    go (p x) split
 
 -- the only item that passes is changed
 pub map-at : {X : Type 0} (p : X → Bool) (g : X → X) (xs : List X) (n : ℕ) (x : X) → slice_get xs n ≡ Some x → p x ≡ true → count_by p xs ≤ 1
@@ -132,13 +109,6 @@ map-left {X = X} {Y = Y} v f g same (x ∷ xs) =
     let go : (o : Option X) → map v (cons_option o (filter_map f xs)) ≡ cons_option (option_map v o) (filter_map g (map v xs)) =
     elim [ None ↦ map-left v f g same xs | Some y ↦ ap (λ (ys : List Y). v y ∷ ys) (map-left v f g same xs) ] in
     go (f x) ∙ ap (λ o. cons_option o (filter_map g (map v xs))) (same x)
-
-pub left-twice : {X Y Z : Type 0} (f : X → Option Y) (g : Y → Option Z) (xs : List X) → filter_map g (filter_map f xs) ≡ filter_map (λ x. option_and_then g (f x)) xs
-left-twice f g [] = refl
-left-twice {Y = Y} {Z = Z} f g (x ∷ xs) =
-    let go : (o : Option Y) → filter_map g (cons_option o (filter_map f xs)) ≡ cons_option (option_and_then g o) (filter_map (λ z. option_and_then g (f z)) xs) =
-    elim [ None ↦ left-twice f g xs | Some y ↦ ap (λ (zs : List Z). cons_option (g y) zs) (left-twice f g xs) ] in
-    go (f x)
 
 pub map-kept : {X Y : Type 0} (v : X → Y) (p : Y → Bool) (xs : List X) → map v (filter (λ x. p (v x)) xs) ≡ filter p (map v xs)
 map-kept v p [] = refl

@@ -4,6 +4,8 @@ use Rattle.std.specs.Prelude.{Option, Some, None, find, slice_get, All, sum_by, 
 use Rattle.std.specs.List.{list_all}
 use Rattle.std.specs.Option.{option_map, option_map_or, unwrap_or}
 use Rattle.std.proofs.lemmas.Option.{slice_get_within}
+use Rattle.std.proofs.lemmas.Bool.{eqb-true}
+use Rattle.list_laws.proofs.Counts.{bit}
 use Rattle.ffm_model.specs.declared.system.System.{System}
 use Rattle.ffm_model.specs.declared.system.Service.{Service}
 use Rattle.ffm_model.specs.declared.system.Budget.{Budget}
@@ -12,8 +14,6 @@ use Rattle.ffm_model.proofs.WellFormedLemmas.{is_between_actors, budgets_between
 use Rattle.ffm_model.specs.State.{SpmState, in_use}
 use Rattle.handle_table.proofs.SlotLemmas.{both}
 use Rattle.counting_law.specs.Objects.{allowed}
-use Rattle.counting_law.proofs.Counts.{bit}
-use Rattle.counting_law.proofs.Parts.{equal_from}
 use Rattle.counting_law.proofs.Pairs.{member-counts}
 
 found-service : (services : List Service) (v owner : ℕ) → option_map_or (λ (x : Service). not (x.owner == owner)) (slice_get services v) false ≡ true → v < length services
@@ -31,7 +31,7 @@ budget-service s a v (b ∷ bs) fit some =
     → 1 ≤ unwrap_or (option_map (λ (x : Budget). x.count) (cond t (Some b) (find (λ x. (x.client.0 == a) && (x.service == v)) bs))) 0 → v < length s.services =
     elim [
       | true ↦ λ e k.
-          let same : b.service ≡ v = equal_from b.service v (both (b.client.0 == a) (b.service == v) e).1 in
+          let same : b.service ≡ v = eqb-true b.service v (both (b.client.0 == a) (b.service == v) e).1 in
           omega (arith, found-service s.services b.service b.client.0 (both (nat_lt b.client.0 (length s.partitions + length s.clients)) _ parts.0).1)
       | false ↦ λ e k. budget-service s a v bs parts.1 k
     ] in

@@ -46,11 +46,11 @@ held_without_client p h = in_slot h (without_client p h.item)
 
 -- the service of one connection is gone, and its client is answered
 abbrev pub with_lost : TablesView → Held OpenConnection → TablesView
-with_lost d h = record d { linked = with_left d.linked h.slot (in_phase h.item (lost h.item.phase)); phases = client_answered h.item.phase d.phases h.item.client.0 }
+with_lost d h = record d { connections = with_left d.connections h.slot (in_phase h.item (lost h.item.phase)); phases = client_answered h.item.phase d.phases h.item.client.0 }
 
 -- the partition's services are gone
 abbrev pub without_services : System → ℕ → TablesView → TablesView
-without_services s p d = record d { linked = left_by (held_without_service s p) d.linked; phases = clients_answered s p (connections d.linked) d.phases }
+without_services s p d = record d { connections = left_by (held_without_service s p) d.connections; phases = clients_answered s p (connections d.connections) d.phases }
 
 -- the client of a lost message is answered where that is of no connection
 abbrev pub caller_answered : QueuedMessage → List ActorPhase → List ActorPhase
@@ -58,13 +58,13 @@ caller_answered m phases = if is_none m.serial then slice_set phases m.client.0 
 
 -- one message is lost
 abbrev pub with_dropped : TablesView → Held QueuedMessage → TablesView
-with_dropped d h = record d { waiting = without d.waiting h.slot; phases = caller_answered h.item d.phases }
+with_dropped d h = record d { messages = without d.messages h.slot; phases = caller_answered h.item d.phases }
 
 -- the messages to the partition's services are gone, and the clients of those that are of no connection are answered
 abbrev pub without_messages : System → ℕ → TablesView → TablesView
 without_messages s p d = record d {
-  waiting = record d.waiting { held = filter (λ h. not (is_service_of s p h.item.service)) d.waiting.held };
-  phases = callers_answered s p (map held_message d.waiting.held) d.phases;
+  messages = record d.messages { held = filter (λ h. not (is_service_of s p h.item.service)) d.messages.held };
+  phases = callers_answered s p (map held_message d.messages.held) d.phases;
 }
 
 -- the partition is Panicked and its services are gone; it is still there as a client

@@ -42,16 +42,16 @@ fn is_dead(phase: ConnPhase) -> bool
 
 // The partition's own connections, in the order of their making: a Dead one is freed; of any other a disconnection goes last, and it is Closing.
 pub(crate) fn leave_services(tables: &mut Tables, partition: ActorId)
-    requires services { All (λ h. h.item.service < length tables.old.services) tables.old.linked.held }
-    requires room { length tables.old.waiting.held + length (disconnect_messages partition.0 tables.old.linked) ≤ length tables.old.waiting.generations }
-    requires few { tables.old.waiting.takes + length (disconnect_messages partition.0 tables.old.linked) ≤ 1048575 }
-    ensures connections { tables.new.linked ≡ left_by (held_without_client partition.0) tables.old.linked }
-    ensures messages { (spm_of tables.new).messages ≡ (spm_of tables.old).messages ++ disconnect_messages partition.0 tables.old.linked }
-    ensures rest { tables.new ≡ record tables.old { linked = tables.new.linked; waiting = tables.new.waiting } }
-    ensures size { length tables.new.waiting.generations ≡ length tables.old.waiting.generations }
-    ensures takes { tables.new.waiting.takes ≡ tables.old.waiting.takes + length (disconnect_messages partition.0 tables.old.linked) }
-    ensures names { (first : TablesView) (kept : List SlotName) → TakesOn (length tables.old.waiting.generations) first kept 0 tables.old
-        → TakesOn (length tables.old.waiting.generations) first kept (length (disconnect_messages partition.0 tables.old.linked)) tables.new }
+    requires services { All (λ h. h.item.service < length tables.old.services) tables.old.connections.held }
+    requires room { length tables.old.messages.held + length (disconnect_messages partition.0 tables.old.connections) ≤ length tables.old.messages.generations }
+    requires few { tables.old.messages.takes + length (disconnect_messages partition.0 tables.old.connections) ≤ 1048575 }
+    ensures connections { tables.new.connections ≡ left_by (held_without_client partition.0) tables.old.connections }
+    ensures messages { (spm_of tables.new).messages ≡ (spm_of tables.old).messages ++ disconnect_messages partition.0 tables.old.connections }
+    ensures rest { tables.new ≡ record tables.old { connections = tables.new.connections; messages = tables.new.messages } }
+    ensures size { length tables.new.messages.generations ≡ length tables.old.messages.generations }
+    ensures takes { tables.new.messages.takes ≡ tables.old.messages.takes + length (disconnect_messages partition.0 tables.old.connections) }
+    ensures names { (first : TablesView) (kept : List SlotName) → TakesOn (length tables.old.messages.generations) first kept 0 tables.old
+        → TakesOn (length tables.old.messages.generations) first kept (length (disconnect_messages partition.0 tables.old.connections)) tables.new }
 {
     let mut place = 0;
     while place < tables.connections().live() {

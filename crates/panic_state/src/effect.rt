@@ -8,6 +8,7 @@ ghost use Rattle.counting_law.specs.Objects.{ObjectsFit};
 ghost use Rattle.message_vectors.specs.Vectors.{AreWithin};
 ghost use Rattle.spm_tables.specs.TablesView.{spm_of, shape_of, MadeFor};
 ghost use Rattle.slot_names.specs.Named.{KeepsNames};
+ghost use Rattle.slot_names.specs.Premises.{AreLeft};
 ghost use Rattle.panic_state.specs.Losses.{as_client};
 
 use crate::client::leave_services;
@@ -37,14 +38,14 @@ pub fn panic(system: &System, tables: &mut Tables, partition: ActorId)
     requires made { MadeFor tables.old system.now }
     requires partition { partition.0 < length system.now.partitions }
     requires fits { ObjectsFit system.now (with_phase (spm_of tables.old) partition.0 phase.Running) }
-    requires few { tables.old.waiting.takes + 256 ≤ 1048575 }
+    requires takes { AreLeft tables.old.messages.takes }
     ensures state { spm_of tables.new ≡ panic_effect system.now (spm_of tables.old) partition.0 }
     ensures names { KeepsNames system.now tables.old tables.new }
     ensures fits { ObjectsFit system.now (spm_of tables.new) }
     ensures within { (ranges : List (ℕ × ℕ)) → All (λ m. AreWithin ranges m.vectors) (spm_of tables.old).messages → All (λ m. AreWithin ranges m.vectors) (spm_of tables.new).messages }
     ensures shape { shape_of tables.new ≡ shape_of tables.old }
-    ensures message_takes { tables.new.waiting.takes ≤ tables.old.waiting.takes + 256 }
-    ensures connection_takes { tables.new.linked.takes ≡ tables.old.linked.takes }
+    ensures message_takes { tables.new.messages.takes ≤ tables.old.messages.takes + 256 }
+    ensures connection_takes { tables.new.connections.takes ≡ tables.old.connections.takes }
 {
     end_services(system, tables, partition);
     leave_services(tables, partition);

@@ -10,12 +10,12 @@ use spm_tables::{QueuedMessage, Tables};
 
 // The connection at a place in the order of their making.
 pub(crate) fn connection_at(tables: &Tables, place: u32) -> Held<OpenConnection>
-    requires { place < length tables.now.linked.held }
-    ensures at { slice_get tables.now.linked.held place ≡ Some result }
-    ensures item { item_at tables.now.linked result.slot ≡ Some result.item }
-    ensures live { IsSome (item_at tables.now.linked result.slot) }
-    ensures kept { IsKept 256 tables.now.linked }
-    ensures table { IsTable tables.now.linked }
+    requires { place < length tables.now.connections.held }
+    ensures at { slice_get tables.now.connections.held place ≡ Some result }
+    ensures item { item_at tables.now.connections result.slot ≡ Some result.item }
+    ensures live { IsSome (item_at tables.now.connections result.slot) }
+    ensures kept { IsKept 256 tables.now.connections }
+    ensures table { IsTable tables.now.connections }
 {
     tables.law();
     tables.connections().nth(place)
@@ -23,10 +23,10 @@ pub(crate) fn connection_at(tables: &Tables, place: u32) -> Held<OpenConnection>
 
 // The message at a place in the order of their making.
 pub(crate) fn message_at(tables: &Tables, place: u32) -> Held<QueuedMessage>
-    requires { place < length tables.now.waiting.held }
-    ensures at { slice_get tables.now.waiting.held place ≡ Some result }
-    ensures item { item_at tables.now.waiting result.slot ≡ Some result.item }
-    ensures kept { IsKept 304 tables.now.waiting }
+    requires { place < length tables.now.messages.held }
+    ensures at { slice_get tables.now.messages.held place ≡ Some result }
+    ensures item { item_at tables.now.messages result.slot ≡ Some result.item }
+    ensures kept { IsKept 304 tables.now.messages }
 {
     tables.law();
     tables.messages().nth(place)

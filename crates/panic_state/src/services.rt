@@ -49,7 +49,7 @@ fn answer_client(tables: &mut Tables, connection: &OpenConnection)
 // The service of a connection is gone: its client is answered, and it is freed where it was opening or closing, and else Dead.
 // Whether it is still there.
 fn lose(tables: &mut Tables, held: Held<OpenConnection>) -> bool
-    requires { item_at tables.old.linked held.slot ≡ Some held.item }
+    requires { item_at tables.old.connections held.slot ≡ Some held.item }
     ensures after { tables.new ≡ with_lost tables.old held }
     ensures kept { result ≡ is_some (lost held.item.phase) }
 {
@@ -91,7 +91,7 @@ fn answer_caller(tables: &mut Tables, message: &QueuedMessage)
 
 // The service of a message is gone, and so is the message.
 fn drop_message(tables: &mut Tables, held: Held<QueuedMessage>)
-    requires { item_at tables.old.waiting held.slot ≡ Some held.item }
+    requires { item_at tables.old.messages held.slot ≡ Some held.item }
     ensures { tables.new ≡ with_dropped tables.old held }
 {
     answer_caller(tables, &held.item);

@@ -4,11 +4,12 @@ use Rattle.std.specs.Prelude.{Option, if◌then◌else◌, slice_set, map, repli
 use Rattle.std.specs.Option.{option_map_or, unwrap_or}
 use Rattle.std.specs.List.{list_any}
 use Rattle.std.proofs.lemmas.List.{length-set, length-map}
+use Rattle.ffm_model.proofs.RecordLemmas.{ends_blocked-push, engine_after-push}
 use Rattle.ffm_model.specs.declared.machine.Call.{Call}
 use Rattle.ffm_model.specs.declared.machine.Call.TheVariants as call
 use Rattle.ffm_model.specs.declared.machine.Outcome.{Outcome}
 use Rattle.ffm_model.specs.declared.script.Instruction.{Instruction}
-use Rattle.ffm_model.specs.Plans.{Engine, engine_answered, engine_after, plan_of}
+use Rattle.ffm_model.specs.Plans.{engine_answered, engine_after, plan_of}
 use Rattle.ffm_model.specs.Records.{is_blocked_outcome, ends_blocked}
 use Rattle.ffm_model.specs.ScriptRuns.{Point, start, arrived, behind}
 use Rattle.ffm_model.specs.Contexts.{DeskView, Contexts, next_context, picked, picked_context, script_of, next_calls, is_stop, is_spent, contexts_call, caller, contexts_behind, context_engine, context_plan, opening_contexts}
@@ -23,19 +24,6 @@ starts-get : (scripts : List (List Instruction)) (k : ℕ) → get_or (map (λ _
 starts-get [] k = refl
 starts-get (s ∷ ss) zero = refl
 starts-get (s ∷ ss) (suc k) = starts-get ss k
-
--- ---- outcomes
-
-pub engine_after-push : {X : Type 0} (m : Engine X) (x : X) (os : List Outcome) (o : Outcome) → engine_after m x (os ++ o ∷ []) ≡ engine_answered m o (engine_after m x os)
-unfolding engine_after
-engine_after-push m x [] o = refl
-engine_after-push m x (q ∷ os) o = engine_after-push m (engine_answered m q x) os o
-
-pub ends_blocked-push : (os : List Outcome) (o : Outcome) → ends_blocked (os ++ o ∷ []) ≡ is_blocked_outcome o
-unfolding ends_blocked
-ends_blocked-push [] o = refl
-ends_blocked-push (q ∷ []) o = refl
-ends_blocked-push (q ∷ r ∷ os) o = ends_blocked-push (r ∷ os) o
 
 -- ---- each context has a point
 

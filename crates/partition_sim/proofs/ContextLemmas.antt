@@ -3,7 +3,7 @@ use Rattle.std.proofs.Common.{ℕ, zero, suc, ◌+◌, ◌<◌, ◌≡◌, ◌�
 use Rattle.std.specs.Prelude.{Option, Some, None, IfSome, if◌then◌else◌, slice_set, map, ◌||◌, ◌⊎◌}
 use Rattle.std.specs.List.{list_any}
 use Rattle.std.specs.Option.{unwrap_or}
-use Rattle.std.proofs.lemmas.Bool.{cases_eq}
+use Rattle.std.proofs.lemmas.Bool.{cases_eq, or_right}
 use Rattle.std.proofs.lemmas.Bool.Decides.{nat_tests}
 use Rattle.std.proofs.lemmas.List.{get_or-set_same, get_or-set_other}
 use Rattle.ffm_model.specs.declared.machine.Call.{Call}
@@ -80,14 +80,10 @@ caller-within (Some k) turn count h t = h
 
 -- ---- spent lines
 
-or-right : (a b : Bool) → b ≡ true → (a || b) ≡ true
-or-right true b e = refl
-or-right false b e = e
-
 any-at : (cs : List Call) (k : ℕ) (d : Call) → k < length cs → is_spent (get_or cs k d) ≡ true → list_any is_spent cs ≡ true
 any-at [] k d h e = absurd (omega arith)
 any-at (c ∷ cs) zero d h e = ap (λ (b : Bool). b || list_any is_spent cs) e
-any-at (c ∷ cs) (suc k) d h e = or-right (is_spent c) (list_any is_spent cs) (any-at cs k d (omega arith) e)
+any-at (c ∷ cs) (suc k) d h e = or_right (is_spent c) (list_any is_spent cs) (any-at cs k d (omega arith) e)
 
 any-none : (cs : List Call) (d : Call) → ((k : ℕ) → k < length cs → is_spent (get_or cs k d) ≡ false) → list_any is_spent cs ≡ false
 any-none [] d h = refl

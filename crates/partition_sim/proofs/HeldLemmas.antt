@@ -2,6 +2,7 @@
 use Rattle.std.proofs.Common.{length, get_or, ℕ, zero, suc, ◌≡◌, ◌<◌, ◌-◌, ◌+◌, Bool, true, false, List, [], ◌∷◌, ◌++◌, refl, ap, ap₂, sym, ◌∙◌, arith, subst}
 use Rattle.std.specs.Prelude.{Option, Some, None, IfSome, IfNone, slice_get, if◌then◌else◌}
 use Rattle.std.proofs.lemmas.Option.{slice_get-get_or}
+use Rattle.ffm_model.proofs.RecordLemmas.{ends_blocked-push, engine_after-push}
 use Rattle.ffm_model.specs.declared.machine.Handle.{Handle}
 use Rattle.ffm_model.specs.declared.machine.Call.{Call}
 use Rattle.ffm_model.specs.declared.machine.Call.TheVariants as call
@@ -18,7 +19,6 @@ use Rattle.mm_iovec.specs.declared.line.MmLine.TheVariants.{MapIn, UnmapIn, MapO
 use Rattle.mm_iovec.specs.declared.line.MmStep.TheVariants.{Calls, Fault}
 use Rattle.mm_iovec.specs.Lines.{can_do, engine_line, step_done, step_of, table_done, table_of}
 use Rattle.partition_sim.specs.Partitions.{PartitionStanding, FollowsHeld, AskedHeld, holding, holding_after}
-use Rattle.partition_sim.proofs.ClientLemmas.{engine_after-push, ends_blocked-push}
 
 -- ---- lines, one after another
 

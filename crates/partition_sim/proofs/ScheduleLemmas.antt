@@ -6,6 +6,7 @@ use Rattle.std.proofs.lemmas.Bool.{cases_lt}
 use Rattle.std.proofs.lemmas.List.{get_or_default, get_or_append_left}
 use Rattle.std.proofs.lemmas.Nat.{mod-mul-add}
 use Rattle.std.proofs.Math.Seq.{get_or-append_seam}
+use Rattle.spm_core.proofs.Refusals.{verdict_off}
 use Rattle.ffm_model.specs.declared.system.System.{System}
 use Rattle.ffm_model.specs.declared.machine.ActorId.{ActorId}
 use Rattle.ffm_model.specs.declared.machine.Entry.{Entry}
@@ -22,7 +23,6 @@ use Rattle.partition_sim.specs.declared.runner.Runner.{Runner}
 use Rattle.partition_sim.specs.ActorPlans.{parts_at, role_at}
 use Rattle.partition_sim.specs.Standing.{Follows}
 use Rattle.partition_sim.specs.Driving.{Driving, MadeOne, PassedOne, Turned, InOrder, Underway, IsDriven, AreNew, no_runner}
-use Rattle.partition_sim.proofs.TurnLemmas.{verdict-off}
 
 Turns-push : (s : System) (schedule : List ActorId) (st : Option State) (t : ℕ) (es : List Entry) (end u : ℕ) (e : Entry) → Turns s schedule st t es end
     → IsNext s schedule (fold (step_on s) st es) end u → e.actor.0 ≡ turn_at s schedule u → Turns s schedule st t (es ++ e ∷ []) (u + 1)
@@ -202,7 +202,7 @@ verdict-in : (o : Opening) (history : List Entry) (st : Option State) → IsSome
     → IsSome (option_and_then (λ x. verdict_at o.system o.limit (length history) x.spm) st)
 verdict-in o history None h off = h
 verdict-in o history (Some x) h off =
-    verdict-off (some_enabled o.system x.spm) (length history == o.limit) (some_blocked o.system x.spm) (none-from (enabled o.system x.spm) 0 (actor_count o.system) (λ b from below. off b (omega arith)))
+    verdict_off (some_enabled o.system x.spm) (length history == o.limit) (some_blocked o.system x.spm) (none-from (enabled o.system x.spm) 0 (actor_count o.system) (λ b from below. off b (omega arith)))
 
 -- a round without an entry ends the run
 round-over : (scripts : List (List (List Instruction))) (schedule : List ActorId) (o : Opening) (began : List Entry) (m : Managed) (rs : List Runner) (a : ℕ) → a ≡ actor_count o.system

@@ -1,9 +1,9 @@
 -- Local lines, one after another.
-use Rattle.std.proofs.Common.{length, get_or, ℕ, zero, suc, ◌≡◌, ◌<◌, ◌-◌, ◌+◌, List, [], ◌∷◌, refl, ap, ap₂, sym, ◌∙◌, arith, subst}
+use Rattle.std.proofs.Common.{length, get_or, ℕ, zero, suc, ◌≡◌, ◌<◌, ◌-◌, ◌+◌, List, refl, ap, ap₂, sym, ◌∙◌, arith}
 use Rattle.std.specs.Prelude.{Option, Some, None, slice_get}
 use Rattle.std.specs.Prelude.{IfSome, IfNone}
 use Rattle.std.proofs.lemmas.Option.{slice_get-get_or}
-use Rattle.std.specs.List.{AllByRecursion}
+use Rattle.list_laws.proofs.Lists.{AllByRecursion-at}
 use Rattle.ffm_model.specs.declared.machine.Outcome.{Outcome}
 use Rattle.ffm_model.specs.declared.script.Instruction.{Instruction}
 use Rattle.ffm_model.specs.Scripts.{FitsIn, IsPart}
@@ -40,16 +40,8 @@ pub local_step-past : (script : List Instruction) (p : Point) → slice_get scri
 unfolding local_step
 local_step-past script p e = rw e refl
 
-some-none : {A : Type 0} (x : A) → None ≡ Some x → ⊥
-some-none x e = cc
-
-pub each-at : {A : Type 0} (P : A → Type 0) (xs : List A) (i : ℕ) (x : A) → AllByRecursion P xs → slice_get xs i ≡ Some x → P x
-each-at P [] i x h e = absurd (some-none _ (e))
-each-at P (y ∷ ys) zero x h e = let same : y ≡ x = cc in subst P same h.0
-each-at P (y ∷ ys) (suc i) x h e = each-at P ys i x h.1 e
-
 pub fits-at : (script : List Instruction) (i : ℕ) (d : Instruction) → IsPart script → i < length script → (count : ℕ) × FitsIn count (get_or script i d)
-fits-at script i d h inside = (length script, each-at (FitsIn (length script)) script i (get_or script i d) h (slice_get-get_or script i d inside))
+fits-at script i d h inside = (length script, AllByRecursion-at (FitsIn (length script)) script i (get_or script i d) h (slice_get-get_or script i d inside))
 
 pub local_step-within : (script : List Instruction) (p : Point) (d : Instruction) → p.place < length script → local_step script p ≡ line_effect p (get_or script p.place d)
 local_step-within script p d inside = local_step-at script p _ (slice_get-get_or script p.place d inside)

@@ -1,22 +1,21 @@
 -- One turn.
-use Rattle.std.proofs.Common.{ℕ, ◌≡◌, ◌≢◌, ◌<◌, ◌≤◌, Bool, true, false, not, List, [], ◌∷◌, ◌++◌, length, refl, ap, sym, ◌∙◌, arith, subst, get_or, get_or-set_same, get_or-set_other, length-set, inl, inr, eq-eqb, ne_eqb, append-nil, true≢false}
-use Rattle.std.specs.Prelude.{Option, Some, None, option_and_then, slice_set, nat_le, if◌then◌else◌, ◌==◌, IsSome, ◌⊎◌}
+use Rattle.std.proofs.Common.{ℕ, ◌≡◌, ◌≢◌, ◌<◌, ◌≤◌, true, false, List, [], ◌∷◌, ◌++◌, length, refl, ap, sym, ◌∙◌, arith, subst, get_or, get_or-set_same, get_or-set_other, length-set, inl, inr, true≢false}
+use Rattle.std.specs.Prelude.{Option, Some, None, option_and_then, slice_set, nat_le, IsSome, ◌⊎◌}
 use Rattle.std.proofs.lemmas.Bool.Decides.{eqb_tells}
-use Rattle.std.proofs.lemmas.List.Elements.{filter-append}
-use Rattle.std.proofs.lemmas.List.{map-append, get_or_read, get_or_default}
+use Rattle.std.proofs.lemmas.List.{get_or_read, get_or_default}
+use Rattle.spm_core.proofs.Refusals.{by_tests, full_has_verdict, gone_is, gone_off, none_is, not_yet_is, over_has_verdict}
+use Rattle.ffm_model.proofs.RecordLemmas.{entries_of-apart, entries_of-same, outcomes_of-push}
 use Rattle.ffm_model.specs.declared.system.System.{System}
 use Rattle.ffm_model.specs.declared.machine.Entry.{Entry}
 use Rattle.ffm_model.specs.declared.machine.Call.{Call}
 use Rattle.ffm_model.specs.declared.machine.Outcome.{Outcome}
-use Rattle.ffm_model.specs.declared.machine.Answer.{Answer}
 use Rattle.ffm_model.specs.declared.machine.Answer.TheVariants as answer
-use Rattle.ffm_model.specs.declared.objects.ActorPhase.{ActorPhase}
 use Rattle.ffm_model.specs.declared.objects.ActorPhase.TheVariants as phase
-use Rattle.ffm_model.specs.declared.machine.Verdict.TheVariants.{Quiet, Stalled, Full}
+use Rattle.ffm_model.specs.declared.machine.Verdict.TheVariants.{Full}
 use Rattle.ffm_model.specs.Actors.{actor_count}
 use Rattle.ffm_model.specs.State.{State, phase_of}
-use Rattle.ffm_model.specs.Signals.{enabled, can_go_on, signals_of}
-use Rattle.ffm_model.specs.Verdicts.{some_enabled, some_blocked, verdict_at}
+use Rattle.ffm_model.specs.Signals.{enabled, signals_of}
+use Rattle.ffm_model.specs.Verdicts.{some_enabled}
 use Rattle.ffm_model.specs.Records.{entries_of, outcomes_of}
 use Rattle.ffm_model.specs.Schedule.{enabled_in}
 use Rattle.ffm_model.specs.declared.script.Instruction.{Instruction}
@@ -33,16 +32,6 @@ use Rattle.partition_sim.specs.Driving.{Driving, MadeOne, PassedOne, IsOver, run
 use Rattle.partition_sim.proofs.ClientLemmas as client
 use Rattle.partition_sim.proofs.HeldLemmas as held
 use Rattle.partition_sim.proofs.PlanLemmas.{RunFrom-push, HeldResumes, ContextsResume, plan-resume}
-
-entries-own : (a : ℕ) (es : List Entry) (e : Entry) → e.actor.0 ≡ a → entries_of a (es ++ e ∷ []) ≡ entries_of a es ++ e ∷ []
-entries-own a es e h = filter-append (λ x. x.actor.0 == a) es (e ∷ []) ∙ ap (λ b. entries_of a es ++ (if b then e ∷ [] else [])) (eq-eqb _ _ h)
-
-entries-other : (a : ℕ) (es : List Entry) (e : Entry) → e.actor.0 ≢ a → entries_of a (es ++ e ∷ []) ≡ entries_of a es
-entries-other a es e h =
-    filter-append (λ x. x.actor.0 == a) es (e ∷ []) ∙ ap (λ b. entries_of a es ++ (if b then e ∷ [] else [])) (ne_eqb _ _ h) ∙ append-nil (entries_of a es)
-
-pub outcomes-push : (es : List Entry) (e : Entry) → outcomes_of (es ++ e ∷ []) ≡ outcomes_of es ++ e.outcome ∷ []
-outcomes-push es e = map-append (λ (x : Entry). x.outcome) es (e ∷ [])
 
 same_or_not : (x y : ℕ) → (x ≡ y) ⊎ (x ≢ y)
 same_or_not x y = elim (eqb_tells x y) [ inl p ↦ inl p.1 | inr p ↦ inr p.1 ]
@@ -96,13 +85,13 @@ driving-asked scripts o history runners a r below d asked =
 follows-made : (role : Role) (parts : List (List Instruction)) (es : List Entry) (e : Entry) (b : ℕ) (x : Runner) → (e.actor.0 ≡ b) ⊎ (e.actor.0 ≢ b)
     → (e.actor.0 ≢ b → Follows role parts (outcomes_of (entries_of b es)) x) → (e.actor.0 ≡ b → Follows role parts (outcomes_of (entries_of b es) ++ e.outcome ∷ []) x)
     → Follows role parts (outcomes_of (entries_of b (es ++ e ∷ []))) x
-follows-made role parts es e b x (inl h) other own = rw (entries-own b es e h, outcomes-push (entries_of b es) e) (own h)
-follows-made role parts es e b x (inr n) other own = rw (entries-other b es e n) (other n)
+follows-made role parts es e b x (inl h) other own = rw (entries_of-same b es e h, outcomes_of-push (entries_of b es) e) (own h)
+follows-made role parts es e b x (inr n) other own = rw (entries_of-apart b es e n) (other n)
 
 runs-made : (plan : Plan) (es : List Entry) (e : Entry) (b : ℕ) → (e.actor.0 ≡ b) ⊎ (e.actor.0 ≢ b) → PlanRun plan (entries_of b es)
     → (e.actor.0 ≡ b → e.call ≡ plan (outcomes_of (entries_of b es))) → PlanRun plan (entries_of b (es ++ e ∷ []))
-runs-made plan es e b (inl h) run own = rw (entries-own b es e h) (RunFrom-push plan [] (entries_of b es) e run (own h))
-runs-made plan es e b (inr n) run own = rw (entries-other b es e n) run
+runs-made plan es e b (inl h) run own = rw (entries_of-same b es e h) (RunFrom-push plan [] (entries_of b es) e run (own h))
+runs-made plan es e b (inr n) run own = rw (entries_of-apart b es e n) run
 
 -- an entry more
 driving-made : (scripts : List (List (List Instruction))) (o : Opening) (history : List Entry) (runners : List Runner) (a : ℕ) (r : Runner) (e : Entry) → a < actor_count o.system
@@ -131,97 +120,16 @@ driving-made scripts o history runners a r e below d actor call follows =
 
 -- ---- what an answer says of the turn
 
-phase-gone : (p : ActorPhase) (word : ℕ) → is_gone p ≡ true → can_go_on p word ≡ false
-phase-gone phase.Running word h = cc
-phase-gone phase.Blocked word h = refl
-phase-gone (phase.Waiting mask) word h = cc
-phase-gone (phase.Ready o) word h = cc
-phase-gone (phase.Connected n) word h = cc
-phase-gone phase.Ended word h = refl
-phase-gone phase.Panicked word h = refl
-
--- the refusal by the four tests
-by_tests : Bool → Bool → Bool → Bool → Option Answer
-by_tests gone some full on =
-    if gone then Some answer.Gone else (if not some then Some answer.Over else (if full then Some answer.Full else (if on then None else Some answer.NotYet)))
-
-gone_is : (gone some full on : Bool) → by_tests gone some full on ≡ Some answer.Gone → gone ≡ true
-unfolding by_tests
-gone_is true some full on h = refl
-gone_is false false full on h = cc
-gone_is false true true on h = cc
-gone_is false true false true h = cc
-gone_is false true false false h = cc
-
-not_yet_is : (gone some full on : Bool) → by_tests gone some full on ≡ Some answer.NotYet → on ≡ false
-unfolding by_tests
-not_yet_is true some full on h = cc
-not_yet_is false false full on h = cc
-not_yet_is false true true on h = cc
-not_yet_is false true false true h = cc
-not_yet_is false true false false h = refl
-
-over_is : (gone some full on : Bool) → by_tests gone some full on ≡ Some answer.Over → some ≡ false
-unfolding by_tests
-over_is true some full on h = cc
-over_is false false full on h = refl
-over_is false true true on h = cc
-over_is false true false true h = cc
-over_is false true false false h = cc
-
-full_is : (gone some full on : Bool) → by_tests gone some full on ≡ Some answer.Full → full ≡ true
-unfolding by_tests
-full_is true some full on h = cc
-full_is false false full on h = cc
-full_is false true true on h = refl
-full_is false true false true h = cc
-full_is false true false false h = cc
-
-none_is : (gone some full on : Bool) → by_tests gone some full on ≡ None → (on ≡ true) × (full ≡ false)
-unfolding by_tests
-none_is true some full on h = cc
-none_is false false full on h = cc
-none_is false true true on h = cc
-none_is false true false true h = (refl, refl)
-none_is false true false false h = cc
-
-pub verdict-off : (some full blocked : Bool) → some ≡ false → IsSome (if some then (if full then Some Full else None) else (if blocked then Some Stalled else Some Quiet))
-verdict-off true full blocked h = absurd (true≢false h)
-verdict-off false full true h = refl
-verdict-off false full false h = refl
-
-verdict-full : (some full blocked : Bool) → full ≡ true → IsSome (if some then (if full then Some Full else None) else (if blocked then Some Stalled else Some Quiet))
-verdict-full true true blocked h = refl
-verdict-full true false blocked h = absurd (true≢false (sym h))
-verdict-full false full true h = refl
-verdict-full false full false h = refl
-
 off-gone : (s : System) (limit count a : ℕ) (st : Option State) → option_and_then (λ x. refusal_at s limit count x.spm a) st ≡ Some answer.Gone → enabled_in s st a ≡ false
 unfolding by_tests
 off-gone s limit count a None h = refl
 off-gone s limit count a (Some x) h =
-    phase-gone (phase_of x.spm a) (signals_of s x.spm a) (gone_is (is_gone (phase_of x.spm a)) (some_enabled s x.spm) (nat_le limit count) (enabled s x.spm a) h)
+    gone_off (phase_of x.spm a) (signals_of s x.spm a) (gone_is (is_gone (phase_of x.spm a)) (some_enabled s x.spm) (nat_le limit count) (enabled s x.spm a) h)
 
 off-not_yet : (s : System) (limit count a : ℕ) (st : Option State) → option_and_then (λ x. refusal_at s limit count x.spm a) st ≡ Some answer.NotYet → enabled_in s st a ≡ false
 unfolding by_tests
 off-not_yet s limit count a None h = refl
 off-not_yet s limit count a (Some x) h = not_yet_is (is_gone (phase_of x.spm a)) (some_enabled s x.spm) (nat_le limit count) (enabled s x.spm a) h
-
-is-over : (s : System) (limit count a : ℕ) (st : Option State) → option_and_then (λ x. refusal_at s limit count x.spm a) st ≡ Some answer.Over
-    → IsSome (option_and_then (λ x. verdict_at s limit count x.spm) st)
-unfolding by_tests
-is-over s limit count a None h = cc
-is-over s limit count a (Some x) h =
-    verdict-off (some_enabled s x.spm) (count == limit) (some_blocked s x.spm) (over_is (is_gone (phase_of x.spm a)) (some_enabled s x.spm) (nat_le limit count) (enabled s x.spm a) h)
-
-is-full : (s : System) (limit count a : ℕ) (st : Option State) → count ≤ limit → option_and_then (λ x. refusal_at s limit count x.spm a) st ≡ Some answer.Full
-    → IsSome (option_and_then (λ x. verdict_at s limit count x.spm) st)
-unfolding by_tests
-is-full s limit count a None short h = cc
-is-full s limit count a (Some x) short h =
-    let past : nat_le limit count ≡ true = full_is (is_gone (phase_of x.spm a)) (some_enabled s x.spm) (nat_le limit count) (enabled s x.spm a) h in
-    let full : (count == limit) ≡ true = grind arith in
-    verdict-full (some_enabled s x.spm) (count == limit) (some_blocked s x.spm) full
 
 on-made : (s : System) (limit count a : ℕ) (st : Option State) (f : State → Option State) → option_and_then (λ x. refusal_at s limit count x.spm a) st ≡ None
     → IsSome (option_and_then f st) → (enabled_in s st a ≡ true) × (nat_le limit count ≡ false)
@@ -236,10 +144,10 @@ pub passed-not_yet : (o : Opening) (old new : List Entry) (a : ℕ) → IsRefuse
 passed-not_yet o old new a r = record { off = off-not_yet o.system o.limit (length old) a (state_after o old) r.due; unchanged = r.unchanged }
 
 pub over-over : (o : Opening) (old new : List Entry) (a : ℕ) → IsRefused o old a answer.Over new → IsOver o old new
-over-over o old new a r = record { verdict = is-over o.system o.limit (length old) a (state_after o old) r.due; unchanged = r.unchanged }
+over-over o old new a r = record { verdict = over_has_verdict o.system o.limit (length old) a (state_after o old) r.due; unchanged = r.unchanged }
 
 pub over-full : (o : Opening) (old new : List Entry) (a : ℕ) → length old ≤ o.limit → IsRefused o old a answer.Full new → IsOver o old new
-over-full o old new a short r = record { verdict = is-full o.system o.limit (length old) a (state_after o old) short r.due; unchanged = r.unchanged }
+over-full o old new a short r = record { verdict = full_has_verdict o.system o.limit (length old) a (state_after o old) short r.due; unchanged = r.unchanged }
 
 pub made-one : (o : Opening) (old new : List Entry) (a : ℕ) (c : Call) (place : ℕ) (e : Entry) → IsMade o old a c place e new → MadeOne o old a new e
 made-one o old new a c place e m =

@@ -1,6 +1,7 @@
 -- Tries of workers.
 use Rattle.std.proofs.Common.{ℕ, ◌+◌, ◌-◌, ◌^◌, ◌≡◌, true, List, [], ◌∷◌, ◌++◌, length, ap, sym, ◌∙◌, arith, length-append}
 use Rattle.std.specs.Prelude.{min}
+use Rattle.ffm_model.proofs.RecordLemmas.{outcomes_of-push}
 use Rattle.ffm_model.specs.declared.machine.Call.{Call}
 use Rattle.ffm_model.specs.declared.machine.Entry.{Entry}
 use Rattle.ffm_model.specs.declared.machine.Outcome.{Outcome}
@@ -14,7 +15,7 @@ use Rattle.partition_sim.specs.ActorPlans.{Role, plan_of_role}
 use Rattle.partition_sim.specs.Standing.{Follows, Asked, role_of}
 use Rattle.partition_sim.specs.Workers.{IsGood}
 use Rattle.partition_sim.proofs.PlanLemmas.{RunFrom-push, HeldResumes, ContextsResume, plan-resume}
-use Rattle.partition_sim.proofs.TurnLemmas.{outcomes-push, role-is}
+use Rattle.partition_sim.proofs.TurnLemmas.{role-is}
 
 -- the plan's call is a return exactly behind Blocked
 pub plan-due : HeldResumes → ContextsResume → (role : Role) (parts : List (List Instruction)) (es : List Entry) (c : Call) → c ≡ plan_of_role role parts (outcomes_of es)
@@ -57,7 +58,7 @@ module _ {S P : Type 0} (own : S → P → Type 0) (record_of : P → List Entry
       record {
         own_is = mine;
         runs = rw (kept, script, adds.added) (RunFrom-push (plan_of_role role old.script) [] (record_of old.pass) e good.runs called);
-        follows = rw (kept, script, adds.added, outcomes-push (record_of old.pass) e) behind;
+        follows = rw (kept, script, adds.added, outcomes_of-push (record_of old.pass) e) behind;
         ends = λ ended. adds.stopped (sym done ∙ ended);
         numbered =
             let n = good.numbered in

@@ -94,7 +94,8 @@ fn new_runners(alloc: Global, system: &System, scripts: &[Script]) -> Result<Vec
     for a in 0..system.actor_count() {
         let script = &scripts[a as usize];
         let contexts = script.parts.len() as u32;
-        runners.push(Runner::new(system, ActorId(a), contexts))?;
+        let runner = Runner::new(alloc, system, ActorId(a), contexts)?;
+        runners.push(runner)?;
     }
     Ok(runners)
 }

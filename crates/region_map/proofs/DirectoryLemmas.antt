@@ -1,21 +1,16 @@
 -- The first place of each name.
 use Rattle.std.proofs.Common.{ℕ, zero, suc, ◌≡◌, ◌<◌, ◌≤◌, ◌+◌, not, List, [], ◌∷◌, ◌++◌, length, take, get_or, arith, Bor, ◌∙◌, ap, sym, refl, Bool, true, false, cond, Option, Some, None}
 use Rattle.std.specs.Prelude.{find, is_some, IsSome, IfSome}
-use Rattle.std.specs.Option.{option_copied}
+use Rattle.std.specs.Option.{option_copied, unwrap_or}
 use Rattle.std.proofs.lemmas.Option.{slice_get-get_or}
 use Rattle.std.specs.List.{position, position_or_len, slice_get}
 use Rattle.std.proofs.lemmas.Bool.Decides.{nat_tests}
 use Rattle.std.specs.Str.{bytes_eq}
-use Rattle.std.specs.Ordering.{nat_cmp}
-use Rattle.std.specs.Cmp.Lexicographic.{slice_cmp}
-use Rattle.std.specs.BTreeMap.{BTreeMap, UpdatesBy, get_by}
-use Rattle.std.proofs.lemmas.Map.Text.{btree_map_updates_str}
 use Rattle.std.proofs.lemmas.Slice.Eq.{bytes_eq-Decides}
 use Rattle.std.proofs.lemmas.List.{length_push, length-take-le, take_more}
 use Rattle.std.proofs.lemmas.List.Folds.{find_at, position_or_len_push}
 use Rattle.std.proofs.lemmas.List.Sums.{prefix_len-le-length}
 use Rattle.ffm_model.specs.PartsItems.{RegionRecord}
-use Rattle.region_map.specs.Directories.{TellsFirst}
 
 -- the element at the first place
 pub position_found : {A : Type 0} (p : A → Bool) (xs : List A) (i : ℕ) → position p xs ≡ Some i → slice_get xs i ≡ find p xs
@@ -58,34 +53,21 @@ position_same p xs x None had old = by_test (p x) old ∙ sym (position_new p xs
   by_test true f = let h : false ≡ true = f refl in cc
   by_test false f = refl
 
-same_text : (xs ys : List ℕ) → bytes_eq xs ys ≡ true → xs ≡ ys
+pub same_text : (xs ys : List ℕ) → bytes_eq xs ys ≡ true → xs ≡ ys
 same_text xs ys h = (bytes_eq-Decides xs ys).0 h
 
-none_of : {A : Type 0} (o : Option A) → is_some o ≡ false → o ≡ None
-none_of None e = refl
-none_of (Some x) e = cc
-
--- a new name is entered with its place
-pub new_name : (regions : List RegionRecord) (i : ℕ) (x : RegionRecord) (text : List ℕ) (m n : BTreeMap (Bor (List ℕ)) ℕ) → i < length regions → x ≡ get_or regions i x → text ≡ x.name
-    → TellsFirst m (take i regions)
-    → UpdatesBy (λ x y. slice_cmp nat_cmp x.now y.now) (λ q. slice_cmp nat_cmp text q.now) m n (Some i)
-    → is_some (get_by (λ q. slice_cmp nat_cmp text q.now) m) ≡ false
-    → TellsFirst n (take (i + 1) regions)
-new_name regions i x text m n below here is tells updates new name =
+-- one region more: its name keeps the place that it has, and a new name gets this one
+pub position_next : (regions : List RegionRecord) (i : ℕ) (x : RegionRecord) (text name : List ℕ) (had now : Option ℕ) → i < length regions → x ≡ get_or regions i x → text ≡ x.name
+    → had ≡ position (λ r. bytes_eq r.name name) (take i regions) → now ≡ cond (bytes_eq text name) (Some (unwrap_or had i)) had → now ≡ position (λ r. bytes_eq r.name name) (take (i + 1) regions)
+position_next regions i x text name None now below here is tells look =
     let more : take (i + 1) regions ≡ take i regions ++ x ∷ [] = take_more regions i x below ∙ ap (λ y. take i regions ++ y ∷ []) (sym here) in
     let many : length (take i regions) ≡ i = length-take-le i regions (omega arith) in
-    position_more (λ r. bytes_eq r.name name) (take i regions) x (get_by (λ q. slice_cmp nat_cmp name q.now) m) _ (tells name)
-    (btree_map_updates_str text m n (Some i) updates name ∙ ap (λ t. cond (bytes_eq t name) (Some i) (get_by (λ q. slice_cmp nat_cmp name q.now) m)) is ∙ ap (λ k. cond (bytes_eq x.name name) (Some k) (get_by (λ q. slice_cmp nat_cmp name q.now) m)) (sym many))
-    (λ same. ap (λ t. get_by (λ q. slice_cmp nat_cmp t q.now) m) (sym (is ∙ same_text x.name name same)) ∙ none_of _ new)
+    position_more (λ r. bytes_eq r.name name) (take i regions) x None now tells
+    (look ∙ ap (λ t. cond (bytes_eq t name) (Some i) None) is ∙ ap (λ k. cond (bytes_eq x.name name) (Some k) None) (sym many)) (λ same. refl)
     ∙ ap (position (λ r. bytes_eq r.name name)) (sym more)
-
--- a name that is known stays where it is
-pub old_name : (regions : List RegionRecord) (i : ℕ) (x : RegionRecord) (text : List ℕ) (m : BTreeMap (Bor (List ℕ)) ℕ) → i < length regions → x ≡ get_or regions i x → text ≡ x.name
-    → TellsFirst m (take i regions)
-    → is_some (get_by (λ q. slice_cmp nat_cmp text q.now) m) ≡ true
-    → TellsFirst m (take (i + 1) regions)
-old_name regions i x text m below here is tells old name =
+position_next regions i x text name (Some v) now below here is tells look =
     let more : take (i + 1) regions ≡ take i regions ++ x ∷ [] = take_more regions i x below ∙ ap (λ y. take i regions ++ y ∷ []) (sym here) in
-    position_same (λ r. bytes_eq r.name name) (take i regions) x (get_by (λ q. slice_cmp nat_cmp name q.now) m) (tells name)
-    (λ same. ap (λ t. is_some (get_by (λ q. slice_cmp nat_cmp t q.now) m)) (sym (is ∙ same_text x.name name same)) ∙ old)
-    ∙ ap (position (λ r. bytes_eq r.name name)) (sym more)
+    look ∙ either (bytes_eq text name) ∙ position_same (λ r. bytes_eq r.name name) (take i regions) x (Some v) tells (λ same. refl) ∙ ap (position (λ r. bytes_eq r.name name)) (sym more) where
+      either : (b : Bool) → cond b (Some v) (Some v) ≡ Some v
+      either true = refl
+      either false = refl

@@ -7,6 +7,8 @@ use Rattle.std.specs.Map.{lookup}
 use Rattle.std.specs.BTreeMap.{BTreeMap, get, is_at, Updates}
 use Rattle.std.proofs.lemmas.Bool.Decides.{nat_tests}
 use Rattle.std.proofs.lemmas.List.Folds.{list_any-append}
+use Rattle.std.proofs.lemmas.Bool.{eq-eqb}
+use Rattle.list_laws.proofs.Tests.{list_any-more}
 use Rattle.ffm_model.specs.declared.system.Region.{Region}
 use Rattle.ffm_model.specs.WellFormed.{apart}
 use Rattle.region_map.specs.Overlaps.{IsDisjoint, MeetsSome, MeetsNone}
@@ -38,17 +40,12 @@ holds_none m empty = record {
   from = λ base size there. absurd (none_there m empty base size there);
 }
 
--- a test that passes where another does
-any_weaker : {A : Type 0} (p q : A → Bool) → ((x : A) → p x ≡ true → q x ≡ true) → (xs : List A) → list_any p xs ≡ true → list_any q xs ≡ true
-any_weaker p q weaker [] h = h
-any_weaker p q weaker (x ∷ xs) h = grind (arith, weaker x, any_weaker p q weaker xs)
-
 meets_here : (base size : ℕ) (x r : Region) → 0 < size → 0 < x.size → base < x.base + x.size → x.base < base + size → has_range base size r ≡ true → not (apart r x) ≡ true
 meets_here base size x r filled some before behind same = grind (arith, nat_tests)
 
 pub meets_some : (m : BTreeMap ℕ ℕ) (rs : List Region) (x : Region) → Holds m rs → 0 < x.size → MeetsSome m x → list_any (λ r. not (apart r x)) rs ≡ true
 meets_some m rs x holds some (base, size, there, before, behind) =
-    any_weaker (has_range base size) (λ r. not (apart r x)) (λ r. meets_here base size x r (holds.disjoint.filled base size there) some before behind) rs (holds.from base size there)
+    list_any-more (has_range base size) (λ r. not (apart r x)) (λ r. meets_here base size x r (holds.disjoint.filled base size there) some before behind) rs (holds.from base size there)
 
 apart_here : (r x : Region) → (r.base + r.size ≤ x.base) ⊎ (x.base + x.size ≤ r.base) → not (apart r x) ≡ false
 apart_here r x (inl h) = grind (arith, nat_tests)
@@ -68,9 +65,6 @@ is_new : (m : BTreeMap ℕ ℕ) (x : Region) (base size : ℕ) → IsDisjoint m 
 is_new m x base size disjoint some none there =
     ⊎_elim (λ (h : base + size ≤ x.base). let f = disjoint.filled base size there in grind (arith, nat_tests)) (λ (h : x.base + x.size ≤ base). grind (arith, nat_tests)) (none base size there)
 
-same_number : (a : ℕ) → (a == a) ≡ true
-same_number a = grind (arith, nat_tests)
-
 is_at_number : (a b : ℕ) → is_at (nat_cmp a) b ≡ (a == b)
 is_at_number a b = grind (arith, nat_tests)
 
@@ -79,7 +73,7 @@ new_get : (m n : BTreeMap ℕ ℕ) (x : Region) → Updates nat_cmp m n x.base (
 new_get m n x updates q = updates.0 q ∙ ap (λ b. cond b (Some x.size) (get nat_cmp m q)) (is_at_number x.base q)
 
 all_there : (m n : BTreeMap ℕ ℕ) (rs : List Region) (x : Region) → IsDisjoint m → 0 < x.size → MeetsNone m x → Updates nat_cmp m n x.base (Some x.size) → AllThere m rs → AllThere n (rs ++ x ∷ [])
-all_there m n [] x disjoint some none updates there = (new_get m n x updates x.base ∙ ap (λ b. cond b (Some x.size) (get nat_cmp m x.base)) (same_number x.base), tt)
+all_there m n [] x disjoint some none updates there = (new_get m n x updates x.base ∙ ap (λ b. cond b (Some x.size) (get nat_cmp m x.base)) (eq-eqb x.base x.base refl), tt)
 all_there m n (r ∷ rs) x disjoint some none updates there = (
   new_get m n x updates r.base ∙ ap (λ b. cond b (Some x.size) (get nat_cmp m r.base)) (is_new m x r.base r.size disjoint some none there.0) ∙ there.0,
   all_there m n rs x disjoint some none updates there.1,

@@ -6,4 +6,3 @@ pub mod OverlapSteps
 pub mod SizeLemmas
 pub mod FitLemmas
 pub mod LayLemmas
-pub mod Pushed

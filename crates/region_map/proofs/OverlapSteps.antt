@@ -6,6 +6,7 @@ use Rattle.std.specs.BTreeMap.{BTreeMap}
 use Rattle.std.proofs.Math.Bool.{or-false}
 use Rattle.std.proofs.lemmas.List.{map_more, drop_more}
 use Rattle.std.proofs.lemmas.List.Folds.{list_any-append}
+use Rattle.std.proofs.lemmas.Bool.{or_from}
 use Rattle.ffm_model.specs.declared.constants.TheConstants.{RAM_BASE}
 use Rattle.ffm_model.specs.declared.system.Region.{Region}
 use Rattle.ffm_model.specs.PartsItems.{PartsRecord}
@@ -42,10 +43,6 @@ either true b h = refl
 either false b (inl h) = cc
 either false b (inr h) = h
 
-neither : (a b : Bool) → a ≡ false → b ≡ false → (a || b) ≡ false
-neither true b h k = cc
-neither false b h k = k
-
 pub meets_front : (p : PartsRecord) (ram non_secure : ℕ) (m : BTreeMap ℕ ℕ) (rs : List Region) (x : Region) → Holds m rs → 0 < x.size
     → ram ≡ sum_by ram_needed p.manifests → non_secure ≡ rounded p.non_secure_ram
     → (meets_ram ram non_secure x ≡ true) ⊎ MeetsSome m x → meets_one x (front p ++ rs) ≡ true
@@ -57,7 +54,7 @@ pub misses_front : (p : PartsRecord) (ram non_secure : ℕ) (m : BTreeMap ℕ �
     → ram ≡ sum_by ram_needed p.manifests → non_secure ≡ rounded p.non_secure_ram
     → meets_ram ram non_secure x ≡ false → MeetsNone m x → meets_one x (front p ++ rs) ≡ false
 misses_front p ram non_secure m rs x holds some is others miss none =
-    both p rs x ∙ neither (meets_one x (front p)) (meets_one x rs) (front_meets p ram non_secure x some is others ∙ miss) (meets_none m rs x holds none)
+    both p rs x ∙ or_from (meets_one x (front p)) (meets_one x rs) (front_meets p ram non_secure x some is others ∙ miss) (meets_none m rs x holds none)
 
 -- ---- the search
 

@@ -1,19 +1,19 @@
 -- The first that is too large.
-use Rattle.std.proofs.Common.{ℕ, ◌≡◌, ◌<◌, ◌≤◌, ◌+◌, List, [], ◌∷◌, ◌++◌, map, filter, arith, ◌∙◌, ap, sym, refl, Bool, true, false, cond, Option, Some, None, option_map}
+use Rattle.std.proofs.Common.{ℕ, ◌≡◌, ◌≤◌, ◌+◌, List, [], ◌∷◌, ◌++◌, map, filter, arith, ◌∙◌, ap, sym, refl, Bool, true, false, cond, Option, Some, None, option_map}
 use Rattle.std.specs.Prelude.{nat_le, nat_lt, find, sum_by, IfSome, is_some}
 use Rattle.std.specs.List.{filter_map, cons_option, position_from}
 use Rattle.std.specs.Option.{option_or, option_map_or}
-use Rattle.std.proofs.lemmas.Bool.Decides.{nat_tests}
 use Rattle.std.proofs.lemmas.List.Elements.{filter_map-append}
 use Rattle.std.proofs.lemmas.List.Folds.{find-append}
 use Rattle.std.proofs.lemmas.List.Sums.{sum_by-cons, sum_by-append}
+use Rattle.std.proofs.lemmas.Bool.{le-leb, lt-leb}
 use Rattle.ffm_model.specs.declared.constants.TheConstants.{MAX_IMAGE_BYTES, RAM_BASE}
 use Rattle.ffm_model.specs.declared.system.Region.{Region}
 use Rattle.ffm_model.specs.declared.system.Class.TheVariants.{Ram, Mmio}
 use Rattle.ffm_model.specs.ManifestItems.{ManifestRecord, MmioRecord}
 use Rattle.ffm_model.specs.PartsItems.{PartsRecord, RegionRecord}
 use Rattle.ffm_model.specs.Repeats.{first, only_if}
-use Rattle.ffm_model.specs.Layout.{Located, domain_at, located_in, located_from, range_named, mmio_placed, mmio_of, rams_from, rams_of, non_secure_of, regions_of, ram_needed, rounded, is_large, is_large_item, large_from, too_large, TooLarge, partition_ram, mmio_item, non_secure_ram, all_regions}
+use Rattle.ffm_model.specs.Layout.{Located, domain_at, located_in, located_from, range_named, mmio_placed, mmio_of, rams_from, rams_of, non_secure_of, regions_laid_out, ram_needed, rounded, is_large, is_large_item, large_from, too_large, TooLarge, partition_ram, mmio_item, non_secure_ram, all_regions}
 use Rattle.manifest_items.specs.Seen.{spot}
 use Rattle.region_map.specs.declared.place.Placed.{Placed}
 use Rattle.region_map.specs.declared.error.LayoutError.{LayoutError}
@@ -108,21 +108,15 @@ ram_from k (m ∷ ms) =
 
 -- ---- the first of all manifests
 
-le_true : (a b : ℕ) → a ≤ b → nat_le a b ≡ true
-le_true a b h = grind (arith, nat_tests)
-
-le_false : (a b : ℕ) → b < a → nat_le a b ≡ false
-le_false a b h = grind (arith, nat_tests)
-
 choose : (k a : ℕ) (e : ℕ × ℕ) (b : Bool) → nat_le a e.0 ≡ b → Some (cond b (partition_ram a) (item_at e)) ≡ earlier_of (Some a) (Some e)
 choose k a e b h = ap (λ t. Some (cond t (partition_ram a) (item_at e))) (sym h)
 
 combine : (b : Bool) (k : ℕ) (here later : Option (ℕ × ℕ)) (ram : Option ℕ) → IfSome here (λ e. e.0 ≡ k) → IfSome later (λ e. k + 1 ≤ e.0) → IfSome ram (λ a. k + 1 ≤ a)
     → option_or (cond b (Some (partition_ram k)) None) (option_or (option_map item_at here) (earlier_of ram later)) ≡ earlier_of (cond b (Some k) ram) (option_or here later)
-combine true k (Some e) later ram p q s = choose k k e true (le_true k e.0 (omega arith))
-combine true k None (Some e) ram p q s = choose k k e true (le_true k e.0 (omega arith))
+combine true k (Some e) later ram p q s = choose k k e true (le-leb k e.0 (omega arith))
+combine true k None (Some e) ram p q s = choose k k e true (le-leb k e.0 (omega arith))
 combine true k None None ram p q s = refl
-combine false k (Some e) later (Some a) p q s = choose k a e false (le_false a e.0 (omega arith))
+combine false k (Some e) later (Some a) p q s = choose k a e false (lt-leb a e.0 (omega arith))
 combine false k (Some e) later None p q s = refl
 combine false k None later ram p q s = refl
 
@@ -160,14 +154,14 @@ sum_placed (x ∷ xs) =
     ∙ sym (sum_by-cons (λ (y : Placed). y.region.size) x xs)
 
 pub sum_regions : (p : PartsRecord) (xs : List Placed) → map located_of xs ≡ mmio_of p
-    → sum_by (λ r. r.size) (regions_of p) ≡ sum_by ram_needed p.manifests + rounded p.non_secure_ram + sum_by (λ x. x.region.size) xs
+    → sum_by (λ r. r.size) (regions_laid_out p) ≡ sum_by ram_needed p.manifests + rounded p.non_secure_ram + sum_by (λ x. x.region.size) xs
 sum_regions p xs placed =
     let size : Region → ℕ = λ r. r.size in
     let rest : List Region = map (λ (x : Located Region). x.value) (mmio_of p) in
     let tail : sum_by size rest ≡ sum_by (λ x. x.region.size) xs = ap (λ (t : List (Located Region)). sum_by size (map (λ (x : Located Region). x.value) t)) (sym placed) ∙ sum_placed xs in
     let rams : sum_by size (rams_of p) ≡ sum_by ram_needed p.manifests = sum_rams p.level 0 RAM_BASE p.manifests in
     let head : sum_by size (non_secure_of p ∷ rest) ≡ rounded p.non_secure_ram + sum_by size rest = sum_by-cons size (non_secure_of p) rest in
-    let all : sum_by size (regions_of p) ≡ sum_by size (rams_of p) + sum_by size (non_secure_of p ∷ rest) = sum_by-append size (rams_of p) (non_secure_of p ∷ rest) in
+    let all : sum_by size (regions_laid_out p) ≡ sum_by size (rams_of p) + sum_by size (non_secure_of p ∷ rest) = sum_by-append size (rams_of p) (non_secure_of p ∷ rest) in
     omega arith
 
 -- ---- the first of all
@@ -190,7 +184,7 @@ pub first_too_large_is : (p : PartsRecord) (xs : List Placed) → map located_of
 first_too_large_is p xs placed =
     let low : List TooLarge = large_from p.regions 0 p.manifests in
     let a : Bool = is_large (rounded p.non_secure_ram) in
-    let b : Bool = nat_lt MAX_IMAGE_BYTES (sum_by (λ r. r.size) (regions_of p)) in
+    let b : Bool = nat_lt MAX_IMAGE_BYTES (sum_by (λ r. r.size) (regions_laid_out p)) in
     first_append low (only_if a non_secure_ram ++ only_if b all_regions)
     ∙ ap (option_or (first low)) (first_append (only_if a non_secure_ram) (only_if b all_regions))
     ∙ ap (λ o. option_or (first low) (option_or o (first (only_if b all_regions)))) (first_only a non_secure_ram)

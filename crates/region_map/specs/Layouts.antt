@@ -4,7 +4,7 @@ use Rattle.std.specs.Prelude.{◌≡◌, List, [], Some, None, true, false, opti
 use Rattle.ffm_model.specs.declared.system.Region.{Region}
 use Rattle.ffm_model.specs.PartsItems.{PartsRecord}
 use Rattle.ffm_model.specs.Repeats.{first}
-use Rattle.ffm_model.specs.Layout.{regions_of, unknown_items, overlaps, too_large, TooLarge as Large, partition_ram, mmio_item, non_secure_ram, all_regions}
+use Rattle.ffm_model.specs.Layout.{regions_laid_out, unknown_items, overlaps, too_large, TooLarge as Large, partition_ram, mmio_item, non_secure_ram, all_regions}
 use Rattle.manifest_items.specs.Seen.{spot}
 use Rattle.region_map.specs.declared.error.LayoutError.{LayoutError}
 use Rattle.region_map.specs.declared.error.LayoutError.TheVariants.{Unknown, Overlap, TooLarge, Memory}
@@ -19,7 +19,7 @@ large_error all_regions = TooLarge None None true
 -- the regions, where each name is known, no two regions share a byte and none is too large; else the first of
 -- what is wrong in that order. Only a want of memory has no cause
 abbrev pub LaysOut : PartsRecord → Result (List Region) LayoutError → Type 0
-LaysOut p (Ok regions) = (regions ≡ regions_of p) × (unknown_items p ≡ []) × (overlaps p ≡ []) × (too_large p ≡ [])
+LaysOut p (Ok regions) = (regions ≡ regions_laid_out p) × (unknown_items p ≡ []) × (overlaps p ≡ []) × (too_large p ≡ [])
 LaysOut p (Err (Unknown manifest item)) = option_map spot (first (unknown_items p)) ≡ Some (manifest, item)
 LaysOut p (Err (Overlap manifest item)) = (unknown_items p ≡ []) × (option_map spot (first (overlaps p)) ≡ Some (manifest, item))
 LaysOut p (Err (TooLarge manifest item total)) =

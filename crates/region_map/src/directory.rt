@@ -23,10 +23,7 @@ fn places_of(alloc: Global, regions: &[RegionItem]) -> Result<BTreeMap<&str, usi
 {
     let mut places = BTreeMap::new(alloc);
     for (place, region) in regions.iter().enumerate() {
-        let name = region.name.as_str();
-        if !places.contains_key(name) {
-            places.insert(name, place)?;
-        }
+        places.entry(region.name.as_str())?.or_insert(place);
     }
     Ok(places)
 }

@@ -1,6 +1,6 @@
 //! The layout of a system.
 ghost use Rattle.std.specs.Prelude.{◌≡◌, [], ◌++◌, map, IfOk, OnOk};
-ghost use Rattle.ffm_model.specs.Layout.{mmio_of, regions_of, too_large};
+ghost use Rattle.ffm_model.specs.Layout.{mmio_of, regions_laid_out, too_large};
 ghost use Rattle.region_map.specs.Layouts.{LaysOut};
 ghost use Rattle.region_map.specs.Placements.{located_of};
 
@@ -27,10 +27,14 @@ fn add_placed(regions: &mut Vec<Region>, placed: &[Placed]) -> Result<(), AllocE
 
 // The regions, where none is too large.
 #[tactic(auto, using(crate::proofs::FitLemmas::ram_fits, crate::proofs::FitLemmas::non_secure_fits))]
-fn regions_of(alloc: Global, parts: &Parts, placed: &[Placed]) -> Result<List<Region>, AllocError>
+fn regions_laid_out(
+    alloc: Global,
+    parts: &Parts,
+    placed: &[Placed],
+) -> Result<List<Region>, AllocError>
     requires placed { map located_of placed.now ≡ mmio_of parts.now }
     requires fits { too_large parts.now ≡ [] }
-    ensures { IfOk result (λ regions. regions ≡ regions_of parts.now) }
+    ensures { IfOk result (λ regions. regions ≡ regions_laid_out parts.now) }
 {
     let mut regions = Vec::new(alloc);
     add_rams(&mut regions, parts.level, parts.manifests.as_slice())?;
@@ -60,5 +64,5 @@ pub fn lay_out(alloc: Global, parts: &Parts) -> Result<List<Region>, LayoutError
     if let Some(error) = first_too_large(parts, placed.as_slice()) {
         return Err(error);
     }
-    Ok(regions_of(alloc, parts, placed.as_slice())?)
+    Ok(regions_laid_out(alloc, parts, placed.as_slice())?)
 }

@@ -6,6 +6,10 @@ use Rattle.std.specs.List.{list_any}
 use Rattle.std.proofs.lemmas.Bool.Decides.{nat_tests}
 use Rattle.std.proofs.lemmas.List.Folds.{list_any-append}
 use Rattle.std.proofs.Math.Path.{fun_ext}
+use Rattle.std.proofs.lemmas.Bool.{or_right}
+use Rattle.list_laws.proofs.Bools.{or_false}
+use Rattle.memory_image.proofs.Compared.{has_itself}
+use Rattle.memory_image.proofs.Changed.{length-bytes_at}
 use Rattle.ffm_model.specs.declared.system.Region.{Region}
 use Rattle.ffm_model.specs.Memory.{ByteMap, bytes_at, write_bytes}
 use Rattle.ffm_model.specs.Reach.{covers}
@@ -19,10 +23,6 @@ reset_in rs first last x = if list_any (λ r. is_mmio r.class && covers r x) rs 
 
 -- ---- the bytes of a range
 
-pub length-bytes_at : (m : ByteMap) (a n : ℕ) → length (bytes_at m a n) ≡ n
-length-bytes_at m a zero = refl
-length-bytes_at m a (suc n) = ap suc (length-bytes_at m (a + 1) n)
-
 index-bytes_at : (m : ByteMap) (a n k : ℕ) → k < n → slice_index (bytes_at m a n) k ≡ m (a + k)
 index-bytes_at m a zero k lt = absurd (omega arith)
 index-bytes_at m a (suc n) zero lt = ap m (omega arith)
@@ -35,10 +35,6 @@ put_or_kept true true u l f put = put refl
 put_or_kept true false u l f put = refl
 put_or_kept false true u l f put = put refl
 put_or_kept false false u l f put = refl
-
-or_none : (a : Bool) → (a || false) ≡ a
-or_none true = refl
-or_none false = refl
 
 byte_there : (last : ByteMap) (base size x : ℕ) → (nat_le base x && nat_lt x (base + size)) ≡ true → slice_index (bytes_at last base size) (x - base) ≡ last x
 byte_there last base size x h =
@@ -57,25 +53,18 @@ mmio_more rs r first last mmio = fun_ext (λ x.
 pub other_more : (rs : List Region) (r : Region) (first last : ByteMap) → is_mmio r.class ≡ false → reset_in rs first last ≡ reset_in (rs ++ r ∷ []) first last
 other_more rs r first last other = fun_ext (λ x.
     let p : Region → Bool = λ q. is_mmio q.class && covers q x in
-    rw (list_any-append p rs (r ∷ []), other, or_none (list_any p rs)) refl)
+    rw (list_any-append p rs (r ∷ []), other, or_false (list_any p rs)) refl)
 
 -- ---- a region of an image
 
-or_true : (a b : Bool) → b ≡ true → (a || b) ≡ true
-or_true true b h = refl
-or_true false b h = h
-
-whole_range : (base size : ℕ) → has_range base size (base, size) ≡ true
-whole_range base size = grind (arith, nat_tests)
-
 inside_some : (rs : List Region) (i : ℕ) (d : Region) → i < length rs → list_any (has_range (get_or rs i d).base (get_or rs i d).size) (ranges_of rs) ≡ true
 inside_some [] i d lt = absurd (omega arith)
-inside_some (r ∷ rs) zero d lt = rw (whole_range r.base r.size) refl
-inside_some (r ∷ rs) (suc i) d lt = or_true (has_range (get_or rs i d).base (get_or rs i d).size (r.base, r.size)) _ (inside_some rs i d (omega arith))
+inside_some (r ∷ rs) zero d lt = rw (has_itself r.base r.size) refl
+inside_some (r ∷ rs) (suc i) d lt = or_right (has_range (get_or rs i d).base (get_or rs i d).size (r.base, r.size)) _ (inside_some rs i d (omega arith))
 
 -- each region lies inside whole
 pub region_inside : (rs : List Region) (i : ℕ) (d : Region) → i < length rs → is_inside (get_or rs i d).base (get_or rs i d).size (ranges_of rs) ≡ true
-region_inside rs i d lt = or_true _ _ (inside_some rs i d lt)
+region_inside rs i d lt = or_right _ _ (inside_some rs i d lt)
 
 -- ---- the memory that a run leaves
 

@@ -1,7 +1,7 @@
 -- Crews of workers, before and after they are driven.
 use Rattle.std.proofs.Common.{ℕ, zero, suc, ◌+◌, ◌≡◌, ◌<◌, ◌≤◌, add-zero, Bool, false, List, [], ◌∷◌, ◌++◌, append_assoc, append-nil, length, length-append, get_or, Some, refl, sym, ap, ◌∙◌, subst, arith}
 use Rattle.std.specs.Prelude.{slice_get}
-use Rattle.std.proofs.lemmas.List.{length-map}
+use Rattle.std.proofs.lemmas.List.{length-map, nil_from_length}
 use Rattle.std.proofs.lemmas.List.Elements.{All-append}
 use Rattle.std.proofs.Math.Seq.{get_or-append_seam}
 use Rattle.std.specs.List.{All, AllByRecursion}
@@ -33,12 +33,8 @@ first_of P x xs h = h 0 x (omega arith)
 rest_of : {X : Type 0} (P : X → Type 0) (x : X) (xs : List X) → All P (x ∷ xs) → All P xs
 rest_of P x xs h = λ k d lt. h (suc k) d (omega (arith, lt))
 
-nil_of : {X : Type 0} (xs : List X) → length xs ≡ 0 → xs ≡ []
-nil_of [] e = refl
-nil_of (x ∷ xs) e = absurd (omega (arith, e))
-
 all_of : {X : Type 0} (ys rest xs : List X) → ys ++ rest ≡ xs → length rest ≡ 0 → ys ≡ xs
-all_of ys rest xs all none = sym (append-nil ys) ∙ (ap (λ r. ys ++ r) (sym (nil_of rest none)) ∙ all)
+all_of ys rest xs all none = sym (append-nil ys) ∙ (ap (λ r. ys ++ r) (sym (nil_from_length rest none)) ∙ all)
 
 -- ---- new crews
 

@@ -6,15 +6,18 @@ use Rattle.std.specs.Option.{option_map_or}
 use Rattle.std.proofs.lemmas.Bool.Decides.{nat_tests}
 use Rattle.std.proofs.lemmas.List.Folds.{list_any_none}
 use Rattle.std.proofs.lemmas.List.FromFn.{length-range_with_len, get_or-range_with_len}
+use Rattle.std.proofs.lemmas.Bool.{and_parts}
+use Rattle.std.proofs.lemmas.List.Sums.{fold-append}
+use Rattle.spm_core.proofs.Refusals.{gone_off, verdict_off}
+use Rattle.ffm_model.proofs.RunLemmas.{none-stays}
 use Rattle.ffm_model.specs.declared.system.System.{System}
 use Rattle.ffm_model.specs.declared.machine.Entry.{Entry}
 use Rattle.ffm_model.specs.declared.machine.Verdict.TheVariants.{Quiet, Stalled, Full}
 use Rattle.ffm_model.specs.declared.objects.ActorPhase.{ActorPhase}
-use Rattle.ffm_model.specs.declared.objects.ActorPhase.TheVariants.{Running, Blocked, Waiting, Ready, Connected, Ended, Panicked}
 use Rattle.ffm_model.specs.Actors.{actor_count}
 use Rattle.ffm_model.specs.Memory.{ByteMap}
 use Rattle.ffm_model.specs.State.{State, opening, phase_of}
-use Rattle.ffm_model.specs.Signals.{can_go_on, enabled, signals_of}
+use Rattle.ffm_model.specs.Signals.{enabled, signals_of}
 use Rattle.ffm_model.specs.Step.{step, step_on, after, returns_when_due}
 use Rattle.ffm_model.specs.Verdicts.{all_actors, some_enabled, some_blocked, verdict_at, verdict_of}
 use Rattle.memory_image.specs.Pieces.{byte_at}
@@ -42,29 +45,16 @@ turned-gone p q (inl e) h = ap is_gone (sym e) ∙ h
 turned-gone p q (inr (inl k)) h = absurd (true≢false (sym h ∙ ap is_gone k.0))
 turned-gone p q (inr (inr k)) h = absurd (true≢false (sym h ∙ ap is_gone k.0))
 
-gone-off : (p : ActorPhase) (word : ℕ) → is_gone p ≡ true → can_go_on p word ≡ false
-gone-off Running word h = cc
-gone-off Blocked word h = refl
-gone-off (Waiting mask) word h = cc
-gone-off (Ready o) word h = cc
-gone-off (Connected c) word h = cc
-gone-off Ended word h = refl
-gone-off Panicked word h = refl
-
 second_test : (a b c : Bool) → (a && (b && c)) ≡ true → b ≡ true
 second_test true true c h = refl
 second_test true false c h = h
 second_test false b c h = cc
 
-first_test : (a b : Bool) → (a && b) ≡ true → a ≡ true
-first_test true b h = refl
-first_test false b h = h
-
 -- the actor of a step exists and can go on
 step-on : (s : System) (st new : State) (e : Entry) → step s st e ≡ Some new → (e.actor.0 < actor_count s) × (enabled s st.spm e.actor.0 ≡ true)
 step-on s st new e h =
     let it = step-is s st new e h in
-    let test : nat_lt e.actor.0 (actor_count s) ≡ true = first_test _ (enabled s st.spm e.actor.0 && returns_when_due e.call (phase_of st.spm e.actor.0)) it.may in
+    let test : nat_lt e.actor.0 (actor_count s) ≡ true = (and_parts _ (enabled s st.spm e.actor.0 && returns_when_due e.call (phase_of st.spm e.actor.0)) it.may).0 in
     (grind (arith, nat_tests), second_test (nat_lt e.actor.0 (actor_count s)) (enabled s st.spm e.actor.0) (returns_when_due e.call (phase_of st.spm e.actor.0)) it.may)
 
 step-turns : (s : System) (st new : State) (e : Entry) → Sound s st → step s st e ≡ Some new → Sound s new × ((x : ℕ) → is_gone (phase_of st.spm x) ≡ true → is_gone (phase_of new.spm x) ≡ true)
@@ -79,7 +69,7 @@ step-turns s st new e w h =
       },
       (λ x gone. same_or_not x e.actor.0 (is_gone (phase_of new.spm x) ≡ true)
           (λ k.
-          let off : enabled s st.spm x ≡ false = gone-off (phase_of st.spm x) (signals_of s st.spm x) gone in
+          let off : enabled s st.spm x ≡ false = gone_off (phase_of st.spm x) (signals_of s st.spm x) gone in
           let on : enabled s st.spm x ≡ true = ap (enabled s st.spm) k ∙ (step-on s st new e h).1 in
           absurd (true≢false (sym on ∙ off)))
           (λ k. turned-gone _ _ (turns.others x k) gone)),
@@ -90,14 +80,6 @@ run-sound s m es st h =
     run-has s m (λ xs x. Sound s x) (record { balanced = opening-balanced s; sound = λ a. open-phase is_sound true refl refl (actor_count s) a }) (λ xs x new e w k. (step-turns s x new e w k).0) es st h
 
 -- ---- the entries behind a front
-
-none-stays : (s : System) (es : List Entry) → fold (step_on s) None es ≡ None
-none-stays s [] = refl
-none-stays s (e ∷ es) = none-stays s es
-
-fold-append : (s : System) (o : Option State) (xs ys : List Entry) → fold (step_on s) o (xs ++ ys) ≡ fold (step_on s) (fold (step_on s) o xs) ys
-fold-append s o [] ys = refl
-fold-append s o (x ∷ xs) ys = fold-append s (step_on s o x) xs ys
 
 -- an actor that is gone stays gone
 gone-behind : (s : System) (es : List Entry) (st new : State) (x : ℕ) → Sound s st → fold (step_on s) (Some st) es ≡ Some new → is_gone (phase_of st.spm x) ≡ true → is_gone (phase_of new.spm x) ≡ true
@@ -125,16 +107,11 @@ verdict_some true true blocked h on = refl
 verdict_some true false blocked h on = absurd (true≢false (sym h))
 verdict_some false full blocked h on = cc
 
-verdict_off : (some full blocked : Bool) → some ≡ false → IsSome (if some then (if full then Some Full else None) else (if blocked then Some Stalled else Some Quiet))
-verdict_off true full blocked h = absurd (true≢false h)
-verdict_off false full true h = refl
-verdict_off false full false h = refl
-
 -- behind a verdict nothing stands
 nothing-behind : (s : System) (m : ByteMap) (limit : ℕ) (front rest : List Entry) → IsSome (after s m (front ++ rest)) → length (front ++ rest) ≤ limit → IsSome (verdict_of s m limit front) → rest ≡ []
 nothing-behind s m limit front [] run within verdict = refl
 nothing-behind s m limit front (e ∷ es) run within verdict =
-    let onward : IsSome (fold (step_on s) (after s m front) (e ∷ es)) = subst IsSome (fold-append s (Some (opening s m)) front (e ∷ es)) run in
+    let onward : IsSome (fold (step_on s) (after s m front) (e ∷ es)) = subst IsSome (fold-append (step_on s) (Some (opening s m)) front (e ∷ es)) run in
     let go : (o : Option State) → IsSome (fold (step_on s) o (e ∷ es)) → IsSome (option_and_then (λ st. verdict_at s limit (length front) st.spm) o) → (e ∷ es) ≡ [] =
     elim [
       | None ↦ λ q v. absurd (true≢false (sym v))
@@ -152,7 +129,7 @@ gone-later : (o : Opening) (history front : List Entry) (a : ℕ) → IsRun o hi
 gone-later o history front a run begins gone =
     let s : System = o.system in
     let joined : after s (byte_at o.memory) history ≡ fold (step_on s) (after s (byte_at o.memory) front) begins.0 =
-    ap (after s (byte_at o.memory)) begins.1 ∙ fold-append s (Some (opening s (byte_at o.memory))) front begins.0 in
+    ap (after s (byte_at o.memory)) begins.1 ∙ fold-append (step_on s) (Some (opening s (byte_at o.memory))) front begins.0 in
     let last : (st : State) → Sound s st → is_gone (phase_of st.spm a) ≡ true → (x : Option State) → fold (step_on s) (Some st) begins.0 ≡ x → IsSome x → option_map_or (λ y. is_gone (phase_of y.spm a)) x false ≡ true =
     λ st w g. elim [ None ↦ λ k q. absurd (true≢false (sym q)) | Some new ↦ λ k q. gone-behind s begins.0 st new a w k g ] in
     let go : (x : Option State) → after s (byte_at o.memory) front ≡ x → option_map_or (λ y. is_gone (phase_of y.spm a)) x false ≡ true
@@ -200,7 +177,7 @@ none-enabled s st gone =
     list_any_none (enabled s st.spm) (all_actors s) (λ i d lt.
     let below : i < actor_count s = rw (← length-range_with_len 0 (actor_count s)) lt in
     let here : get_or (all_actors s) i d ≡ i = omega (arith, get_or-range_with_len 0 (actor_count s) i d below) in
-    rw here (gone-off (phase_of st.spm i) (signals_of s st.spm i) (gone i below)))
+    rw here (gone_off (phase_of st.spm i) (signals_of s st.spm i) (gone i below)))
 
 pub ended : (o : Opening) (history : List Entry) → IsRun o history → length history ≤ o.limit → ((a : ℕ) → a < actor_count o.system → DoneInFront o history a) → has_verdict o history
 ended o history run within each =

@@ -1,10 +1,10 @@
 -- Runs behind each other: one more in front, other words for each of them, and whose events they have.
-use Rattle.std.proofs.Common.{ℕ, suc, zero, ◌≡◌, ◌<◌, ◌≤◌, ◌-◌, ◌&&◌, Bool, true, false, List, [], ◌∷◌, ◌++◌, length, map, append_assoc, refl, ap, sym, subst, ◌∙◌, arith}
-use Rattle.std.specs.Prelude.{Option, Some, IfSome, Result, Ok, Err, IfOk, nat_le, nat_lt, slice_get}
+use Rattle.std.proofs.Common.{ℕ, suc, zero, ◌≡◌, ◌≤◌, ◌-◌, ◌&&◌, Bool, true, false, List, [], ◌∷◌, ◌++◌, length, map, append_assoc, refl, ap, sym, subst, ◌∙◌, arith}
+use Rattle.std.specs.Prelude.{Option, Some, IfSome, Result, Ok, Err, IfOk, nat_lt, slice_get}
 use Rattle.std.specs.List.{list_all}
 use Rattle.std.specs.Option.{option_map_or}
-use Rattle.std.proofs.lemmas.Bool.Decides.{nat_tests}
 use Rattle.std.proofs.lemmas.List.{map-append}
+use Rattle.std.proofs.lemmas.Bool.{and_from, le-leb, lt-ltb}
 use Rattle.ffm_model.specs.declared.machine.Entry.{Entry}
 use Rattle.ffm_model.specs.declared.machine.Verdict.{Verdict}
 use Rattle.ffm_model.specs.declared.scenario.Scenario.{Scenario}
@@ -87,20 +87,10 @@ all_of : {X : Type 0} (p : X → Bool) (xs : List X) → ((i : ℕ) (x : X) → 
 all_of p [] h = refl
 all_of p (x ∷ xs) h = rw (h 0 x refl, all_of p xs (λ i y at. h (suc i) y at)) refl
 
-both_true : (a b : Bool) → a ≡ true → b ≡ true → (a && b) ≡ true
-both_true true b h k = k
-both_true false b h k = cc
-
-tested_below : (a n : ℕ) → a < n → nat_lt a n ≡ true
-tested_below a n h = grind (arith, nat_tests)
-
-tested_most : (a n : ℕ) → a ≤ n → nat_le a n ≡ true
-tested_most a n h = grind (arith, nat_tests)
-
 -- the trace of a run
 pub run_fits : (s : System) (m : ByteMap) (t : Trace) → length t.entries ≤ 262144 → Run s m t.entries → fits_counts (counts_of s) t ≡ true
 run_fits s m t few run =
-    both_true _ _ (tested_most (length t.entries) 262144 few) (all_of _ t.entries (λ i e at. tested_below e.actor.0 _ (run_actor s m t.entries i e run at)))
+    and_from _ _ (le-leb (length t.entries) 262144 few) (all_of _ t.entries (λ i e at. lt-ltb e.actor.0 _ (run_actor s m t.entries i e run at)))
 
 -- the same of a run by a scenario's programs
 pub trace_fits : (s : System) (m : ByteMap) (c : Scenario) (programs : List Program) (threads : Bool) (t : Trace) → c.limit ≤ 262144 → RanBy s m c programs threads t.entries t.verdict → fits_counts (counts_of s) t ≡ true
@@ -108,7 +98,7 @@ trace_fits s m c programs threads t few ran = run_fits s m t (omega (arith, ran.
 
 -- a trace alone
 pub one_fits : (s : System) (m : ByteMap) (t : Trace) (ts : List Trace) → ts ≡ t ∷ [] → length t.entries ≤ 262144 → Run s m t.entries → list_all (fits_counts (counts_of s)) ts ≡ true
-one_fits s m t ts same few run = rw same (both_true _ _ (run_fits s m t few run) refl)
+one_fits s m t ts same few run = rw same (and_from _ _ (run_fits s m t few run) refl)
 
 -- few events
 pub few_events : (s : System) (m : ByteMap) (c : Scenario) (programs : List Program) (threads : Bool) (es : List Entry) (v : Verdict) → c.limit ≤ 262144 → RanBy s m c programs threads es v → length es ≤ 262144
@@ -118,9 +108,9 @@ few_events s m c programs threads es v few ran = omega (arith, ran.within, few)
 pub traces_fit : (s : System) (first : ByteMap) (c : Scenario) (programs : List Program) (threads : Bool) (ts : List Trace) (m : ByteMap) (left : ℕ) → c.limit ≤ 262144
     → RunsFrom s (λ n r. RanBy s n c programs threads r.entries r.verdict) first m left (map finished ts) → list_all (fits_counts (counts_of s)) ts ≡ true
 traces_fit s first c programs threads [] m left few h = refl
-traces_fit s first c programs threads (t ∷ []) m left few h = both_true _ _ (trace_fits s m c programs threads t few h.0) refl
+traces_fit s first c programs threads (t ∷ []) m left few h = and_from _ _ (trace_fits s m c programs threads t few h.0) refl
 traces_fit s first c programs threads (t ∷ u ∷ ts) m left few h =
-    both_true _ _ (trace_fits s m c programs threads t few h.0) (traces_fit s first c programs threads (u ∷ ts) (memory_reset s first (memory_behind s m t.entries)) (left - 1) few h.2)
+    and_from _ _ (trace_fits s m c programs threads t few h.0) (traces_fit s first c programs threads (u ∷ ts) (memory_reset s first (memory_behind s m t.entries)) (left - 1) few h.2)
 
 -- ---- runs of scripts as runs of programs
 

@@ -27,7 +27,7 @@ pub struct Ran {
 }
 
 /// The memory that a run begins with. Err where no memory was found.
-#[tactic(auto, using(memory_image::proofs::Systems::system_fits))]
+#[tactic(auto, using(memory_image::proofs::Systems::system_fits, memory_image::proofs::Systems::system_few))]
 pub fn opening_image(alloc: Global, system: &System, scenario: &Scenario) -> Result<Image, Memory>
     requires { IsScenarioOf system.now scenario.now }
     ensures regions { IfOk result (λ image. regions_of image ≡ ranges_of system.now.regions) }

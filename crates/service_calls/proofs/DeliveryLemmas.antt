@@ -2,6 +2,7 @@
 use Rattle.std.proofs.Common.{ℕ, ◌≡◌, Bool, true, cond, List, [], ◌∷◌, ◌++◌, ◌∙◌, ap, sym, refl, subst, ◌==◌, map, false}
 use Rattle.std.specs.Prelude.{find, is_none, All, if◌then◌else◌, Option, Some, None, IsSome, IfSome, option_and_then}
 use Rattle.std.specs.Option.{option_map}
+use Rattle.list_laws.proofs.Tests.{find-passes}
 use Rattle.ffm_model.specs.declared.machine.Handle.{Handle}
 use Rattle.ffm_model.specs.declared.machine.Message.{Message as ShownMessage}
 use Rattle.ffm_model.specs.declared.machine.Outcome.TheVariants.{Got}
@@ -31,32 +32,31 @@ use Rattle.spm_tables.specs.TablesView.{TablesView, held_message, message_at, me
 use Rattle.spm_tables.proofs.MessageLemmas.{find-map, live-put}
 use Rattle.service_calls.proofs.Held.{holds-at}
 use Rattle.service_calls.proofs.Kept.{all-put}
-use Rattle.counting_law.proofs.Counts.{find-passes}
 use Rattle.spm_tables.specs.TablesView.{shown_handle}
 
 -- a message was delivered: m before, n since
 pub record IsDelivered (d new : TablesView) (service : ℕ) (t : Slot) (n : QueuedMessage) : Type 0 where
   pub item : QueuedMessage
-  pub live : item_at d.waiting t ≡ Some item
+  pub live : item_at d.messages t ≡ Some item
   pub since : n ≡ record item { delivered = true }
   pub first : find (is_undelivered service) (spm_of d).messages ≡ Some (message_of t item)
-  pub after : new ≡ record d { waiting = with_item d.waiting t n }
+  pub after : new ≡ record d { messages = with_item d.messages t n }
 
-pub was-delivered : (d new : TablesView) (service : ℕ) (t : Slot) (n : QueuedMessage) → IsSome (item_at d.waiting t) → message_at d t ≡ find (is_undelivered service) (spm_of d).messages
-    → IfSome (item_at d.waiting t) (λ m. new ≡ record d { waiting = with_item d.waiting t (record m { delivered = true }) }) → item_at new.waiting t ≡ Some n → IsDelivered d new service t n
+pub was-delivered : (d new : TablesView) (service : ℕ) (t : Slot) (n : QueuedMessage) → IsSome (item_at d.messages t) → message_at d t ≡ find (is_undelivered service) (spm_of d).messages
+    → IfSome (item_at d.messages t) (λ m. new ≡ record d { messages = with_item d.messages t (record m { delivered = true }) }) → item_at new.messages t ≡ Some n → IsDelivered d new service t n
 was-delivered d new service t n some oldest =
-    let go : (o : Option QueuedMessage) → item_at d.waiting t ≡ o → IsSome o → option_map (message_of t) o ≡ find (is_undelivered service) (spm_of d).messages
-    → IfSome o (λ m. new ≡ record d { waiting = with_item d.waiting t (record m { delivered = true }) }) → item_at new.waiting t ≡ Some n → IsDelivered d new service t n =
+    let go : (o : Option QueuedMessage) → item_at d.messages t ≡ o → IsSome o → option_map (message_of t) o ≡ find (is_undelivered service) (spm_of d).messages
+    → IfSome o (λ m. new ≡ record d { messages = with_item d.messages t (record m { delivered = true }) }) → item_at new.messages t ≡ Some n → IsDelivered d new service t n =
     elim [
       | None ↦ λ e x f g h. cc
       | Some m ↦ λ e x f g h.
-          let put : item_at new.waiting t ≡ Some (record m { delivered = true }) =
-          ap (λ (y : TablesView). item_at y.waiting t) g ∙ live-put d.waiting t m (record m { delivered = true }) e in
+          let put : item_at new.messages t ≡ Some (record m { delivered = true }) =
+          ap (λ (y : TablesView). item_at y.messages t) g ∙ live-put d.messages t m (record m { delivered = true }) e in
           let same : Some n ≡ Some (record m { delivered = true }) = sym h ∙ put in
           let is : n ≡ record m { delivered = true } = cc in
-          record { item = m; live = e; since = is; first = sym f; after = g ∙ ap (λ (y : QueuedMessage). record d { waiting = with_item d.waiting t y }) (sym is) }
+          record { item = m; live = e; since = is; first = sym f; after = g ∙ ap (λ (y : QueuedMessage). record d { messages = with_item d.messages t y }) (sym is) }
     ] in
-    go (item_at d.waiting t) refl some oldest
+    go (item_at d.messages t) refl some oldest
 
 pub get-due : (s : System) (d new : TablesView) (given : List Handle) (bytes after : List Bytes) (a signal msg service : ℕ) (t : Slot) (n : QueuedMessage) (shown : ShownMessage)
     → service_of_signal s a signal ≡ Some service → valid_buffer s a msg 48 ≡ true → IsDelivered d new service t n
@@ -84,11 +84,11 @@ get-due s d new given bytes after a signal msg service t n shown owner valid it 
 
 -- ---- the name that is due
 
-first-waits : (d : TablesView) (v : ℕ) (n : PendingMessage) → find (is_undelivered v) (spm_of d).messages ≡ Some n → (h : Held QueuedMessage) × (find (waits_for v) d.waiting.held ≡ Some h)
+first-waits : (d : TablesView) (v : ℕ) (n : PendingMessage) → find (is_undelivered v) (spm_of d).messages ≡ Some n → (h : Held QueuedMessage) × (find (waits_for v) d.messages.held ≡ Some h)
 first-waits d v n f =
-    let go : (o : Option (Held QueuedMessage)) → find (waits_for v) d.waiting.held ≡ o → option_map held_message o ≡ Some n → (h : Held QueuedMessage) × (find (waits_for v) d.waiting.held ≡ Some h) =
+    let go : (o : Option (Held QueuedMessage)) → find (waits_for v) d.messages.held ≡ o → option_map held_message o ≡ Some n → (h : Held QueuedMessage) × (find (waits_for v) d.messages.held ≡ Some h) =
     elim [ None ↦ λ e g. cc | Some h ↦ λ e g. (h, e) ] in
-    go (find (waits_for v) d.waiting.held) refl (sym (find-map held_message (is_undelivered v) d.waiting.held) ∙ f)
+    go (find (waits_for v) d.messages.held) refl (sym (find-map held_message (is_undelivered v) d.messages.held) ∙ f)
 
 -- what the delivery gives a handle is in the slot of that handle
 delivered-slot : (v : ℕ) (t : Slot) (n : QueuedMessage) (held : List (Held QueuedMessage)) (h : Held QueuedMessage) → find (waits_for v) held ≡ Some h
@@ -126,23 +126,23 @@ pub due-name : (s : System) (d new : TablesView) (given : List Handle) (m : Byte
     → NamesAre d k → name_due s (state_with d given m) a (Get signal msg) k ≡ Some (handle_at Message t)
 due-name s d new given m a signal msg service t n k owner it state named =
     let first = first-waits d service (message_of t it.item) it.first in
-    let messages : map held_message (map (item_put t n) d.waiting.held) ≡ delivered service (handle_at Message t) (map held_message d.waiting.held) =
+    let messages : map held_message (map (item_put t n) d.messages.held) ≡ delivered service (handle_at Message t) (map held_message d.messages.held) =
     sym (ap (λ (e : TablesView). (spm_of e).messages) it.after) ∙ ap (λ (b : SpmState). b.messages) state in
-    let slot : first.0.slot ≡ t = slot-is t first.0 (delivered-slot service t n d.waiting.held first.0 first.1 messages) in
+    let slot : first.0.slot ≡ t = slot-is t first.0 (delivered-slot service t n d.messages.held first.0 first.1 messages) in
     due-at-get s d given m a signal msg service k first.0 named owner first.1 ∙ ap (λ (u : Slot). Some (handle_at Message u)) slot
 
 -- ---- what else is kept
 
-pub delivered-names : (s : System) (d new : TablesView) (service : ℕ) (t : Slot) (n : QueuedMessage) → IsKept 304 d.waiting → IsDelivered d new service t n → KeepsNames s d new
+pub delivered-names : (s : System) (d new : TablesView) (service : ℕ) (t : Slot) (n : QueuedMessage) → IsKept 304 d.messages → IsDelivered d new service t n → KeepsNames s d new
 delivered-names s d new service t n kept it =
-    names-message s d new t it.item n kept it.live (ap (λ (m : QueuedMessage). m.serial) it.since) (ap (λ (m : QueuedMessage). m.client) it.since) (ap (λ (m : QueuedMessage). m.kind) it.since) (ap (λ (e : TablesView). e.linked) it.after)
-    (ap (λ (e : TablesView). e.waiting) it.after)
+    names-message s d new t it.item n kept it.live (ap (λ (m : QueuedMessage). m.serial) it.since) (ap (λ (m : QueuedMessage). m.client) it.since) (ap (λ (m : QueuedMessage). m.kind) it.since) (ap (λ (e : TablesView). e.connections) it.after)
+    (ap (λ (e : TablesView). e.messages) it.after)
 
 pub delivered-within : (regions : List (ℕ × ℕ)) (d new : TablesView) (service : ℕ) (t : Slot) (n : QueuedMessage) → IsDelivered d new service t n → All (λ m. AreWithin regions m.vectors) (spm_of d).messages
     → All (λ m. AreWithin regions m.vectors) (spm_of new).messages
 delivered-within regions d new service t n it all =
     let own : AreWithin regions it.item.vectors = holds-at (λ m. AreWithin regions m.vectors) d t it.item all it.live in
-    all-put (AreWithin regions) d new t n (ap (λ (e : TablesView). e.waiting) it.after) (subst (λ (m : QueuedMessage). AreWithin regions m.vectors) (sym it.since) own) all
+    all-put (AreWithin regions) d new t n (ap (λ (e : TablesView). e.messages) it.after) (subst (λ (m : QueuedMessage). AreWithin regions m.vectors) (sym it.since) own) all
 
 pub was-undelivered : (d new : TablesView) (service : ℕ) (t : Slot) (n : QueuedMessage) → (it : IsDelivered d new service t n) → it.item.delivered ≡ false
 was-undelivered d new service t n it =

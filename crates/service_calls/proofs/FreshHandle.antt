@@ -3,12 +3,12 @@ use Rattle.std.proofs.Common.{ℕ, ◌≡◌, ◌<◌, ◌≤◌, ◌==◌, Bool
 use Rattle.std.specs.Prelude.{Option, Some, None, IfSome, All, count_by, find}
 use Rattle.std.proofs.lemmas.Bool.Decides.{nat_tests}
 use Rattle.std.proofs.lemmas.List.Elements.{All-head, All-tail}
+use Rattle.list_laws.proofs.Counts.{bit, count-cons}
 use Rattle.ffm_model.specs.declared.machine.Handle.{Handle}
 use Rattle.ffm_model.specs.declared.objects.OpenConnection.{OpenConnection}
 use Rattle.ffm_model.specs.declared.objects.PendingMessage.{PendingMessage}
 use Rattle.ffm_model.specs.State.{handle_eq, has_handle}
 use Rattle.counting_law.specs.Objects.{objects_with}
-use Rattle.counting_law.proofs.Counts.{bit, count-cons}
 use Rattle.object_pools.specs.declared.slot.Slot.{Slot}
 use Rattle.object_pools.specs.declared.slot.Held.{Held}
 use Rattle.object_pools.specs.Pool.{IsKept, IsNamed, is_at, item_at}
@@ -64,16 +64,16 @@ connections-without t generations (x ∷ xs) small size named told =
           (All-tail (λ (y : Held OpenConnection). IfSome y.item.handle (λ k. k ≡ handle_at Connection y.slot)) x xs told),
     )
 
-pub objects-without : (d : TablesView) (t : Slot) (m : QueuedMessage) → IsKept 304 d.waiting → IsKept 256 d.linked → IsTable d.linked → item_at d.waiting t ≡ Some m → m.delivered ≡ false
+pub objects-without : (d : TablesView) (t : Slot) (m : QueuedMessage) → IsKept 304 d.messages → IsKept 256 d.connections → IsTable d.connections → item_at d.messages t ≡ Some m → m.delivered ≡ false
     → objects_with (spm_of d) (handle_at Message t) ≡ 0
 objects-without d t m waiting linked table live waits =
-    let it = held-of d.waiting t m live in
+    let it = held-of d.messages t m live in
     let g : Held QueuedMessage = it.0 in
     let own : g.item.delivered ≡ false = ap (λ (x : QueuedMessage). x.delivered) it.2 ∙ waits in
-    let name : IsNamed d.waiting.generations t = named-at d.waiting t m 304 waiting live in
+    let name : IsNamed d.messages.generations t = named-at d.messages t m 304 waiting live in
     let small : t.index < 304 = omega (arith, name.below, waiting.size) in
     omega (
       arith,
-      messages-without t g d.waiting.generations d.waiting.held small waiting.size own waiting.named (only-here d.waiting t g waiting it.1),
-      connections-without t d.linked.generations d.linked.held small linked.size linked.named table.told,
+      messages-without t g d.messages.generations d.messages.held small waiting.size own waiting.named (only-here d.messages t g waiting it.1),
+      connections-without t d.connections.generations d.connections.held small linked.size linked.named table.told,
     )

@@ -17,7 +17,7 @@ use Rattle.object_pools.specs.Pool.{has_slot, item_at}
 use Rattle.handle_table.specs.declared.handles.Family.TheVariants.{Message}
 use Rattle.handle_table.specs.Handles.{handle_at}
 use Rattle.handle_table.proofs.SlotLemmas.{both, held-of}
-use Rattle.handle_table.proofs.Twins.{find-passes}
+use Rattle.list_laws.proofs.Tests.{find-passes}
 use Rattle.spm_tables.specs.declared.item.QueuedMessage.{QueuedMessage}
 use Rattle.spm_tables.specs.TablesView.{TablesView, spm_of, message_of, message_at, held_message, shown_handle}
 
@@ -33,10 +33,10 @@ holds-among P t h (x ∷ xs) all f =
     ] in
     go (has_slot t x) f
 
-pub holds-at : (P : PendingMessage → Type 0) (d : TablesView) (t : Slot) (m : QueuedMessage) → All P (spm_of d).messages → item_at d.waiting t ≡ Some m → P (message_of t m)
+pub holds-at : (P : PendingMessage → Type 0) (d : TablesView) (t : Slot) (m : QueuedMessage) → All P (spm_of d).messages → item_at d.messages t ≡ Some m → P (message_of t m)
 holds-at P d t m all live =
-    let it = held-of d.waiting t m live in
-    subst (λ (u : Slot). P (message_of u m)) it.3 (subst (λ (i : QueuedMessage). P (message_of (it.0).slot i)) it.2 (holds-among P t it.0 d.waiting.held all it.1))
+    let it = held-of d.messages t m live in
+    subst (λ (u : Slot). P (message_of u m)) it.3 (subst (λ (i : QueuedMessage). P (message_of (it.0).slot i)) it.2 (holds-among P t it.0 d.messages.held all it.1))
 
 -- ---- a message that is held was delivered, under the handle of its slot
 
@@ -69,5 +69,5 @@ pub request-held : (s : System) (b : SpmState) (a : ℕ) (k : Handle) (index : �
 request-held s b a k index n e = kept-held (message_held s b a k) (λ m. int_le PSA_IPC_CALL m.kind && nat_lt index PSA_MAX_IOVEC) n e
 
 -- the message of a live slot
-pub message-is : (d : TablesView) (t : Slot) (m : QueuedMessage) (o : Option PendingMessage) → item_at d.waiting t ≡ Some m → message_at d t ≡ o → o ≡ Some (message_of t m)
+pub message-is : (d : TablesView) (t : Slot) (m : QueuedMessage) (o : Option PendingMessage) → item_at d.messages t ≡ Some m → message_at d t ≡ o → o ≡ Some (message_of t m)
 message-is d t m o live e = sym e ∙ ap (option_map (message_of t)) live

@@ -35,8 +35,8 @@ put-among P t n (x ∷ xs) all new =
     (put-among P t n xs (All-tail (λ (m : PendingMessage). P m.vectors) (held_message x) (map held_message xs) all) new)
 
 -- the message of a slot is another one
-pub all-put : (P : Vectors → Type 0) (d new : TablesView) (t : Slot) (n : QueuedMessage) → new.waiting ≡ with_item d.waiting t n → P n.vectors → All (λ m. P m.vectors) (spm_of d).messages → All (λ m. P m.vectors) (spm_of new).messages
-all-put P d new t n put own all = subst (λ (w : Places QueuedMessage). All (λ m. P m.vectors) (map held_message w.held)) (sym put) (put-among P t n d.waiting.held all own)
+pub all-put : (P : Vectors → Type 0) (d new : TablesView) (t : Slot) (n : QueuedMessage) → new.messages ≡ with_item d.messages t n → P n.vectors → All (λ m. P m.vectors) (spm_of d).messages → All (λ m. P m.vectors) (spm_of new).messages
+all-put P d new t n put own all = subst (λ (w : Places QueuedMessage). All (λ m. P m.vectors) (map held_message w.held)) (sym put) (put-among P t n d.messages.held all own)
 
 out-among : (P : PendingMessage → Type 0) (p : Held QueuedMessage → Bool) (held : List (Held QueuedMessage)) → All P (map held_message held) → All P (map held_message (filter p held))
 out-among P p [] all = all
@@ -47,64 +47,64 @@ out-among P p (x ∷ xs) all =
     go (p x)
 
 -- the message of a slot is gone
-pub all-out : (P : PendingMessage → Type 0) (d new : TablesView) (t : Slot) → new.waiting ≡ without d.waiting t → All P (spm_of d).messages → All P (spm_of new).messages
-all-out P d new t gone all = subst (λ (w : Places QueuedMessage). All P (map held_message w.held)) (sym gone) (out-among P (λ h. not (has_slot t h)) d.waiting.held all)
+pub all-out : (P : PendingMessage → Type 0) (d new : TablesView) (t : Slot) → new.messages ≡ without d.messages t → All P (spm_of d).messages → All P (spm_of new).messages
+all-out P d new t gone all = subst (λ (w : Places QueuedMessage). All P (map held_message w.held)) (sym gone) (out-among P (λ h. not (has_slot t h)) d.messages.held all)
 
 -- ---- moved vectors
 
 -- the vectors of a message were moved
 pub record IsMoved (d new : TablesView) (t : Slot) (v : Vectors) : Type 0 where
   pub item : QueuedMessage
-  pub live : item_at d.waiting t ≡ Some item
-  pub after : new ≡ record d { waiting = with_item d.waiting t (record item { vectors = v }) }
+  pub live : item_at d.messages t ≡ Some item
+  pub after : new ≡ record d { messages = with_item d.messages t (record item { vectors = v }) }
 
-pub was-moved : (d new : TablesView) (t : Slot) (v : Vectors) → IsSome (item_at d.waiting t) → IfSome (item_at d.waiting t) (λ m. new ≡ record d { waiting = with_item d.waiting t (record m { vectors = v }) }) → IsMoved d new t v
+pub was-moved : (d new : TablesView) (t : Slot) (v : Vectors) → IsSome (item_at d.messages t) → IfSome (item_at d.messages t) (λ m. new ≡ record d { messages = with_item d.messages t (record m { vectors = v }) }) → IsMoved d new t v
 was-moved d new t v some after =
-    let go : (o : Option QueuedMessage) → item_at d.waiting t ≡ o → IsSome o → IfSome o (λ m. new ≡ record d { waiting = with_item d.waiting t (record m { vectors = v }) }) → IsMoved d new t v =
+    let go : (o : Option QueuedMessage) → item_at d.messages t ≡ o → IsSome o → IfSome o (λ m. new ≡ record d { messages = with_item d.messages t (record m { vectors = v }) }) → IsMoved d new t v =
     elim [ None ↦ λ e x f. cc | Some m ↦ λ e x f. record { item = m; live = e; after = f } ] in
-    go (item_at d.waiting t) refl some after
+    go (item_at d.messages t) refl some after
 
 pub moved-all : (P : Vectors → Type 0) (d new : TablesView) (t : Slot) (v : Vectors) → IsMoved d new t v → P v → All (λ m. P m.vectors) (spm_of d).messages → All (λ m. P m.vectors) (spm_of new).messages
-moved-all P d new t v it own all = all-put P d new t (record it.item { vectors = v }) (ap (λ (e : TablesView). e.waiting) it.after) own all
+moved-all P d new t v it own all = all-put P d new t (record it.item { vectors = v }) (ap (λ (e : TablesView). e.messages) it.after) own all
 
-pub moved-names : (s : System) (d new : TablesView) (t : Slot) (v : Vectors) → IsKept 304 d.waiting → IsMoved d new t v → KeepsNames s d new
+pub moved-names : (s : System) (d new : TablesView) (t : Slot) (v : Vectors) → IsKept 304 d.messages → IsMoved d new t v → KeepsNames s d new
 moved-names s d new t v kept it =
-    names-message s d new t it.item (record it.item { vectors = v }) kept it.live refl refl refl (ap (λ (e : TablesView). e.linked) it.after) (ap (λ (e : TablesView). e.waiting) it.after)
+    names-message s d new t it.item (record it.item { vectors = v }) kept it.live refl refl refl (ap (λ (e : TablesView). e.connections) it.after) (ap (λ (e : TablesView). e.messages) it.after)
 
 -- ---- names where a call changes no message
 
 pub unchanged-names : (s : System) (d new : TablesView) → new ≡ d → KeepsNames s d new
-unchanged-names s d new same = names-same s d new (ap (λ (e : TablesView). e.linked) same) (ap (λ (e : TablesView). e.waiting) same)
+unchanged-names s d new same = names-same s d new (ap (λ (e : TablesView). e.connections) same) (ap (λ (e : TablesView). e.messages) same)
 
 pub phase-names : (s : System) (d new : TablesView) (phases : List ActorPhase) → new ≡ record d { phases = phases } → KeepsNames s d new
-phase-names s d new phases after = names-same s d new (ap (λ (e : TablesView). e.linked) after) (ap (λ (e : TablesView). e.waiting) after)
+phase-names s d new phases after = names-same s d new (ap (λ (e : TablesView). e.connections) after) (ap (λ (e : TablesView). e.messages) after)
 
-pub rhandle-names : (s : System) (d new : TablesView) (u : Slot) (m : QueuedMessage) (r : ℕ) → IsKept 256 d.linked → IsConnectionOf d.linked m u
-    → IfSome (item_at d.linked u) (λ c. new ≡ record d { linked = with_item d.linked u (record c { rhandle = r }) }) → KeepsNames s d new
+pub rhandle-names : (s : System) (d new : TablesView) (u : Slot) (m : QueuedMessage) (r : ℕ) → IsKept 256 d.connections → IsConnectionOf d.connections m u
+    → IfSome (item_at d.connections u) (λ c. new ≡ record d { connections = with_item d.connections u (record c { rhandle = r }) }) → KeepsNames s d new
 rhandle-names s d new u m r kept own after =
-    let Own : OpenConnection → Type 0 = λ c. (m.serial ≡ Some c.serial) × (find (λ x. x.serial == c.serial) (connections d.linked) ≡ Some c) in
-    let go : (o : Option OpenConnection) → item_at d.linked u ≡ o → IsSomeAnd o Own → IfSome o (λ c. new ≡ record d { linked = with_item d.linked u (record c { rhandle = r }) }) → KeepsNames s d new =
+    let Own : OpenConnection → Type 0 = λ c. (m.serial ≡ Some c.serial) × (find (λ x. x.serial == c.serial) (connections d.connections) ≡ Some c) in
+    let go : (o : Option OpenConnection) → item_at d.connections u ≡ o → IsSomeAnd o Own → IfSome o (λ c. new ≡ record d { connections = with_item d.connections u (record c { rhandle = r }) }) → KeepsNames s d new =
     elim [
       | None ↦ λ e x f. absurd x
-      | Some c ↦ λ e x f. names-connection s d new u c (record c { rhandle = r }) kept e refl (ap (λ (y : TablesView). y.linked) f) (ap (λ (y : TablesView). y.waiting) f)
+      | Some c ↦ λ e x f. names-connection s d new u c (record c { rhandle = r }) kept e refl (ap (λ (y : TablesView). y.connections) f) (ap (λ (y : TablesView). y.messages) f)
     ] in
-    go (item_at d.linked u) refl own after
+    go (item_at d.connections u) refl own after
 
 -- ---- a reply
 
 -- a message is gone, and its connection, where it has one, changed or gone
-pub reply-names : (s : System) (d mid new : TablesView) (t : Slot) (link : Option Slot) → ObjectsFit s (spm_of d) → IsKept 256 d.linked → mid ≡ record d { waiting = without d.waiting t } → ChangesWhere link mid.linked new.linked
-    → new.waiting ≡ mid.waiting → KeepsNames s d new
+pub reply-names : (s : System) (d mid new : TablesView) (t : Slot) (link : Option Slot) → ObjectsFit s (spm_of d) → IsKept 256 d.connections → mid ≡ record d { messages = without d.messages t } → ChangesWhere link mid.connections new.connections
+    → new.messages ≡ mid.messages → KeepsNames s d new
 reply-names s d mid new t link fit kept dropped changes same =
     let one : OneMessageEach (spm_of d) = fitting-messages s (spm_of d) fit in
-    let waiting : new.waiting ≡ without d.waiting t = same ∙ ap (λ (e : TablesView). e.waiting) dropped in
-    let at : (u : Slot) → ChangesAt u d.linked new.linked → KeepsNames s d new =
+    let waiting : new.messages ≡ without d.messages t = same ∙ ap (λ (e : TablesView). e.messages) dropped in
+    let at : (u : Slot) → ChangesAt u d.connections new.connections → KeepsNames s d new =
     λ u. elim [
       | inl x ↦ names-answered s d new t u x.0 x.1 one kept x.2 x.3 x.4 waiting
       | inr gone ↦ names-ended s d new t u one gone waiting
     ] in
-    let go : (o : Option Slot) → ChangesWhere o d.linked new.linked → KeepsNames s d new = elim [ None ↦ λ e. names-replied s d new t one e waiting | Some u ↦ at u ] in
-    go link (subst (λ (e : TablesView). ChangesWhere link e.linked new.linked) dropped changes)
+    let go : (o : Option Slot) → ChangesWhere o d.connections new.connections → KeepsNames s d new = elim [ None ↦ λ e. names-replied s d new t one e waiting | Some u ↦ at u ] in
+    go link (subst (λ (e : TablesView). ChangesWhere link e.connections new.connections) dropped changes)
 
 -- ---- the rhandle of a connection changes
 

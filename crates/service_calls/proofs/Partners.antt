@@ -1,6 +1,8 @@
 -- The connection and the client of a message, which are there in a state whose objects fit.
 use Rattle.std.proofs.Common.{ℕ, ◌≡◌, ◌<◌, ◌≤◌, ◌==◌, Bool, true, length, arith, ◌∙◌, ap, sym, refl, subst}
 use Rattle.std.specs.Prelude.{find, Option, Some, None, IfSome, IsSome, IsSomeAnd, count_by}
+use Rattle.std.proofs.lemmas.Bool.{eqb-true}
+use Rattle.list_laws.proofs.Counts.{bit, count-found}
 use Rattle.ffm_model.specs.declared.system.System.{System}
 use Rattle.ffm_model.specs.declared.objects.OpenConnection.{OpenConnection}
 use Rattle.ffm_model.specs.declared.objects.PendingMessage.{PendingMessage}
@@ -10,13 +12,12 @@ use Rattle.ffm_model.specs.Actors.{actor_count}
 use Rattle.ffm_model.specs.State.{SpmState, connection_by_serial, phase_of}
 use Rattle.counting_law.specs.Objects.{ObjectsFit, PhaseFits, is_awaited, accepted_as, awaited_by, awaited_of}
 use Rattle.counting_law.proofs.Balance.{one, fit-balanced}
-use Rattle.counting_law.proofs.Counts.{bit, count-found}
 use Rattle.counting_law.proofs.Parts.{is_there, is_itself, on_left}
 use Rattle.counting_law.proofs.Reply.{caller-blocked, partner}
 use Rattle.object_pools.specs.declared.slot.Slot.{Slot}
 use Rattle.object_pools.specs.Pool.{IsKept, item_at}
 use Rattle.handle_table.specs.Table.{connections}
-use Rattle.handle_table.proofs.Twins.{find-passes}
+use Rattle.list_laws.proofs.Tests.{find-passes}
 use Rattle.spm_tables.specs.declared.item.QueuedMessage.{QueuedMessage}
 use Rattle.spm_tables.specs.TablesView.{TablesView, MadeFor, Shape, spm_of}
 use Rattle.spm_tables.specs.Slots.{KeepSlots}
@@ -69,31 +70,28 @@ client-counted s d q m made fit found =
 
 -- ---- in the tables
 
-equal : (k n : ℕ) → (k == n) ≡ true → k ≡ n
-equal k n e = grind arith
-
 -- a message of a connection names its slot
-pub connection-slot : (d : TablesView) (t : Slot) (m : QueuedMessage) (n : ℕ) → IsKept 256 d.linked → KeepSlots d.linked d.waiting → item_at d.waiting t ≡ Some m → m.serial ≡ Some n → IsSome (connection_by_serial (spm_of d) n)
-    → (u : Slot) × (m.connection ≡ Some u) × IsConnectionOf d.linked m u
+pub connection-slot : (d : TablesView) (t : Slot) (m : QueuedMessage) (n : ℕ) → IsKept 256 d.connections → KeepSlots d.connections d.messages → item_at d.messages t ≡ Some m → m.serial ≡ Some n → IsSome (connection_by_serial (spm_of d) n)
+    → (u : Slot) × (m.connection ≡ Some u) × IsConnectionOf d.connections m u
 connection-slot d t m n kept slots live numbered there =
-    let go : (o : Option OpenConnection) → connection_by_serial (spm_of d) n ≡ o → IsSome o → (u : Slot) × (m.connection ≡ Some u) × IsConnectionOf d.linked m u =
+    let go : (o : Option OpenConnection) → connection_by_serial (spm_of d) n ≡ o → IsSome o → (u : Slot) × (m.connection ≡ Some u) × IsConnectionOf d.connections m u =
     elim [
       | None ↦ λ f e. cc
       | Some c ↦ λ f e.
-          let it = slot-of-serial d.linked m n c kept (belongs-at d.linked d.waiting t m slots live) numbered f in
-          let serial : n ≡ c.serial = sym (equal c.serial n (find-passes (λ x. x.serial == n) (connections d.linked) c f)) in
+          let it = slot-of-serial d.connections m n c kept (belongs-at d.connections d.messages t m slots live) numbered f in
+          let serial : n ≡ c.serial = sym (eqb-true c.serial n (find-passes (λ x. x.serial == n) (connections d.connections) c f)) in
           let own : m.serial ≡ Some c.serial = numbered ∙ ap (λ (k : ℕ). Some k) serial in
-          let here : find (λ z. z.serial == c.serial) (connections d.linked) ≡ Some c = subst (λ (k : ℕ). find (λ z. z.serial == k) (connections d.linked) ≡ Some c) serial f in (
+          let here : find (λ z. z.serial == c.serial) (connections d.connections) ≡ Some c = subst (λ (k : ℕ). find (λ z. z.serial == k) (connections d.connections) ≡ Some c) serial f in (
             it.0,
             it.1,
-            subst (λ (x : Option OpenConnection). IsSomeAnd x (λ y. (m.serial ≡ Some y.serial) × (find (λ z. z.serial == y.serial) (connections d.linked) ≡ Some y))) (sym it.2) (own, here),
+            subst (λ (x : Option OpenConnection). IsSomeAnd x (λ y. (m.serial ≡ Some y.serial) × (find (λ z. z.serial == y.serial) (connections d.connections) ≡ Some y))) (sym it.2) (own, here),
           )
     ] in
     go (connection_by_serial (spm_of d) n) refl there
 
 -- so the slot that it names, where it is of a connection, is that one's
-pub link-is : (d : TablesView) (t : Slot) (m : QueuedMessage) (n : ℕ) → IsKept 256 d.linked → KeepSlots d.linked d.waiting → item_at d.waiting t ≡ Some m → m.serial ≡ Some n
-    → IfSome m.serial (λ k. IsSome (connection_by_serial (spm_of d) k)) → IsLinkOf d.linked m m.connection
+pub link-is : (d : TablesView) (t : Slot) (m : QueuedMessage) (n : ℕ) → IsKept 256 d.connections → KeepSlots d.connections d.messages → item_at d.messages t ≡ Some m → m.serial ≡ Some n
+    → IfSome m.serial (λ k. IsSome (connection_by_serial (spm_of d) k)) → IsLinkOf d.connections m m.connection
 link-is d t m n kept slots live numbered there =
     let it = connection-slot d t m n kept slots live numbered (subst (λ (o : Option ℕ). IfSome o (λ k. IsSome (connection_by_serial (spm_of d) k))) numbered there) in
-    subst (IsLinkOf d.linked m) (sym it.1) it.2
+    subst (IsLinkOf d.connections m) (sym it.1) it.2

@@ -12,14 +12,15 @@ ghost use Rattle.ffm_model.specs.ServiceCalls.{message_words, service_of_signal,
 ghost use Rattle.ffm_model.specs.State.{State as StateSeen, connection_by_serial, fresh};
 ghost use Rattle.handle_table.specs.declared.handles.Family.TheVariants as family;
 ghost use Rattle.handle_table.specs.Handles.{handle_at};
-ghost use Rattle.memory_image.specs.Pieces.{byte_at, ranges_of, regions_of};
+ghost use Rattle.memory_image.specs.Pieces.{byte_at, regions_of};
 ghost use Rattle.message_vectors.specs.Vectors.{AreWithin};
 ghost use Rattle.object_pools.specs.Pool.{item_at};
 ghost use Rattle.service_calls.specs.Answers.{IsGot};
 ghost use Rattle.slot_names.specs.Named.{KeepsNames, NamesAre};
+ghost use Rattle.slot_names.specs.Premises.{PremisesWithMemory};
 ghost use Rattle.slot_names.specs.Stands.{Stands};
 ghost use Rattle.spm_tables.specs.Answers.{state_with};
-ghost use Rattle.spm_tables.specs.TablesView.{MadeFor, message_of, shape_of, spm_of};
+ghost use Rattle.spm_tables.specs.TablesView.{message_of, shape_of, spm_of};
 
 use crate::connection::connection_of;
 use ffm_model::{ActorId, Fault, Message, PSA_IPC_CONNECT, Service, Span, System};
@@ -86,7 +87,7 @@ fn words_of(message: Message) -> [u32; 12]
 
 // The rhandle that a message carries: 0 for that of a `psa_connect` or of no connection, else its connection's.
 fn rhandle_of(tables: &Tables, slot: Slot, message: QueuedMessage) -> u32
-    requires item { item_at tables.now.waiting slot ≡ Some message }
+    requires item { item_at tables.now.messages slot ≡ Some message }
     requires there { IfSome message.serial (λ n. IsSome (connection_by_serial (spm_of tables.now) n)) }
     ensures { result ≡ (if int_eq message.kind PSA_IPC_CONNECT then 0 else option_map_or (λ c. c.rhandle) (option_and_then (connection_by_serial (spm_of tables.now)) message.serial) 0) }
 {
@@ -101,7 +102,7 @@ fn rhandle_of(tables: &Tables, slot: Slot, message: QueuedMessage) -> u32
 
 // What a partition is told of a message that it gets.
 fn shown(system: &System, tables: &Tables, slot: Slot, message: QueuedMessage) -> Message
-    requires item { item_at tables.now.waiting slot ≡ Some message }
+    requires item { item_at tables.now.messages slot ≡ Some message }
     requires there { IfSome message.serial (λ n. IsSome (connection_by_serial (spm_of tables.now) n)) }
     requires client { message.client.0 < actor_count system.now }
     ensures { result ≡ shown_message system.now (spm_of tables.now) (message_of slot message) (handle_at family.Message slot) }
@@ -129,9 +130,7 @@ pub fn get(
     signal: u32,
     msg: u32,
 ) -> Result<Message, Fault>
-    requires made { MadeFor tables.old system.now }
-    requires fits { ObjectsFit system.now (spm_of tables.old) }
-    requires regions { regions_of image.old ≡ ranges_of system.now.regions }
+    requires premises { PremisesWithMemory system.now tables.old image.old }
     ensures answer { (given : List HandleSeen) → IsGot system.now tables.old given image.old actor.0 signal msg result tables.new image.new }
     ensures fresh { IfOk result (λ m. (st : StateSeen) → Stands tables.old image.old st → fresh st m.handle ≡ true) }
     ensures name { IfOk result (λ m. (k : NamesSoFar) → NamesAre tables.old k → (given : List HandleSeen) → name_due system.now (state_with tables.old given (byte_at image.old)) actor.0 (Get signal msg) k ≡ Some m.handle) }

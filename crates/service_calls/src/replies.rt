@@ -13,12 +13,13 @@ ghost use Rattle.ffm_model.specs.Memory.{lengths_written};
 ghost use Rattle.ffm_model.specs.ServiceCalls.{answered, close_answered, connect_answered, is_connect_status, owes_panic, psa_reply, psa_set_rhandle, reply_to, request_answered, with_request_phase};
 ghost use Rattle.slot_names.specs.Replies.{reply_on};
 ghost use Rattle.ffm_model.specs.State.{with_phase};
-ghost use Rattle.memory_image.specs.Pieces.{byte_at, ranges_of, regions_of};
+ghost use Rattle.memory_image.specs.Pieces.{byte_at, regions_of};
 ghost use Rattle.message_vectors.specs.Vectors.{AreWithin};
 ghost use Rattle.object_pools.specs.Pool.{item_at};
 ghost use Rattle.service_calls.specs.Answers.{LeavesReply, once_panicked};
 ghost use Rattle.service_calls.specs.Connections.{ChangesAt, ChangesWhere, IsConnectionOf, IsLinkOf};
 ghost use Rattle.slot_names.specs.Named.{KeepsNames};
+ghost use Rattle.slot_names.specs.Premises.{Premises, PremisesWithMemory};
 ghost use Rattle.spm_tables.specs.Answers.{Answers, state_with};
 ghost use Rattle.spm_tables.specs.declared.item.QueuedMessage.{QueuedMessage as QueuedSeen};
 ghost use Rattle.spm_tables.specs.TablesView.{MadeFor, fresh_message, message_at, shape_of, spm_of};
@@ -41,7 +42,7 @@ pub fn set_rhandle(
     handle: Handle,
     rhandle: u32,
 ) -> Result<(), Fault>
-    requires fits { (s : SystemSeen) × (MadeFor tables.old s × ObjectsFit s (spm_of tables.old)) }
+    requires premises { (s : SystemSeen) × Premises s tables.old }
     ensures answer { (s : SystemSeen) → MadeFor tables.old s → Answers (λ u. Done) (psa_set_rhandle s (spm_of tables.old) actor.0 handle rhandle) tables.old result tables.new }
     ensures shape { shape_of tables.new ≡ shape_of tables.old }
     ensures names { (s : SystemSeen) → MadeFor tables.old s → KeepsNames s tables.old tables.new }
@@ -78,7 +79,7 @@ fn is_partition(system: &System, actor: ActorId) -> bool
 // The message that the partition holds by the handle, where it may be answered so.
 fn answerable(tables: &Tables, actor: ActorId, handle: Handle, status: Status) -> Option<Slot>
     ensures message { (s : SystemSeen) → MadeFor tables.now s → option_and_then (message_at tables.now) result ≡ reply_to s (spm_of tables.now) actor.0 handle status.0 }
-    ensures live { IfSome result (λ slot. IsSome (item_at tables.now.waiting slot)) }
+    ensures live { IfSome result (λ slot. IsSome (item_at tables.now.messages slot)) }
 {
     let Some(slot) = tables.find_message(actor, handle) else {
         return None;
@@ -102,10 +103,10 @@ fn tell_lengths(image: &mut Image, message: QueuedMessage)
 }
 
 fn answer_connect(tables: &mut Tables, connection: Slot, message: QueuedMessage, status: Status)
-    requires connection { IsConnectionOf tables.old.linked message connection }
+    requires connection { IsConnectionOf tables.old.connections message connection }
     ensures state { spm_of tables.new ≡ option_map_or (λ n. connect_answered (spm_of tables.old) n (fresh_message message) status.0) message.serial (spm_of tables.old) }
-    ensures linked { ChangesAt connection tables.old.linked tables.new.linked }
-    ensures waiting { tables.new.waiting ≡ tables.old.waiting }
+    ensures connections { ChangesAt connection tables.old.connections tables.new.connections }
+    ensures messages { tables.new.messages ≡ tables.old.messages }
     ensures shape { shape_of tables.new ≡ shape_of tables.old }
 {
     if status.0 == PSA_SUCCESS {
@@ -119,10 +120,10 @@ fn answer_connect(tables: &mut Tables, connection: Slot, message: QueuedMessage,
 }
 
 fn answer_close(tables: &mut Tables, connection: Slot, message: QueuedMessage)
-    requires connection { IsConnectionOf tables.old.linked message connection }
+    requires connection { IsConnectionOf tables.old.connections message connection }
     ensures state { spm_of tables.new ≡ option_map_or (λ n. close_answered (spm_of tables.old) n (fresh_message message)) message.serial (spm_of tables.old) }
-    ensures linked { ChangesAt connection tables.old.linked tables.new.linked }
-    ensures waiting { tables.new.waiting ≡ tables.old.waiting }
+    ensures connections { ChangesAt connection tables.old.connections tables.new.connections }
+    ensures messages { tables.new.messages ≡ tables.old.messages }
     ensures shape { shape_of tables.new ≡ shape_of tables.old }
 {
     tables.free(connection);
@@ -133,10 +134,10 @@ fn answer_close(tables: &mut Tables, connection: Slot, message: QueuedMessage)
 
 // The connection of a request, where it has one, gets the phase.
 fn set_request_phase(tables: &mut Tables, connection: Option<Slot>, phase: ConnPhase)
-    requires live { IfSome connection (λ slot. IsSome (item_at tables.old.linked slot)) }
-    ensures state { (m : QueuedSeen) → IsLinkOf tables.old.linked m connection → spm_of tables.new ≡ with_request_phase (spm_of tables.old) (fresh_message m) phase }
-    ensures linked { ChangesWhere connection tables.old.linked tables.new.linked }
-    ensures waiting { tables.new.waiting ≡ tables.old.waiting }
+    requires live { IfSome connection (λ slot. IsSome (item_at tables.old.connections slot)) }
+    ensures state { (m : QueuedSeen) → IsLinkOf tables.old.connections m connection → spm_of tables.new ≡ with_request_phase (spm_of tables.old) (fresh_message m) phase }
+    ensures connections { ChangesWhere connection tables.old.connections tables.new.connections }
+    ensures messages { tables.new.messages ≡ tables.old.messages }
     ensures shape { shape_of tables.new ≡ shape_of tables.old }
 {
     if let Some(slot) = connection {
@@ -152,11 +153,11 @@ fn answer_request(
     message: QueuedMessage,
     status: Status,
 ) -> Option<ActorId>
-    requires connection { IsLinkOf tables.old.linked message connection }
+    requires connection { IsLinkOf tables.old.connections message connection }
     ensures state { spm_of tables.new ≡ request_answered system.now (spm_of tables.old) (fresh_message message) status.0 }
     ensures owing { option_map (λ p. p.0) result ≡ (if int_eq status.0 PSA_ERROR_PROGRAMMER_ERROR && is_partition (kind_of system.now message.client.0) then Some message.client.0 else None) }
-    ensures linked { ChangesWhere connection tables.old.linked tables.new.linked }
-    ensures waiting { tables.new.waiting ≡ tables.old.waiting }
+    ensures connections { ChangesWhere connection tables.old.connections tables.new.connections }
+    ensures messages { tables.new.messages ≡ tables.old.messages }
     ensures shape { shape_of tables.new ≡ shape_of tables.old }
 {
     if status.0 != PSA_ERROR_PROGRAMMER_ERROR {
@@ -183,11 +184,11 @@ fn answer(
     message: QueuedMessage,
     status: Status,
 ) -> Option<ActorId>
-    requires connection { IsLinkOf tables.old.linked message connection }
+    requires connection { IsLinkOf tables.old.connections message connection }
     ensures state { spm_of tables.new ≡ answered system.now (spm_of tables.old) (fresh_message message) status.0 }
     ensures owing { option_map (λ p. p.0) result ≡ (if owes_panic system.now (fresh_message message) status.0 then Some message.client.0 else None) }
-    ensures linked { ChangesWhere connection tables.old.linked tables.new.linked }
-    ensures waiting { tables.new.waiting ≡ tables.old.waiting }
+    ensures connections { ChangesWhere connection tables.old.connections tables.new.connections }
+    ensures messages { tables.new.messages ≡ tables.old.messages }
     ensures shape { shape_of tables.new ≡ shape_of tables.old }
 {
     if message.kind >= PSA_IPC_CALL {
@@ -217,10 +218,7 @@ pub fn reply(
     handle: Handle,
     status: Status,
 ) -> Result<Option<ActorId>, Fault>
-    requires made { MadeFor tables.old system.now }
-    requires fits { ObjectsFit system.now (spm_of tables.old) }
-    requires regions { regions_of image.old ≡ ranges_of system.now.regions }
-    requires vectors { All (λ m. AreWithin (regions_of image.old) m.vectors) (spm_of tables.old).messages }
+    requires premises { PremisesWithMemory system.now tables.old image.old }
     ensures left { LeavesReply (reply_on system.now (spm_of tables.old) actor.0 handle status.0) tables.old image.old result tables.new image.new }
     ensures answer { IfOk result (λ owing. (given : List HandleSeen) → psa_reply system.now (state_with tables.old given (byte_at image.old)) actor.0 handle status.0
         ≡ Some (effect Done (record { spm = once_panicked system.now (spm_of tables.new) owing; handles_given = given; memory = byte_at image.new }))) }
@@ -230,7 +228,7 @@ pub fn reply(
     ensures shape { shape_of tables.new ≡ shape_of tables.old }
     ensures regions { regions_of image.new ≡ regions_of image.old }
     ensures vectors { All (λ m. AreWithin (regions_of image.new) m.vectors) (spm_of tables.new).messages }
-    ensures takes { tables.new.waiting.takes ≡ tables.old.waiting.takes }
+    ensures takes { tables.new.messages.takes ≡ tables.old.messages.takes }
     ensures names { KeepsNames system.now tables.old tables.new }
 {
     tables.law();

@@ -9,11 +9,12 @@ ghost use Rattle.counting_law.specs.Objects.{ObjectsFit};
 ghost use Rattle.ffm_model.specs.State.{with_vectors};
 ghost use Rattle.handle_table.specs.declared.handles.Family.TheVariants as family;
 ghost use Rattle.handle_table.specs.Handles.{handle_at};
-ghost use Rattle.memory_image.specs.Pieces.{byte_at, ranges_of, regions_of};
+ghost use Rattle.memory_image.specs.Pieces.{byte_at, regions_of};
 ghost use Rattle.message_vectors.specs.Vectors.{AreMovedWithin, AreWithin};
 ghost use Rattle.object_pools.specs.Pool.{item_at};
 ghost use Rattle.service_calls.specs.Answers.{AnswersOver};
 ghost use Rattle.slot_names.specs.Named.{KeepsNames};
+ghost use Rattle.slot_names.specs.Premises.{PremisesWithMemory};
 ghost use Rattle.spm_tables.specs.Answers.{Answers, state_with};
 ghost use Rattle.spm_tables.specs.TablesView.{MadeFor, message_at, shape_of, spm_of};
 
@@ -25,7 +26,7 @@ use spm_tables::Tables;
 // The request that the partition holds by the handle, where the index is a vector's.
 fn request(tables: &Tables, actor: ActorId, handle: Handle, index: u32) -> Option<Slot>
     ensures request { (s : SystemSeen) → MadeFor tables.now s → option_and_then (message_at tables.now) result ≡ request_held s (spm_of tables.now) actor.0 handle index }
-    ensures live { IfSome result (λ slot. IsSome (item_at tables.now.waiting slot)) }
+    ensures live { IfSome result (λ slot. IsSome (item_at tables.now.messages slot)) }
     ensures index { OnSome result (index < PSA_MAX_IOVEC) }
 {
     let Some(slot) = tables.find_message(actor, handle) else {
@@ -40,8 +41,8 @@ fn request(tables: &Tables, actor: ActorId, handle: Handle, index: u32) -> Optio
 
 // Says how far the vectors of a request were moved.
 fn set_vectors(tables: &mut Tables, slot: Slot, vectors: Vectors)
-    requires { IsSome (item_at tables.old.waiting slot) }
-    ensures state { IfSome (item_at tables.old.waiting slot) (λ m. m.delivered ≡ true → spm_of tables.new ≡ with_vectors (spm_of tables.old) (handle_at family.Message slot) vectors) }
+    requires { IsSome (item_at tables.old.messages slot) }
+    ensures state { IfSome (item_at tables.old.messages slot) (λ m. m.delivered ≡ true → spm_of tables.new ≡ with_vectors (spm_of tables.old) (handle_at family.Message slot) vectors) }
     ensures moved { AreMovedWithin vectors → All (λ m. AreMovedWithin m.vectors) (spm_of tables.old).messages → All (λ m. AreMovedWithin m.vectors) (spm_of tables.new).messages }
     ensures within { (regions : List (ℕ × ℕ)) → AreWithin regions vectors → All (λ m. AreWithin regions m.vectors) (spm_of tables.old).messages → All (λ m. AreWithin regions m.vectors) (spm_of tables.new).messages }
     ensures shape { shape_of tables.new ≡ shape_of tables.old }
@@ -90,9 +91,7 @@ pub fn read(
     buffer: u32,
     len: u32,
 ) -> Result<u32, Fault>
-    requires made { MadeFor tables.old system.now }
-    requires regions { regions_of image.old ≡ ranges_of system.now.regions }
-    requires vectors { All (λ m. AreWithin (regions_of image.old) m.vectors) (spm_of tables.old).messages }
+    requires premises { PremisesWithMemory system.now tables.old image.old }
     ensures answer { (given : List HandleSeen) → AnswersOver Number (psa_read system.now (state_with tables.old given (byte_at image.old)) actor.0 handle index buffer len) given tables.old image.old result tables.new image.new }
     ensures shape { shape_of tables.new ≡ shape_of tables.old }
     ensures regions { regions_of image.new ≡ regions_of image.old }
@@ -125,9 +124,7 @@ pub fn write(
     buffer: u32,
     len: u32,
 ) -> Result<(), Fault>
-    requires made { MadeFor tables.old system.now }
-    requires regions { regions_of image.old ≡ ranges_of system.now.regions }
-    requires vectors { All (λ m. AreWithin (regions_of image.old) m.vectors) (spm_of tables.old).messages }
+    requires premises { PremisesWithMemory system.now tables.old image.old }
     ensures answer { (given : List HandleSeen) → AnswersOver (λ u. Done) (psa_write system.now (state_with tables.old given (byte_at image.old)) actor.0 handle index buffer len) given tables.old image.old result tables.new image.new }
     ensures shape { shape_of tables.new ≡ shape_of tables.old }
     ensures regions { regions_of image.new ≡ regions_of image.old }

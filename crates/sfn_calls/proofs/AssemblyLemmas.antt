@@ -1,8 +1,10 @@
 -- The functions of an SFN partition, section by section.
-use Rattle.std.proofs.Common.{ℕ, ◌≡◌, ◌≤◌, ◌+◌, List, [], ◌∷◌, ◌++◌, length, refl, ap, arith, drop, map, Bool, true, false}
+use Rattle.std.proofs.Common.{ℕ, ◌≡◌, ◌≤◌, ◌+◌, List, [], ◌∷◌, ◌++◌, length, refl, ap, arith, drop, map, false}
 use Rattle.std.proofs.lemmas.Grind.{common_steps}
-use Rattle.std.specs.Prelude.{Some, None, Result, Ok, Err, ◌==◌, ◌||◌}
-use Rattle.std.specs.List.{AllByRecursion, IsDistinct}
+use Rattle.std.specs.Prelude.{Some, None, Result, Ok, Err, ◌==◌}
+use Rattle.std.specs.List.{IsDistinct}
+use Rattle.std.proofs.lemmas.Bool.{or_parts}
+use Rattle.list_laws.proofs.Lists.{AllByRecursion-push}
 use Rattle.ffm_model.specs.declared.constants.TheConstants.{MAX_SCRIPT_LINES}
 use Rattle.ffm_model.specs.declared.system.System.{System}
 use Rattle.ffm_model.specs.declared.script.SfnInstruction.{SfnInstruction}
@@ -50,14 +52,6 @@ below-wrong s a above x xs e h = fails-then e (function_of s a above x) (λ f. f
 
 -- ---- what the functions keep
 
-each-push : {A : Type 0} (P : A → Type 0) (xs : List A) (x : A) → AllByRecursion P xs → P x → AllByRecursion P (xs ++ x ∷ [])
-each-push P [] x h k = (k, tt)
-each-push P (y ∷ ys) x h k = (h.0, each-push P ys x h.1 k)
-
-neither : (x y : Bool) → (x || y) ≡ false → (x ≡ false) × (y ≡ false)
-neither true y h = cc
-neither false y h = (refl, h)
-
 services-push : (fs : List SfnFunction) (f : SfnFunction) → map (λ f. f.service) (fs ++ f ∷ []) ≡ map (λ f. f.service) fs ++ f.service ∷ []
 services-push [] f = refl
 services-push (g ∷ fs) f = ap (λ (xs : List ℕ). g.service ∷ xs) (services-push fs f)
@@ -67,8 +61,8 @@ distinct-push : (fs : List SfnFunction) (service : ℕ) → IsDistinct (λ x y. 
 unfolding IsDistinct
 distinct-push [] service h fresh = (tt, tt)
 distinct-push (f ∷ fs) service h fresh =
-    let apart = neither (f.service == service) (has_function fs service) fresh in
-    (each-push (λ y. (f.service == y) ≡ false) (map (λ f. f.service) fs) service h.0 apart.0, distinct-push fs service h.1 apart.1)
+    let apart = or_parts (f.service == service) (has_function fs service) fresh in
+    (AllByRecursion-push (λ y. (f.service == y) ≡ false) (map (λ f. f.service) fs) service h.0 apart.0, distinct-push fs service h.1 apart.1)
 
 pub kept-start : IsSfnScript []
 unfolding IsDistinct
@@ -78,8 +72,8 @@ pub kept-next : (fs : List SfnFunction) (f : SfnFunction) → IsSfnScript fs →
     → IsSfnScript (fs ++ f ∷ [])
 kept-next fs f kept fresh fits short = record {
   one_each = rw services-push (distinct-push fs f.service kept.one_each fresh);
-  fit = each-push (λ f. IsFunction f.instructions) fs f kept.fit fits;
-  short = each-push (λ f. length f.instructions ≤ MAX_SCRIPT_LINES) fs f kept.short short;
+  fit = AllByRecursion-push (λ f. IsFunction f.instructions) fs f kept.fit fits;
+  short = AllByRecursion-push (λ f. length f.instructions ≤ MAX_SCRIPT_LINES) fs f kept.short short;
 }
 
 -- ---- behind the last line

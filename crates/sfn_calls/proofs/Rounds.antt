@@ -1,12 +1,13 @@
 -- A run of a script, told by the points where it stands.
-use Rattle.std.proofs.Common.{◌≡◌, List, [], ◌∷◌, ◌++◌, refl, ap, ap₂, sym, ◌∙◌, Bool}
+use Rattle.std.proofs.Common.{◌≡◌, List, [], ◌∷◌, ◌++◌, ap, ap₂, sym, ◌∙◌, Bool}
 use Rattle.std.specs.Prelude.{if◌then◌else◌}
+use Rattle.ffm_model.proofs.RecordLemmas.{ends_blocked-push, engine_after-push}
 use Rattle.ffm_model.specs.declared.machine.Entry.{Entry}
 use Rattle.ffm_model.specs.declared.machine.Call.{Call}
 use Rattle.ffm_model.specs.declared.machine.Call.TheVariants as call
 use Rattle.ffm_model.specs.declared.machine.Outcome.{Outcome}
 use Rattle.ffm_model.specs.declared.script.Instruction.{Instruction}
-use Rattle.ffm_model.specs.Plans.{RunFrom, engine_answered, engine_after, plan_of}
+use Rattle.ffm_model.specs.Plans.{RunFrom, engine_answered, plan_of}
 use Rattle.ffm_model.specs.Records.{is_blocked_outcome, ends_blocked}
 use Rattle.ffm_model.specs.ScriptRuns.{Point, start, arrived, call_at, point_after, script_engine, script_plan}
 
@@ -22,18 +23,6 @@ abbrev pub RunAt : List Instruction → Bool → Point → List Entry → Type 0
 RunAt code blocked p [] = Unit {0}
 RunAt code blocked p (e ∷ es) = (e.call ≡ due code blocked p) × RunAt code (is_blocked_outcome e.outcome) (answered code e.outcome p) es
 
-after-push : (code : List Instruction) (p : Point) (os : List Outcome) (o : Outcome)
-    → engine_after (script_engine code) p (os ++ o ∷ []) ≡ answered code o (engine_after (script_engine code) p os)
-unfolding engine_after
-after-push code p [] o = refl
-after-push code p (q ∷ os) o = after-push code (answered code q p) os o
-
-ends_blocked-push : (os : List Outcome) (o : Outcome) → ends_blocked (os ++ o ∷ []) ≡ is_blocked_outcome o
-unfolding ends_blocked
-ends_blocked-push [] o = refl
-ends_blocked-push (q ∷ []) o = refl
-ends_blocked-push (q ∷ r ∷ os) o = ends_blocked-push (r ∷ os) o
-
 same-call : (code : List Instruction) (os : List Outcome) (b : Bool) (p : Point) → ends_blocked os ≡ b → point_after code os ≡ p → script_plan code os ≡ due code b p
 unfolding plan_of
 same-call code os b p eb ep = ap₂ (due code) eb ep
@@ -43,7 +32,7 @@ pub run-to : (code : List Instruction) (es : List Entry) (os : List Outcome) (b 
 run-to code [] os b p eb ep h = tt
 run-to code (e ∷ es) os b p eb ep h = (
   h.0 ∙ same-call code os b p eb ep,
-  run-to code es (os ++ e.outcome ∷ []) _ _ (ends_blocked-push os e.outcome) (after-push code start os e.outcome ∙ ap (answered code e.outcome) ep) h.1,
+  run-to code es (os ++ e.outcome ∷ []) _ _ (ends_blocked-push os e.outcome) (engine_after-push (script_engine code) start os e.outcome ∙ ap (answered code e.outcome) ep) h.1,
 )
 
 pub run-from : (code : List Instruction) (es : List Entry) (os : List Outcome) (b : Bool) (p : Point) → ends_blocked os ≡ b → point_after code os ≡ p
@@ -51,5 +40,5 @@ pub run-from : (code : List Instruction) (es : List Entry) (os : List Outcome) (
 run-from code [] os b p eb ep h = tt
 run-from code (e ∷ es) os b p eb ep h = (
   h.0 ∙ sym (same-call code os b p eb ep),
-  run-from code es (os ++ e.outcome ∷ []) _ _ (ends_blocked-push os e.outcome) (after-push code start os e.outcome ∙ ap (answered code e.outcome) ep) h.1,
+  run-from code es (os ++ e.outcome ∷ []) _ _ (ends_blocked-push os e.outcome) (engine_after-push (script_engine code) start os e.outcome ∙ ap (answered code e.outcome) ep) h.1,
 )

@@ -1,11 +1,11 @@
 -- Local lines of a function, and those of its code.
-use Rattle.std.proofs.Common.{ℕ, zero, suc, ◌+◌, ◌≡◌, List, [], ◌∷◌, ◌++◌, length, get_or, refl, ap, ap₂, sym, ◌∙◌, subst, arith, Bool, true, false}
+use Rattle.std.proofs.Common.{ℕ, zero, suc, ◌+◌, ◌≡◌, List, [], ◌∷◌, ◌++◌, length, get_or, refl, ap, ap₂, sym, ◌∙◌, arith, Bool, true, false}
 use mathlib.Core.Path.{fun_ext}
 use Rattle.std.specs.Prelude.{Option, Some, None, slice_get, slice_set, option_and_then, if◌then◌else◌}
 use Rattle.std.specs.Option.{option_map, option_map_or}
 use Rattle.std.specs.Int.{w32, cast_unsigned, cast_signed}
-use Rattle.std.specs.List.{AllByRecursion}
 use Rattle.std.proofs.lemmas.List.{length-set}
+use Rattle.list_laws.proofs.Lists.{AllByRecursion-at}
 use Rattle.ffm_model.specs.declared.machine.Handle.{Handle}
 use Rattle.ffm_model.specs.declared.machine.Call.TheVariants as call
 use Rattle.ffm_model.specs.declared.script.Operand.TheVariants.{Number}
@@ -35,11 +35,6 @@ pub steps-stay : (script : List Instruction) (n : ℕ) (p : Point) → local_ste
 unfolding local_steps
 steps-stay script zero p e = refl
 steps-stay script (suc n) p e = rw e refl
-
-each-at : {A : Type 0} (P : A → Type 0) (xs : List A) (i : ℕ) (x : A) → AllByRecursion P xs → slice_get xs i ≡ Some x → P x
-each-at P [] i x h e = cc
-each-at P (y ∷ ys) zero x h e = let same : y ≡ x = cc in subst P same h.0
-each-at P (y ∷ ys) (suc i) x h e = each-at P ys i x h.1 e
 
 -- ---- a function's point, seen in the loop
 
@@ -77,14 +72,14 @@ effect-by lines at h t p (Some (Plain (Map n vs))) e fine long = refl
 effect-by lines at h t p (Some (Plain (Jump u))) e fine long = refl
 effect-by lines at h t p (Some (Plain (JumpIf c r v u))) e fine long =
     let xs : List ℕ = h ∷ (t ∷ []) in
-    let low = each-at (IsFunctionLine (length lines)) lines p.place (Plain (JumpIf c r v u)) fine e in
+    let low = AllByRecursion-at (IsFunctionLine (length lines)) lines p.place (Plain (JumpIf c r v u)) fine e in
     let next : at + place_in lines (p.place + 1) ≡ at + place_in lines p.place + 1 = omega (arith, place-next lines p.place (JumpIf c r v u) e) in
     ap (λ (k : ℕ). Some (point (p.registers ++ xs) k))
     (ap₂ (λ (a b : ℕ). if meets c a b then at + place_in lines u else at + place_in lines p.place + 1) (get-low p.registers xs r long low.0) (value-low p.registers xs v long low.1)
     ∙ jump-cases (meets c (get_or p.registers r 0) (value_of p.registers v)) (λ k. at + place_in lines k) u (p.place + 1) (at + place_in lines p.place + 1) next)
 effect-by lines at h t p (Some (Plain (Change o r v))) e fine long =
     let xs : List ℕ = h ∷ (t ∷ []) in
-    let low = each-at (IsFunctionLine (length lines)) lines p.place (Plain (Change o r v)) fine e in
+    let low = AllByRecursion-at (IsFunctionLine (length lines)) lines p.place (Plain (Change o r v)) fine e in
     let next : at + place_in lines p.place + 1 ≡ at + place_in lines (p.place + 1) = omega (arith, place-next lines p.place (Change o r v) e) in
     let value = ap₂ (changed o) (get-low p.registers xs r long low.0) (value-low p.registers xs v long low.1) in
     ap₂ (λ (l : List ℕ) (k : ℕ). Some (point l k)) (ap (slice_set (p.registers ++ xs) r) value ∙ set-low p.registers xs r _ long low.0) next
@@ -137,16 +132,16 @@ call-by : (lines : List SfnInstruction) (to : ℕ → ℕ) (h : Handle) (t : ℕ
 call-by lines to h t p None e fine long handle =
     ap (λ (x : Handle). call.Reply x (record { 0 = cast_signed w32 0 })) (λ i. record { 0 = (ap (cast_signed w32) (get-14 p.registers (cast_unsigned w32 h.0) t long) ∙ handle) i })
 call-by lines to h t p (Some (Return v)) e fine long handle =
-    let low = each-at (IsFunctionLine (length lines)) lines p.place (Return v) fine e in
+    let low = AllByRecursion-at (IsFunctionLine (length lines)) lines p.place (Return v) fine e in
     ap₂ (λ (x : Handle) (y : ℕ). call.Reply x (record { 0 = cast_signed w32 y })) (λ i. record { 0 = (ap (cast_signed w32) (get-14 p.registers (cast_unsigned w32 h.0) t long) ∙ handle) i })
     (value-low p.registers (cast_unsigned w32 h.0 ∷ (t ∷ [])) v long low)
 call-by lines to h t p (Some (Plain (Change o r v))) e fine long handle = refl
 call-by lines to h t p (Some (Plain (Jump u))) e fine long handle = refl
 call-by lines to h t p (Some (Plain (JumpIf c r v u))) e fine long handle = refl
 call-by lines to h t p (Some (Plain (Make n vs))) e fine long handle =
-    let low = each-at (IsFunctionLine (length lines)) lines p.place (Plain (Make n vs)) fine e in
+    let low = AllByRecursion-at (IsFunctionLine (length lines)) lines p.place (Plain (Make n vs)) fine e in
     ap (call_of n) (fun_ext (λ i. value-low p.registers (cast_unsigned w32 h.0 ∷ (t ∷ [])) (get_or vs i (Number 0)) long (operand-at vs i low.1)))
-call-by lines to h t p (Some (Plain (Map n vs))) e fine long handle = absurd (each-at (IsFunctionLine (length lines)) lines p.place (Plain (Map n vs)) fine e)
+call-by lines to h t p (Some (Plain (Map n vs))) e fine long handle = absurd (AllByRecursion-at (IsFunctionLine (length lines)) lines p.place (Plain (Map n vs)) fine e)
 
 -- a function's call is that of the loop
 pub call-same : (code : List Instruction) (lines : List SfnInstruction) (at t : ℕ) (h : Handle) (p : Point) → StandsAt code at (function_code lines at) → IsFunction lines → IsLong p → IsHandle h

@@ -2,6 +2,7 @@
 use Rattle.std.proofs.Common.{ℕ, ◌<◌, ◌≡◌, ◌==◌, ◌^◌, List, [], ◌∷◌, ◌++◌, length, refl, ap, ap₂, sym, ◌∙◌, subst, true, append_assoc}
 use Rattle.std.specs.Prelude.{Option, Some, None, IsSome, bit_and}
 use Rattle.std.specs.Int.{bit_at}
+use Rattle.ffm_model.proofs.RecordLemmas.{entries_of-other, entries_of-own}
 use Rattle.ffm_model.specs.declared.constants.TheConstants.{PSA_BLOCK}
 use Rattle.ffm_model.specs.declared.machine.Call.TheVariants as call
 use Rattle.ffm_model.specs.declared.machine.Entry.{Entry}
@@ -24,7 +25,7 @@ use Rattle.sfn_runs.specs.Owners.{LoopsAreRounds}
 use Rattle.sfn_runs.proofs.Bits.{has-bit, lowest-some}
 use Rattle.sfn_runs.proofs.OwnSteps.{gets-message, own-step, reply-quiet, wait-blocks, wakes}
 use Rattle.sfn_runs.proofs.Owned.{IsSfnOwner, sfn-owner}
-use Rattle.sfn_runs.proofs.Recent.{Recent, entries-else, entries-mine, front-push, front_of, last-push, last_of, opening-recent, step-recent}
+use Rattle.sfn_runs.proofs.Recent.{Recent, front-push, front_of, last-push, last_of, opening-recent, step-recent}
 use Rattle.sfn_runs.proofs.Services.{base-is, lowest-is, partition-fits, wait-meets}
 
 -- ---- an entry of the partition, in the whole run
@@ -68,7 +69,7 @@ step-seen s a inside es st new d r h = record {
   each = λ before behind e split. same_or_not a d.actor.0 (Here s a before e)
       (λ k.
       let mine : (d.actor.0 == a) ≡ true = ap (λ (x : ℕ). d.actor.0 == x) k ∙ is_itself d.actor.0 in
-      push-split (entries_of a es) before behind d e (Here s a before e) (sym (entries-mine a es d mine) ∙ split)
+      push-split (entries_of a es) before behind d e (Here s a before e) (sym (entries_of-own a es d mine) ∙ split)
       (λ past same. record {
         old = st;
         new = new;
@@ -79,7 +80,7 @@ step-seen s a inside es st new d r h = record {
         mine = ap (λ (x : Entry). x.actor.0) (sym same) ∙ sym k;
       })
       (λ rest past. r.each before rest e past))
-      (λ k. r.each before behind e (sym (entries-else a es d (flipped a d.actor.0 k)) ∙ split));
+      (λ k. r.each before behind e (sym (entries_of-other a es d (flipped a d.actor.0 k)) ∙ split));
 }
 
 run-seen : (s : System) (m : ByteMap) (es : List Entry) (st : State) (a : ℕ) → after s m es ≡ Some st → a < length s.partitions → Seen s a es st

@@ -1,9 +1,10 @@
 -- Bits of signals and of their unions.
 use Rattle.std.proofs.Common.{ℕ, zero, suc, ◌+◌, ◌*◌, ◌<◌, ◌≤◌, ◌≡◌, ◌==◌, ◌^◌, List, [], ◌∷◌, refl, ap, sym, ◌∙◌, arith, Bool, true, false, eqb-true, eq-eqb}
-use Rattle.std.specs.Prelude.{Option, Some, None, IsSome, if◌then◌else◌, not, ◌||◌, find, map, fold, min, max, bit_and, bit_or}
+use Rattle.std.specs.Prelude.{Some, None, IsSome, if◌then◌else◌, not, ◌||◌, find, map, fold, min, max, bit_and, bit_or}
 use Rattle.std.specs.Int.{bit_at}
 use Rattle.std.specs.List.{AllByRecursion, list_any, range_with_len}
 use Rattle.std.proofs.lemmas.Nat.Bits.{bit_at_and, bit_at_or, bit_at-zero, bit_at-lt, and_pow, same_from_bits}
+use Rattle.ffm_model.proofs.RunLemmas.{some-is}
 use Rattle.ffm_model.specs.Functions.{SfnService, asserts, lowest, signals_in}
 use Rattle.ffm_model.specs.WellFormed.{is_signal_bit}
 
@@ -55,15 +56,11 @@ find-none : (n : ℕ) (vs : List SfnService) → find (asserts n) vs ≡ None �
 find-none n [] e = tt
 find-none n (v ∷ vs) e = find-none-by n v vs (bit_and n v.signal == 0) refl e (find-none n vs)
 
-some-or : {A : Type 0} (o : Option A) → (o ≡ None → ⊥) → IsSome o
-some-or None h = absurd (h refl)
-some-or (Some x) h = refl
-
 -- where the signals of all services meet a word, one of them has its signal there
 pub lowest-some : (w : ℕ) (vs : List SfnService) → (bit_and w (signals_in vs) == 0) ≡ false → IsSome (lowest vs (bit_and w (signals_in vs)))
 unfolding signals_in lowest
 lowest-some w vs met =
-    some-or (find (asserts (bit_and w (signals_in vs))) vs) (λ none.
+    some-is (find (asserts (bit_and w (signals_in vs))) vs) (λ none.
     let nought : bit_and w (signals_in vs) ≡ 0 = none-asserted w (map (λ (v : SfnService). v.signal) vs) (find-none _ vs none) in
     let yes : (bit_and w (signals_in vs) == 0) ≡ true = eq-eqb (bit_and w (signals_in vs)) 0 nought in
     cc)

@@ -1,6 +1,6 @@
 -- What the machine answers to a partition's own calls.
 use Rattle.std.proofs.Common.{ℕ, ◌<◌, ◌≤◌, ◌≡◌, ◌==◌, ◌^◌, List, [], ◌∷◌, length, refl, ap, ap₂, sym, ◌∙◌, subst, arith, Bool, true, false, eqb-true, inl, inr}
-use Rattle.std.specs.Prelude.{ℤ, pos, negsuc, Option, Some, None, if◌then◌else◌, not, ◌&&◌, ◌||◌, find, is_none, nat_lt, bit_and, int_le, nat_le, option_and_then, ◌⊎◌}
+use Rattle.std.specs.Prelude.{ℤ, pos, negsuc, Option, Some, None, if◌then◌else◌, ◌&&◌, ◌||◌, find, is_none, nat_lt, bit_and, int_le, nat_le, option_and_then, ◌⊎◌}
 use Rattle.std.specs.List.{list_any}
 use Rattle.std.specs.Option.{option_map}
 use Rattle.std.specs.Int.{w32, cast_signed, cast_unsigned}
@@ -32,7 +32,7 @@ use Rattle.ffm_model.specs.Calls.{has_call, case_of, programmer_error, effect_or
 use Rattle.ffm_model.specs.Step.{step, may_call, returns_when_due, handle_allowed, gives_handle, handle_shown, outcome_eq}
 use Rattle.counting_law.proofs.Parts.{is_there, phase_same}
 use Rattle.counting_law.proofs.Events.{caller-running}
-use Rattle.counting_law.proofs.Steps.{step-is}
+use Rattle.counting_law.proofs.Steps.{step-is, new_handle}
 use Rattle.sfn_calls.specs.Answers.{IsHandle}
 use Rattle.sfn_runs.proofs.Owned.{is-partition}
 
@@ -190,11 +190,6 @@ gives-get (Connected c) signal msg = refl
 gives-get Ended signal msg = refl
 gives-get Panicked signal msg = refl
 
-fresh-by : (wrong gives new : Bool) → wrong ≡ false → gives ≡ true → (wrong || (not gives || new)) ≡ true → new ≡ true
-fresh-by true gives new e f h = cc
-fresh-by false true new e f h = h
-fresh-by false false new e f h = cc
-
 pub gets-message : (s : System) (st new : State) (a signal msg v : ℕ) (o : Outcome) → a < length s.partitions → Own s st new a (call.Get signal msg) o → service_of_signal s a signal ≡ Some v
     → has_undelivered st.spm v ≡ true → valid_buffer s a msg message_size ≡ true → Delivered o
 unfolding get-choice
@@ -211,7 +206,7 @@ gets-message s st new a signal msg v o inside own found waits room =
     let it = got-is (shown_message s st.spm first.0 h) o (subst (λ (x : Effect). outcome_eq x.outcome o ≡ true) all own.outcome) in
     let right : programmer_error s st a (call.Get signal msg) ≡ false = ap (λ (x : Option Effect). is_none x) (made (record { 0 = pos 0 })) in
     let new_one : fresh st h ≡ true =
-    fresh-by (programmer_error s st a (call.Get signal msg)) (gives_handle (phase_of st.spm a) (call.Get signal msg)) (fresh st h) right (gives-get (phase_of st.spm a) signal msg) own.allowed in
+    new_handle (programmer_error s st a (call.Get signal msg)) (gives_handle (phase_of st.spm a) (call.Get signal msg)) (fresh st h) right (gives-get (phase_of st.spm a) signal msg) own.allowed in
     let shown : h ≡ it.0.handle = ap handle_shown it.1 in
     let range = and_parts (int_le (pos 1) h.0 && int_le h.0 (pos 0x3fffffff)) _ new_one in
     record {

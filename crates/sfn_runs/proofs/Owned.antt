@@ -7,6 +7,7 @@ use Rattle.std.proofs.lemmas.Bool.{and_parts, and_from, or_cases, or_left, or_ri
 use Rattle.std.proofs.lemmas.Bool.Decides.{nat_tests}
 use Rattle.std.proofs.lemmas.Iterator.Adapters.{position_from-zero}
 use Rattle.std.proofs.lemmas.Option.{slice_get_within}
+use Rattle.list_laws.proofs.Tests.{list_all-at, list_any-at}
 use Rattle.ffm_model.specs.declared.system.ActorKind.TheVariants as kind
 use Rattle.ffm_model.specs.declared.system.Class.{Class}
 use Rattle.ffm_model.specs.declared.system.Class.TheVariants.{Ram, NonSecure, Mmio}
@@ -18,17 +19,12 @@ use Rattle.ffm_model.specs.Actors.{is_partition, kind_of}
 use Rattle.ffm_model.specs.Memory.{domain_of, is_ram_of, lies_in, valid_buffer}
 use Rattle.ffm_model.specs.PartitionRam.{ram_base}
 use Rattle.ffm_model.specs.ServiceCalls.{message_size, service_of_signal}
-use Rattle.ffm_model.specs.WellFormed.{functions_fit, is_ram_in, is_signal_bit, ram_bytes, signal_fits}
+use Rattle.ffm_model.specs.WellFormed.{functions_fit, is_ram_in, is_signal_bit, ram_size, signal_fits}
 use Rattle.ffm_model.proofs.WellFormedLemmas.{models_hold, partitions_hold, service_signals_hold}
 use Rattle.sfn_calls.specs.Partitions.{is_sfn}
 use Rattle.sfn_runs.proofs.Bits.{signal-bit}
 
 -- ---- lists
-
-all-at : {X : Type 0} (p : X → Bool) (xs : List X) (i : ℕ) (x : X) → list_all p xs ≡ true → slice_get xs i ≡ Some x → p x ≡ true
-all-at p [] i x h e = absurd (cc)
-all-at p (y ∷ ys) zero x h e = let same : y ≡ x = cc in ap p (sym same) ∙ (and_parts (p y) (list_all p ys) h).0
-all-at p (y ∷ ys) (suc i) x h e = all-at p ys i x (and_parts (p y) (list_all p ys) h).1 e
 
 numbered-at : {X : Type 0} (p : ℕ × X → Bool) (xs : List X) (n i k : ℕ) (x : X) → k ≡ n + i → list_all p (enumerate_from n xs) ≡ true → slice_get xs i ≡ Some x → p (k, x) ≡ true
 numbered-at p [] n i k x at h e = absurd (cc)
@@ -37,11 +33,6 @@ numbered-at p (y ∷ ys) n zero k x at h e =
     let here : k ≡ n = omega arith in
     ap₂ (λ (j : ℕ) z. p (j, z)) here same ∙ (and_parts (p (n, y)) (list_all p (enumerate_from (n + 1) ys)) h).0
 numbered-at p (y ∷ ys) n (suc i) k x at h e = numbered-at p ys (n + 1) i k x (omega arith) (and_parts (p (n, y)) (list_all p (enumerate_from (n + 1) ys)) h).1 e
-
-any-at : {X : Type 0} (p : X → Bool) (xs : List X) (i : ℕ) (x : X) → slice_get xs i ≡ Some x → p x ≡ true → list_any p xs ≡ true
-any-at p [] i x e h = absurd (cc)
-any-at p (y ∷ ys) zero x e h = let same : y ≡ x = cc in or_left (p y) (list_any p ys) (ap p same ∙ h)
-any-at p (y ∷ ys) (suc i) x e h = or_right (p y) (list_any p ys) (any-at p ys i x e h)
 
 position-by : {X : Type 0} (p : X → Bool) (xs : List X) (n : ℕ) (b : Bool) → (b || list_any p xs) ≡ true → (list_any p xs ≡ true → (i : ℕ) × (position_from p (n + 1) xs ≡ Some i)) → (i : ℕ) × ((if b then Some n else position_from p (n + 1) xs) ≡ Some i)
 position-by p xs n true h go = (n, refl)
@@ -133,7 +124,7 @@ room-by s a p (Some r) inside at there own large =
     ap (λ (o : Option Partition). option_map_or (λ r. r.base) (option_and_then (λ p. slice_get s.regions p.ram) o) 0) at ∙ ap (λ (o : Option Region). option_map_or (λ r. r.base) o 0) there in
     let domain : p.domain ≡ domain_of s a = sym (ap (λ (o : Option Partition). option_map_or (λ q. q.domain) o 0) at) in
     let mine : is_ram_of s a r.class ≡ true = own-ram s a p.domain r.class (ap is_partition (is-partition s a inside)) domain own in
-    any-at (λ r. is_ram_of s a r.class && lies_in (ram_base s a) message_size r) s.regions p.ram r there
+    list_any-at (λ r. is_ram_of s a r.class && lies_in (ram_base s a) message_size r) s.regions p.ram r there
     (and_from (is_ram_of s a r.class) (lies_in (ram_base s a) message_size r) mine (within-by (ram_base s a) r base large))
 
 -- ---- all of it
@@ -145,13 +136,13 @@ fitting false y h e = absurd (cc)
 owner-by : (s : System) (a : ℕ) (o : Option Partition) → slice_get s.partitions a ≡ o → option_map_or (λ p. p.sfn) o false ≡ true → IsSfnOwner s a
 owner-by s a None at sfn = absurd (cc)
 owner-by s a (Some p) at sfn =
-    let all = and_parts (list_all (functions_fit s.services s.regions) (enumerate_from 0 s.partitions)) (list_all (λ p. nat_le p.heap (ram_bytes s.regions p)) s.partitions) (models_hold s) in
+    let all = and_parts (list_all (functions_fit s.services s.regions) (enumerate_from 0 s.partitions)) (list_all (λ p. nat_le p.heap (ram_size s.regions p)) s.partitions) (models_hold s) in
     let fit = numbered-at (functions_fit s.services s.regions) s.partitions 0 a a p (omega arith) all.0 at in
-    let both = fitting p.sfn (list_any (λ v. v.owner == a) s.services && nat_le message_size (ram_bytes s.regions p)) fit sfn in
-    let parts = and_parts (list_any (λ v. v.owner == a) s.services) (nat_le message_size (ram_bytes s.regions p)) both in
+    let both = fitting p.sfn (list_any (λ v. v.owner == a) s.services && nat_le message_size (ram_size s.regions p)) fit sfn in
+    let parts = and_parts (list_any (λ v. v.owner == a) s.services) (nat_le message_size (ram_size s.regions p)) both in
     let rams = (and_parts _ _ (and_parts _ _ (partitions_hold s)).0).0 in
     let inside : a < length s.partitions = slice_get_within s.partitions a p at in
-    let own : option_map_or (λ r. is_ram_in p.domain r.class) (slice_get s.regions p.ram) false ≡ true = all-at (λ q. option_map_or (λ r. is_ram_in q.domain r.class) (slice_get s.regions q.ram) false) s.partitions a p rams at in
+    let own : option_map_or (λ r. is_ram_in p.domain r.class) (slice_get s.regions p.ram) false ≡ true = list_all-at (λ q. option_map_or (λ r. is_ram_in q.domain r.class) (slice_get s.regions q.ram) false) s.partitions a p rams at in
     record {
       exists = inside;
       serves = serves-of s a parts.0;

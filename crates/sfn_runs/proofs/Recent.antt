@@ -1,16 +1,16 @@
 -- What a run keeps of a partition whose last entries are a round's wait and its return.
-use Rattle.std.proofs.Common.{ℕ, zero, suc, ◌<◌, ◌≤◌, ◌≡◌, ◌==◌, ◌^◌, List, [], ◌∷◌, ◌++◌, length, get_or, refl, ap, sym, ◌∙◌, subst, Bool, true, false, inl, inr}
-use Rattle.std.specs.Prelude.{Option, Some, None, if◌then◌else◌, bit_and, replicate}
+use Rattle.std.proofs.Common.{ℕ, ◌<◌, ◌≤◌, ◌≡◌, ◌==◌, ◌^◌, List, [], ◌∷◌, ◌++◌, length, refl, ap, sym, ◌∙◌, subst, true, inl, inr}
+use Rattle.std.specs.Prelude.{Option, Some, None, bit_and}
 use Rattle.std.specs.Int.{bit_at}
-use Rattle.std.proofs.lemmas.List.{append-nil}
-use Rattle.std.proofs.lemmas.List.Elements.{filter-append}
+use Rattle.ffm_model.proofs.RecordLemmas.{entries_of-other, entries_of-own}
+use Rattle.counting_law.proofs.Returns.{open-phase, turned-sound}
 use Rattle.ffm_model.specs.declared.system.System.{System}
 use Rattle.ffm_model.specs.declared.machine.Entry.{Entry}
 use Rattle.ffm_model.specs.declared.machine.Call.TheVariants as call
 use Rattle.ffm_model.specs.declared.machine.Outcome.{Outcome}
 use Rattle.ffm_model.specs.declared.machine.Outcome.TheVariants as outcome
 use Rattle.ffm_model.specs.declared.objects.ActorPhase.{ActorPhase}
-use Rattle.ffm_model.specs.declared.objects.ActorPhase.TheVariants.{Running, Blocked, Waiting, Ready, Connected, Ended, Panicked}
+use Rattle.ffm_model.specs.declared.objects.ActorPhase.TheVariants.{Running, Blocked, Waiting}
 use Rattle.ffm_model.specs.Actors.{actor_count}
 use Rattle.ffm_model.specs.Memory.{ByteMap}
 use Rattle.ffm_model.specs.State.{SpmState, State, opening, phase_of}
@@ -23,7 +23,7 @@ use Rattle.counting_law.proofs.Parts.{flipped, is_itself, same_or_not}
 use Rattle.counting_law.proofs.Resume.{times}
 use Rattle.counting_law.proofs.Steps.{step-kind}
 use Rattle.counting_law.proofs.Runs.{opening-balanced, step-keeps}
-use Rattle.counting_law.proofs.Turns.{Turned, Turns, is_told, is_sound, kinds-turn}
+use Rattle.counting_law.proofs.Turns.{Turned, Turns, is_sound, kinds-turn}
 use Rattle.sfn_runs.proofs.Bits.{and-left}
 use Rattle.sfn_runs.proofs.Signals.{asserted-waits}
 use Rattle.sfn_runs.proofs.Delivery.{Stays, kinds-stay, service-owned}
@@ -51,14 +51,6 @@ front-push [] e = refl
 front-push (x ∷ []) e = refl
 front-push (x ∷ y ∷ xs) e = ap (λ (l : List Entry). x ∷ l) (front-push (y ∷ xs) e)
 
--- ---- one entry more
-
-pub entries-mine : (a : ℕ) (es : List Entry) (e : Entry) → (e.actor.0 == a) ≡ true → entries_of a (es ++ e ∷ []) ≡ entries_of a es ++ e ∷ []
-entries-mine a es e h = filter-append (λ d. d.actor.0 == a) es (e ∷ []) ∙ ap (λ (b : Bool). entries_of a es ++ (if b then e ∷ [] else [])) h
-
-pub entries-else : (a : ℕ) (es : List Entry) (e : Entry) → (e.actor.0 == a) ≡ false → entries_of a (es ++ e ∷ []) ≡ entries_of a es
-entries-else a es e h = filter-append (λ d. d.actor.0 == a) es (e ∷ []) ∙ ap (λ (b : Bool). entries_of a es ++ (if b then e ∷ [] else [])) h ∙ append-nil (entries_of a es)
-
 -- ---- what a run keeps
 
 -- the messages that the signals told of still wait
@@ -73,20 +65,6 @@ pub record Recent (s : System) (a : ℕ) (es : List Entry) (st : State) : Type 0
       → r.call ≡ call.Resume → r.outcome ≡ outcome.Signals n → (phase_of st.spm a ≡ Running) × StillWait s a st.spm n
 
 -- ---- phases of others
-
-told-sound : (p : ActorPhase) → is_told p ≡ true → is_sound p ≡ true
-told-sound (Ready o) e = e
-told-sound (Connected c) e = refl
-told-sound Running e = cc
-told-sound Blocked e = cc
-told-sound (Waiting mask) e = cc
-told-sound Ended e = cc
-told-sound Panicked e = cc
-
-turned-sound : (p q : ActorPhase) → Turned p q → is_sound p ≡ true → is_sound q ≡ true
-turned-sound p q (inl e) h = ap is_sound (sym e) ∙ h
-turned-sound p q (inr (inl k)) h = told-sound q k.1
-turned-sound p q (inr (inr k)) h = ap is_sound k.1
 
 -- one that isn't Blocked stays
 turned-stays : (p q r : ActorPhase) → Turned p q → p ≡ r → (r ≡ Blocked → ⊥) → q ≡ r
@@ -114,13 +92,13 @@ step-recent s a inside es st new e r h =
       waits = λ w mask timeout last is blocked. same_or_not a e.actor.0 (phase_of new.spm a ≡ Waiting mask)
           (λ k.
           let mine : (e.actor.0 == a) ≡ true = ap (λ (x : ℕ). e.actor.0 == x) k ∙ is_itself e.actor.0 in
-          let same : e ≡ w = some-same e w (sym (last-push (entries_of a es) e) ∙ (ap last_of (sym (entries-mine a es e mine)) ∙ last)) in
+          let same : e ≡ w = some-same e w (sym (last-push (entries_of a es) e) ∙ (ap last_of (sym (entries_of-own a es e mine)) ∙ last)) in
           waits-for s st new a mask timeout e.outcome inside (own-step s st new e a (call.Wait mask timeout) h (sym k) (ap (λ (x : Entry). x.call) same ∙ is)) (ap (λ (x : Entry). x.outcome) same ∙ blocked))
-          (λ k. turned-stays _ _ (Waiting mask) (turns.others a k) (r.waits w mask timeout (ap last_of (sym (entries-else a es e (flipped a e.actor.0 k))) ∙ last) is blocked) (λ z. cc));
+          (λ k. turned-stays _ _ (Waiting mask) (turns.others a k) (r.waits w mask timeout (ap last_of (sym (entries_of-other a es e (flipped a e.actor.0 k))) ∙ last) is blocked) (λ z. cc));
       seen = λ w q mask timeout n last before is blocked back shown. same_or_not a e.actor.0 ((phase_of new.spm a ≡ Running) × StillWait s a new.spm n)
           (λ k.
           let mine : (e.actor.0 == a) ≡ true = ap (λ (x : ℕ). e.actor.0 == x) k ∙ is_itself e.actor.0 in
-          let pushed = entries-mine a es e mine in
+          let pushed = entries_of-own a es e mine in
           let same : e ≡ q = some-same e q (sym (last-push (entries_of a es) e) ∙ (ap last_of (sym pushed) ∙ last)) in
           let was : last_of (entries_of a es) ≡ Some w = ap last_of (sym (front-push (entries_of a es) e)) ∙ (ap (λ (l : List Entry). last_of (front_of l)) (sym pushed) ∙ before) in
           let waiting = r.waits w mask timeout was is blocked in
@@ -131,7 +109,7 @@ step-recent s a inside es st new e r h =
                 (asserted-waits s st.spm a j v high found (and-left (signals_of s st.spm a) mask j (ap (λ (x : ℕ). bit_at x j) number ∙ bit)))),
           ))
           (λ k.
-          let same = sym (entries-else a es e (flipped a e.actor.0 k)) in
+          let same = sym (entries_of-other a es e (flipped a e.actor.0 k)) in
           let old = r.seen w q mask timeout n (ap last_of same ∙ last) (ap (λ (l : List Entry). last_of (front_of l)) same ∙ before) is blocked back shown in (
             turned-stays _ _ Running (turns.others a k) old.0 (λ z. cc),
             (λ j v high found bit.
@@ -142,15 +120,10 @@ step-recent s a inside es st new e r h =
           ));
     }
 
-open-sound : (n a : ℕ) → is_sound (get_or (replicate n Running) a Ended) ≡ true
-open-sound zero a = refl
-open-sound (suc n) zero = refl
-open-sound (suc n) (suc a) = open-sound n a
-
 pub opening-recent : (s : System) (a : ℕ) (m : ByteMap) → Recent s a [] (opening s m)
 opening-recent s a m = record {
   balanced = opening-balanced s;
-  sound = λ x. open-sound (actor_count s) x;
+  sound = λ x. open-phase is_sound true refl refl (actor_count s) x;
   waits = λ w mask timeout last is blocked. cc;
   seen = λ w q mask timeout n last before is blocked back shown. cc;
 }

@@ -25,107 +25,107 @@ use Rattle.slot_names.proofs.Moves.{names-enqueued, names-started, names-stay, r
 
 -- the slots of the messages of the old tables that stay in the new ones
 abbrev pub kept_names : TablesView → TablesView → List SlotName → List SlotName
-kept_names old new ts = slots_kept (stays (message_list new.waiting.held)) (message_list old.waiting.held) ts
+kept_names old new ts = slots_kept (stays (message_list new.messages.held)) (message_list old.messages.held) ts
 
-added : (old new : TablesView) (ts : List SlotName) (n : ℕ) → length new.waiting.held ≡ length ts + n → length (message_list new.waiting.held) - length ts ≡ n
-added old new ts n longer = omega (arith, longer, length-map new.waiting.held held_message)
+added : (old new : TablesView) (ts : List SlotName) (n : ℕ) → length new.messages.held ≡ length ts + n → length (message_list new.messages.held) - length ts ≡ n
+added old new ts n longer = omega (arith, longer, length-map new.messages.held held_message)
 
 -- where no connection is made
-pub after-still : (s : System) (old new : TablesView) (k : NamesSoFar) (ts : List SlotName) → kept_names old new k.messages ≡ ts → new.linked.takes ≡ old.linked.takes
-    → names_after s (spm_of old) (spm_of new) k ≡ with_messages (message_capacity s) (length (message_list new.waiting.held) - length ts) (record k { messages = ts })
+pub after-still : (s : System) (old new : TablesView) (k : NamesSoFar) (ts : List SlotName) → kept_names old new k.messages ≡ ts → new.connections.takes ≡ old.connections.takes
+    → names_after s (spm_of old) (spm_of new) k ≡ with_messages (message_capacity s) (length (message_list new.messages.held) - length ts) (record k { messages = ts })
 after-still s old new k ts kept made =
     let size : ℕ = capacity s in
     let joined : List SlotName → NamesSoFar = λ us. with_connection size (spm_of old) (spm_of new) (record k { messages = us }) in
-    let not_less : nat_lt old.linked.takes new.linked.takes ≡ false = grind (arith, nat_tests) in
+    let not_less : nat_lt old.connections.takes new.connections.takes ≡ false = grind (arith, nat_tests) in
     let unjoined : joined ts ≡ record k { messages = ts } =
     ap (λ (b : Bool). cond {A = NamesSoFar} b (record k { messages = ts; connections = k.connections ++ next_slot size (live_connections k (spm_of old)) k.connections ∷ [] }) (record k { messages = ts })) not_less in
-    ap (λ us. with_messages (message_capacity s) (length (message_list new.waiting.held) - length us) (joined us)) kept ∙ ap (with_messages (message_capacity s) (length (message_list new.waiting.held) - length ts)) unjoined
+    ap (λ us. with_messages (message_capacity s) (length (message_list new.messages.held) - length us) (joined us)) kept ∙ ap (with_messages (message_capacity s) (length (message_list new.messages.held) - length ts)) unjoined
 
-pub after-is : (s : System) (old new : TablesView) (k : NamesSoFar) (ts : List SlotName) (n : ℕ) → kept_names old new k.messages ≡ ts → length new.waiting.held ≡ length ts + n → new.linked.takes ≡ old.linked.takes
+pub after-is : (s : System) (old new : TablesView) (k : NamesSoFar) (ts : List SlotName) (n : ℕ) → kept_names old new k.messages ≡ ts → length new.messages.held ≡ length ts + n → new.connections.takes ≡ old.connections.takes
     → names_after s (spm_of old) (spm_of new) k ≡ with_messages (message_capacity s) n (record k { messages = ts })
 after-is s old new k ts n kept longer made =
     after-still s old new k ts kept made ∙ ap (λ m. with_messages (message_capacity s) m (record k { messages = ts })) (added old new ts n longer)
 
 -- where one is
-pub after-joined : (s : System) (old new : TablesView) (k : NamesSoFar) (ts : List SlotName) (n : ℕ) → kept_names old new k.messages ≡ ts → length new.waiting.held ≡ length ts + n → new.linked.takes ≡ old.linked.takes + 1
+pub after-joined : (s : System) (old new : TablesView) (k : NamesSoFar) (ts : List SlotName) (n : ℕ) → kept_names old new k.messages ≡ ts → length new.messages.held ≡ length ts + n → new.connections.takes ≡ old.connections.takes + 1
     → names_after s (spm_of old) (spm_of new) k
     ≡ with_messages (message_capacity s) n (record k { messages = ts; connections = k.connections ++ next_slot (capacity s) (live_connections k (spm_of old)) k.connections ∷ [] })
 after-joined s old new k ts n kept longer made =
     let size : ℕ = capacity s in
     let next : NamesSoFar = record k { messages = ts; connections = k.connections ++ next_slot size (live_connections k (spm_of old)) k.connections ∷ [] } in
     let joined : List SlotName → NamesSoFar = λ us. with_connection size (spm_of old) (spm_of new) (record k { messages = us }) in
-    let less : nat_lt old.linked.takes new.linked.takes ≡ true = grind (arith, nat_tests) in
+    let less : nat_lt old.connections.takes new.connections.takes ≡ true = grind (arith, nat_tests) in
     let is_joined : joined ts ≡ next = ap (λ (b : Bool). cond {A = NamesSoFar} b next (record k { messages = ts })) less in
-    ap (λ us. with_messages (message_capacity s) (length (message_list new.waiting.held) - length us) (joined us)) kept
+    ap (λ us. with_messages (message_capacity s) (length (message_list new.messages.held) - length us) (joined us)) kept
     ∙ ap (λ m. with_messages (message_capacity s) m (joined ts)) (added old new ts n longer)
     ∙ ap (with_messages (message_capacity s) n) is_joined
 
 -- all messages stay
-all-kept : (old new : TablesView) (k : NamesSoFar) → NamesAre old k → All (λ h. list_any (is_like h) new.waiting.held ≡ true) old.waiting.held → kept_names old new k.messages ≡ k.messages
+all-kept : (old new : TablesView) (k : NamesSoFar) → NamesAre old k → All (λ h. list_any (is_like h) new.messages.held ≡ true) old.messages.held → kept_names old new k.messages ≡ k.messages
 all-kept old new k was stay =
     ap (kept_names old new) was.messages
-    ∙ kept-all (stays (message_list new.waiting.held)) old.waiting.held (λ i d lt. stays-is new.waiting.held (get_or old.waiting.held i d) ∙ stay i d lt)
+    ∙ kept-all (stays (message_list new.messages.held)) old.messages.held (λ i d lt. stays-is new.messages.held (get_or old.messages.held i d) ∙ stay i d lt)
     ∙ sym was.messages
 
-pub names-length : (d : TablesView) (k : NamesSoFar) → NamesAre d k → length k.messages ≡ length d.waiting.held
-names-length d k was = ap (λ (ts : List SlotName). length ts) was.messages ∙ length-map d.waiting.held (λ (h : Held QueuedMessage). slot_name h.slot)
+pub names-length : (d : TablesView) (k : NamesSoFar) → NamesAre d k → length k.messages ≡ length d.messages.held
+names-length d k was = ap (λ (ts : List SlotName). length ts) was.messages ∙ length-map d.messages.held (λ (h : Held QueuedMessage). slot_name h.slot)
 
 -- ---- no connection or message comes, and no message goes
 
-pub names-changed : (s : System) (old new : TablesView) → KeepsConnectionNames old.linked new.linked → KeepsMessageNames old.waiting new.waiting → KeepsNames s old new
+pub names-changed : (s : System) (old new : TablesView) → KeepsConnectionNames old.connections new.connections → KeepsMessageNames old.messages new.messages → KeepsNames s old new
 names-changed s old new linked waiting = λ k was.
-    let stay : All (λ h. list_any (is_like h) new.waiting.held ≡ true) old.waiting.held = λ i d lt. waiting.alike (get_or old.waiting.held i d) ∙ stay-all old.waiting.held i d lt in
+    let stay : All (λ h. list_any (is_like h) new.messages.held ≡ true) old.messages.held = λ i d lt. waiting.alike (get_or old.messages.held i d) ∙ stay-all old.messages.held i d lt in
     let now : NamesAre new k = names-stay old new k was linked waiting in
     subst (NamesAre new) (sym (after-is s old new k k.messages 0 (all-kept old new k was stay) (omega (arith, names-length new k now)) linked.takes)) now
 
-pub names-same : (s : System) (old new : TablesView) → new.linked ≡ old.linked → new.waiting ≡ old.waiting → KeepsNames s old new
-names-same s old new linked waiting = names-changed s old new (relinks-same old.linked new.linked linked) (rewaits-same old.waiting new.waiting waiting)
+pub names-same : (s : System) (old new : TablesView) → new.connections ≡ old.connections → new.messages ≡ old.messages → KeepsNames s old new
+names-same s old new linked waiting = names-changed s old new (relinks-same old.connections new.connections linked) (rewaits-same old.messages new.messages waiting)
 
 -- a connection changes in its slot
-pub names-connection : (s : System) (old new : TablesView) (slot : Slot) (c changed : OpenConnection) → IsKept 256 old.linked → item_at old.linked slot ≡ Some c → changed.serial ≡ c.serial
-    → new.linked ≡ with_item old.linked slot changed → new.waiting ≡ old.waiting → KeepsNames s old new
+pub names-connection : (s : System) (old new : TablesView) (slot : Slot) (c changed : OpenConnection) → IsKept 256 old.connections → item_at old.connections slot ≡ Some c → changed.serial ≡ c.serial
+    → new.connections ≡ with_item old.connections slot changed → new.messages ≡ old.messages → KeepsNames s old new
 names-connection s old new slot c changed kept live serial linked waiting =
-    names-changed s old new (relinks-to old.linked new.linked (with_item old.linked slot changed) linked (relinks-item 256 old.linked slot c changed kept live serial)) (rewaits-same old.waiting new.waiting waiting)
+    names-changed s old new (relinks-to old.connections new.connections (with_item old.connections slot changed) linked (relinks-item 256 old.connections slot c changed kept live serial)) (rewaits-same old.messages new.messages waiting)
 
 -- a message changes in its slot
-pub names-message : (s : System) (old new : TablesView) (slot : Slot) (m changed : QueuedMessage) → IsKept 304 old.waiting → item_at old.waiting slot ≡ Some m → changed.serial ≡ m.serial → changed.client ≡ m.client
-    → changed.kind ≡ m.kind → new.linked ≡ old.linked → new.waiting ≡ with_item old.waiting slot changed → KeepsNames s old new
+pub names-message : (s : System) (old new : TablesView) (slot : Slot) (m changed : QueuedMessage) → IsKept 304 old.messages → item_at old.messages slot ≡ Some m → changed.serial ≡ m.serial → changed.client ≡ m.client
+    → changed.kind ≡ m.kind → new.connections ≡ old.connections → new.messages ≡ with_item old.messages slot changed → KeepsNames s old new
 names-message s old new slot m changed kept live serial client kind linked waiting =
-    names-changed s old new (relinks-same old.linked new.linked linked) (rewaits-to old.waiting new.waiting (with_item old.waiting slot changed) waiting (rewaits-item 304 old.waiting slot m changed kept live serial client kind))
+    names-changed s old new (relinks-same old.connections new.connections linked) (rewaits-to old.messages new.messages (with_item old.messages slot changed) waiting (rewaits-item 304 old.messages slot m changed kept live serial client kind))
 
 -- a connection is freed
-pub names-freed : (s : System) (old new : TablesView) (slot : Slot) → new.linked ≡ without old.linked slot → new.waiting ≡ old.waiting → KeepsNames s old new
+pub names-freed : (s : System) (old new : TablesView) (slot : Slot) → new.connections ≡ without old.connections slot → new.messages ≡ old.messages → KeepsNames s old new
 names-freed s old new slot linked waiting =
-    names-changed s old new (relinks-to old.linked new.linked (without old.linked slot) linked (relinks-without old.linked slot)) (rewaits-same old.waiting new.waiting waiting)
+    names-changed s old new (relinks-to old.connections new.connections (without old.connections slot) linked (relinks-without old.connections slot)) (rewaits-same old.messages new.messages waiting)
 
 -- ---- a message comes
 
-connection_slots : (d : TablesView) (s : System) → MadeFor d s → length d.linked.generations ≡ capacity s
+connection_slots : (d : TablesView) (s : System) → MadeFor d s → length d.connections.generations ≡ capacity s
 connection_slots d s made = ap (λ (h : Shape). h.connections) made
 
-message_slots : (d : TablesView) (s : System) → MadeFor d s → length d.waiting.generations ≡ message_capacity s
+message_slots : (d : TablesView) (s : System) → MadeFor d s → length d.messages.generations ≡ message_capacity s
 message_slots d s made = ap (λ (h : Shape). h.messages) made
 
-stay-pushed : (old new : TablesView) (slot : Slot) (x : QueuedMessage) → new.waiting ≡ taken old.waiting slot x → All (λ h. list_any (is_like h) new.waiting.held ≡ true) old.waiting.held
+stay-pushed : (old new : TablesView) (slot : Slot) (x : QueuedMessage) → new.messages ≡ taken old.messages slot x → All (λ h. list_any (is_like h) new.messages.held ≡ true) old.messages.held
 stay-pushed old new slot x waiting =
-    subst (λ (p : Places QueuedMessage). All (λ h. list_any (is_like h) p.held ≡ true) old.waiting.held) (sym waiting) (stay-own old.waiting.held (record { slot = slot; item = x } ∷ []))
+    subst (λ (p : Places QueuedMessage). All (λ h. list_any (is_like h) p.held ≡ true) old.messages.held) (sym waiting) (stay-own old.messages.held (record { slot = slot; item = x } ∷ []))
 
-pushed-length : (old new : TablesView) (k : NamesSoFar) (slot : Slot) (x : QueuedMessage) → NamesAre old k → new.waiting ≡ taken old.waiting slot x → length new.waiting.held ≡ length k.messages + 1
+pushed-length : (old new : TablesView) (k : NamesSoFar) (slot : Slot) (x : QueuedMessage) → NamesAre old k → new.messages ≡ taken old.messages slot x → length new.messages.held ≡ length k.messages + 1
 pushed-length old new k slot x was waiting =
-    ap (λ (p : Places QueuedMessage). length p.held) waiting ∙ omega (arith, length-append old.waiting.held (record { slot = slot; item = x } ∷ []), names-length old k was)
+    ap (λ (p : Places QueuedMessage). length p.held) waiting ∙ omega (arith, length-append old.messages.held (record { slot = slot; item = x } ∷ []), names-length old k was)
 
-pub names-added : (s : System) (old new : TablesView) (slot : Slot) (x : QueuedMessage) → MadeFor old s → KeepsConnectionNames old.linked new.linked → free_slot old.waiting ≡ Some slot → new.waiting ≡ taken old.waiting slot x → KeepsNames s old new
+pub names-added : (s : System) (old new : TablesView) (slot : Slot) (x : QueuedMessage) → MadeFor old s → KeepsConnectionNames old.connections new.connections → free_slot old.messages ≡ Some slot → new.messages ≡ taken old.messages slot x → KeepsNames s old new
 names-added s old new slot x made linked free waiting = λ k was.
-    let mid : TablesView = record old { linked = new.linked } in
-    let between : NamesAre mid k = names-stay old mid k was linked (rewaits-same old.waiting old.waiting refl) in
+    let mid : TablesView = record old { connections = new.connections } in
+    let between : NamesAre mid k = names-stay old mid k was linked (rewaits-same old.messages old.messages refl) in
     subst (NamesAre new) (sym (after-is s old new k k.messages 1 (all-kept old new k was (stay-pushed old new slot x waiting)) (pushed-length old new k slot x was waiting) linked.takes))
     (names-enqueued mid new k slot x (message_capacity s) between (message_slots old s made) free refl waiting)
 
 -- the message of a connection that changes in its slot
-pub names-asked : (s : System) (old new : TablesView) (slot place : Slot) (c changed : OpenConnection) (x : QueuedMessage) → MadeFor old s → IsKept 256 old.linked → item_at old.linked slot ≡ Some c → changed.serial ≡ c.serial
-    → new.linked ≡ with_item old.linked slot changed → free_slot old.waiting ≡ Some place → new.waiting ≡ taken old.waiting place x → KeepsNames s old new
+pub names-asked : (s : System) (old new : TablesView) (slot place : Slot) (c changed : OpenConnection) (x : QueuedMessage) → MadeFor old s → IsKept 256 old.connections → item_at old.connections slot ≡ Some c → changed.serial ≡ c.serial
+    → new.connections ≡ with_item old.connections slot changed → free_slot old.messages ≡ Some place → new.messages ≡ taken old.messages place x → KeepsNames s old new
 names-asked s old new slot place c changed x made kept live serial linked free waiting =
-    names-added s old new place x made (relinks-to old.linked new.linked (with_item old.linked slot changed) linked (relinks-item 256 old.linked slot c changed kept live serial)) free waiting
+    names-added s old new place x made (relinks-to old.connections new.connections (with_item old.connections slot changed) linked (relinks-item 256 old.connections slot c changed kept live serial)) free waiting
 
 -- ---- a connection comes, and its message
 
@@ -136,18 +136,18 @@ live-named ts (h ∷ hs) named =
     ap (λ (t : SlotName). t ∷ map (λ (c : OpenConnection). get_or ts c.serial no_slot) (map (λ (x : Held OpenConnection). x.item) hs)) (All-head (IsNamedBy ts) h hs named)
     ∙ ap (λ (us : List SlotName). slot_name h.slot ∷ us) (live-named ts hs (All-tail (IsNamedBy ts) h hs named))
 
-pub names-connected : (s : System) (old new : TablesView) (slot place : Slot) (c : OpenConnection) (x : QueuedMessage) → MadeFor old s → IsTable old.linked → free_slot old.linked ≡ Some slot → c.serial ≡ old.linked.takes
-    → new.linked ≡ taken old.linked slot c → free_slot old.waiting ≡ Some place → new.waiting ≡ taken old.waiting place x → KeepsNames s old new
+pub names-connected : (s : System) (old new : TablesView) (slot place : Slot) (c : OpenConnection) (x : QueuedMessage) → MadeFor old s → IsTable old.connections → free_slot old.connections ≡ Some slot → c.serial ≡ old.connections.takes
+    → new.connections ≡ taken old.connections slot c → free_slot old.messages ≡ Some place → new.messages ≡ taken old.messages place x → KeepsNames s old new
 names-connected s old new slot place c x made table free serial linked room waiting = λ k was.
     let size : ℕ = capacity s in
-    let mid : TablesView = record old { linked = new.linked } in
+    let mid : TablesView = record old { connections = new.connections } in
     let next : slot_name slot ≡ next_slot size (live_connections k (spm_of old)) k.connections =
-    next-name old.linked k.connections slot was.past_connections free
-    ∙ ap (λ n. next_slot n (live_names old.linked) k.connections) (connection_slots old s made)
-    ∙ ap (λ (ts : List SlotName). next_slot size ts k.connections) (sym (live-named k.connections old.linked.held was.connections)) in
+    next-name old.connections k.connections slot was.past_connections free
+    ∙ ap (λ n. next_slot n (live_names old.connections) k.connections) (connection_slots old s made)
+    ∙ ap (λ (ts : List SlotName). next_slot size ts k.connections) (sym (live-named k.connections old.connections.held was.connections)) in
     let joined : SlotName → NamesSoFar = λ t. record k { connections = k.connections ++ t ∷ [] } in
     let between : NamesAre mid (joined (slot_name slot)) = names-started old mid k slot c was table free serial linked refl in
-    let grown : new.linked.takes ≡ old.linked.takes + 1 = ap (λ (p : Places OpenConnection). p.takes) linked in
+    let grown : new.connections.takes ≡ old.connections.takes + 1 = ap (λ (p : Places OpenConnection). p.takes) linked in
     subst (NamesAre new)
     (ap (λ t. with_messages (message_capacity s) 1 (joined t)) next
     ∙ sym (after-joined s old new k k.messages 1 (all-kept old new k was (stay-pushed old new place x waiting)) (pushed-length old new k place x was waiting) grown))

@@ -1,10 +1,12 @@
 -- The names that tables begin with, and those that a call has to show.
-use Rattle.std.proofs.Common.{ℕ, suc, ◌≡◌, ◌<◌, ◌+◌, Bool, true, false, cond, not, List, [], ◌∷◌, length, map, get_or, arith, ◌∙◌, ap, sym, refl, subst}
+use Rattle.std.proofs.Common.{ℕ, suc, ◌≡◌, ◌<◌, ◌+◌, Bool, true, false, cond, not, List, [], ◌∷◌, length, get_or, arith, ◌∙◌, ap, sym, subst}
 use Rattle.std.specs.Prelude.{All, Option, Some, None, find, nat_lt, option_and_then, position}
 use Rattle.std.specs.List.{position_or_len}
 use Rattle.std.specs.Option.{option_map}
 use Rattle.std.proofs.lemmas.Bool.Decides.{nat_tests}
-use Rattle.std.proofs.lemmas.List.Elements.{All-head, All-nil, All-tail}
+use Rattle.std.proofs.lemmas.List.Elements.{All-nil}
+use Rattle.list_laws.proofs.Tests.{find-all}
+use Rattle.list_laws.proofs.Lists.{map_nil}
 use Rattle.ffm_model.specs.declared.system.System.{System}
 use Rattle.ffm_model.specs.declared.machine.Call.TheVariants as call
 use Rattle.ffm_model.specs.declared.machine.Handle.{Handle}
@@ -28,16 +30,12 @@ use Rattle.slot_names.proofs.Kept.{message_list, name_list}
 
 -- ---- at the start
 
-none-mapped : {X Y : Type 0} (f : X → Y) (xs : List X) → map f xs ≡ [] → xs ≡ []
-none-mapped f [] e = refl
-none-mapped f (x ∷ xs) e = cc
-
 -- tables that took nothing yet have no names
-pub names-begin : (s : System) (d : TablesView) → IsKept 256 d.linked → IsKept 304 d.waiting → spm_of d ≡ opening_spm s → d.waiting.takes ≡ 0 → NamesAre d no_names
+pub names-begin : (s : System) (d : TablesView) → IsKept 256 d.connections → IsKept 304 d.messages → spm_of d ≡ opening_spm s → d.messages.takes ≡ 0 → NamesAre d no_names
 names-begin s d linked waiting opens untaken =
-    let made : d.linked.takes ≡ 0 = ap (λ (b : SpmState). b.connections_made) opens in
-    let no_connection : d.linked.held ≡ [] = none-mapped (λ (h : Held OpenConnection). h.item) d.linked.held (ap (λ (b : SpmState). b.connections) opens) in
-    let no_message : d.waiting.held ≡ [] = none-mapped _ d.waiting.held (ap (λ (b : SpmState). b.messages) opens) in
+    let made : d.connections.takes ≡ 0 = ap (λ (b : SpmState). b.connections_made) opens in
+    let no_connection : d.connections.held ≡ [] = map_nil (λ (h : Held OpenConnection). h.item) d.connections.held (ap (λ (b : SpmState). b.connections) opens) in
+    let no_message : d.messages.held ≡ [] = map_nil _ d.messages.held (ap (λ (b : SpmState). b.messages) opens) in
     record {
       made = sym made;
       connections = subst (λ (hs : List (Held OpenConnection)). All (IsNamedBy []) hs) (sym no_connection) (All-nil (IsNamedBy []));
@@ -49,22 +47,14 @@ names-begin s d linked waiting opens untaken =
 
 -- ---- at a return of psa_connect
 
--- what holds of each item holds of the one that is found
-all-found : {X : Type 0} (P : X → Type 0) (p : X → Bool) (xs : List X) (x : X) → All P xs → find p xs ≡ Some x → P x
-all-found P p [] x all e = cc
-all-found P p (y ∷ ys) x all e =
-    let go : (b : Bool) → cond b (Some y) (find p ys) ≡ Some x → P x =
-    elim [ true ↦ λ f. let it : y ≡ x = cc in subst P it (All-head P y ys all) | false ↦ λ f. all-found P p ys x (All-tail P y ys all) f ] in
-    go (p y) e
-
-pub named-connection : (d : TablesView) (k : NamesSoFar) (slot : Slot) (c : OpenConnection) → NamesAre d k → item_at d.linked slot ≡ Some c → name_of 0 (get_or k.connections c.serial no_slot) ≡ handle_at Connection slot
+pub named-connection : (d : TablesView) (k : NamesSoFar) (slot : Slot) (c : OpenConnection) → NamesAre d k → item_at d.connections slot ≡ Some c → name_of 0 (get_or k.connections c.serial no_slot) ≡ handle_at Connection slot
 named-connection d k slot c was live =
-    let it = held-of d.linked slot c live in
+    let it = held-of d.connections slot c live in
     ap (λ (x : OpenConnection). name_of 0 (get_or k.connections x.serial no_slot)) (sym it.2)
-    ∙ ap (name_of 0) (all-found (IsNamedBy k.connections) (has_slot slot) d.linked.held it.0 was.connections it.1)
+    ∙ ap (name_of 0) (find-all (IsNamedBy k.connections) (has_slot slot) d.connections.held it.0 it.1 was.connections)
     ∙ ap (λ (u : Slot). handle_at Connection u) it.3
 
-pub due-at-return : (s : System) (d : TablesView) (given : List Handle) (m : ByteMap) (a : ℕ) (k : NamesSoFar) (slot : Slot) (c : OpenConnection) → NamesAre d k → item_at d.linked slot ≡ Some c → phase_of (spm_of d) a ≡ Connected c.serial
+pub due-at-return : (s : System) (d : TablesView) (given : List Handle) (m : ByteMap) (a : ℕ) (k : NamesSoFar) (slot : Slot) (c : OpenConnection) → NamesAre d k → item_at d.connections slot ≡ Some c → phase_of (spm_of d) a ≡ Connected c.serial
     → name_due s (state_with d given m) a call.Resume k ≡ Some (handle_at Connection slot)
 due-at-return s d given m a k slot c was live phase = ap (name_at_return k) phase ∙ ap (λ (h : Handle). Some h) (named-connection d k slot c was live)
 
@@ -87,18 +77,18 @@ found-name v (x ∷ xs) h e =
     ] in
     go (waits_for v x) e
 
-pub named-message : (d : TablesView) (k : NamesSoFar) (v : ℕ) (h : Held QueuedMessage) → NamesAre d k → find (waits_for v) d.waiting.held ≡ Some h
+pub named-message : (d : TablesView) (k : NamesSoFar) (v : ℕ) (h : Held QueuedMessage) → NamesAre d k → find (waits_for v) d.messages.held ≡ Some h
     → option_map (λ j. name_of 512 (get_or k.messages j no_slot)) (position (is_undelivered v) (spm_of d).messages) ≡ Some (handle_at Message h.slot)
 named-message d k v h was found =
-    let ms = message_list d.waiting.held in
+    let ms = message_list d.messages.held in
     let j : ℕ = position_or_len (is_undelivered v) ms in
-    let it = found-name v d.waiting.held h found in
+    let it = found-name v d.messages.held h found in
     let inside : j < length ms = it.0 in
     let below : nat_lt j (length ms) ≡ true = grind (arith, nat_tests) in
     ap (λ (b : Bool). option_map (λ i. name_of 512 (get_or k.messages i no_slot)) (cond b (Some j) None)) below
     ∙ ap (λ (ts : List SlotName). Some (name_of 512 (get_or ts j no_slot))) was.messages ∙ ap (λ (t : SlotName). Some (name_of 512 t)) it.1
 
-pub due-at-get : (s : System) (d : TablesView) (given : List Handle) (m : ByteMap) (a signal msg v : ℕ) (k : NamesSoFar) (h : Held QueuedMessage) → NamesAre d k → service_of_signal s a signal ≡ Some v → find (waits_for v) d.waiting.held ≡ Some h
+pub due-at-get : (s : System) (d : TablesView) (given : List Handle) (m : ByteMap) (a signal msg v : ℕ) (k : NamesSoFar) (h : Held QueuedMessage) → NamesAre d k → service_of_signal s a signal ≡ Some v → find (waits_for v) d.messages.held ≡ Some h
     → name_due s (state_with d given m) a (call.Get signal msg) k ≡ Some (handle_at Message h.slot)
 due-at-get s d given m a signal msg v k h was service found =
     ap (λ (o : Option ℕ). option_map (λ j. name_of 512 (get_or k.messages j no_slot)) (option_and_then (λ i. position (is_undelivered i) (spm_of d).messages) o)) service ∙ named-message d k v h was found

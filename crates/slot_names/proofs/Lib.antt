@@ -6,3 +6,4 @@ pub mod Removals
 pub mod Panics
 pub mod Owed
 pub mod Due
+pub mod Standing

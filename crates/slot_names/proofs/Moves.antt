@@ -4,7 +4,7 @@ use Rattle.std.specs.Prelude.{ℤ, All, Option, Some, None, count_by, find}
 use Rattle.std.specs.Ordering.{int_eq}
 use Rattle.std.specs.List.{list_any, filter_map, cons_option}
 use Rattle.std.proofs.Math.Seq.{get_or-append_seam}
-use Rattle.std.proofs.lemmas.List.{get_or_append_left}
+use Rattle.std.proofs.lemmas.List.{get_or_append_left, map_push}
 use Rattle.std.proofs.lemmas.List.Elements.{All-cons, All-head, All-map, All-nil, All-push, All-tail, All-weaker, All-filter}
 use Rattle.ffm_model.specs.declared.machine.ActorId.{ActorId}
 use Rattle.ffm_model.specs.declared.objects.OpenConnection.{OpenConnection}
@@ -12,7 +12,7 @@ use Rattle.ffm_model.specs.Names.{NamesSoFar, SlotName, is_same_connection, next
 use Rattle.object_pools.specs.declared.slot.Slot.{Slot}
 use Rattle.object_pools.specs.declared.slot.Held.{Held}
 use Rattle.object_pools.specs.Pool.{Places, IsKept, free_slot, has_slot, item_at, item_put, taken, with_item, without}
-use Rattle.object_pools.proofs.Counts.{bit, count-cons}
+use Rattle.list_laws.proofs.Counts.{bit, count-cons}
 use Rattle.handle_table.specs.Handles.{live_names, slot_name}
 use Rattle.handle_table.specs.Table.{IsTable, Rises, connections}
 use Rattle.handle_table.proofs.NameLemmas.{next-name, past-after}
@@ -188,7 +188,7 @@ rewaits-item capacity p s m changed kept live serial client kind = record {
 -- ---- the names of changed tables
 
 -- some slots were put back at most
-pub names-with : (old new : TablesView) (k : NamesSoFar) (ts : List SlotName) → NamesAre old k → KeepsConnectionNames old.linked new.linked → new.waiting.generations ≡ old.waiting.generations → new.waiting.takes ≡ old.waiting.takes → ts ≡ live_names new.waiting
+pub names-with : (old new : TablesView) (k : NamesSoFar) (ts : List SlotName) → NamesAre old k → KeepsConnectionNames old.connections new.connections → new.messages.generations ≡ old.messages.generations → new.messages.takes ≡ old.messages.takes → ts ≡ live_names new.messages
     → NamesAre new (record k { messages = ts })
 names-with old new k ts was linked generations takes names = record {
   made = was.made ∙ sym linked.takes;
@@ -200,12 +200,8 @@ names-with old new k ts was linked generations takes names = record {
 }
 
 -- no message comes or goes
-pub names-stay : (old new : TablesView) (k : NamesSoFar) → NamesAre old k → KeepsConnectionNames old.linked new.linked → KeepsMessageNames old.waiting new.waiting → NamesAre new k
+pub names-stay : (old new : TablesView) (k : NamesSoFar) → NamesAre old k → KeepsConnectionNames old.connections new.connections → KeepsMessageNames old.messages new.messages → NamesAre new k
 names-stay old new k was linked waiting = names-with old new k k.messages was linked waiting.generations waiting.takes (was.messages ∙ sym waiting.names)
-
-map-push : {X Y : Type 0} (f : X → Y) (xs : List X) (x : X) → map f (xs ++ x ∷ []) ≡ map f xs ++ f x ∷ []
-map-push f [] x = refl
-map-push {Y = Y} f (y ∷ ys) x = ap (λ (zs : List Y). f y ∷ zs) (map-push f ys x)
 
 -- the serial numbers are below the number of connections made
 below-made : (low made : ℕ) (cs : List OpenConnection) → Rises low cs made → All (λ c. c.serial < made) cs
@@ -222,23 +218,23 @@ named-later ts t (h ∷ hs) below named =
     (named-later ts t hs (All-tail (λ c. c.serial < length ts) h.item cs below) (All-tail (IsNamedBy ts) h hs named))
 
 -- a connection is made in its slot
-pub names-started : (old new : TablesView) (k : NamesSoFar) (slot : Slot) (c : OpenConnection) → NamesAre old k → IsTable old.linked → free_slot old.linked ≡ Some slot → c.serial ≡ old.linked.takes
-    → new.linked ≡ taken old.linked slot c → new.waiting ≡ old.waiting → NamesAre new (record k { connections = k.connections ++ slot_name slot ∷ [] })
+pub names-started : (old new : TablesView) (k : NamesSoFar) (slot : Slot) (c : OpenConnection) → NamesAre old k → IsTable old.connections → free_slot old.connections ≡ Some slot → c.serial ≡ old.connections.takes
+    → new.connections ≡ taken old.connections slot c → new.messages ≡ old.messages → NamesAre new (record k { connections = k.connections ++ slot_name slot ∷ [] })
 names-started old new k slot c was table free serial linked waiting =
     let ts : List SlotName = k.connections in
     let t : SlotName = slot_name slot in
-    let below : All (λ d. d.serial < length ts) (connections old.linked) =
-    subst (λ n. All (λ d. d.serial < n) (connections old.linked)) (sym was.made) (below-made 0 old.linked.takes (connections old.linked) table.rising) in
+    let below : All (λ d. d.serial < length ts) (connections old.connections) =
+    subst (λ n. All (λ d. d.serial < n) (connections old.connections)) (sym was.made) (below-made 0 old.connections.takes (connections old.connections) table.rising) in
     let here : get_or (ts ++ t ∷ []) c.serial no_slot ≡ t = ap (λ n. get_or (ts ++ t ∷ []) n no_slot) (serial ∙ sym was.made) ∙ get_or-append_seam ts t [] no_slot in
-    let it : NamesAre (record old { linked = taken old.linked slot c }) (record k { connections = ts ++ t ∷ [] }) = record {
+    let it : NamesAre (record old { connections = taken old.connections slot c }) (record k { connections = ts ++ t ∷ [] }) = record {
       made = omega (arith, length-append ts (t ∷ []), was.made);
-      connections = All-push (IsNamedBy (ts ++ t ∷ [])) old.linked.held (record { slot = slot; item = c }) (named-later ts t old.linked.held below was.connections) here;
-      past_connections = past-after old.linked ts slot c was.past_connections free;
+      connections = All-push (IsNamedBy (ts ++ t ∷ [])) old.connections.held (record { slot = slot; item = c }) (named-later ts t old.connections.held below was.connections) here;
+      past_connections = past-after old.connections ts slot c was.past_connections free;
       messages = was.messages;
       past_messages = was.past_messages;
       sent = was.sent;
     } in
-    names-stay (record old { linked = taken old.linked slot c }) new (record k { connections = ts ++ t ∷ [] }) it (relinks-same (taken old.linked slot c) new.linked linked) (rewaits-same old.waiting new.waiting waiting)
+    names-stay (record old { connections = taken old.connections slot c }) new (record k { connections = ts ++ t ∷ [] }) it (relinks-same (taken old.connections slot c) new.connections linked) (rewaits-same old.messages new.messages waiting)
 
 -- a message more, with the next slot
 abbrev pub one_more : ℕ → NamesSoFar → NamesSoFar
@@ -247,23 +243,23 @@ one_more size k =
     record k { messages = k.messages ++ t ∷ []; past_messages = k.past_messages ++ t ∷ [] }
 
 -- a message is taken in
-pub names-enqueued : (old new : TablesView) (k : NamesSoFar) (slot : Slot) (x : QueuedMessage) (size : ℕ) → NamesAre old k → length old.waiting.generations ≡ size → free_slot old.waiting ≡ Some slot
-    → new.linked ≡ old.linked → new.waiting ≡ taken old.waiting slot x → NamesAre new (one_more size k)
+pub names-enqueued : (old new : TablesView) (k : NamesSoFar) (slot : Slot) (x : QueuedMessage) (size : ℕ) → NamesAre old k → length old.messages.generations ≡ size → free_slot old.messages ≡ Some slot
+    → new.connections ≡ old.connections → new.messages ≡ taken old.messages slot x → NamesAre new (one_more size k)
 names-enqueued old new k slot x size was wide free linked waiting =
     let t : SlotName = slot_name slot in
     let next : t ≡ next_slot size k.messages k.past_messages =
-    next-name old.waiting k.past_messages slot was.past_messages free ∙ ap (λ n. next_slot n (live_names old.waiting) k.past_messages) wide ∙ ap (λ (ts : List SlotName). next_slot size ts k.past_messages) (sym was.messages) in
+    next-name old.messages k.past_messages slot was.past_messages free ∙ ap (λ n. next_slot n (live_names old.messages) k.past_messages) wide ∙ ap (λ (ts : List SlotName). next_slot size ts k.past_messages) (sym was.messages) in
     let more : SlotName → NamesSoFar = λ u. record k { messages = k.messages ++ u ∷ []; past_messages = k.past_messages ++ u ∷ [] } in
-    let it : NamesAre (record old { waiting = taken old.waiting slot x }) (more t) = record {
+    let it : NamesAre (record old { messages = taken old.messages slot x }) (more t) = record {
       made = was.made;
       connections = was.connections;
       past_connections = was.past_connections;
-      messages = ap (λ (ts : List SlotName). ts ++ t ∷ []) was.messages ∙ sym (map-push (λ (h : Held QueuedMessage). slot_name h.slot) old.waiting.held (record { slot = slot; item = x }));
-      past_messages = past-after old.waiting k.past_messages slot x was.past_messages free;
+      messages = ap (λ (ts : List SlotName). ts ++ t ∷ []) was.messages ∙ sym (map_push (λ (h : Held QueuedMessage). slot_name h.slot) old.messages.held (record { slot = slot; item = x }));
+      past_messages = past-after old.messages k.past_messages slot x was.past_messages free;
       sent = omega (arith, length-append k.past_messages (t ∷ []), was.sent);
     } in
     subst (λ u. NamesAre new (more u)) next
-    (names-stay (record old { waiting = taken old.waiting slot x }) new (more t) it (relinks-same old.linked new.linked linked) (rewaits-same (taken old.waiting slot x) new.waiting waiting))
+    (names-stay (record old { messages = taken old.messages slot x }) new (more t) it (relinks-same old.connections new.connections linked) (rewaits-same (taken old.messages slot x) new.messages waiting))
 
 -- n messages and one more
 pub messages-more : (size n : ℕ) (k : NamesSoFar) → with_messages size (suc n) k ≡ one_more size (with_messages size n k)

@@ -12,12 +12,15 @@ use Rattle.spm_tables.specs.TablesView.{TablesView, held_message, spm_of}
 use Rattle.slot_names.specs.Named.{KeepsNames, NamesAre}
 use Rattle.slot_names.proofs.Kept.{any-at, message_list}
 use Rattle.slot_names.proofs.Changes.{after-is, after-still, kept_names, names-length}
-use Rattle.slot_names.proofs.Partings.{any-filter, both_on, like-kept}
+use Rattle.slot_names.proofs.Partings.{any-filter, like-kept}
 use Rattle.std.specs.Prelude.{ℤ, pos, int_lt, All, if◌then◌else◌, Option, Some, None, option_and_then}
 use Rattle.std.specs.Option.{option_map, option_map_or}
 use Rattle.std.specs.Ordering.{int_eq}
 use Rattle.std.proofs.lemmas.List.{append-nil}
 use Rattle.std.proofs.lemmas.List.Folds.{list_any-append}
+use Rattle.std.proofs.lemmas.Bool.{and_from, and_parts, and_right}
+use Rattle.list_laws.proofs.Counts.{any-count, bit, count-filter-le, count-found, none-count}
+use Rattle.list_laws.proofs.Tests.{find-passes}
 use Rattle.ffm_model.specs.declared.constants.TheConstants.{PSA_IPC_CALL, PSA_IPC_CONNECT, PSA_IPC_DISCONNECT, PSA_ERROR_PROGRAMMER_ERROR, PSA_SUCCESS}
 use Rattle.ffm_model.specs.declared.machine.Handle.{Handle}
 use Rattle.ffm_model.specs.declared.objects.OpenConnection.{OpenConnection}
@@ -31,11 +34,9 @@ use Rattle.slot_names.specs.Replies.{Answered, reply_on}
 use Rattle.ffm_model.specs.Signals.{is_blocked}
 use Rattle.ffm_model.specs.State.{SpmState, has_handle, message_held, phase_of, with_connection_phase, with_phase, without_connection, without_message}
 use Rattle.counting_law.specs.Objects.{ObjectsFit}
-use Rattle.counting_law.proofs.Counts.{bit, any-count, count-filter-le, count-found, find-passes, none-count}
 use Rattle.counting_law.proofs.Losses.{after_panic, after_panic-is, disconnect_message, disconnect_as, disconnect_messages}
 use Rattle.counting_law.proofs.Owed.{owed-request}
 use Rattle.counting_law.proofs.Pairs.{count-split, member-counts}
-use Rattle.counting_law.proofs.Parts.{right_true}
 use Rattle.slot_names.proofs.Removals.{fitting-messages}
 
 -- two tests that agree keep the same slots
@@ -72,25 +73,25 @@ stay-part r ms gone = λ i d lt.
     let m : PendingMessage = get_or ms i d in
     let go : (b : Bool) → r m ≡ b → stays (filter r ms) m ≡ b =
     elim [
-      | true ↦ λ e. any-filter (same_message m) r ms ∙ any-at (λ x. r x && same_message m x) ms i d lt (both_on (r m) (same_message m m) e (same-self m))
+      | true ↦ λ e. any-filter (same_message m) r ms ∙ any-at (λ x. r x && same_message m x) ms i d lt (and_from (r m) (same_message m m) e (same-self m))
       | false ↦ λ e. gone i d lt e
     ] in
     go (r m) refl
 
 -- where the first change only removes messages, and no removed one is like one of the messages that are left then, or at the end
 pub names-joined : (s : System) (old mid new : TablesView) (r : PendingMessage → Bool) → KeepsNames s old mid → KeepsNames s mid new → (spm_of mid).messages ≡ filter r (spm_of old).messages
-    → mid.linked.takes ≡ old.linked.takes → new.linked.takes ≡ mid.linked.takes
+    → mid.connections.takes ≡ old.connections.takes → new.connections.takes ≡ mid.connections.takes
     → All (λ m. r m ≡ false → (stays (spm_of mid).messages m ≡ false) × (stays (spm_of new).messages m ≡ false)) (spm_of old).messages → KeepsNames s old new
 names-joined s old mid new r one two messages made still gone = λ k was.
-    let ms : List PendingMessage = message_list old.waiting.held in
-    let ns : List PendingMessage = message_list new.waiting.held in
+    let ms : List PendingMessage = message_list old.messages.held in
+    let ns : List PendingMessage = message_list new.messages.held in
     let ts : List SlotName = slots_kept r ms k.messages in
     let us : List SlotName = slots_kept (stays ns) ms k.messages in
-    let number : length k.messages ≡ length ms = omega (arith, names-length old k was, length-map old.waiting.held held_message) in
+    let number : length k.messages ≡ length ms = omega (arith, names-length old k was, length-map old.messages.held held_message) in
     let part : All (λ m. stays (filter r ms) m ≡ r m) ms = stay-part r ms (λ i d lt e. ap (λ (xs : List PendingMessage). stays xs (get_or ms i d)) (sym messages) ∙ (gone i d lt e).0) in
     let first_kept : kept_names old mid k.messages ≡ ts = ap (λ (xs : List PendingMessage). slots_kept (stays xs) ms k.messages) messages ∙ kept-same (stays (filter r ms)) r ms k.messages part in
-    let short : length mid.waiting.held ≡ length ts + 0 =
-    omega (arith, length-map mid.waiting.held held_message, ap (λ (xs : List PendingMessage). length xs) messages, length-filter r ms, kept-length r ms k.messages number) in
+    let short : length mid.messages.held ≡ length ts + 0 =
+    omega (arith, length-map mid.messages.held held_message, ap (λ (xs : List PendingMessage). length xs) messages, length-filter r ms, kept-length r ms k.messages number) in
     let k' : NamesSoFar = record k { messages = ts } in
     let first : NamesAre mid k' = subst (NamesAre mid) (after-is s old mid k ts 0 first_kept short made) (one k was) in
     let second_kept : kept_names mid new ts ≡ us = ap (λ (xs : List PendingMessage). slots_kept (stays ns) xs ts) messages ∙ kept-twice (stays ns) r ms k.messages (λ i d lt e. (gone i d lt e).1) in
@@ -150,10 +151,6 @@ reply-parts s b after a p h status e =
       same_made : (x y : Answered) → Some x ≡ Some y → x ≡ y
       same_made x y g = cc
 
-off_and : (x y : Bool) → y ≡ false → (x && y) ≡ false
-off_and true y e = e
-off_and false y e = refl
-
 -- a request is like no disconnection
 no-disconnect : (s : System) (p : ℕ) (n : PendingMessage) (cs : List OpenConnection) → int_eq PSA_IPC_DISCONNECT n.kind ≡ false → stays (disconnect_messages s p cs) n ≡ false
 no-disconnect s p n [] off = refl
@@ -163,7 +160,7 @@ no-disconnect s p n (c ∷ cs) off =
       | true ↦ λ k ph. refl
       | false ↦ elim [
         | true ↦ λ ph.
-            let go : (x : Bool) → stays (if x then [] else disconnect_message c ∷ []) n ≡ false = elim [ true ↦ refl | false ↦ ap (λ b. b || false) (off_and (is_same_connection (Some c.serial) n.connection) _ (off_and (c.client.0 == n.client.0) (int_eq PSA_IPC_DISCONNECT n.kind) off)) ] in
+            let go : (x : Bool) → stays (if x then [] else disconnect_message c ∷ []) n ≡ false = elim [ true ↦ refl | false ↦ ap (λ b. b || false) (and_right (is_same_connection (Some c.serial) n.connection) _ (and_right (c.client.0 == n.client.0) (int_eq PSA_IPC_DISCONNECT n.kind) off)) ] in
             go (is_dead ph)
         | false ↦ λ ph. refl
       ]
@@ -188,8 +185,8 @@ held-request s b a h m i d fits found request lt shown =
     let P : PendingMessage → Bool = λ x. has_handle x.handle h in
     let D : PendingMessage → Bool = λ x. int_eq PSA_IPC_DISCONNECT x.kind in
     let finder : PendingMessage → Bool = λ x. is_service_of s a x.service && has_handle x.handle h in
-    let own : has_handle m.handle h ≡ true = right_true (is_service_of s a m.service) (has_handle m.handle h) (find-passes finder b.messages m found) in
-    let passes : (not (D m) && P m) ≡ true = both_on (not (D m)) (P m) (ap not request) own in
+    let own : has_handle m.handle h ≡ true = (and_parts (is_service_of s a m.service) (has_handle m.handle h) (find-passes finder b.messages m found)).1 in
+    let passes : (not (D m) && P m) ≡ true = and_from (not (D m)) (P m) (ap not request) own in
     let none : bit (D n && P n) ≡ 0 =
     omega (
       arith,
@@ -199,7 +196,7 @@ held-request s b a h m i d fits found request lt shown =
       count-split D P b.messages,
       fits.handles h,
     ) in
-    let go : (x : Bool) → D n ≡ x → x ≡ false = elim [ true ↦ λ e. absurd (omega (arith, none, ap bit (both_on (D n) (P n) e shown))) | false ↦ λ e. refl ] in
+    let go : (x : Bool) → D n ≡ x → x ≡ false = elim [ true ↦ λ e. absurd (omega (arith, none, ap bit (and_from (D n) (P n) e shown))) | false ↦ λ e. refl ] in
     go (D n) refl
 
 -- a reply, and the panic of the client that it owes
@@ -212,7 +209,7 @@ names-owed s old mid new a p h status fits reply effect one two =
     let it : Owes s b (spm_of mid) a h status = reply-parts s b (spm_of mid) a p h status reply in
     let messages : (spm_of mid).messages ≡ filter r ms =
     ap (λ (x : SpmState). x.messages) (sym it.is_after) ∙ answered-keeps (λ x. x.messages) s (without_message b h) it.m status (λ n ph. refl) (λ n. refl) (λ c i ph. refl) in
-    let made : mid.linked.takes ≡ old.linked.takes =
+    let made : mid.connections.takes ≡ old.connections.takes =
     ap (λ (x : SpmState). x.connections_made) (sym it.is_after) ∙ answered-keeps (λ x. x.connections_made) s (without_message b h) it.m status (λ n ph. refl) (λ n. refl) (λ c i ph. refl) in
     let is_new : spm_of new ≡ after_panic s (spm_of mid) p = effect ∙ after_panic-is s (spm_of mid) p in
     let svc : PendingMessage → Bool = λ x. not (is_service_of s p x.service) in

@@ -4,6 +4,8 @@ use Rattle.std.specs.Prelude.{All, Option, Some, None, count_by, if◌then◌els
 use Rattle.std.specs.Option.{option_map_or}
 use Rattle.std.specs.Ordering.{int_eq}
 use Rattle.std.proofs.lemmas.List.{get_or-map, length-map}
+use Rattle.std.proofs.lemmas.Bool.{and_from}
+use Rattle.list_laws.proofs.Counts.{any-count, bit, both-le-left, both-le-right, count-cons, count-le}
 use Rattle.ffm_model.specs.declared.system.System.{System}
 use Rattle.ffm_model.specs.declared.constants.TheConstants.{PSA_IPC_DISCONNECT}
 use Rattle.ffm_model.specs.declared.objects.OpenConnection.{OpenConnection}
@@ -18,8 +20,7 @@ use Rattle.object_pools.specs.declared.slot.Held.{Held}
 use Rattle.object_pools.specs.Pool.{Places, free_slot, taken, without}
 use Rattle.handle_table.specs.Handles.{live_names}
 use Rattle.counting_law.specs.Objects.{Mark, connection_marked, is_awaited, message_marked}
-use Rattle.counting_law.proofs.Counts.{bit, any-count, count-cons, count-le}
-use Rattle.counting_law.proofs.Parts.{both-le-left, both-le-right, is_itself, unique}
+use Rattle.counting_law.proofs.Parts.{is_itself, unique}
 use Rattle.counting_law.proofs.Losses.{after_panic-is, disconnect_message, disconnect_as, disconnect_messages}
 use Rattle.counting_law.proofs.Panic.{count-append}
 use Rattle.counting_law.proofs.Pairs.{count-split, member-counts, none-counts}
@@ -33,46 +34,46 @@ use Rattle.slot_names.specs.Changes.{OneMessageEach, PairsOff, KeepsConnectionNa
 use Rattle.slot_names.proofs.Kept.{kept-where, message_list}
 use Rattle.slot_names.proofs.Moves.{messages-more, names-enqueued, names-stay, names-with, one_more, rewaits-same}
 use Rattle.slot_names.proofs.Changes.{after-is, kept_names, names-length}
-use Rattle.slot_names.proofs.Partings.{both_on, like-kept}
+use Rattle.slot_names.proofs.Partings.{like-kept}
 use Rattle.slot_names.proofs.Removals.{one-message}
 
 -- ---- the tables so far
 
 -- at first nothing changed
-pub takes-none : (size : ℕ) (old : TablesView) → TakesOn size old (live_names old.waiting) 0 old
+pub takes-none : (size : ℕ) (old : TablesView) → TakesOn size old (live_names old.messages) 0 old
 takes-none size old = λ k was. subst (λ (ts : List SlotName). NamesAre old (record k { messages = ts })) was.messages was
 
 -- before the first take, messages and connections go
-pub takes-dropped : (size : ℕ) (old d new : TablesView) (kept : List SlotName) → TakesOn size old kept 0 d → KeepsConnectionNames d.linked new.linked → new.waiting.generations ≡ d.waiting.generations → new.waiting.takes ≡ d.waiting.takes
-    → TakesOn size old (live_names new.waiting) 0 new
-takes-dropped size old d new kept so_far linked generations takes = λ k was. names-with d new (record k { messages = kept }) (live_names new.waiting) (so_far k was) linked generations takes refl
+pub takes-dropped : (size : ℕ) (old d new : TablesView) (kept : List SlotName) → TakesOn size old kept 0 d → KeepsConnectionNames d.connections new.connections → new.messages.generations ≡ d.messages.generations → new.messages.takes ≡ d.messages.takes
+    → TakesOn size old (live_names new.messages) 0 new
+takes-dropped size old d new kept so_far linked generations takes = λ k was. names-with d new (record k { messages = kept }) (live_names new.messages) (so_far k was) linked generations takes refl
 
 -- all at once, before the first take
-pub takes-first : (size : ℕ) (old new : TablesView) (q : Held QueuedMessage → Bool) → KeepsConnectionNames old.linked new.linked → new.waiting ≡ record old.waiting { held = filter q old.waiting.held }
-    → TakesOn size old (names_of q old.waiting) 0 new
+pub takes-first : (size : ℕ) (old new : TablesView) (q : Held QueuedMessage → Bool) → KeepsConnectionNames old.connections new.connections → new.messages ≡ record old.messages { held = filter q old.messages.held }
+    → TakesOn size old (names_of q old.messages) 0 new
 takes-first size old new q linked waiting = λ k was.
-    names-with old new k (names_of q old.waiting) was linked (ap (λ (p : Places QueuedMessage). p.generations) waiting) (ap (λ (p : Places QueuedMessage). p.takes) waiting)
+    names-with old new k (names_of q old.messages) was linked (ap (λ (p : Places QueuedMessage). p.generations) waiting) (ap (λ (p : Places QueuedMessage). p.takes) waiting)
     (ap live_names (sym waiting))
 
 -- the message of a slot goes
-pub takes-without : (size : ℕ) (old d new : TablesView) (kept : List SlotName) (place : Slot) → TakesOn size old kept 0 d → KeepsConnectionNames d.linked new.linked → new.waiting ≡ without d.waiting place → TakesOn size old (live_names new.waiting) 0 new
+pub takes-without : (size : ℕ) (old d new : TablesView) (kept : List SlotName) (place : Slot) → TakesOn size old kept 0 d → KeepsConnectionNames d.connections new.connections → new.messages ≡ without d.messages place → TakesOn size old (live_names new.messages) 0 new
 takes-without size old d new kept place so_far linked waiting =
     takes-dropped size old d new kept so_far linked (ap (λ (p : Places QueuedMessage). p.generations) waiting) (ap (λ (p : Places QueuedMessage). p.takes) waiting)
 
 -- connections go or change in their slots, and messages change in theirs
-pub takes-stay : (size : ℕ) (old d new : TablesView) (kept : List SlotName) (n : ℕ) → TakesOn size old kept n d → KeepsConnectionNames d.linked new.linked → KeepsMessageNames d.waiting new.waiting → TakesOn size old kept n new
+pub takes-stay : (size : ℕ) (old d new : TablesView) (kept : List SlotName) (n : ℕ) → TakesOn size old kept n d → KeepsConnectionNames d.connections new.connections → KeepsMessageNames d.messages new.messages → TakesOn size old kept n new
 takes-stay size old d new kept n so_far linked waiting = λ k was. names-stay d new (with_messages size n (record k { messages = kept })) (so_far k was) linked waiting
 
-pub takes-relinked : (size : ℕ) (old d new : TablesView) (kept : List SlotName) (n : ℕ) → TakesOn size old kept n d → KeepsConnectionNames d.linked new.linked → new.waiting ≡ d.waiting → TakesOn size old kept n new
-takes-relinked size old d new kept n so_far linked waiting = takes-stay size old d new kept n so_far linked (rewaits-same d.waiting new.waiting waiting)
+pub takes-relinked : (size : ℕ) (old d new : TablesView) (kept : List SlotName) (n : ℕ) → TakesOn size old kept n d → KeepsConnectionNames d.connections new.connections → new.messages ≡ d.messages → TakesOn size old kept n new
+takes-relinked size old d new kept n so_far linked waiting = takes-stay size old d new kept n so_far linked (rewaits-same d.messages new.messages waiting)
 
 -- a message is taken in
-pub takes-more : (size : ℕ) (old d new : TablesView) (kept : List SlotName) (n : ℕ) (slot : Slot) (x : QueuedMessage) → TakesOn size old kept n d → length d.waiting.generations ≡ size → free_slot d.waiting ≡ Some slot
-    → KeepsConnectionNames d.linked new.linked → new.waiting ≡ taken d.waiting slot x → TakesOn size old kept (n + 1) new
+pub takes-more : (size : ℕ) (old d new : TablesView) (kept : List SlotName) (n : ℕ) (slot : Slot) (x : QueuedMessage) → TakesOn size old kept n d → length d.messages.generations ≡ size → free_slot d.messages ≡ Some slot
+    → KeepsConnectionNames d.connections new.connections → new.messages ≡ taken d.messages slot x → TakesOn size old kept (n + 1) new
 takes-more size old d new kept n slot x so_far wide free linked waiting = λ k was.
     let k' : NamesSoFar = record k { messages = kept } in
-    let mid : TablesView = record d { linked = new.linked } in
-    let between : NamesAre mid (with_messages size n k') = names-stay d mid (with_messages size n k') (so_far k was) linked (rewaits-same d.waiting d.waiting refl) in
+    let mid : TablesView = record d { connections = new.connections } in
+    let between : NamesAre mid (with_messages size n k') = names-stay d mid (with_messages size n k') (so_far k was) linked (rewaits-same d.messages d.messages refl) in
     subst (NamesAre new) (sym (messages-more size n k') ∙ ap (λ m. with_messages size m k') (sym (add-one n))) (names-enqueued mid new (with_messages size n k') slot x size between wide free refl waiting)
 
 -- ---- the event as a whole
@@ -85,21 +86,21 @@ more-messages size (suc n) k =
 
 -- the messages that pass the test stay, the others go, and those that come are like none of them
 pub names-closed : (s : System) (old new : TablesView) (r : PendingMessage → Bool) (added : List PendingMessage) (kept : List SlotName) (n : ℕ) → TakesOn (message_capacity s) old kept n new
-    → kept ≡ names_of (λ h. r (held_message h)) old.waiting → new.linked.takes ≡ old.linked.takes → (spm_of new).messages ≡ filter r (spm_of old).messages ++ added
+    → kept ≡ names_of (λ h. r (held_message h)) old.messages → new.connections.takes ≡ old.connections.takes → (spm_of new).messages ≡ filter r (spm_of old).messages ++ added
     → OneMessageEach (spm_of old) → All (λ m. r m ≡ false → stays added m ≡ false) (spm_of old).messages → KeepsNames s old new
 names-closed s old new r added kept n so_far names made messages one apart = λ k was.
-    let hs : List (Held QueuedMessage) = old.waiting.held in
+    let hs : List (Held QueuedMessage) = old.messages.held in
     let ms : List PendingMessage = message_list hs in
     let now : NamesAre new (with_messages (message_capacity s) n (record k { messages = kept })) = so_far k was in
     let part : All (λ m. stays (filter r ms ++ added) m ≡ r m) ms = like-kept same_message same-self r ms added one apart in
-    let stay : All (λ h. stays (message_list new.waiting.held) (held_message h) ≡ r (held_message h)) hs =
+    let stay : All (λ h. stays (message_list new.messages.held) (held_message h) ≡ r (held_message h)) hs =
     λ i d lt.
     let h : Held QueuedMessage = get_or hs i d in
     let at : get_or ms i (held_message d) ≡ held_message h = get_or-map held_message hs i d (held_message d) lt in
     ap (λ (ns : List PendingMessage). stays ns (held_message h)) messages
     ∙ subst (λ (m : PendingMessage). stays (filter r ms ++ added) m ≡ r m) at (part i (held_message d) (omega (arith, lt, length-map hs held_message))) in
-    let is_kept : kept_names old new k.messages ≡ kept = ap (kept_names old new) was.messages ∙ kept-where (stays (message_list new.waiting.held)) (λ h. r (held_message h)) hs stay ∙ sym names in
-    let longer : length new.waiting.held ≡ length kept + n = omega (arith, names-length new (with_messages (message_capacity s) n (record k { messages = kept })) now, more-messages (message_capacity s) n (record k { messages = kept })) in
+    let is_kept : kept_names old new k.messages ≡ kept = ap (kept_names old new) was.messages ∙ kept-where (stays (message_list new.messages.held)) (λ h. r (held_message h)) hs stay ∙ sym names in
+    let longer : length new.messages.held ≡ length kept + n = omega (arith, names-length new (with_messages (message_capacity s) n (record k { messages = kept })) now, more-messages (message_capacity s) n (record k { messages = kept })) in
     subst (NamesAre new) (sym (after-is s old new k kept n is_kept longer made)) now
 
 -- ---- a panic in the machine's words
@@ -140,7 +141,7 @@ disconnects-apart s b p h = λ i d lt off.
     let numbered : (n : ℕ) → m.connection ≡ Some n → count_by (λ c. not (is_service_of s p c.service) && (c.serial == n)) b.connections ≡ 0 =
     λ n conn.
     let t : Mark = λ k a v ph. is_service_of s p v && (k == n) in
-    let here : message_marked t m ≡ true = marked_as m n t conn ∙ both_on (is_service_of s p m.service) (n == n) (not_off (is_service_of s p m.service) off) (is_itself n) in
+    let here : message_marked t m ≡ true = marked_as m n t conn ∙ and_from (is_service_of s p m.service) (n == n) (not_off (is_service_of s p m.service) off) (is_itself n) in
     omega (
       arith,
       member-counts (message_marked t) b.messages i d lt,
@@ -167,7 +168,7 @@ disconnects-apart s b p h = λ i d lt off.
       and_false false = refl
 
 pub names-panicked : (s : System) (old new : TablesView) (p : ℕ) (kept : List SlotName) (n : ℕ) → PairsOff (spm_of old) → spm_of new ≡ panic_effect s (spm_of old) p
-    → kept ≡ names_of (λ h. not (is_service_of s p h.item.service)) old.waiting → TakesOn (message_capacity s) old kept n new → KeepsNames s old new
+    → kept ≡ names_of (λ h. not (is_service_of s p h.item.service)) old.messages → TakesOn (message_capacity s) old kept n new → KeepsNames s old new
 names-panicked s old new p kept n pairs effect names so_far =
     let is_after = effect ∙ after_panic-is s (spm_of old) p in
     names-closed s old new (λ m. not (is_service_of s p m.service)) (disconnect_messages s p (spm_of old).connections) kept n so_far names

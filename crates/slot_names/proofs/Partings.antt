@@ -3,7 +3,8 @@ use Rattle.std.proofs.Common.{◌≡◌, ◌≤◌, Bool, true, false, cond, not
 use Rattle.std.specs.Prelude.{count_by, All}
 use Rattle.std.specs.List.{list_any}
 use Rattle.std.proofs.lemmas.List.Folds.{list_any-append}
-use Rattle.counting_law.proofs.Counts.{bit, any-count}
+use Rattle.std.proofs.lemmas.Bool.{and_from}
+use Rattle.list_laws.proofs.Counts.{any-count, bit}
 use Rattle.counting_law.proofs.Pairs.{count-split, member-counts}
 use Rattle.slot_names.proofs.Kept.{any-at}
 
@@ -14,17 +15,13 @@ any-filter {X = X} p q (x ∷ xs) =
     elim [ true ↦ ap (λ b. p x || b) (any-filter p q xs) | false ↦ any-filter p q xs ] in
     go (q x)
 
-pub both_on : (a b : Bool) → a ≡ true → b ≡ true → (a && b) ≡ true
-both_on true b e f = f
-both_on false b e f = cc
-
 -- an item is like one of those that stay, or of the new ones, exactly where it stays itself
 pub like-kept : {X : Type 0} (like : X → X → Bool) → ((x : X) → like x x ≡ true) → (q : X → Bool) (xs new : List X)
     → ((x : X) → count_by (like x) xs ≤ 1) → All (λ x. q x ≡ false → list_any (like x) new ≡ false) xs
     → All (λ x. list_any (like x) (filter q xs ++ new) ≡ q x) xs
 like-kept {X} like self q xs new one apart = λ k d lt.
     let x : X = get_or xs k d in
-    let stays : q x ≡ true → list_any (λ y. q y && like x y) xs ≡ true = λ e. any-at (λ y. q y && like x y) xs k d lt (both_on (q x) (like x x) e (self x)) in
+    let stays : q x ≡ true → list_any (λ y. q y && like x y) xs ≡ true = λ e. any-at (λ y. q y && like x y) xs k d lt (and_from (q x) (like x x) e (self x)) in
     let gone : q x ≡ false → (b : Bool) → list_any (λ y. q y && like x y) xs ≡ b → b ≡ false =
     λ e. elim [
       | true ↦ λ f.
@@ -32,7 +29,7 @@ like-kept {X} like self q xs new one apart = λ k d lt.
             arith,
             any-count (λ y. q y && like x y) xs f,
             member-counts (λ y. not (q y) && like x y) xs k d lt,
-            ap bit (both_on (not (q x)) (like x x) (ap not e) (self x)),
+            ap bit (and_from (not (q x)) (like x x) (ap not e) (self x)),
             count-split q (like x) xs,
             one x,
           ))

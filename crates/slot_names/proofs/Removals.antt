@@ -5,6 +5,7 @@ use Rattle.std.specs.Option.{option_map_or}
 use Rattle.std.specs.List.{list_any}
 use Rattle.std.specs.Ordering.{int_eq}
 use Rattle.std.proofs.lemmas.List.{append-nil, length-map}
+use Rattle.list_laws.proofs.Counts.{bit, both-le-left, both-le-right, count-le}
 use Rattle.ffm_model.specs.declared.system.System.{System}
 use Rattle.ffm_model.specs.declared.objects.OpenConnection.{OpenConnection}
 use Rattle.ffm_model.specs.State.{SpmState}
@@ -16,8 +17,7 @@ use Rattle.handle_table.specs.Handles.{slot_name}
 use Rattle.handle_table.proofs.Twins.{count-map}
 use Rattle.counting_law.specs.Objects.{ObjectsFit, Mark, called_by, is_awaited, connection_marked, message_marked}
 use Rattle.counting_law.proofs.Slots.{one-call}
-use Rattle.counting_law.proofs.Counts.{bit, count-le}
-use Rattle.counting_law.proofs.Parts.{both-le-left, both-le-right, unique}
+use Rattle.counting_law.proofs.Parts.{unique}
 use Rattle.spm_tables.specs.declared.item.QueuedMessage.{QueuedMessage}
 use Rattle.spm_tables.specs.TablesView.{TablesView, held_message, spm_of}
 use Rattle.slot_names.specs.Named.{KeepsNames, NamesAre}
@@ -62,24 +62,24 @@ pub fitting-messages : (s : System) (b : SpmState) → ObjectsFit s b → OneMes
 fitting-messages s b h = one-message b (fitting-pairs-off s b h)
 
 -- the same, of the items
-pub one-item : (d : TablesView) → OneMessageEach (spm_of d) → (h : Held QueuedMessage) → count_by (is_like h) d.waiting.held ≤ 1
-one-item d one h = omega (arith, one (held_message h), count-map held_message (is_same_message (held_message h)) d.waiting.held)
+pub one-item : (d : TablesView) → OneMessageEach (spm_of d) → (h : Held QueuedMessage) → count_by (is_like h) d.messages.held ≤ 1
+one-item d one h = omega (arith, one (held_message h), count-map held_message (is_same_message (held_message h)) d.messages.held)
 
 -- the messages that pass the test stay, and the others go
-pub names-removed : (s : System) (old new : TablesView) (q : Held QueuedMessage → Bool) → OneMessageEach (spm_of old) → KeepsConnectionNames old.linked new.linked
-    → new.waiting ≡ record old.waiting { held = filter q old.waiting.held } → KeepsNames s old new
+pub names-removed : (s : System) (old new : TablesView) (q : Held QueuedMessage → Bool) → OneMessageEach (spm_of old) → KeepsConnectionNames old.connections new.connections
+    → new.messages ≡ record old.messages { held = filter q old.messages.held } → KeepsNames s old new
 names-removed s old new q one linked waiting = λ k was.
-    let hs : List (Held QueuedMessage) = old.waiting.held in
+    let hs : List (Held QueuedMessage) = old.messages.held in
     let ts = name_list (filter q hs) in
-    let held : new.waiting.held ≡ filter q hs = ap (λ (p : Places QueuedMessage). p.held) waiting in
+    let held : new.messages.held ≡ filter q hs = ap (λ (p : Places QueuedMessage). p.held) waiting in
     let apart : All (λ h. list_any (is_like h) (filter q hs ++ []) ≡ q h) hs =
     like-kept is_like like_itself q hs [] (one-item old one) (λ i d lt e. refl) in
-    let stay : All (λ h. stays (message_list new.waiting.held) (held_message h) ≡ q h) hs =
+    let stay : All (λ h. stays (message_list new.messages.held) (held_message h) ≡ q h) hs =
     λ i d lt.
     let h : Held QueuedMessage = get_or hs i d in
     ap (λ (ns : List (Held QueuedMessage)). stays (message_list ns) (held_message h)) (held ∙ sym (append-nil (filter q hs))) ∙ stays-is (filter q hs ++ []) h ∙ apart i d lt in
-    let kept : kept_names old new k.messages ≡ ts = ap (kept_names old new) was.messages ∙ kept-where (stays (message_list new.waiting.held)) q hs stay in
-    let longer : length new.waiting.held ≡ length ts + 0 =
+    let kept : kept_names old new k.messages ≡ ts = ap (kept_names old new) was.messages ∙ kept-where (stays (message_list new.messages.held)) q hs stay in
+    let longer : length new.messages.held ≡ length ts + 0 =
     ap (λ (ns : List (Held QueuedMessage)). length ns) held ∙ omega (arith, length-map (filter q hs) (λ (h : Held QueuedMessage). slot_name h.slot)) in
     subst (NamesAre new) (sym (after-is s old new k ts 0 kept longer linked.takes))
     (names-with old new k ts was linked (ap (λ (p : Places QueuedMessage). p.generations) waiting) (ap (λ (p : Places QueuedMessage). p.takes) waiting) (ap name_list (sym held)))
@@ -87,20 +87,20 @@ names-removed s old new q one linked waiting = λ k was.
 -- ---- a reply
 
 -- the message of a slot goes
-pub names-dropped : (s : System) (old new : TablesView) (place : Slot) → OneMessageEach (spm_of old) → KeepsConnectionNames old.linked new.linked → new.waiting ≡ without old.waiting place → KeepsNames s old new
+pub names-dropped : (s : System) (old new : TablesView) (place : Slot) → OneMessageEach (spm_of old) → KeepsConnectionNames old.connections new.connections → new.messages ≡ without old.messages place → KeepsNames s old new
 names-dropped s old new place one linked waiting = names-removed s old new (λ h. not (has_slot place h)) one linked waiting
 
 -- and its connection stays as it is
-pub names-replied : (s : System) (old new : TablesView) (place : Slot) → OneMessageEach (spm_of old) → new.linked ≡ old.linked → new.waiting ≡ without old.waiting place → KeepsNames s old new
-names-replied s old new place one linked waiting = names-dropped s old new place one (relinks-same old.linked new.linked linked) waiting
+pub names-replied : (s : System) (old new : TablesView) (place : Slot) → OneMessageEach (spm_of old) → new.connections ≡ old.connections → new.messages ≡ without old.messages place → KeepsNames s old new
+names-replied s old new place one linked waiting = names-dropped s old new place one (relinks-same old.connections new.connections linked) waiting
 
 -- or changes in its slot
-pub names-answered : (s : System) (old new : TablesView) (place slot : Slot) (c changed : OpenConnection) → OneMessageEach (spm_of old) → IsKept 256 old.linked → item_at old.linked slot ≡ Some c → changed.serial ≡ c.serial
-    → new.linked ≡ with_item old.linked slot changed → new.waiting ≡ without old.waiting place → KeepsNames s old new
+pub names-answered : (s : System) (old new : TablesView) (place slot : Slot) (c changed : OpenConnection) → OneMessageEach (spm_of old) → IsKept 256 old.connections → item_at old.connections slot ≡ Some c → changed.serial ≡ c.serial
+    → new.connections ≡ with_item old.connections slot changed → new.messages ≡ without old.messages place → KeepsNames s old new
 names-answered s old new place slot c changed one kept live serial linked waiting =
-    names-dropped s old new place one (relinks-to old.linked new.linked (with_item old.linked slot changed) linked (relinks-item 256 old.linked slot c changed kept live serial)) waiting
+    names-dropped s old new place one (relinks-to old.connections new.connections (with_item old.connections slot changed) linked (relinks-item 256 old.connections slot c changed kept live serial)) waiting
 
 -- or goes too
-pub names-ended : (s : System) (old new : TablesView) (place slot : Slot) → OneMessageEach (spm_of old) → new.linked ≡ without old.linked slot → new.waiting ≡ without old.waiting place → KeepsNames s old new
+pub names-ended : (s : System) (old new : TablesView) (place slot : Slot) → OneMessageEach (spm_of old) → new.connections ≡ without old.connections slot → new.messages ≡ without old.messages place → KeepsNames s old new
 names-ended s old new place slot one linked waiting =
-    names-dropped s old new place one (relinks-to old.linked new.linked (without old.linked slot) linked (relinks-without old.linked slot)) waiting
+    names-dropped s old new place one (relinks-to old.connections new.connections (without old.connections slot) linked (relinks-without old.connections slot)) waiting

@@ -2,3 +2,4 @@ pub mod Named
 pub mod Changes
 pub mod Replies
 pub mod Stands
+pub mod Premises

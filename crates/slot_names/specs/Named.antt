@@ -15,15 +15,15 @@ IsNamedBy ts h = get_or ts h.item.serial no_slot ≡ slot_name h.slot
 -- the names so far are those of the tables' slots
 pub record NamesAre (d : TablesView) (k : NamesSoFar) : Type 0 where
   -- each connection that was ever made has a name
-  pub made : length k.connections ≡ d.linked.takes
+  pub made : length k.connections ≡ d.connections.takes
   -- and the name of one that is there is its slot's
-  pub connections : All (IsNamedBy k.connections) d.linked.held
-  pub past_connections : IsPast d.linked k.connections
+  pub connections : All (IsNamedBy k.connections) d.connections.held
+  pub past_connections : IsPast d.connections k.connections
   -- the names of the messages are those of their slots
-  pub messages : k.messages ≡ live_names d.waiting
-  pub past_messages : IsPast d.waiting k.past_messages
+  pub messages : k.messages ≡ live_names d.messages
+  pub past_messages : IsPast d.messages k.past_messages
   -- each message that was ever made has a name
-  pub sent : length k.past_messages ≡ d.waiting.takes
+  pub sent : length k.past_messages ≡ d.messages.takes
 
 -- an event puts back one slot for each connection and message that it removes, then takes one for each that it adds, and touches no other
 abbrev pub KeepsNames : System → TablesView → TablesView → Type 0

@@ -13,8 +13,8 @@ use Rattle.spm_tables.specs.TablesView.{TablesView, spm_of}
 
 -- the last generation that each index of a family has had
 abbrev pub generations_of : TablesView → Family → List ℕ
-generations_of d Connection = d.linked.generations
-generations_of d Message = d.waiting.generations
+generations_of d Connection = d.connections.generations
+generations_of d Message = d.messages.generations
 
 -- the handle names a slot with a generation that was taken
 pub record NamesTaken (d : TablesView) (h : Handle) : Type 0 where
@@ -32,6 +32,6 @@ pub record Stands (d : TablesView) (bytes : List Bytes) (st : State) : Type 0 wh
   -- each given handle names a slot with a generation that was taken
   pub given : All (NamesTaken d) st.handles_given
   -- and none is that of a generation still to come, or of a live slot whose connection has no handle
-  pub connections : GivesFresh Connection (λ c. is_some c.handle) d.linked st.handles_given
+  pub connections : GivesFresh Connection (λ c. is_some c.handle) d.connections st.handles_given
   -- or whose message has none
-  pub messages : GivesFresh Message (λ m. m.delivered) d.waiting st.handles_given
+  pub messages : GivesFresh Message (λ m. m.delivered) d.messages st.handles_given

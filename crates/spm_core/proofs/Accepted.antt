@@ -1,6 +1,6 @@
 -- The connection that a client is still to be told of, and the returns of calls that waited.
 use Rattle.std.proofs.Common.{ℕ, ◌≡◌, ◌≤◌, Bool, true, false, List, [], ◌∷◌, refl, ap, sym, subst, ◌∙◌, arith, All}
-use Rattle.std.specs.Prelude.{Option, Some, None, IfSome, IsSomeAnd, IsTrue, ◌&&◌, ◌==◌, nat_le, find, count_by, cond, get_or, bit_and, pos}
+use Rattle.std.specs.Prelude.{Option, Some, None, IfSome, IsSomeAnd, IsTrue, ◌==◌, nat_le, find, count_by, cond, get_or, bit_and, pos}
 use Rattle.std.proofs.lemmas.Bool.Decides.{nat_tests}
 use Rattle.ffm_model.specs.declared.system.System.{System}
 use Rattle.ffm_model.specs.declared.objects.ActorPhase.{ActorPhase}
@@ -16,8 +16,6 @@ use Rattle.ffm_model.specs.Names.{name_at_return}
 use Rattle.ffm_model.specs.Signals.{signals_of}
 use Rattle.ffm_model.specs.State.{phase_of, with_phase}
 use Rattle.counting_law.specs.Objects.{ObjectsFit, PhaseFits, accepted_as, awaited_by, asked_by}
-use Rattle.counting_law.proofs.Counts.{some-found, find-passes}
-use Rattle.counting_law.proofs.Parts.{left_true, right_true, equal_from}
 use Rattle.ffm_model.specs.Names.{NamesSoFar, name_of, no_slot}
 use Rattle.handle_table.specs.Handles.{IsNameable, handle_at}
 use Rattle.handle_table.specs.declared.handles.Family.TheVariants.{Connection}
@@ -26,7 +24,9 @@ use Rattle.slot_names.proofs.Changes.{names-connection}
 use Rattle.slot_names.proofs.Due.{named-connection}
 use Rattle.handle_table.specs.Table.{is_owned_from}
 use Rattle.handle_table.proofs.SlotLemmas.{nameable-at}
-use Rattle.std.proofs.lemmas.List.Elements.{All-head, All-tail}
+use Rattle.std.proofs.lemmas.Bool.{and_from, and_parts, eqb-true}
+use Rattle.list_laws.proofs.Counts.{some-found}
+use Rattle.list_laws.proofs.Tests.{find-all, find-passes}
 use Rattle.object_pools.specs.declared.slot.Slot.{Slot}
 use Rattle.object_pools.specs.Pool.{Places, IsKept, item_at, with_item}
 use Rattle.spm_tables.specs.Answers.{state_with}
@@ -34,25 +34,17 @@ use Rattle.spm_tables.specs.TablesView.{TablesView, spm_of}
 use Rattle.spm_core.specs.Performed.{IsEffect, IsReturned, ShowsName}
 use Rattle.spm_core.proofs.Attempted.{shows-due}
 
-both : (b d : Bool) → b ≡ true → d ≡ true → (b && d) ≡ true
-both b d h k = rw (h, k) refl
-
 here-or-later : {X : Type 0} (P : X → Type 0) (b : Bool) (y x : X) (rest : Option X) → P y → (rest ≡ Some x → P x) → cond b (Some y) rest ≡ Some x → P x
 here-or-later P true y x rest here later h = let it : y ≡ x = cc in subst P it here
 here-or-later P false y x rest here later h = later h
 
--- what holds of all holds of what is found
-found-all : {X : Type 0} (P : X → Type 0) (p : X → Bool) (xs : List X) (x : X) → find p xs ≡ Some x → All P xs → P x
-found-all P p [] x h all = absurd (cc)
-found-all P p (y ∷ ys) x h all = here-or-later P (p y) y x (find p ys) (All-head P y ys all) (λ k. found-all P p ys x k (All-tail P y ys all)) h
-
 -- an accepted connection is its client's, from its own serial number on
 owned-accepted : (a n : ℕ) (c : OpenConnection) → accepted_as a n c ≡ true → (is_owned_from a n c ≡ true) × (c.serial ≡ n)
 owned-accepted a n c h =
-    let serial : c.serial ≡ n = equal_from c.serial n (left_true _ _ h) in
-    let client : (c.client.0 == a) ≡ true = left_true _ _ (right_true _ _ h) in
+    let serial : c.serial ≡ n = eqb-true c.serial n (and_parts _ _ h).0 in
+    let client : (c.client.0 == a) ≡ true = (and_parts _ _ (and_parts _ _ h).1).0 in
     let from : nat_le n c.serial ≡ true = grind (arith, nat_tests) in
-    (both _ _ client from, serial)
+    (and_from _ _ client from, serial)
 
 none-found : {X : Type 0} (p q : X → Bool) (xs : List X) (x : X) → find p xs ≡ Some x → q x ≡ true → find q xs ≡ None → ⊥
 none-found p q [] x is passes none = cc
@@ -78,9 +70,9 @@ accepted-first a n cs None one is least =
 accepted-first a n cs (Some c) one is least =
     let it = some-found (accepted_as a n) cs (omega (arith, one)) in
     let own = owned-accepted a n it.0 (find-passes _ cs it.0 it.1) in
-    let below : c.serial ≤ it.0.serial = found-all (λ d. IsTrue (is_owned_from a n d) → c.serial ≤ d.serial) (accepted_as a n) cs it.0 it.1 least own.0 in
+    let below : c.serial ≤ it.0.serial = find-all (λ d. IsTrue (is_owned_from a n d) → c.serial ≤ d.serial) (accepted_as a n) cs it.0 it.1 least own.0 in
     let passes : is_owned_from a n c ≡ true = find-passes (is_owned_from a n) cs c (sym is) in
-    let from : nat_le n c.serial ≡ true = right_true _ _ passes in
+    let from : nat_le n c.serial ≡ true = (and_parts _ _ passes).1 in
     let above : n ≤ c.serial = grind (arith, nat_tests) in
     omega (arith, below, above, own.1)
 
@@ -103,14 +95,14 @@ live-nameable p s n kept live =
     go (item_at p s) refl live
 
 -- the handle of its slot is the name of the connection
-pub accepted-name : (d : TablesView) (k : NamesSoFar) (slot : Slot) (n : ℕ) → NamesAre d k → IsSomeAnd (item_at d.linked slot) (λ c. c.serial ≡ n)
+pub accepted-name : (d : TablesView) (k : NamesSoFar) (slot : Slot) (n : ℕ) → NamesAre d k → IsSomeAnd (item_at d.connections slot) (λ c. c.serial ≡ n)
     → name_of 0 (get_or k.connections n no_slot) ≡ handle_at Connection slot
 accepted-name d k slot n are live =
-    let go : (o : Option OpenConnection) → item_at d.linked slot ≡ o → IsSomeAnd o (λ c. c.serial ≡ n) → name_of 0 (get_or k.connections n no_slot) ≡ handle_at Connection slot = elim [
+    let go : (o : Option OpenConnection) → item_at d.connections slot ≡ o → IsSomeAnd o (λ c. c.serial ≡ n) → name_of 0 (get_or k.connections n no_slot) ≡ handle_at Connection slot = elim [
       | None ↦ λ is h. absurd h
       | Some c ↦ λ is h. subst (λ (m : ℕ). name_of 0 (get_or k.connections m no_slot) ≡ handle_at Connection slot) h (named-connection d k slot c are is)
     ] in
-    go (item_at d.linked slot) refl live
+    go (item_at d.connections slot) refl live
 
 -- the return of a call that waited for a signal
 pub returned-waiting : (s : System) (a mask word : ℕ) (old new : TablesView) → phase_of (spm_of old) a ≡ phase.Waiting mask → spm_of new ≡ with_phase (spm_of old) a phase.Running → word ≡ signals_of s (spm_of old) a
@@ -121,20 +113,20 @@ returned-waiting s a mask word old new waits is asserted given m =
 
 -- the handle that is told is the name due
 pub told-name : (s : System) (a n : ℕ) (old : TablesView) (m : ByteMap) (slot : Slot) (h : Handle) → phase_of (spm_of old) a ≡ phase.Connected n
-    → IsSomeAnd (item_at old.linked slot) (λ c. c.serial ≡ n) → h ≡ handle_at Connection slot → ShowsName s a call.Resume old m (Value h.0)
+    → IsSomeAnd (item_at old.connections slot) (λ c. c.serial ≡ n) → h ≡ handle_at Connection slot → ShowsName s a call.Resume old m (Value h.0)
 told-name s a n old m slot h waits live is =
     shows-due s a call.Resume old m (Value h.0)
     (λ given k are. ap (name_at_return k) waits ∙ ap (λ (x : Handle). Some x) (accepted-name old k slot n are live ∙ sym is))
 
 -- and the telling keeps the names
-pub told-names : (s : System) (old mid new : TablesView) (slot : Slot) (n : ℕ) (h : Handle) → IsKept 256 mid.linked → mid.linked ≡ old.linked → mid.waiting ≡ old.waiting
-    → IsSomeAnd (item_at mid.linked slot) (λ c. c.serial ≡ n) → IfSome (item_at mid.linked slot) (λ c. new ≡ record mid { linked = with_item mid.linked slot (record c { handle = Some h }) })
+pub told-names : (s : System) (old mid new : TablesView) (slot : Slot) (n : ℕ) (h : Handle) → IsKept 256 mid.connections → mid.connections ≡ old.connections → mid.messages ≡ old.messages
+    → IsSomeAnd (item_at mid.connections slot) (λ c. c.serial ≡ n) → IfSome (item_at mid.connections slot) (λ c. new ≡ record mid { connections = with_item mid.connections slot (record c { handle = Some h }) })
     → KeepsNames s old new
 told-names s old mid new slot n h kept linked waiting live told =
-    let go : (o : Option OpenConnection) → item_at mid.linked slot ≡ o → IsSomeAnd o (λ c. c.serial ≡ n) → IfSome o (λ c. new ≡ record mid { linked = with_item mid.linked slot (record c { handle = Some h }) }) → KeepsNames s old new = elim [
+    let go : (o : Option OpenConnection) → item_at mid.connections slot ≡ o → IsSomeAnd o (λ c. c.serial ≡ n) → IfSome o (λ c. new ≡ record mid { connections = with_item mid.connections slot (record c { handle = Some h }) }) → KeepsNames s old new = elim [
       | None ↦ λ is l t. absurd l
       | Some c ↦ λ is l t.
           names-connection s old new slot c (record c { handle = Some h }) (subst (IsKept 256) linked kept) (sym (ap (λ (p : Places OpenConnection). item_at p slot) linked) ∙ is) refl
-          (ap (λ (d : TablesView). d.linked) t ∙ ap (λ (p : Places OpenConnection). with_item p slot (record c { handle = Some h })) linked) (ap (λ (d : TablesView). d.waiting) t ∙ waiting)
+          (ap (λ (d : TablesView). d.connections) t ∙ ap (λ (p : Places OpenConnection). with_item p slot (record c { handle = Some h })) linked) (ap (λ (d : TablesView). d.messages) t ∙ waiting)
     ] in
-    go (item_at mid.linked slot) refl live told
+    go (item_at mid.connections slot) refl live told

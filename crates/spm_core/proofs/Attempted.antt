@@ -1,7 +1,8 @@
 -- What the calls of the crates below are as calls of the machine.
 use Rattle.std.proofs.Common.{ℕ, ◌≡◌, Bool, true, false, List, [], refl, ap, sym, subst, ◌∙◌}
-use Rattle.std.specs.Prelude.{Option, Some, None, Result, Ok, Err, IsSomeAnd, IfOk, IsErr, is_none, ◌||◌, if◌then◌else◌}
+use Rattle.std.specs.Prelude.{Option, Some, None, Result, Ok, Err, IsSomeAnd, IfOk, IsErr, is_none, if◌then◌else◌}
 use Rattle.std.specs.Option.{option_map}
+use Rattle.std.proofs.lemmas.Bool.{or_right}
 use Rattle.ffm_model.specs.declared.system.System.{System}
 use Rattle.ffm_model.specs.declared.system.ActorKind.{ActorKind}
 use Rattle.ffm_model.specs.declared.scenario.Bytes.{Bytes}
@@ -66,24 +67,20 @@ attempts-err s a c old new bytes after (Err fault) is none same kept = (none, (s
 
 -- ---- names
 
-or_true : (a b : Bool) → b ≡ true → (a || b) ≡ true
-or_true true b h = refl
-or_true false b h = h
-
 -- no name is due
 pub shows-nothing : (s : System) (a : ℕ) (c : Call) (old : TablesView) (m : ByteMap) (o : Outcome) → ((st : State) (k : NamesSoFar) → name_due s st a c k ≡ None) → ShowsName s a c old m o
-shows-nothing s a c old m o none given k are = or_true (programmer_error s (state_with old given m) a c) _ (rw (none (state_with old given m) k) refl)
+shows-nothing s a c old m o none given k are = or_right (programmer_error s (state_with old given m) a c) _ (rw (none (state_with old given m) k) refl)
 
 -- the name is due that is shown
 pub shows-due : (s : System) (a : ℕ) (c : Call) (old : TablesView) (m : ByteMap) (o : Outcome)
     → ((given : List Handle) (k : NamesSoFar) → NamesAre old k → name_due s (state_with old given m) a c k ≡ Some (handle_shown o)) → ShowsName s a c old m o
 shows-due s a c old m o due given k are =
     let same : handle_eq (handle_shown o) (handle_shown o) ≡ true = int_eq-self (handle_shown o).0 in
-    or_true (programmer_error s (state_with old given m) a c) _ (rw (due given k are) same)
+    or_right (programmer_error s (state_with old given m) a c) _ (rw (due given k are) same)
 
 -- none is due at a return that tells no handle
 pub shows-return : (s : System) (a : ℕ) (old : TablesView) (m : ByteMap) (o : Outcome) → ((k : NamesSoFar) → name_at_return k (phase_of (spm_of old) a) ≡ None) → ShowsName s a call.Resume old m o
-shows-return s a old m o none given k are = or_true (programmer_error s (state_with old given m) a call.Resume) _ (rw (none k) refl)
+shows-return s a old m o none given k are = or_right (programmer_error s (state_with old given m) a call.Resume) _ (rw (none k) refl)
 
 pub shows-all : (s : System) (a : ℕ) (c : Call) (old : TablesView) (m : ByteMap) (r : Result Outcome Fault) → ((st : State) (k : NamesSoFar) → name_due s st a c k ≡ None) → IfOk r (ShowsName s a c old m)
 shows-all s a c old m (Ok o) none = shows-nothing s a c old m o none

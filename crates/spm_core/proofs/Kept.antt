@@ -30,8 +30,7 @@ use Rattle.ffm_model.specs.Names.{NamedState, named_step, named_after, first_nam
 use Rattle.ffm_model.proofs.StepLemmas.{after-push}
 use Rattle.counting_law.specs.Objects.{ObjectsFit}
 use Rattle.counting_law.specs.Takes.{TakesFew}
-use Rattle.counting_law.specs.Pending.{ReturnsDue, answers_to, ends_panicked}
-use Rattle.counting_law.specs.Pending.{is_pending as awaits}
+use Rattle.counting_law.specs.Pending.{ReturnsDue, answers_to, ends_panicked, is_pending}
 use Rattle.counting_law.proofs.Fresh.{run-takes}
 use Rattle.counting_law.proofs.Returns.{run-returns}
 use Rattle.counting_law.proofs.Runs.{folds-keep, run-objects}
@@ -42,14 +41,15 @@ use Rattle.isolation_law.proofs.Within.{run-four, run-vectors}
 use Rattle.memory_image.specs.Pieces.{byte_at, regions_of, ranges_of}
 use Rattle.message_vectors.specs.Vectors.{AreWithin}
 use Rattle.slot_names.specs.Named.{NamesAre}
+use Rattle.slot_names.specs.Premises.{LeavesTakes, PremisesWithMemory}
 use Rattle.slot_names.proofs.Due.{names-begin}
 use Rattle.object_pools.specs.Pool.{IsKept}
 use Rattle.spm_tables.specs.Answers.{state_with}
 use Rattle.spm_tables.specs.TablesView.{TablesView, spm_of, shape_of, MadeFor}
-use Rattle.spm_core.specs.Manager.{Answers, Managed, Opening, refusal, refusal_at, is_gone, is_resume, is_actor_gone, awaits_return, CallDue, IsMade, state_after}
+use Rattle.spm_core.specs.Manager.{StepAnswers, Managed, Opening, refusal, refusal_at, is_gone, is_resume, is_actor_gone, awaits_return, CallDue, IsMade, state_after}
 use Rattle.spm_core.specs.Performed.{Holds, IsEffect, Keeps, entry_of}
-use Rattle.spm_core.proofs.Made.{IsCalled, named-on}
-use Rattle.spm_core.specs.Views.{enabled_in, is_pending, memory_in, pending_in, phase_in, shown_phase}
+use Rattle.spm_core.proofs.Made.{IsCalled, holds-left, named-on}
+use Rattle.spm_core.specs.Views.{enabled_in, memory_in, pending_in, phase_in, shown_phase}
 
 -- ---- a run with names is a run
 
@@ -75,7 +75,7 @@ state-held s m es d bytes holds =
       | None ↦ λ is h. absurd h
       | Some w ↦ λ is h. record {
         given = w.state.handles_given;
-        is = named-run s m es w is ∙ (λ j. Some (record { spm = h.spm j; handles_given = w.state.handles_given; memory = h.memory j }));
+        is = named-run s m es w is ∙ (λ j. Some (record { spm = h.stands.spm j; handles_given = w.state.handles_given; memory = h.stands.memory j }));
       }
     ] in
     go (named_after s m es) refl holds
@@ -96,18 +96,22 @@ vectors-kept o history bytes d capacity keeps =
     let at : IsStateOf o.system (byte_at o.memory) history d bytes = state-kept o history bytes d capacity keeps in
     rw keeps.regions (run-vectors o.system (byte_at o.memory) history (state_with d at.given (byte_at bytes)) at.is)
 
--- takes are left
-pub record LeavesTakes (d : TablesView) : Type 0 where
-  pub connections : d.linked.takes + 256 ≤ 1048575
-  pub messages : d.waiting.takes + 256 ≤ 1048575
+-- what a call rests on
+pub premises-kept : (o : Opening) (history : List Entry) (bytes : List Bytes) (d : TablesView) (capacity : ℕ) → Keeps o history bytes d capacity → PremisesWithMemory o.system d bytes
+premises-kept o history bytes d capacity keeps = record {
+  tables = record { made = keeps.made; fits = objects-kept o history bytes d capacity keeps };
+  regions = keeps.regions;
+  vectors = vectors-kept o history bytes d capacity keeps;
+}
 
+-- takes are left
 pub takes-kept : (o : Opening) (history : List Entry) (bytes : List Bytes) (d : TablesView) (capacity : ℕ) → Keeps o history bytes d capacity → LeavesTakes d
 takes-kept o history bytes d capacity keeps =
     let go : (x : Option NamedState) → named_after o.system (byte_at o.memory) history ≡ x → IsSomeAnd x (Holds d bytes) → LeavesTakes d = elim [
       | None ↦ λ is h. absurd h
       | Some w ↦ λ is h.
           let few : TakesFew history w = run-takes o.system (byte_at o.memory) history w is in
-          let made : w.state.spm.connections_made ≡ d.linked.takes = ap (λ (b : SpmState). b.connections_made) h.spm in
+          let made : w.state.spm.connections_made ≡ d.connections.takes = ap (λ (b : SpmState). b.connections_made) h.stands.spm in
           record {
             connections = omega (arith, few.connections, made, keeps.within, keeps.limited);
             messages = omega (arith, few.messages, few.connections, h.names.sent, keeps.within, keeps.limited);
@@ -173,7 +177,7 @@ may-kept o history bytes d capacity a c keeps below due none =
 
 -- ---- an actor's last entry
 
-gone-or-awaits : (p : ActorPhase) (panicked : Bool) → is_gone p ≡ false → is_pending p ≡ (awaits p || (is_panicked p && not panicked))
+gone-or-awaits : (p : ActorPhase) (panicked : Bool) → is_gone p ≡ false → is_pending p ≡ (is_pending p || (is_panicked p && not panicked))
 gone-or-awaits phase.Running panicked h = refl
 gone-or-awaits phase.Blocked panicked h = refl
 gone-or-awaits (phase.Waiting mask) panicked h = refl
@@ -194,14 +198,15 @@ last-kept o history bytes d capacity a keeps stays =
 
 -- a manager at its start
 pub keeps-first : (o : Opening) (d : TablesView) (capacity : ℕ) → o.limit ≤ MAX_ENTRIES → o.limit ≤ capacity → regions_of o.memory ≡ ranges_of o.system.regions → MadeFor d o.system
-    → IsKept 256 d.linked → IsKept 304 d.waiting → spm_of d ≡ opening_spm o.system → d.waiting.takes ≡ 0 → Keeps o [] o.memory d capacity
+    → IsKept 256 d.connections → IsKept 304 d.messages → spm_of d ≡ opening_spm o.system → d.messages.takes ≡ 0 → Keeps o [] o.memory d capacity
 keeps-first o d capacity limited room regions made linked waiting opens untaken = record {
   limited = limited;
   within = omega arith;
   room = room;
   regions = regions;
   made = made;
-  run = record { spm = sym opens; memory = refl; names = names-begin o.system d linked waiting opens untaken };
+  run = holds-left o.system (byte_at o.memory) [] d o.memory (first_named o.system (byte_at o.memory)) refl
+      (record { spm = sym opens; memory = refl; names = names-begin o.system d linked waiting opens untaken });
 }
 
 -- an entry more
@@ -266,7 +271,7 @@ pub phase-kept : (o : Opening) (history : List Entry) (bytes : List Bytes) (d : 
 phase-kept o history bytes d capacity a shown keeps is =
     let go : (x : Option NamedState) → IsSomeAnd x (Holds d bytes) → option_map (λ w. shown_phase w.names (phase_of w.state.spm a)) x ≡ Some shown = elim [
       | None ↦ λ h. absurd h
-      | Some w ↦ λ h. ap (λ (b : SpmState). Some (shown_phase w.names (phase_of b a))) h.spm ∙ ap (λ (p : Phase). Some p) (sym (is w.names h.names))
+      | Some w ↦ λ h. ap (λ (b : SpmState). Some (shown_phase w.names (phase_of b a))) h.stands.spm ∙ ap (λ (p : Phase). Some p) (sym (is w.names h.names))
     ] in
     go (named_after o.system (byte_at o.memory) history) keeps.run
 
@@ -302,7 +307,7 @@ never-made false true false true place e h = cc
 never-made false true false false place e h = cc
 
 pub refused-answers : (o : Opening) (history : List Entry) (bytes : List Bytes) (d : TablesView) (capacity a : ℕ) (c : Call) (x : Answer) → Keeps o history bytes d capacity
-    → refusal_at o.system o.limit (length history) (spm_of d) a ≡ Some x → Answers o history a c x history
+    → refusal_at o.system o.limit (length history) (spm_of d) a ≡ Some x → StepAnswers o history a c x history
 refused-answers o history bytes d capacity a c (answer.Made place e) keeps h =
     absurd (never-made (is_gone (phase_of (spm_of d) a)) (some_enabled o.system (spm_of d)) (nat_le o.limit (length history)) (enabled o.system (spm_of d) a) place e h)
 refused-answers o history bytes d capacity a c answer.Gone keeps h = record { due = refusal-kept o history bytes d capacity a keeps ∙ h; unchanged = refl }

@@ -3,3 +3,4 @@ pub mod Attempted
 pub mod Kept
 pub mod Made
 pub mod InterruptLemmas
+pub mod Refusals

@@ -25,9 +25,10 @@ use Rattle.ffm_model.specs.Names.{NamedState, NamesSoFar, named_step, named_afte
 use Rattle.ffm_model.proofs.StepLemmas.{named_after-push, step-fits, Fits}
 use Rattle.counting_law.specs.Fresh.{NamesFit}
 use Rattle.counting_law.proofs.Walk.{place-found}
-use Rattle.counting_law.proofs.Fresh.{run-names}
+use Rattle.counting_law.proofs.Fresh.{run-named, run-names}
 use Rattle.memory_image.specs.Pieces.{byte_at}
 use Rattle.slot_names.specs.Named.{NamesAre, KeepsNames}
+use Rattle.slot_names.proofs.Standing.{stands}
 use Rattle.spm_tables.specs.Answers.{state_with}
 use Rattle.spm_tables.specs.TablesView.{TablesView, spm_of}
 use Rattle.spm_core.specs.Performed.{Does, IsEffect, ShowsName, Holds, entry_of}
@@ -106,11 +107,20 @@ abbrev named_of : TablesView → List Handle → ByteMap → NamesSoFar → Name
 named_of d given m k = record { state = state_with d given m; names = k }
 
 holds-is : (d : TablesView) (bytes : List Bytes) (w : NamedState) → Holds d bytes w → w ≡ named_of d w.state.handles_given (byte_at bytes) w.names
-holds-is d bytes w h = λ j. record { state = record { spm = h.spm j; handles_given = w.state.handles_given; memory = h.memory j }; names = w.names }
+holds-is d bytes w h = λ j. record { state = record { spm = h.stands.spm j; handles_given = w.state.handles_given; memory = h.stands.memory j }; names = w.names }
+
+-- of a state whose run is still to be shown, what it then holds
+pub record Leaves (d : TablesView) (bytes : List Bytes) (w : NamedState) : Type 0 where
+  pub spm : w.state.spm ≡ spm_of d
+  pub memory : w.state.memory ≡ byte_at bytes
+  pub names : NamesAre d w.names
+
+pub holds-left : (s : System) (m : ByteMap) (es : List Entry) (d : TablesView) (bytes : List Bytes) (w : NamedState) → named_after s m es ≡ Some w → Leaves d bytes w → Holds d bytes w
+holds-left s m es d bytes w is left = record { stands = stands s es d bytes w (run-named s m es w is) left.names left.spm left.memory; names = left.names }
 
 named-made : (s : System) (es : List Entry) (d new : TablesView) (bytes after : List Bytes) (a : ℕ) (c : Call) (o : Outcome) (given : List Handle) (k : NamesSoFar)
     → NamesFit s es (named_of d given (byte_at bytes) k) → NamesAre d k → length es ≤ MAX_ENTRIES → IsCalled s d bytes a c o new after
-    → IsSomeAnd (named_step s (named_of d given (byte_at bytes) k) (entry_of a c o)) (Holds new after)
+    → IsSomeAnd (named_step s (named_of d given (byte_at bytes) k) (entry_of a c o)) (Leaves new after)
 named-made s es d new bytes after a c o given k fit are few called =
     let st : State = state_with d given (byte_at bytes) in
     let e : Entry = entry_of a c o in
@@ -119,24 +129,30 @@ named-made s es d new bytes after a c o given k fit are few called =
     let fits : Fits s st e = record { may = called.may; allowed = allowed s es (named_of d given (byte_at bytes) k) e fit few shows; outcome = sym effect.outcome } in
     let stepped : step s st e ≡ Some (effect_of s st a c (handle_shown o)).state = step-fits s st e fits in
     let left : State = (effect_of s st a c (handle_shown o)).state in
-    let holds : Holds new after (record { state = left; names = names_after s (spm_of d) left.spm k }) = record {
+    let leaves : Leaves new after (record { state = left; names = names_after s (spm_of d) left.spm k }) = record {
       spm = effect.spm;
       memory = effect.memory;
       names = subst (λ (b : SpmState). NamesAre new (names_after s (spm_of d) b k)) (sym effect.spm) (called.names k are);
     } in
-    rw (shows, stepped) holds
+    rw (shows, stepped) leaves
 
 -- the history with the entry is a named run, to the state of the new tables and bytes
 pub named-on : (s : System) (m : ByteMap) (es : List Entry) (d new : TablesView) (bytes after : List Bytes) (a : ℕ) (c : Call) (o : Outcome)
     → IsSomeAnd (named_after s m es) (Holds d bytes) → length es ≤ MAX_ENTRIES → IsCalled s d bytes a c o new after
     → IsSomeAnd (named_after s m (es ++ entry_of a c o ∷ [])) (Holds new after)
 named-on s m es d new bytes after a c o holds few called =
-    let go : (x : Option NamedState) → named_after s m es ≡ x → IsSomeAnd x (Holds d bytes) → IsSomeAnd (option_and_then (λ w. named_step s w (entry_of a c o)) x) (Holds new after) = elim [
-      | None ↦ λ is h. h
+    let go : (x : Option NamedState) → named_after s m es ≡ x → IsSomeAnd x (Holds d bytes) → IsSomeAnd (option_and_then (λ w. named_step s w (entry_of a c o)) x) (Leaves new after) = elim [
+      | None ↦ λ is h. absurd h
       | Some w ↦ λ is h.
           let same : w ≡ named_of d w.state.handles_given (byte_at bytes) w.names = holds-is d bytes w h in
           let fit : NamesFit s es w = run-names s m es w is in
-          subst (λ (v : NamedState). IsSomeAnd (named_step s v (entry_of a c o)) (Holds new after)) (sym same)
+          subst (λ (v : NamedState). IsSomeAnd (named_step s v (entry_of a c o)) (Leaves new after)) (sym same)
           (named-made s es d new bytes after a c o w.state.handles_given w.names (subst (λ (v : NamedState). NamesFit s es v) same fit) h.names few called)
     ] in
-    subst (λ (x : Option NamedState). IsSomeAnd x (Holds new after)) (sym (named_after-push s m es (entry_of a c o))) (go (named_after s m es) refl holds)
+    let left : IsSomeAnd (named_after s m (es ++ entry_of a c o ∷ [])) (Leaves new after) =
+    subst (λ (x : Option NamedState). IsSomeAnd x (Leaves new after)) (sym (named_after-push s m es (entry_of a c o))) (go (named_after s m es) refl holds) in
+    let stand : (x : Option NamedState) → named_after s m (es ++ entry_of a c o ∷ []) ≡ x → IsSomeAnd x (Leaves new after) → IsSomeAnd x (Holds new after) = elim [
+      | None ↦ λ is h. absurd h
+      | Some w ↦ λ is h. holds-left s m (es ++ entry_of a c o ∷ []) new after w is h
+    ] in
+    stand (named_after s m (es ++ entry_of a c o ∷ [])) refl left

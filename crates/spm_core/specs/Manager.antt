@@ -99,9 +99,9 @@ pub record IsRefused (o : Opening) (old : List Entry) (a : ℕ) (answered : Answ
   pub due : refusal o old a ≡ Some answered
   pub unchanged : new ≡ old
 
-abbrev pub Answers : Opening → List Entry → ℕ → Call → Answer → List Entry → Type 0
-Answers o old a c (answer.Made place e) new = IsMade o old a c place e new
-Answers o old a c answer.Gone new = IsRefused o old a answer.Gone new
-Answers o old a c answer.Over new = IsRefused o old a answer.Over new
-Answers o old a c answer.Full new = IsRefused o old a answer.Full new
-Answers o old a c answer.NotYet new = IsRefused o old a answer.NotYet new
+abbrev pub StepAnswers : Opening → List Entry → ℕ → Call → Answer → List Entry → Type 0
+StepAnswers o old a c (answer.Made place e) new = IsMade o old a c place e new
+StepAnswers o old a c answer.Gone new = IsRefused o old a answer.Gone new
+StepAnswers o old a c answer.Over new = IsRefused o old a answer.Over new
+StepAnswers o old a c answer.Full new = IsRefused o old a answer.Full new
+StepAnswers o old a c answer.NotYet new = IsRefused o old a answer.NotYet new

@@ -20,6 +20,7 @@ use Rattle.ffm_model.specs.Step.{handle_shown}
 use Rattle.ffm_model.specs.Names.{NamedState, NamesSoFar, named_after, shows_name}
 use Rattle.memory_image.specs.Pieces.{byte_at, regions_of, ranges_of}
 use Rattle.slot_names.specs.Named.{NamesAre}
+use Rattle.slot_names.specs.Stands.{Stands}
 use Rattle.spm_tables.specs.Answers.{state_with}
 use Rattle.spm_tables.specs.TablesView.{TablesView, spm_of, MadeFor}
 use Rattle.spm_core.specs.Manager.{Opening}
@@ -64,8 +65,7 @@ Does s a c old bytes o new after = (given : List Handle) → IsEffect (effect_of
 
 -- the state and the names behind the history are those of the tables and the bytes
 pub record Holds (d : TablesView) (bytes : List Bytes) (w : NamedState) : Type 0 where
-  pub spm : w.state.spm ≡ spm_of d
-  pub memory : w.state.memory ≡ byte_at bytes
+  pub stands : Stands d bytes w.state
   pub names : NamesAre d w.names
 
 -- its history is a run, with the names of handles, to the state that it holds, and there is room up to the limit

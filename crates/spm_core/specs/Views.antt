@@ -1,6 +1,6 @@
 -- What a manager shows of its actors and its memory.
 -- Source: this simulator's.
-use Rattle.std.specs.Prelude.{ℕ, Bool, true, false, Option, get_or}
+use Rattle.std.specs.Prelude.{ℕ, Bool, Option, get_or}
 use Rattle.std.specs.Option.{option_map}
 use Rattle.ffm_model.specs.declared.machine.Outcome.TheVariants.{Value}
 use Rattle.ffm_model.specs.declared.machine.Phase.{Phase}
@@ -11,6 +11,7 @@ use Rattle.ffm_model.specs.Memory.{ByteMap}
 use Rattle.ffm_model.specs.State.{phase_of}
 use Rattle.ffm_model.specs.Signals.{enabled}
 use Rattle.ffm_model.specs.Names.{NamesSoFar, named_after, name_of, no_slot}
+use Rattle.counting_law.specs.Pending.{is_pending}
 use Rattle.memory_image.specs.Pieces.{byte_at}
 use Rattle.spm_core.specs.Manager.{Managed, state_of}
 
@@ -28,15 +29,6 @@ abbrev pub phase_in : Managed → ℕ → Option Phase
 phase_in m a = option_map (λ w. shown_phase w.names (phase_of w.state.spm a)) (named_after m.opening.system (byte_at m.opening.memory) m.history)
 
 -- the actor's last call hasn't returned yet
-abbrev pub is_pending : ActorPhase → Bool
-is_pending phase.Running = false
-is_pending phase.Blocked = true
-is_pending (phase.Waiting mask) = true
-is_pending (phase.Ready o) = true
-is_pending (phase.Connected c) = true
-is_pending phase.Ended = false
-is_pending phase.Panicked = false
-
 abbrev pub pending_in : Managed → ℕ → Option Bool
 pending_in m a = option_map (λ st. is_pending (phase_of st.spm a)) (state_of m)
 

@@ -7,10 +7,11 @@ ghost use Rattle.ffm_model.specs.State.{phase_of};
 ghost use Rattle.ffm_model.specs.Verdicts.{some_enabled, some_blocked};
 ghost use Rattle.ffm_model.specs.Names.{NamesSoFar};
 ghost use Rattle.counting_law.specs.Objects.{ObjectsFit};
+ghost use Rattle.counting_law.specs.Pending.{is_pending};
 ghost use Rattle.slot_names.specs.Named.{NamesAre};
 ghost use Rattle.spm_tables.specs.TablesView.{spm_of, MadeFor};
 ghost use Rattle.spm_core.specs.Manager.{is_gone, refusal_at};
-ghost use Rattle.spm_core.specs.Views.{is_pending, shown_phase};
+ghost use Rattle.spm_core.specs.Views.{shown_phase};
 
 use crate::returns::accepted;
 use ffm_model::{ActorId, ActorPhase, Answer, Outcome, Phase, System};

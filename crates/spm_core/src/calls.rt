@@ -1,15 +1,14 @@
 //! The calls of an actor that runs, by the crate that makes them.
-ghost use Rattle.std.specs.Prelude.{◌≡◌, ◌≤◌, ◌+◌, All, IfOk, List};
+ghost use Rattle.std.specs.Prelude.{◌≡◌, IfOk, List};
 ghost use Rattle.ffm_model.specs.declared.groups.Group.TheVariants as group;
 ghost use Rattle.ffm_model.specs.declared.scenario.Bytes.{Bytes as BytesSeen};
 ghost use Rattle.ffm_model.specs.declared.machine.Call.TheVariants as call;
 ghost use Rattle.ffm_model.specs.declared.objects.ActorPhase.{ActorPhase as PhaseSeen};
 ghost use Rattle.ffm_model.specs.Groups.{group_of};
 ghost use Rattle.ffm_model.specs.State.{phase_of};
-ghost use Rattle.counting_law.specs.Objects.{ObjectsFit};
 ghost use Rattle.memory_image.specs.Pieces.{byte_at, regions_of, ranges_of};
-ghost use Rattle.message_vectors.specs.Vectors.{AreWithin};
 ghost use Rattle.slot_names.specs.Named.{KeepsNames};
+ghost use Rattle.slot_names.specs.Premises.{AreLeft, LeavesTakes, PremisesWithMemory};
 ghost use Rattle.spm_tables.specs.TablesView.{TablesView, spm_of, shape_of, MadeFor};
 ghost use Rattle.spm_core.specs.Performed.{Attempts, ShowsName};
 
@@ -32,12 +31,9 @@ pub(crate) fn client_call(
     call: Call,
 ) -> Result<Outcome, Fault>
     requires group { group_of call ≡ group.Client }
-    requires made { MadeFor tables.old system.now }
+    requires premises { PremisesWithMemory system.now tables.old image.now }
+    requires takes { LeavesTakes tables.old }
     requires running { phase_of (spm_of tables.old) actor.0 ≡ PhaseSeen.Running }
-    requires fits { ObjectsFit system.now (spm_of tables.old) }
-    requires few_connections { tables.old.linked.takes + 256 ≤ 1048575 }
-    requires few_messages { tables.old.waiting.takes + 256 ≤ 1048575 }
-    requires regions { regions_of image.now ≡ ranges_of system.now.regions }
     ensures attempts { Attempts system.now actor.0 call tables.old image.now result tables.new image.now }
     ensures shown { IfOk result (ShowsName system.now actor.0 call tables.old (byte_at image.now)) }
     ensures shape { shape_of tables.new ≡ shape_of tables.old }
@@ -72,11 +68,8 @@ pub(crate) fn service_call(
     call: Call,
 ) -> Result<Outcome, Fault>
     requires group { group_of call ≡ group.Service }
-    requires made { MadeFor tables.old system.now }
-    requires fits { ObjectsFit system.now (spm_of tables.old) }
-    requires few_messages { tables.old.waiting.takes + 256 ≤ 1048575 }
-    requires regions { regions_of image.old ≡ ranges_of system.now.regions }
-    requires vectors { All (λ m. AreWithin (regions_of image.old) m.vectors) (spm_of tables.old).messages }
+    requires premises { PremisesWithMemory system.now tables.old image.old }
+    requires takes { AreLeft tables.old.messages.takes }
     ensures attempts { Attempts system.now actor.0 call tables.old image.old result tables.new image.new }
     ensures shown { IfOk result (ShowsName system.now actor.0 call tables.old (byte_at image.old)) }
     ensures regions { regions_of image.new ≡ regions_of image.old }
@@ -107,9 +100,7 @@ pub(crate) fn transfer(
     call: Call,
 ) -> Result<Outcome, Fault>
     requires group { group_of call ≡ group.Transfer }
-    requires made { MadeFor tables.old system.now }
-    requires regions { regions_of image.old ≡ ranges_of system.now.regions }
-    requires vectors { All (λ m. AreWithin (regions_of image.old) m.vectors) (spm_of tables.old).messages }
+    requires premises { PremisesWithMemory system.now tables.old image.old }
     ensures attempts { Attempts system.now actor.0 call tables.old image.old result tables.new image.new }
     ensures regions { regions_of image.new ≡ regions_of image.old }
     ensures shape { shape_of tables.new ≡ shape_of tables.old }
@@ -151,11 +142,8 @@ fn answer(
     handle: Handle,
     status: Status,
 ) -> Result<Outcome, Fault>
-    requires made { MadeFor tables.old system.now }
-    requires fits { ObjectsFit system.now (spm_of tables.old) }
-    requires few_messages { tables.old.waiting.takes + 256 ≤ 1048575 }
-    requires regions { regions_of image.old ≡ ranges_of system.now.regions }
-    requires vectors { All (λ m. AreWithin (regions_of image.old) m.vectors) (spm_of tables.old).messages }
+    requires premises { PremisesWithMemory system.now tables.old image.old }
+    requires takes { AreLeft tables.old.messages.takes }
     ensures attempts { Attempts system.now actor.0 (call.Reply handle status) tables.old image.old result tables.new image.new }
     ensures regions { regions_of image.new ≡ regions_of image.old }
     ensures shape { shape_of tables.new ≡ shape_of tables.old }

@@ -1,5 +1,5 @@
 //! One event: a call of an actor that can go on.
-ghost use Rattle.std.specs.Prelude.{◌≡◌, ◌<◌, ◌≤◌, ◌+◌, All, IfOk, List, true, false};
+ghost use Rattle.std.specs.Prelude.{◌≡◌, ◌<◌, IfOk, List, true, false};
 ghost use Rattle.ffm_model.specs.declared.groups.Group.TheVariants as group;
 ghost use Rattle.ffm_model.specs.declared.scenario.Bytes.{Bytes as BytesSeen};
 ghost use Rattle.ffm_model.specs.declared.system.System.{System as SystemSeen};
@@ -9,11 +9,10 @@ ghost use Rattle.ffm_model.specs.Groups.{group_of};
 ghost use Rattle.ffm_model.specs.Signals.{may_resume};
 ghost use Rattle.ffm_model.specs.State.{phase_of};
 ghost use Rattle.ffm_model.specs.Step.{may_call};
-ghost use Rattle.counting_law.specs.Objects.{ObjectsFit};
-ghost use Rattle.memory_image.specs.Pieces.{byte_at, regions_of, ranges_of};
-ghost use Rattle.message_vectors.specs.Vectors.{AreWithin};
+ghost use Rattle.memory_image.specs.Pieces.{byte_at, regions_of};
 ghost use Rattle.slot_names.specs.Named.{KeepsNames};
-ghost use Rattle.spm_tables.specs.TablesView.{spm_of, shape_of, MadeFor};
+ghost use Rattle.slot_names.specs.Premises.{AreLeft, LeavesTakes, Premises, PremisesWithMemory};
+ghost use Rattle.spm_tables.specs.TablesView.{spm_of, shape_of};
 ghost use Rattle.spm_core.specs.Manager.{is_resume};
 ghost use Rattle.spm_core.specs.Performed.{Attempts, Does, IsRefusedCall, ShowsName};
 
@@ -35,14 +34,10 @@ fn attempt(
     actor: ActorId,
     call: Call,
 ) -> Result<Outcome, Fault>
-    requires made { MadeFor tables.old system.now }
+    requires premises { PremisesWithMemory system.now tables.old image.old }
+    requires takes { LeavesTakes tables.old }
     requires running { phase_of (spm_of tables.old) actor.0 ≡ PhaseSeen.Running }
     requires no_return { is_resume call ≡ false }
-    requires fits { ObjectsFit system.now (spm_of tables.old) }
-    requires few_connections { tables.old.linked.takes + 256 ≤ 1048575 }
-    requires few_messages { tables.old.waiting.takes + 256 ≤ 1048575 }
-    requires regions { regions_of image.old ≡ ranges_of system.now.regions }
-    requires vectors { All (λ m. AreWithin (regions_of image.old) m.vectors) (spm_of tables.old).messages }
     ensures attempts { Attempts system.now actor.0 call tables.old image.old result tables.new image.new }
     ensures shown { IfOk result (ShowsName system.now actor.0 call tables.old (byte_at image.old)) }
     ensures regions { regions_of image.new ≡ regions_of image.old }
@@ -80,10 +75,9 @@ fn end(tables: &mut Tables, actor: ActorId, call: Call) -> Result<Outcome, Fault
 // A PROGRAMMER ERROR: a partition panics, and to others nothing happens.
 fn refuse(system: &System, tables: &mut Tables, actor: ActorId, call: Call) -> Outcome
     requires exists { actor.0 < actor_count system.now }
-    requires made { MadeFor tables.old system.now }
+    requires premises { Premises system.now tables.old }
+    requires takes { AreLeft tables.old.messages.takes }
     requires running { phase_of (spm_of tables.old) actor.0 ≡ PhaseSeen.Running }
-    requires fits { ObjectsFit system.now (spm_of tables.old) }
-    requires few_messages { tables.old.waiting.takes + 256 ≤ 1048575 }
     ensures refused { IsRefusedCall system.now actor.0 call tables.old result tables.new }
     ensures shape { shape_of tables.new ≡ shape_of tables.old }
     ensures names { KeepsNames system.now tables.old tables.new }
@@ -107,14 +101,10 @@ fn issue(
     call: Call,
 ) -> Outcome
     requires exists { actor.0 < actor_count system.now }
-    requires made { MadeFor tables.old system.now }
+    requires premises { PremisesWithMemory system.now tables.old image.old }
+    requires takes { LeavesTakes tables.old }
     requires running { phase_of (spm_of tables.old) actor.0 ≡ PhaseSeen.Running }
     requires no_return { is_resume call ≡ false }
-    requires fits { ObjectsFit system.now (spm_of tables.old) }
-    requires few_connections { tables.old.linked.takes + 256 ≤ 1048575 }
-    requires few_messages { tables.old.waiting.takes + 256 ≤ 1048575 }
-    requires regions { regions_of image.old ≡ ranges_of system.now.regions }
-    requires vectors { All (λ m. AreWithin (regions_of image.old) m.vectors) (spm_of tables.old).messages }
     ensures does { Does system.now actor.0 call tables.old image.old result tables.new image.new }
     ensures shown { ShowsName system.now actor.0 call tables.old (byte_at image.old) result }
     ensures regions { regions_of image.new ≡ regions_of image.old }
@@ -139,12 +129,8 @@ pub(crate) fn perform(
     call: Call,
 ) -> Outcome
     requires may { may_call system.now (spm_of tables.old) actor.0 call ≡ true }
-    requires made { MadeFor tables.old system.now }
-    requires fits { ObjectsFit system.now (spm_of tables.old) }
-    requires few_connections { tables.old.linked.takes + 256 ≤ 1048575 }
-    requires few_messages { tables.old.waiting.takes + 256 ≤ 1048575 }
-    requires regions { regions_of image.old ≡ ranges_of system.now.regions }
-    requires vectors { All (λ m. AreWithin (regions_of image.old) m.vectors) (spm_of tables.old).messages }
+    requires premises { PremisesWithMemory system.now tables.old image.old }
+    requires takes { LeavesTakes tables.old }
     ensures does { Does system.now actor.0 call tables.old image.old result tables.new image.new }
     ensures shown { ShowsName system.now actor.0 call tables.old (byte_at image.old) result }
     ensures regions { regions_of image.new ≡ regions_of image.old }

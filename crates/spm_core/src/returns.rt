@@ -4,12 +4,13 @@ ghost use Rattle.ffm_model.specs.declared.machine.Call.TheVariants as call;
 ghost use Rattle.ffm_model.specs.Memory.{ByteMap};
 ghost use Rattle.ffm_model.specs.State.{phase_of};
 ghost use Rattle.ffm_model.specs.Signals.{may_resume};
-ghost use Rattle.counting_law.specs.Objects.{ObjectsFit, accepted_as};
+ghost use Rattle.counting_law.specs.Objects.{accepted_as};
 ghost use Rattle.handle_table.specs.declared.handles.Family.TheVariants as family;
 ghost use Rattle.handle_table.specs.Handles.{IsNameable};
 ghost use Rattle.object_pools.specs.Pool.{IsKept, item_at};
 ghost use Rattle.slot_names.specs.Named.{KeepsNames};
-ghost use Rattle.spm_tables.specs.TablesView.{spm_of, shape_of, MadeFor};
+ghost use Rattle.slot_names.specs.Premises.{Premises};
+ghost use Rattle.spm_tables.specs.TablesView.{spm_of, shape_of};
 ghost use Rattle.spm_core.specs.Performed.{IsReturned, ShowsName};
 
 use ffm_model::{ActorId, ActorPhase, Outcome, System};
@@ -19,9 +20,9 @@ use spm_tables::Tables;
 // The slot of the accepted connection that a client is still to be told of.
 pub(crate) fn accepted(tables: &Tables, actor: ActorId, serial: u32) -> Slot
     requires { count_by (accepted_as actor.0 serial) (spm_of tables.now).connections ≡ 1 }
-    ensures live { IsSomeAnd (item_at tables.now.linked result) (λ c. c.serial ≡ serial) }
+    ensures live { IsSomeAnd (item_at tables.now.connections result) (λ c. c.serial ≡ serial) }
     ensures nameable { IsNameable family.Connection result }
-    ensures kept { IsKept 256 tables.now.linked }
+    ensures kept { IsKept 256 tables.now.connections }
 {
     tables.law();
     match tables.connections().first_of(actor, serial) {
@@ -32,8 +33,7 @@ pub(crate) fn accepted(tables: &Tables, actor: ActorId, serial: u32) -> Slot
 
 /// The outcome of an actor's call that waited, where that is there; the actor runs on.
 pub(crate) fn resume(system: &System, tables: &mut Tables, actor: ActorId) -> Outcome
-    requires made { MadeFor tables.old system.now }
-    requires fits { ObjectsFit system.now (spm_of tables.old) }
+    requires premises { Premises system.now tables.old }
     requires due { may_resume (phase_of (spm_of tables.old) actor.0) ≡ true }
     ensures returned { IsReturned system.now actor.0 tables.old result tables.new }
     ensures shown { (m : ByteMap) → ShowsName system.now actor.0 call.Resume tables.old m result }

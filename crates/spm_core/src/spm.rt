@@ -47,7 +47,7 @@ impl Spm {
     ghost use Rattle.ffm_model.specs.Names.{names};
     ghost use Rattle.ffm_model.specs.Verdicts.{verdict_of};
     ghost use Rattle.memory_image.specs.Pieces.{byte_at, regions_of, ranges_of};
-    ghost use Rattle.spm_core.specs.Manager.{Answers, CallDue, refusal, is_actor_gone, awaits_return, state_of};
+    ghost use Rattle.spm_core.specs.Manager.{StepAnswers, CallDue, refusal, is_actor_gone, awaits_return, state_of};
     ghost use Rattle.ffm_model.specs.Reach.{write_reach};
     ghost use Rattle.spm_core.specs.Views.{phase_in, pending_in, enabled_in, memory_in};
 
@@ -87,7 +87,7 @@ impl Spm {
         requires exists { actor.0 < actor_count self.old.opening.system }
         requires due { CallDue self.old.opening self.old.history actor.0 call }
         ensures opening { self.new.opening ≡ self.old.opening }
-        ensures answer { Answers self.old.opening self.old.history actor.0 call result self.new.history }
+        ensures answer { StepAnswers self.old.opening self.old.history actor.0 call result self.new.history }
         ensures unchanged { refusal self.old.opening self.old.history actor.0 ≢ None → self.new ≡ self.old }
         ensures reach { IfSome (state_of self.old) (λ st. (x : ℕ) → write_reach self.old.opening.system st.spm actor.0 x ≡ false → byte_at self.new.bytes x ≡ byte_at self.old.bytes x) }
         ensures short { length self.new.history ≤ self.new.opening.limit }

@@ -1,7 +1,8 @@
 -- Which answers leave an actor without a further entry.
-use Rattle.std.proofs.Common.{◌≡◌, ℕ, zero, suc, ◌≤◌, Bool, true, false, true≢false, List, [], ◌∷◌, length, set, get_or, Option, Some, None, sym, refl, ap, ◌∙◌, subst, arith}
-use Rattle.std.specs.Prelude.{not, ◌==◌, nat_le, if◌then◌else◌, option_and_then, IsSome}
+use Rattle.std.proofs.Common.{◌≡◌, ℕ, zero, suc, ◌≤◌, Bool, true, false, true≢false, List, [], ◌∷◌, length, set, get_or, Option, Some, None, sym, refl, ap, ◌∙◌, subst}
+use Rattle.std.specs.Prelude.{nat_le, if◌then◌else◌, option_and_then, IsSome}
 use Rattle.std.specs.Option.{option_map_or}
+use Rattle.spm_core.proofs.Refusals.{by_tests, full_has_verdict, gone_is, over_has_verdict}
 use Rattle.ffm_model.specs.declared.system.System.{System}
 use Rattle.ffm_model.specs.declared.system.ActorKind.{ActorKind}
 use Rattle.ffm_model.specs.declared.system.ActorKind.TheVariants.{Partition, Client, Device}
@@ -9,9 +10,8 @@ use Rattle.ffm_model.specs.declared.machine.Entry.{Entry}
 use Rattle.ffm_model.specs.declared.machine.Call.{Call}
 use Rattle.ffm_model.specs.declared.machine.Call.TheVariants as call
 use Rattle.ffm_model.specs.declared.machine.Handle.{Handle}
-use Rattle.ffm_model.specs.declared.machine.Answer.{Answer}
 use Rattle.ffm_model.specs.declared.machine.Answer.TheVariants as answer
-use Rattle.ffm_model.specs.declared.machine.Verdict.TheVariants.{Quiet, Stalled, Full}
+use Rattle.ffm_model.specs.declared.machine.Verdict.TheVariants.{Full}
 use Rattle.ffm_model.specs.declared.objects.ActorPhase.{ActorPhase}
 use Rattle.ffm_model.specs.declared.objects.ActorPhase.TheVariants as phase
 use Rattle.ffm_model.specs.Actors.{kind_of}
@@ -20,51 +20,11 @@ use Rattle.ffm_model.specs.Passes.{is_stop}
 use Rattle.ffm_model.specs.State.{State, phase_of}
 use Rattle.ffm_model.specs.Signals.{enabled}
 use Rattle.ffm_model.specs.Step.{step, handle_shown}
-use Rattle.ffm_model.specs.Verdicts.{some_enabled, some_blocked, verdict_at}
+use Rattle.ffm_model.specs.Verdicts.{some_enabled}
 use Rattle.spm_core.specs.Manager.{Opening, IsMade, IsRefused, is_gone, is_actor_gone, is_resume, refusal_at, state_after}
 use Rattle.spm_lock.specs.Passes.{has_verdict}
 
 -- ---- refusals
-
--- the refusal by its four tests
-by_tests : Bool → Bool → Bool → Bool → Option Answer
-by_tests gone some full on =
-    if gone then Some answer.Gone else (if not some then Some answer.Over else (if full then Some answer.Full else (if on then None else Some answer.NotYet)))
-
-gone_is : (gone some full on : Bool) → by_tests gone some full on ≡ Some answer.Gone → gone ≡ true
-unfolding by_tests
-gone_is true some full on h = refl
-gone_is false false full on h = cc
-gone_is false true true on h = cc
-gone_is false true false true h = cc
-gone_is false true false false h = cc
-
-over_is : (gone some full on : Bool) → by_tests gone some full on ≡ Some answer.Over → some ≡ false
-unfolding by_tests
-over_is true some full on h = cc
-over_is false false full on h = refl
-over_is false true true on h = cc
-over_is false true false true h = cc
-over_is false true false false h = cc
-
-full_is : (gone some full on : Bool) → by_tests gone some full on ≡ Some answer.Full → full ≡ true
-unfolding by_tests
-full_is true some full on h = cc
-full_is false false full on h = cc
-full_is false true true on h = refl
-full_is false true false true h = cc
-full_is false true false false h = cc
-
-verdict_off : (some full blocked : Bool) → some ≡ false → IsSome (if some then (if full then Some Full else None) else (if blocked then Some Stalled else Some Quiet))
-verdict_off true full blocked h = absurd (true≢false h)
-verdict_off false full true h = refl
-verdict_off false full false h = refl
-
-verdict_full : (some full blocked : Bool) → full ≡ true → IsSome (if some then (if full then Some Full else None) else (if blocked then Some Stalled else Some Quiet))
-verdict_full true true blocked h = refl
-verdict_full true false blocked h = absurd (true≢false (sym h))
-verdict_full false full true h = refl
-verdict_full false full false h = refl
 
 at_gone : (s : System) (limit count a : ℕ) (st : Option State) → option_and_then (λ x. refusal_at s limit count x.spm a) st ≡ Some answer.Gone
     → option_map_or (λ x. is_gone (phase_of x.spm a)) st false ≡ true
@@ -72,31 +32,15 @@ unfolding by_tests
 at_gone s limit count a None h = cc
 at_gone s limit count a (Some x) h = gone_is (is_gone (phase_of x.spm a)) (some_enabled s x.spm) (nat_le limit count) (enabled s x.spm a) h
 
-at_over : (s : System) (limit count a : ℕ) (st : Option State) → option_and_then (λ x. refusal_at s limit count x.spm a) st ≡ Some answer.Over
-    → IsSome (option_and_then (λ x. verdict_at s limit count x.spm) st)
-unfolding by_tests
-at_over s limit count a None h = cc
-at_over s limit count a (Some x) h =
-    verdict_off (some_enabled s x.spm) (count == limit) (some_blocked s x.spm) (over_is (is_gone (phase_of x.spm a)) (some_enabled s x.spm) (nat_le limit count) (enabled s x.spm a) h)
-
-at_full : (s : System) (limit count a : ℕ) (st : Option State) → count ≤ limit → option_and_then (λ x. refusal_at s limit count x.spm a) st ≡ Some answer.Full
-    → IsSome (option_and_then (λ x. verdict_at s limit count x.spm) st)
-unfolding by_tests
-at_full s limit count a None short h = cc
-at_full s limit count a (Some x) short h =
-    let past : nat_le limit count ≡ true = full_is (is_gone (phase_of x.spm a)) (some_enabled s x.spm) (nat_le limit count) (enabled s x.spm a) h in
-    let full : (count == limit) ≡ true = grind arith in
-    verdict_full (some_enabled s x.spm) (count == limit) (some_blocked s x.spm) full
-
 pub gone_refused : (o : Opening) (old new : List Entry) (a : ℕ) → IsRefused o old a answer.Gone new → is_actor_gone o new a ≡ true
 gone_refused o old new a r = ap (λ (h : List Entry). is_actor_gone o h a) r.unchanged ∙ at_gone o.system o.limit (length old) a (state_after o old) r.due
 
 pub over_refused : (o : Opening) (old new : List Entry) (a : ℕ) → IsRefused o old a answer.Over new → has_verdict o new
-over_refused o old new a r = subst (has_verdict o) (sym r.unchanged) (at_over o.system o.limit (length old) a (state_after o old) r.due)
+over_refused o old new a r = subst (has_verdict o) (sym r.unchanged) (over_has_verdict o.system o.limit (length old) a (state_after o old) r.due)
 
 pub full_refused : (o : Opening) (old new : List Entry) (a : ℕ) → length new ≤ o.limit → IsRefused o old a answer.Full new → has_verdict o new
 full_refused o old new a within r =
-    subst (has_verdict o) (sym r.unchanged) (at_full o.system o.limit (length old) a (state_after o old) (subst (λ (h : List Entry). length h ≤ o.limit) r.unchanged within) r.due)
+    subst (has_verdict o) (sym r.unchanged) (full_has_verdict o.system o.limit (length old) a (state_after o old) (subst (λ (h : List Entry). length h ≤ o.limit) r.unchanged within) r.due)
 
 -- ---- a stop
 

@@ -8,12 +8,12 @@ use prog.Atomic.{either}
 use lib.ListN.{get_elem?}
 use Rattle.atomic_table.specs.Table.{State, Me, Step, step, Act, keeps, takes, gives, stepped, rest, Allows, Splits, Joins, Enters, opening, Final, Seen}
 use Rattle.std.proofs.lemmas.Bool.Decides.{nat_tests}
+use Rattle.ffm_model.proofs.RecordLemmas.{entries_of-apart}
 use Rattle.atomic_table.proofs.Lists.{at_longer, at_set, set_again, set_here, set_else, at_snoc, one_turn}
 use Rattle.ffm_model.specs.declared.machine.Entry.{Entry}
 use Rattle.ffm_model.specs.Records.{entries_of}
 use Rattle.spm_core.specs.Manager.{Managed}
 use Rattle.spm_lock.specs.Histories.{actors, IsRun, Begins}
-use Rattle.spm_lock.proofs.Entries.{entries_else}
 use Rattle.spm_lock.specs.declared.view.Right.{Right}
 use Rattle.spm_lock.specs.declared.view.Stage.{Stage}
 use Rattle.spm_lock.specs.declared.view.Stage.TheVariants.{Idle, Waits, Has}
@@ -300,7 +300,7 @@ module _ {B : Type 0} (managed : B → Managed) (x : Managed) where
               staged = staged_stays drawn served drawn served h (h ++ e ∷ []) homes homes u.rights u.stage (omega arith)
                   (λ t is. (ticket_below drawn served t h homes u.rights u.stage s.staged (ap ticket_of is)).0) (λ t is. nobody j t u other there is) s.staged;
               fit = AllFit-more h e u.rights (no_right e.actor.0 u none_of) s.fit;
-              unmade = λ a low high. entries_else a h e (λ same. not_unmade e.actor.0 u none_of (subst (λ (n : ℕ). u.next ≤ n) (sym same) low) (subst (λ (n : ℕ). n < u.last) (sym same) high)) ∙ s.unmade a low high;
+              unmade = λ a low high. entries_of-apart a h e (λ same. not_unmade e.actor.0 u none_of (subst (λ (n : ℕ). u.next ≤ n) (sym same) low) (subst (λ (n : ℕ). n < u.last) (sym same) high)) ∙ s.unmade a low high;
             })
             record {
               start_is = mine.start_is;

@@ -1,8 +1,8 @@
 -- Rights, when the history grows by an entry of an actor to which they do not belong.
 use Rattle.std.proofs.Common.{◌≡◌, ◌≢◌, ℕ, ◌+◌, ◌<◌, ◌≤◌, List, [], ◌∷◌, ◌++◌, sym, ap, ◌∙◌, arith, append_assoc}
 use Rattle.std.proofs.lemmas.Bool.Decides.{nat_tests}
+use Rattle.ffm_model.proofs.RecordLemmas.{entries_of-apart}
 use Rattle.ffm_model.specs.declared.machine.Entry.{Entry}
-use Rattle.spm_lock.proofs.Entries.{entries_else}
 use Rattle.spm_lock.specs.declared.view.Right.{Right}
 use Rattle.spm_lock.specs.declared.view.View.{View}
 use Rattle.spm_lock.specs.Views.{times, rights_to}
@@ -13,7 +13,7 @@ pub Begins-more : (f h : List Entry) (e : Entry) → Begins f h → Begins f (h 
 Begins-more f h e b = (b.0 ++ e ∷ [], ap (λ (y : List Entry). y ++ e ∷ []) b.1 ∙ append_assoc f b.0 (e ∷ []))
 
 pub Fits-more : (h : List Entry) (e : Entry) (r : Right) → e.actor.0 ≢ r.actor → Fits h r → Fits (h ++ e ∷ []) r
-Fits-more h e r other fit = (Begins-more r.front h e fit.0, entries_else r.actor h e other ∙ fit.1)
+Fits-more h e r other fit = (Begins-more r.front h e fit.0, entries_of-apart r.actor h e other ∙ fit.1)
 
 -- an actor whose right is not among them
 pub not_among : (a : ℕ) (r : Right) (rs : List Right) → times a (r ∷ rs) ≡ 0 → (r.actor ≢ a) × (times a rs ≡ 0)

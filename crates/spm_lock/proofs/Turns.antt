@@ -1,6 +1,7 @@
 -- What the steps of one turn tell, put together.
 use Rattle.std.proofs.Common.{◌≡◌, ◌≢◌, ℕ, ◌+◌, inl, inr, length, List, [], ◌∷◌, ◌++◌, Option, Some, None, sym, refl, ap, ◌∙◌, subst}
 use Rattle.std.specs.Prelude.{◌≤◌}
+use Rattle.ffm_model.proofs.RecordLemmas.{entries_of-same}
 use mathlib.Core.Option.{some}
 use Rattle.atomic_table.specs.Table.{Me, rest}
 use Rattle.ffm_model.specs.declared.constants.TheConstants.{MAX_ENTRIES}
@@ -10,19 +11,19 @@ use Rattle.ffm_model.specs.declared.machine.Answer.{Answer}
 use Rattle.ffm_model.specs.declared.machine.Answer.TheVariants.{Made, Gone, Over, Full, NotYet}
 use Rattle.ffm_model.specs.Passes.{IsAnswered}
 use Rattle.ffm_model.specs.Records.{entries_of, outcomes_of, ends_blocked, is_blocked_outcome}
-use Rattle.spm_core.specs.Manager.{Opening, Managed, Answers, awaits_return}
+use Rattle.spm_core.specs.Manager.{Opening, Managed, StepAnswers, awaits_return}
 use Rattle.spm_lock.specs.declared.view.Stage.TheVariants.{Waits, Has}
 use Rattle.spm_lock.specs.declared.view.View.{View}
 use Rattle.spm_lock.specs.Histories.{IsRun}
 use Rattle.spm_lock.specs.Views.{pass_with, right_of}
 use Rattle.spm_lock.specs.Rule.{drew, looked, counted}
 use Rattle.spm_lock.specs.Passes.{SharedView, PassView, IsOwn, IsDoneAt, IsDone, record_of, IsIdle, IsWaiting, HasTurn, HasStepped, IsTurn, front, turns}
-use Rattle.spm_lock.proofs.Entries.{entries_here, ends_with}
+use Rattle.spm_lock.proofs.Entries.{ends_with}
 use Rattle.spm_lock.proofs.Done.{gone_refused, over_refused, full_refused, stop_made}
 use Rattle.spm_lock.proofs.Moves.{held_value}
 
 -- an answer without an entry leaves the history
-pub made_nothing : (o : Opening) (h : List Entry) (a : ℕ) (call : Call) (answer : Answer) (after : List Entry) → ((place : ℕ) (e : Entry) → answer ≡ Made place e → ⊥) → Answers o h a call answer after → after ≡ h
+pub made_nothing : (o : Opening) (h : List Entry) (a : ℕ) (call : Call) (answer : Answer) (after : List Entry) → ((place : ℕ) (e : Entry) → answer ≡ Made place e → ⊥) → StepAnswers o h a call answer after → after ≡ h
 made_nothing o h a call (Made place e) after not ans = absurd (not place e refl)
 made_nothing o h a call Gone after not ans = ans.unchanged
 made_nothing o h a call Over after not ans = ans.unchanged
@@ -30,7 +31,7 @@ made_nothing o h a call Full after not ans = ans.unchanged
 made_nothing o h a call NotYet after not ans = ans.unchanged
 
 -- a run stays one
-still_run : (o : Opening) (h : List Entry) (a : ℕ) (call : Call) (answer : Answer) (after : List Entry) → IsRun o h → Answers o h a call answer after → IsRun o after
+still_run : (o : Opening) (h : List Entry) (a : ℕ) (call : Call) (answer : Answer) (after : List Entry) → IsRun o h → StepAnswers o h a call answer after → IsRun o after
 still_run o h a call (Made place e) after run ans = ans.is_state
 still_run o h a call Gone after run ans = subst (IsRun o) (sym ans.unchanged) run
 still_run o h a call Over after run ans = subst (IsRun o) (sym ans.unchanged) run
@@ -41,7 +42,7 @@ still_run o h a call NotYet after run ans = subst (IsRun o) (sym ans.unchanged) 
 answers_as : (o : Opening) (a : ℕ) (old : List Entry) (call : Call) (answer : Answer) (new : List Entry) → IsTurn o a old call answer new
     → IsAnswered a call answer (entries_of a old) (entries_of a new) (IsDoneAt o a new)
 answers_as o a old call (Made place e) new t = let m = t.answered in record {
-  added = ap (entries_of a) m.added ∙ (entries_here a t.seen e m.actor ∙ ap (λ (l : List Entry). l ++ e ∷ []) t.own);
+  added = ap (entries_of a) m.added ∙ (entries_of-same a t.seen e m.actor ∙ ap (λ (l : List Entry). l ++ e ∷ []) t.own);
   actor = m.actor;
   called = m.called;
   stopped = λ stop. inl (stop_made o t.seen new a place call e m stop);
@@ -66,7 +67,7 @@ pending_after o a old call answer new not t =
 
 pub pending_made : (o : Opening) (a : ℕ) (old : List Entry) (call : Call) (place : ℕ) (e : Entry) (new : List Entry) → IsTurn o a old call (Made place e) new → is_blocked_outcome e.outcome ≡ awaits_return new a
 pending_made o a old call place e new t = let m = t.answered in
-    sym (ap (λ (l : List Entry). ends_blocked (outcomes_of (entries_of a l))) m.added ∙ (ap (λ (l : List Entry). ends_blocked (outcomes_of l)) (entries_here a t.seen e m.actor) ∙ ends_with (entries_of a t.seen) e))
+    sym (ap (λ (l : List Entry). ends_blocked (outcomes_of (entries_of a l))) m.added ∙ (ap (λ (l : List Entry). ends_blocked (outcomes_of l)) (entries_of-same a t.seen e m.actor) ∙ ends_with (entries_of a t.seen) e))
 
 module _ {B : Type 0} (managed : B → Managed) where
   abbrev M : Type 0
@@ -106,13 +107,13 @@ module _ {B : Type 0} (managed : B → Managed) where
 
   -- the manager was at the turn's history
   answered_at : (a : ℕ) (m m' : M) (t : HasTurn managed a m m') (v : Managed) (call : Call) (answer : Answer) (after : List Entry) → v ≡ managed t.value
-      → Answers v.opening v.history a call answer after → Answers m.0.start.opening (managed t.value).history a call answer after
+      → StepAnswers v.opening v.history a call answer after → StepAnswers m.0.start.opening (managed t.value).history a call answer after
   answered_at a m m' t v call answer after is ans =
-      subst (λ (o : Opening). Answers o (managed t.value).history a call answer after) t.opening_is
-      (subst (λ (z : Managed). Answers z.opening z.history a call answer after) is ans)
+      subst (λ (o : Opening). StepAnswers o (managed t.value).history a call answer after) t.opening_is
+      (subst (λ (z : Managed). StepAnswers z.opening z.history a call answer after) is ans)
 
   pub turned : (a : ℕ) (m m' : M) (t : HasTurn managed a m m') (v : Managed) (call : Call) (answer : Answer) (after : Managed) → v ≡ managed t.value
-      → Answers v.opening v.history a call answer after.history → after.opening ≡ v.opening → length after.history ≤ after.opening.limit
+      → StepAnswers v.opening v.history a call answer after.history → after.opening ≡ v.opening → length after.history ≤ after.opening.limit
       → IsTurn m.0.start.opening a (front m) call answer after.history
   turned a m m' t v call answer after is ans kept short =
       let at = answered_at a m m' t v call answer after.history is ans in record {
@@ -131,7 +132,7 @@ module _ {B : Type 0} (managed : B → Managed) where
 
   -- what a seat has after the manager was taken out and made a step
   pub stepped : (a : ℕ) (m m' m2 : M) (t : HasTurn managed a m m') (v : Managed) (call : Call) (answer : Answer) (after : Managed) → v ≡ managed t.value
-      → Answers v.opening v.history a call answer after.history → after.opening ≡ v.opening → length after.history ≤ MAX_ENTRIES → m2 ≡ (m'.0, (0, None) ∷ rest m'.1)
+      → StepAnswers v.opening v.history a call answer after.history → after.opening ≡ v.opening → length after.history ≤ MAX_ENTRIES → m2 ≡ (m'.0, (0, None) ∷ rest m'.1)
       → HasStepped a m2 after answer
   stepped a m m' m2 t v call answer after is ans kept short out =
       let seat : m2 ≡ (pass_with m.0.start (right_of a (turns m + 1) (managed t.value).history) (Has t.ticket), (0, None) ∷ []) = taken_out a m m' m2 None t out in
@@ -142,8 +143,8 @@ module _ {B : Type 0} (managed : B → Managed) where
         call = call;
         seat_is = seat ∙ ap (λ (y : M). let u : M = (pass_with y.0.start (right_of a (turns y) (front y)) (Has t.ticket), (0, None) ∷ []) in u) (sym seat);
         opening_is = kept ∙ (ap (λ (z : Managed). z.opening) is ∙ (t.opening_is ∙ ap (λ (z : Managed). z.opening) (sym start)));
-        answered = subst (λ (z : Managed). Answers z.opening (front m2) a call answer after.history) (sym start)
-            (subst (λ (h : List Entry). Answers m.0.start.opening h a call answer after.history) (sym was) (answered_at a m m' t v call answer after.history is ans));
+        answered = subst (λ (z : Managed). StepAnswers z.opening (front m2) a call answer after.history) (sym start)
+            (subst (λ (h : List Entry). StepAnswers m.0.start.opening h a call answer after.history) (sym was) (answered_at a m m' t v call answer after.history is ans));
         short = short;
       }
 

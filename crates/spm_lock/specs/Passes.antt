@@ -10,7 +10,7 @@ use Rattle.ffm_model.specs.declared.machine.Entry.{Entry}
 use Rattle.ffm_model.specs.Records.{entries_of}
 use Rattle.ffm_model.specs.Verdicts.{verdict_of}
 use Rattle.memory_image.specs.Pieces.{byte_at}
-use Rattle.spm_core.specs.Manager.{Opening, Managed, Answers, is_actor_gone, awaits_return}
+use Rattle.spm_core.specs.Manager.{Opening, Managed, StepAnswers, is_actor_gone, awaits_return}
 use Rattle.spm_lock.specs.Histories.{actors, IsRun, Begins}
 use Rattle.spm_lock.specs.declared.view.Right.{Right}
 use Rattle.spm_lock.specs.declared.view.Stage.TheVariants.{Idle, Waits, Has}
@@ -58,7 +58,7 @@ pub record IsTurn (o : Opening) (a : ℕ) (old : List Entry) (call : Call) (answ
   pub seen : List Entry
   pub later : Begins old seen
   pub own : entries_of a seen ≡ entries_of a old
-  pub answered : Answers o seen a call answer new
+  pub answered : StepAnswers o seen a call answer new
   pub run : IsRun o new
   pub within : length new ≤ o.limit
 
@@ -131,5 +131,5 @@ pub record HasStepped {B : Type 0} (a : ℕ) (m : Me (Option B) View) (x : Manag
   pub call : Call
   pub seat_is : m ≡ (pass_with m.0.start (right_of a (turns m) (front m)) (Has ticket), (0, None) ∷ [])
   pub opening_is : x.opening ≡ m.0.start.opening
-  pub answered : Answers m.0.start.opening (front m) a call answer x.history
+  pub answered : StepAnswers m.0.start.opening (front m) a call answer x.history
   pub short : length x.history ≤ MAX_ENTRIES

@@ -1,6 +1,6 @@
 -- The messages of a pool, as the machine's state has them.
-use Rattle.std.proofs.Common.{ℕ, ◌≡◌, ◌≤◌, ◌<◌, ◌+◌, ◌*◌, ◌==◌, nat_lt, length, Bool, true, false, cond, ◌&&◌, List, [], ◌∷◌, arith, ◌∙◌, ap, sym, refl}
-use Rattle.std.specs.Prelude.{ℤ, pos, count_by, find, Option, Some, None, map, if◌then◌else◌, All, option_and_then, slice_get}
+use Rattle.std.proofs.Common.{ℕ, ◌≡◌, ◌≤◌, ◌<◌, ◌+◌, ◌*◌, ◌==◌, nat_lt, length, Bool, true, false, cond, ◌&&◌, List, [], ◌∷◌, arith, ◌∙◌, ap, sym, refl, subst}
+use Rattle.std.specs.Prelude.{ℤ, pos, count_by, find, Option, Some, None, map, if◌then◌else◌, All, IfSome, option_and_then, slice_get}
 use Rattle.std.specs.Option.{option_map, option_map_or}
 use Rattle.std.proofs.lemmas.Bool.Decides.{Decides-int_eq, nat_tests}
 use Rattle.std.proofs.lemmas.List.Elements.{All-nil, All-cons, All-head, All-tail, All-weaker, All-map}
@@ -20,11 +20,16 @@ use Rattle.handle_table.specs.declared.handles.Family.TheVariants.{Message}
 use Rattle.handle_table.specs.Handles.{handle_at, IsNameable}
 use Rattle.handle_table.proofs.SlotLemmas.{both, has_own, one_slot, slot-is, held-of, nameable, nameable-at}
 use Rattle.handle_table.proofs.Twins.{find-passes, count-found, twin-put, twin-out, twin-find, find-all_fail}
+use Rattle.spm_tables.proofs.PoolLemmas.{item-put}
 use Rattle.spm_tables.specs.declared.item.QueuedMessage.{QueuedMessage}
 use Rattle.spm_tables.specs.declared.signals.OwnedSignal.{OwnedSignal}
-use Rattle.spm_tables.specs.TablesView.{TablesView, Shape, MadeFor, spm_of, message_of, message_at, held_message, shown_handle, waits_for, is_owned, service_signal}
+use Rattle.spm_tables.specs.Queues.{QueuesView}
+use Rattle.spm_tables.specs.TablesView.{TablesView, Shape, MadeFor, spm_of, message_of, message_at, held_message, shown_handle, waits_for, is_signal_of, service_signal}
 
 -- ---- lists
+
+pub same_itself : (n : ℕ) → (n == n) ≡ true
+same_itself n = grind arith
 
 pub find-map : {X Y : Type 0} (f : X → Y) (r : Y → Bool) (xs : List X) → find r (map f xs) ≡ option_map f (find (λ x. r (f x)) xs)
 find-map f r [] = refl
@@ -115,25 +120,35 @@ shows-own h m s item slot on =
 
 -- ---- changes of a delivered message
 
-pub vectors-state : (d : TablesView) (s : Slot) (m : QueuedMessage) (v : Vectors) → IsKept 304 d.waiting → item_at d.waiting s ≡ Some m → m.delivered ≡ true
-    → spm_of (record d { waiting = with_item d.waiting s (record m { vectors = v }) }) ≡ with_vectors (spm_of d) (handle_at Message s) v
+pub vectors-state : (d : TablesView) (s : Slot) (m : QueuedMessage) (v : Vectors) → IsKept 304 d.messages → item_at d.messages s ≡ Some m → m.delivered ≡ true
+    → spm_of (record d { messages = with_item d.messages s (record m { vectors = v }) }) ≡ with_vectors (spm_of d) (handle_at Message s) v
 vectors-state d s m v kept live on =
-    let it = held-of d.waiting s m live in
-    let named : IsNameable Message s = nameable-at Message d.waiting s m kept live in
+    let it = held-of d.messages s m live in
+    let named : IsNameable Message s = nameable-at Message d.messages s m kept live in
     let same : held_message (record it.0 { item = record m { vectors = v } }) ≡ record (held_message it.0) { vectors = v } =
     ap (λ (i : QueuedMessage). message_of (it.0).slot (record i { vectors = v })) (sym it.2) in
-    let messages : map held_message (with_item d.waiting s (record m { vectors = v })).held ≡ (with_vectors (spm_of d) (handle_at Message s) v).messages =
+    let messages : map held_message (with_item d.messages s (record m { vectors = v })).held ≡ (with_vectors (spm_of d) (handle_at Message s) v).messages =
     twin-put held_message (has_slot s) (shows (handle_at Message s)) (λ h. record h { item = record m { vectors = v } }) (λ n. record n { vectors = v }) it.0 same
-    (shows-own it.0 m s it.2 it.3 on) d.waiting.held it.1 (one_slot 304 d.waiting s kept) (shown-once d.waiting s kept named) in
+    (shows-own it.0 m s it.2 it.3 on) d.messages.held it.1 (one_slot 304 d.messages s kept) (shown-once d.messages s kept named) in
     ap (λ (ms : List PendingMessage). record (spm_of d) { messages = ms }) messages
 
-pub dropped-state : (d : TablesView) (s : Slot) (m : QueuedMessage) → IsKept 304 d.waiting → item_at d.waiting s ≡ Some m → m.delivered ≡ true
-    → spm_of (record d { waiting = without d.waiting s }) ≡ without_message (spm_of d) (handle_at Message s)
+-- the same of the queues, where the slot has a message
+pub vectors-states : (d : TablesView) (n : ℕ) (r : QueuesView) (s : Slot) (v : Vectors) → IsKept 304 d.messages
+    → IfSome (item_at d.messages s) (λ m. r ≡ record { messages = with_item d.messages s (record m { vectors = v }); services = n })
+    → IfSome (item_at d.messages s) (λ m. m.delivered ≡ true → spm_of (record d { messages = r.messages }) ≡ with_vectors (spm_of d) (handle_at Message s) v)
+vectors-states d n r s v kept = go (item_at d.messages s) refl where
+  go : (o : Option QueuedMessage) → item_at d.messages s ≡ o → IfSome o (λ m. r ≡ record { messages = with_item d.messages s (record m { vectors = v }); services = n })
+      → IfSome o (λ m. m.delivered ≡ true → spm_of (record d { messages = r.messages }) ≡ with_vectors (spm_of d) (handle_at Message s) v)
+  go None live after = tt
+  go (Some m) live after = λ on. ap (λ (q : QueuesView). spm_of (record d { messages = q.messages })) after ∙ vectors-state d s m v kept live on
+
+pub dropped-state : (d : TablesView) (s : Slot) (m : QueuedMessage) → IsKept 304 d.messages → item_at d.messages s ≡ Some m → m.delivered ≡ true
+    → spm_of (record d { messages = without d.messages s }) ≡ without_message (spm_of d) (handle_at Message s)
 dropped-state d s m kept live on =
-    let it = held-of d.waiting s m live in
-    let named : IsNameable Message s = nameable-at Message d.waiting s m kept live in
-    let messages : map held_message (without d.waiting s).held ≡ (without_message (spm_of d) (handle_at Message s)).messages =
-    twin-out held_message (has_slot s) (shows (handle_at Message s)) it.0 (shows-own it.0 m s it.2 it.3 on) d.waiting.held it.1 (one_slot 304 d.waiting s kept) (shown-once d.waiting s kept named) in
+    let it = held-of d.messages s m live in
+    let named : IsNameable Message s = nameable-at Message d.messages s m kept live in
+    let messages : map held_message (without d.messages s).held ≡ (without_message (spm_of d) (handle_at Message s)).messages =
+    twin-out held_message (has_slot s) (shows (handle_at Message s)) it.0 (shows-own it.0 m s it.2 it.3 on) d.messages.held it.1 (one_slot 304 d.messages s kept) (shown-once d.messages s kept named) in
     ap (λ (ms : List PendingMessage). record (spm_of d) { messages = ms }) messages
 
 -- ---- the oldest undelivered message
@@ -164,33 +179,27 @@ none-oldest p v =
 
 -- a live slot stays live where its item is written
 pub live-put : (p : Places QueuedMessage) (s : Slot) (m n : QueuedMessage) → item_at p s ≡ Some m → item_at (with_item p s n) s ≡ Some n
-live-put p s m n live =
-    let it = held-of p s m live in
-    ap (option_map (λ (h : Held QueuedMessage). h.item)) (found-put p.held it.0 it.1) where
-      kept_slot : (b : Bool) (x : Held QueuedMessage) → has_slot s (cond b (record x { item = n }) x) ≡ has_slot s x
-      kept_slot true x = refl
-      kept_slot false x = refl
-
-      found-put : (xs : List (Held QueuedMessage)) (h : Held QueuedMessage) → find (has_slot s) xs ≡ Some h → find (has_slot s) (map (item_put s n) xs) ≡ Some (record h { item = n })
-      found-put [] h f = cc
-      found-put (x ∷ xs) h f =
-          let go : (b : Bool) → has_slot s x ≡ b → cond b (Some x) (find (has_slot s) xs) ≡ Some h
-          → cond b (Some (cond b (record x { item = n }) x)) (find (has_slot s) (map (item_put s n) xs)) ≡ Some (record h { item = n }) =
-          elim [
-            | true ↦ λ e g. let it : x ≡ h = cc in ap (λ (y : Held QueuedMessage). Some (record y { item = n })) it
-            | false ↦ λ e g. found-put xs h g
-          ] in
-          ap (λ (b : Bool). cond b (Some (item_put s n x)) (find (has_slot s) (map (item_put s n) xs))) (kept_slot (has_slot s x) x) ∙ go (has_slot s x) refl f
+live-put p s m n live = item-put p s m n live
 
 pub oldest-item : (p : Places QueuedMessage) (v : ℕ) (s : Slot) (o : IsOldest p v s) → item_at p s ≡ Some (o.held).item
 oldest-item p v s o = ap (option_map (λ (h : Held QueuedMessage). h.item)) o.here
 
-pub oldest-message : (d : TablesView) (v : ℕ) (s : Slot) → IsOldest d.waiting v s → message_at d s ≡ find (is_undelivered v) (spm_of d).messages
+pub oldest-is : (p : Places QueuedMessage) (v : ℕ) (s : Slot) (m : QueuedMessage) (o : IsOldest p v s) → item_at p s ≡ Some m → (o.held).item ≡ m
+oldest-is p v s m o live = same (o.held).item m (sym (oldest-item p v s o) ∙ live) where
+  same : (a b : QueuedMessage) → Some a ≡ Some b → a ≡ b
+  same a b e = cc
+
+pub oldest-message : (d : TablesView) (v : ℕ) (s : Slot) → IsOldest d.messages v s → message_at d s ≡ find (is_undelivered v) (spm_of d).messages
 oldest-message d v s o =
-    ap (option_map (message_of s)) (oldest-item d.waiting v s o)
+    ap (option_map (message_of s)) (oldest-item d.messages v s o)
     ∙ ap (λ (t : Slot). Some (message_of t (o.held).item)) (sym o.slot)
     ∙ ap (option_map held_message) (sym o.first)
-    ∙ sym (find-map held_message (is_undelivered v) d.waiting.held)
+    ∙ sym (find-map held_message (is_undelivered v) d.messages.held)
+
+-- what the queues are after its delivery
+pub delivered-after : (q r : QueuesView) (v : ℕ) (s : Slot) (o : IsOldest q.messages v s) → IfSome (item_at q.messages s) (λ m. r ≡ record q { messages = with_item q.messages s (record m { delivered = true }) })
+    → r ≡ record q { messages = with_item q.messages s (record (o.held).item { delivered = true }) }
+delivered-after q r v s o after = subst (λ (x : Option QueuedMessage). IfSome x (λ m. r ≡ record q { messages = with_item q.messages s (record m { delivered = true }) })) (oldest-item q.messages v s o) after
 
 delivered-put : (v : ℕ) (s : Slot) (m : QueuedMessage) (held : List (Held QueuedMessage)) (h : Held QueuedMessage) → h.slot ≡ s → h.item ≡ m → find (waits_for v) held ≡ Some h → count_by (has_slot s) held ≤ 1
     → map held_message (map (item_put s (record m { delivered = true })) held) ≡ delivered v (handle_at Message s) (map held_message held)
@@ -223,13 +232,11 @@ delivered-put v s m (x ∷ xs) h slot item f one =
     ] in
     go (waits_for v x) refl f
 
-pub delivered-state : (d : TablesView) (v : ℕ) (s : Slot) (m : QueuedMessage) → IsKept 304 d.waiting → IsOldest d.waiting v s → item_at d.waiting s ≡ Some m
-    → spm_of (record d { waiting = with_item d.waiting s (record m { delivered = true }) }) ≡ record (spm_of d) { messages = delivered v (handle_at Message s) (spm_of d).messages }
+pub delivered-state : (d : TablesView) (v : ℕ) (s : Slot) (m : QueuedMessage) → IsKept 304 d.messages → IsOldest d.messages v s → item_at d.messages s ≡ Some m
+    → spm_of (record d { messages = with_item d.messages s (record m { delivered = true }) }) ≡ record (spm_of d) { messages = delivered v (handle_at Message s) (spm_of d).messages }
 delivered-state d v s m kept o live =
-    let was : (o.held).item ≡ m = same_item (o.held).item m (sym (oldest-item d.waiting v s o) ∙ live) in
-    ap (λ (ms : List PendingMessage). record (spm_of d) { messages = ms }) (delivered-put v s m d.waiting.held o.held o.slot was o.first (one_slot 304 d.waiting s kept)) where
-      same_item : (a b : QueuedMessage) → Some a ≡ Some b → a ≡ b
-      same_item a b e = cc
+    ap (λ (ms : List PendingMessage). record (spm_of d) { messages = ms })
+    (delivered-put v s m d.messages.held o.held o.slot (oldest-is d.messages v s m o live) o.first (one_slot 304 d.messages s kept))
 
 -- ---- a message is found by its handle
 
@@ -272,9 +279,9 @@ found-by p q k s kept names gives =
           ap (λ (t : Slot). cond (q h.item.service && has_handle (shown_handle h.item.delivered t) k) (Some (message_of t h.item)) None) same
           ∙ ap (λ (b : Bool). cond (q h.item.service && b) (Some (message_of s h.item)) None) (shown h.item.delivered)
 
-owned-is : (s : System) (d : TablesView) (p v : ℕ) → MadeFor d s → is_owned d.services p v ≡ is_service_of s p v
+owned-is : (s : System) (d : TablesView) (p v : ℕ) → MadeFor d s → is_signal_of d.services p v ≡ is_service_of s p v
 owned-is s d p v made =
-    ap (λ (xs : List OwnedSignal). is_owned xs p v) (ap (λ (h : Shape). h.services) made)
+    ap (λ (xs : List OwnedSignal). is_signal_of xs p v) (ap (λ (h : Shape). h.services) made)
     ∙ ap (λ (o : Option OwnedSignal). option_map_or (λ x. x.owner == p) o false) (slice_get-map service_signal s.services v)
     ∙ seen (slice_get s.services v) where
       seen : (o : Option Service) → option_map_or (λ x. x.owner == p) (option_map service_signal o) false ≡ option_map_or (λ x. x.owner == p) o false
@@ -285,25 +292,25 @@ same-find : {X : Type 0} (p q : X → Bool) → ((x : X) → p x ≡ q x) → (x
 same-find p q same [] = refl
 same-find p q same (x ∷ xs) = ap (λ (b : Bool). cond b (Some x) (find p xs)) (same x) ∙ ap (λ (o : Option _). cond (q x) (Some x) o) (same-find p q same xs)
 
-pub held-is : (s : System) (d : TablesView) (p : ℕ) (k : Handle) → MadeFor d s → find (held_by (is_owned d.services p) k) (map held_message d.waiting.held) ≡ message_held s (spm_of d) p k
+pub held-is : (s : System) (d : TablesView) (p : ℕ) (k : Handle) → MadeFor d s → find (held_by (is_signal_of d.services p) k) (map held_message d.messages.held) ≡ message_held s (spm_of d) p k
 held-is s d p k made =
-    same-find (held_by (is_owned d.services p) k) (held_by (is_service_of s p) k) (λ m. ap (λ (b : Bool). b && has_handle m.handle k) (owned-is s d p m.service made)) (map held_message d.waiting.held)
+    same-find (held_by (is_signal_of d.services p) k) (held_by (is_service_of s p) k) (λ m. ap (λ (b : Bool). b && has_handle m.handle k) (owned-is s d p m.service made)) (map held_message d.messages.held)
 
-pub find-none : (d : TablesView) (s : System) (p : ℕ) (k : Handle) → IsKept 304 d.waiting → Names None k → MadeFor d s → None ≡ message_held s (spm_of d) p k
-find-none d s p k kept names made = sym (none-by d.waiting (is_owned d.services p) k kept names) ∙ held-is s d p k made
+pub find-none : (d : TablesView) (s : System) (p : ℕ) (k : Handle) → IsKept 304 d.messages → Names None k → MadeFor d s → None ≡ message_held s (spm_of d) p k
+find-none d s p k kept names made = sym (none-by d.messages (is_signal_of d.services p) k kept names) ∙ held-is s d p k made
 
-pub find-gone : (d : TablesView) (s : System) (p : ℕ) (k : Handle) (t : Slot) → IsKept 304 d.waiting → Names (Some t) k → handle_at Message t ≡ k → MadeFor d s → None ≡ item_at d.waiting t
+pub find-gone : (d : TablesView) (s : System) (p : ℕ) (k : Handle) (t : Slot) → IsKept 304 d.messages → Names (Some t) k → handle_at Message t ≡ k → MadeFor d s → None ≡ item_at d.messages t
     → None ≡ message_held s (spm_of d) p k
 find-gone d s p k t kept names gives made gone =
-    ap (option_and_then (λ m. cond (is_owned d.services p m.service && m.delivered) (Some (message_of t m)) None)) gone
-    ∙ sym (found-by d.waiting (is_owned d.services p) k t kept names gives) ∙ held-is s d p k made
+    ap (option_and_then (λ m. cond (is_signal_of d.services p m.service && m.delivered) (Some (message_of t m)) None)) gone
+    ∙ sym (found-by d.messages (is_signal_of d.services p) k t kept names gives) ∙ held-is s d p k made
 
-pub find-shown : (d : TablesView) (s : System) (p : ℕ) (k : Handle) (t : Slot) (m : QueuedMessage) (b : Bool) → IsKept 304 d.waiting → Names (Some t) k → handle_at Message t ≡ k → MadeFor d s → Some m ≡ item_at d.waiting t
-    → b ≡ (is_owned d.services p m.service && m.delivered) → cond b (Some (message_of t m)) None ≡ message_held s (spm_of d) p k
+pub find-shown : (d : TablesView) (s : System) (p : ℕ) (k : Handle) (t : Slot) (m : QueuedMessage) (b : Bool) → IsKept 304 d.messages → Names (Some t) k → handle_at Message t ≡ k → MadeFor d s → Some m ≡ item_at d.messages t
+    → b ≡ (is_signal_of d.services p m.service && m.delivered) → cond b (Some (message_of t m)) None ≡ message_held s (spm_of d) p k
 find-shown d s p k t m b kept names gives made live test =
     ap (λ (x : Bool). cond x (Some (message_of t m)) None) test
-    ∙ ap (option_and_then (λ n. cond (is_owned d.services p n.service && n.delivered) (Some (message_of t n)) None)) live
-    ∙ sym (found-by d.waiting (is_owned d.services p) k t kept names gives) ∙ held-is s d p k made
+    ∙ ap (option_and_then (λ n. cond (is_signal_of d.services p n.service && n.delivered) (Some (message_of t n)) None)) live
+    ∙ sym (found-by d.messages (is_signal_of d.services p) k t kept names gives) ∙ held-is s d p k made
 
 -- ---- the messages by their indices
 
@@ -316,9 +323,6 @@ all-found (x ∷ xs) one =
     (ap (λ (b : Bool). cond b (Some x) (find (is_at x.slot.index) xs)) (same_itself x.slot.index))
     (All-weaker (λ h. find (is_at h.slot.index) xs ≡ Some h) (λ h. find (is_at h.slot.index) (x ∷ xs) ≡ Some h)
     (λ h f. behind h f (is_at h.slot.index x) (fewer h.slot.index)) xs rest) where
-      same_itself : (n : ℕ) → (n == n) ≡ true
-      same_itself n = grind arith
-
       behind : (h : Held QueuedMessage) → find (is_at h.slot.index) xs ≡ Some h → (b : Bool) → bit b + count_by (is_at h.slot.index) xs ≤ 1 → cond b (Some x) (find (is_at h.slot.index) xs) ≡ Some h
       behind h f true k = absurd (omega (arith, count-found (is_at h.slot.index) (is_at h.slot.index) xs h f, ap bit (same_itself h.slot.index)))
       behind h f false k = f

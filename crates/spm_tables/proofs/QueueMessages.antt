@@ -3,7 +3,7 @@ use Rattle.std.proofs.Common.{ℕ, ◌≡◌, ◌≢◌, ◌<◌, ◌≤◌, ◌
 use Rattle.std.specs.Prelude.{count_by, find, Option, Some, None, map, filter, if◌then◌else◌, All, is_none, is_some, option_and_then, nat_lt}
 use Rattle.std.specs.Option.{option_map}
 use Rattle.std.proofs.lemmas.Bool.Decides.{nat_tests}
-use Rattle.std.proofs.lemmas.List.{get_or_past}
+use Rattle.std.proofs.lemmas.List.{get_or_past, get_or-set_other}
 use Rattle.std.specs.List.{range_with_len, list_any}
 use Rattle.std.proofs.Math.ListN.{length-set}
 use Rattle.std.proofs.lemmas.List.Elements.{All-nil, All-cons, All-head, All-tail, All-weaker, All-push, All-filter}
@@ -18,12 +18,11 @@ use Rattle.handle_table.proofs.SlotLemmas.{both, held-of, named-at}
 use Rattle.handle_table.proofs.NameLemmas.{free-parts}
 use Rattle.handle_table.proofs.Twins.{find-passes}
 use Rattle.spm_tables.specs.declared.item.QueuedMessage.{QueuedMessage}
-use Rattle.spm_tables.specs.declared.queues.Link.{Link}
-use Rattle.spm_tables.specs.declared.queues.Ends.{Ends}
-use Rattle.spm_tables.specs.declared.signals.OwnedSignal.{OwnedSignal}
+use Rattle.spm_tables.specs.declared.links.Link.{Link}
+use Rattle.spm_tables.specs.declared.links.Ends.{Ends}
 use Rattle.spm_tables.specs.TablesView.{waits_for, shown_handle}
-use Rattle.spm_tables.specs.Queues.{first_of, no_ends, link_at, ends_at, AreQueues, queue_in, KeepsQueues, joined, unlinked, joined_ends, unlinked_ends}
-use Rattle.spm_tables.proofs.MessageLemmas.{all-found, found-too, found-live, found-index, IsOldest, oldest-item}
+use Rattle.spm_tables.specs.Queues.{first_of, no_ends, link_at, ends_at, AreQueues, queue_in, KeepsQueues, has_waiting, AllWaitAsBefore, OthersWaitAsBefore, joined, unlinked, joined_ends, unlinked_ends}
+use Rattle.spm_tables.proofs.MessageLemmas.{all-found, found-too, found-live, found-index, IsOldest, oldest-is, same_itself}
 use Rattle.spm_tables.proofs.QueueLemmas.{out, out-none}
 use Rattle.spm_tables.proofs.QueueUpdates.{Apart, queues-join, queues-unlink, length-joined, length-unlinked}
 
@@ -131,36 +130,6 @@ only-here p s h kept f =
     All-weaker (λ x. find (is_at x.slot.index) p.held ≡ Some x) (λ x. is_at s.index x ≡ true → x ≡ h)
     (λ x g e. same-held (find (is_at s.index) p.held) x h (ap (λ n. find (is_at n) p.held) (sym (same_number x.slot.index s.index e)) ∙ g) here) p.held (all-found p.held kept.once)
 
-put-out : (t : Held QueuedMessage → Bool) (s : Slot) (n : QueuedMessage) (h : Held QueuedMessage) (xs : List (Held QueuedMessage)) → ((x : Held QueuedMessage) → t (record x { item = n }) ≡ false) → Only s h xs → has_slot s h ≡ true
-    → places t (map (item_put s n) xs) ≡ out s.index (places t xs)
-put-out t s n h [] off only own = refl
-put-out t s n h (x ∷ xs) off only own =
-    let rest : places t (map (item_put s n) xs) ≡ out s.index (places t xs) = put-out t s n h xs off (All-tail (λ y. is_at s.index y ≡ true → y ≡ h) x xs only) own in
-    let mine : is_at s.index x ≡ true → x ≡ h = All-head (λ y. is_at s.index y ≡ true → y ≡ h) x xs only in
-    let gone : has_slot s x ≡ true → places t (record x { item = n } ∷ map (item_put s n) xs) ≡ out s.index (places t (x ∷ xs)) =
-    λ e.
-    let at : (x.slot.index == s.index) ≡ true = (both (x.slot.index == s.index) (x.slot.generation == s.generation) e).0 in
-    let go : (c : Bool) → places t (map (item_put s n) xs) ≡ out s.index (map (λ (y : Held QueuedMessage). y.slot.index) (cond c (x ∷ filter t xs) (filter t xs))) =
-    elim [
-      | true ↦ rest ∙ ap (λ (b : Bool). cond (not b) (x.slot.index ∷ out s.index (places t xs)) (out s.index (places t xs))) (sym at)
-      | false ↦ rest
-    ] in
-    ap (λ (b : Bool). map (λ (y : Held QueuedMessage). y.slot.index) (cond b (record x { item = n } ∷ filter t (map (item_put s n) xs)) (filter t (map (item_put s n) xs)))) (off x) ∙ go (t x) in
-    let stays : has_slot s x ≡ false → places t (x ∷ map (item_put s n) xs) ≡ out s.index (places t (x ∷ xs)) =
-    λ e.
-    let go : (c : Bool) → map (λ (y : Held QueuedMessage). y.slot.index) (cond c (x ∷ filter t (map (item_put s n) xs)) (filter t (map (item_put s n) xs)))
-    ≡ out s.index (map (λ (y : Held QueuedMessage). y.slot.index) (cond c (x ∷ filter t xs) (filter t xs))) =
-    elim [
-      | true ↦ ap (λ (is : List ℕ). x.slot.index ∷ is) rest ∙ ap (λ (b : Bool). cond (not b) (x.slot.index ∷ out s.index (places t xs)) (out s.index (places t xs))) (sym (other (x.slot.index == s.index) refl e))
-      | false ↦ rest
-    ] in
-    go (t x) in
-    let go : (b : Bool) → has_slot s x ≡ b → places t (cond b (record x { item = n }) x ∷ map (item_put s n) xs) ≡ out s.index (places t (x ∷ xs)) = elim [ true ↦ gone | false ↦ stays ] in
-    go (has_slot s x) refl where
-      other : (b : Bool) → (x.slot.index == s.index) ≡ b → has_slot s x ≡ false → (x.slot.index == s.index) ≡ false
-      other true at e = let it : has_slot s x ≡ true = ap (has_slot s) (All-head (λ y. is_at s.index y ≡ true → y ≡ h) x xs only at) ∙ own in cc
-      other false at e = at
-
 without-out : (t : Held QueuedMessage → Bool) (s : Slot) (h : Held QueuedMessage) (xs : List (Held QueuedMessage)) → Only s h xs → has_slot s h ≡ true
     → places t (filter (λ x. not (has_slot s x)) xs) ≡ out s.index (places t xs)
 without-out t s h [] only own = refl
@@ -190,6 +159,22 @@ without-out t s h (x ∷ xs) only own =
       other : (b : Bool) → (x.slot.index == s.index) ≡ b → has_slot s x ≡ false → (x.slot.index == s.index) ≡ false
       other true at e = let it : has_slot s x ≡ true = ap (has_slot s) (All-head (λ y. is_at s.index y ≡ true → y ≡ h) x xs only at) ∙ own in cc
       other false at e = at
+
+-- an item that then doesn't pass is as one that is gone
+put-gone : (t : Held QueuedMessage → Bool) (s : Slot) (n : QueuedMessage) (xs : List (Held QueuedMessage)) → ((x : Held QueuedMessage) → t (record x { item = n }) ≡ false)
+    → places t (map (item_put s n) xs) ≡ places t (filter (λ x. not (has_slot s x)) xs)
+put-gone t s n [] off = refl
+put-gone t s n (x ∷ xs) off =
+    let rest : places t (map (item_put s n) xs) ≡ places t (filter (λ y. not (has_slot s y)) xs) = put-gone t s n xs off in
+    let stays : (c : Bool) → map (λ (y : Held QueuedMessage). y.slot.index) (cond c (x ∷ filter t (map (item_put s n) xs)) (filter t (map (item_put s n) xs)))
+    ≡ map (λ (y : Held QueuedMessage). y.slot.index) (cond c (x ∷ filter t (filter (λ y. not (has_slot s y)) xs)) (filter t (filter (λ y. not (has_slot s y)) xs))) =
+    elim [ true ↦ ap (λ (is : List ℕ). x.slot.index ∷ is) rest | false ↦ rest ] in
+    let go : (b : Bool) → places t (cond b (record x { item = n }) x ∷ map (item_put s n) xs) ≡ places t (cond (not b) (x ∷ filter (λ y. not (has_slot s y)) xs) (filter (λ y. not (has_slot s y)) xs)) =
+    elim [
+      | true ↦ ap (λ (b : Bool). map (λ (y : Held QueuedMessage). y.slot.index) (cond b (record x { item = n } ∷ filter t (map (item_put s n) xs)) (filter t (map (item_put s n) xs)))) (off x) ∙ rest
+      | false ↦ stays (t x)
+    ] in
+    go (has_slot s x)
 
 put-same : (t : Held QueuedMessage → Bool) (s : Slot) (n : QueuedMessage) (h : Held QueuedMessage) (xs : List (Held QueuedMessage)) → t (record h { item = n }) ≡ t h → Only s h xs
     → places t (map (item_put s n) xs) ≡ places t xs
@@ -227,14 +212,17 @@ known-found bound p (x ∷ xs) h a f =
     ] in
     go (p x) f
 
--- ---- what the tables keep
+-- ---- what the queues keep
 
-module _ (p : Places QueuedMessage) (services : List OwnedSignal) (ls : List Link) (es : List Ends) where
-  same-size : KeepsQueues p services ls es → IsKept 304 p → Apart (queue_in p) (length ls)
+still-known : (es : List Ends) (v : ℕ) (e : Ends) (xs : List (Held QueuedMessage)) → All (λ h. h.item.service < length es) xs → All (λ h. h.item.service < length (set es v e)) xs
+still-known es v e xs a = subst (λ n. All (λ (h : Held QueuedMessage). h.item.service < n) xs) (sym (length-set es v e)) a
+
+module _ (p : Places QueuedMessage) (ls : List Link) (es : List Ends) where
+  same-size : KeepsQueues p ls es → IsKept 304 p → Apart (queue_in p) (length ls)
   same-size k kept = subst (Apart (queue_in p)) (sym k.linked) (apart-of p kept)
 
-  pub keeps-take : (s : Slot) (x : QueuedMessage) → IsKept 304 p → KeepsQueues p services ls es → free_slot p ≡ Some s → x.delivered ≡ false → x.service < length services
-      → KeepsQueues (taken p s x) services (joined ls (ends_at es x.service).last s.index) (set es x.service (joined_ends (ends_at es x.service) s.index))
+  pub keeps-take : (s : Slot) (x : QueuedMessage) → IsKept 304 p → KeepsQueues p ls es → free_slot p ≡ Some s → x.delivered ≡ false → x.service < length es
+      → KeepsQueues (taken p s x) (joined ls (ends_at es x.service).last s.index) (set es x.service (joined_ends (ends_at es x.service) s.index))
   keeps-take s x kept k free fresh below =
       let parts = free-parts p s free in
       let index : s.index < length p.generations = index-below (λ i. not (list_any (is_at i) p.held)) (length p.generations) s.index parts.0 in
@@ -242,9 +230,9 @@ module _ (p : Places QueuedMessage) (services : List OwnedSignal) (ls : List Lin
       let waiting : (v : ℕ) → waits_for v (record { slot = s; item = x }) ≡ (x.service == v) = λ v. ap (λ (b : Bool). is_none (shown_handle b s) && (x.service == v)) fresh in
       record {
         linked = omega (arith, length-joined ls (ends_at es x.service).last s.index, k.linked, length-set p.generations s.index s.generation);
-        ended = omega (arith, length-set es x.service (joined_ends (ends_at es x.service) s.index), k.ended);
-        known = All-push (λ (h : Held QueuedMessage). h.item.service < length services) p.held (record { slot = s; item = x }) k.known below;
-        queues = queues-join ls es (queue_in p) (queue_in (taken p s x)) x.service s.index k.queues (same-size k kept) (omega (arith, k.ended)) (omega (arith, k.linked))
+        known = still-known es x.service (joined_ends (ends_at es x.service) s.index) (p.held ++ record { slot = s; item = x } ∷ [])
+            (All-push (λ (h : Held QueuedMessage). h.item.service < length es) p.held (record { slot = s; item = x }) k.known below);
+        queues = queues-join ls es (queue_in p) (queue_in (taken p s x)) x.service s.index k.queues (same-size k kept) below (omega (arith, k.linked))
             (λ v. omega (arith, times-places (waits_for v) p.held s.index))
             (push-yes (waits_for x.service) p.held (record { slot = s; item = x }) (waiting x.service ∙ same_itself x.service))
             (λ v ne. push-no (waits_for v) p.held (record { slot = s; item = x }) (waiting v ∙ not_same x.service v ne));
@@ -253,17 +241,12 @@ module _ (p : Places QueuedMessage) (services : List OwnedSignal) (ls : List Lin
         is_off true e = cc
         is_off false e = refl
 
-        same_itself : (n : ℕ) → (n == n) ≡ true
-        same_itself n = grind arith
-
         not_same : (m n : ℕ) → n ≢ m → (m == n) ≡ false
         not_same m n ne = grind arith
 
   waits : (m : QueuedMessage) (h : Held QueuedMessage) → h.item ≡ m → m.delivered ≡ false → waits_for m.service h ≡ true
   waits m h item fresh =
-      ap (λ (i : QueuedMessage). is_none (shown_handle i.delivered h.slot) && (i.service == m.service)) item ∙ ap (λ (b : Bool). is_none (shown_handle b h.slot) && (m.service == m.service)) fresh ∙ same_itself m.service where
-        same_itself : (n : ℕ) → (n == n) ≡ true
-        same_itself n = grind arith
+      ap (λ (i : QueuedMessage). is_none (shown_handle i.delivered h.slot) && (i.service == m.service)) item ∙ ap (λ (b : Bool). is_none (shown_handle b h.slot) && (m.service == m.service)) fresh ∙ same_itself m.service
 
   own-slot : (s : Slot) (h : Held QueuedMessage) → find (has_slot s) p.held ≡ Some h → has_slot s h ≡ true
   own-slot s h f = find-passes (has_slot s) p.held h f
@@ -273,47 +256,44 @@ module _ (p : Places QueuedMessage) (services : List OwnedSignal) (ls : List Lin
       let it = held-of p s m live in
       subst (λ (t : Slot). 1 ≤ times t.index (queue_in p m.service)) it.3 (place-in (waits_for m.service) (has_slot s) p.held it.0 it.1 (waits m it.0 it.2 fresh))
 
-  service-below : (s : Slot) (m : QueuedMessage) → KeepsQueues p services ls es → item_at p s ≡ Some m → m.service < length services
+  service-below : (s : Slot) (m : QueuedMessage) → KeepsQueues p ls es → item_at p s ≡ Some m → m.service < length es
   service-below s m k live =
       let it = held-of p s m live in
-      subst (λ (i : QueuedMessage). i.service < length services) it.2 (known-found (length services) (has_slot s) p.held it.0 k.known it.1)
+      subst (λ (i : QueuedMessage). i.service < length es) it.2 (known-found (length es) (has_slot s) p.held it.0 k.known it.1)
 
-  keeps-delivered : (s : Slot) (m : QueuedMessage) → IsKept 304 p → KeepsQueues p services ls es → item_at p s ≡ Some m → m.delivered ≡ false
-      → KeepsQueues (with_item p s (record m { delivered = true })) services (unlinked ls (link_at ls s.index)) (set es m.service (unlinked_ends (ends_at es m.service) (link_at ls s.index)))
+  -- a message leaves its queue
+  keeps-left : (r : Places QueuedMessage) (s : Slot) (m : QueuedMessage) → IsKept 304 p → KeepsQueues p ls es → item_at p s ≡ Some m → m.delivered ≡ false
+      → length r.generations ≡ length p.generations → All (λ h. h.item.service < length es) r.held → ((v : ℕ) → queue_in r v ≡ out s.index (queue_in p v))
+      → KeepsQueues r (unlinked ls (link_at ls s.index)) (set es m.service (unlinked_ends (ends_at es m.service) (link_at ls s.index)))
+  keeps-left r s m kept k live fresh as_long known left = record {
+    linked = length-unlinked ls (link_at ls s.index) ∙ k.linked ∙ sym as_long;
+    known = still-known es m.service (unlinked_ends (ends_at es m.service) (link_at ls s.index)) r.held known;
+    queues = queues-unlink ls es (queue_in p) (queue_in r) m.service s.index k.queues (same-size k kept) (service-below s m k live) (member s m live fresh) left;
+  }
+
+  keeps-delivered : (s : Slot) (m : QueuedMessage) → IsKept 304 p → KeepsQueues p ls es → item_at p s ≡ Some m → m.delivered ≡ false
+      → KeepsQueues (with_item p s (record m { delivered = true })) (unlinked ls (link_at ls s.index)) (set es m.service (unlinked_ends (ends_at es m.service) (link_at ls s.index)))
   keeps-delivered s m kept k live fresh =
       let it = held-of p s m live in
-      let below : m.service < length services = service-below s m k live in
-      record {
-        linked = omega (arith, length-unlinked ls (link_at ls s.index), k.linked);
-        ended = omega (arith, length-set es m.service (unlinked_ends (ends_at es m.service) (link_at ls s.index)), k.ended);
-        known = known-put (length services) s (record m { delivered = true }) p.held below k.known;
-        queues = queues-unlink ls es (queue_in p) (queue_in (with_item p s (record m { delivered = true }))) m.service s.index k.queues (same-size k kept) (omega (arith, k.ended)) (member s m live fresh)
-            (λ v. put-out (waits_for v) s (record m { delivered = true }) it.0 p.held (λ x. refl) (only-here p s it.0 kept it.1) (own-slot s it.0 it.1));
-      }
+      keeps-left (with_item p s (record m { delivered = true })) s m kept k live fresh refl (known-put (length es) s (record m { delivered = true }) p.held (service-below s m k live) k.known)
+      (λ v. put-gone (waits_for v) s (record m { delivered = true }) p.held (λ x. refl) ∙ without-out (waits_for v) s it.0 p.held (only-here p s it.0 kept it.1) (own-slot s it.0 it.1))
 
-  keeps-dropped : (s : Slot) (m : QueuedMessage) → IsKept 304 p → KeepsQueues p services ls es → item_at p s ≡ Some m → m.delivered ≡ false
-      → KeepsQueues (without p s) services (unlinked ls (link_at ls s.index)) (set es m.service (unlinked_ends (ends_at es m.service) (link_at ls s.index)))
+  keeps-dropped : (s : Slot) (m : QueuedMessage) → IsKept 304 p → KeepsQueues p ls es → item_at p s ≡ Some m → m.delivered ≡ false
+      → KeepsQueues (without p s) (unlinked ls (link_at ls s.index)) (set es m.service (unlinked_ends (ends_at es m.service) (link_at ls s.index)))
   keeps-dropped s m kept k live fresh =
       let it = held-of p s m live in
-      let below : m.service < length services = service-below s m k live in
-      record {
-        linked = omega (arith, length-unlinked ls (link_at ls s.index), k.linked);
-        ended = omega (arith, length-set es m.service (unlinked_ends (ends_at es m.service) (link_at ls s.index)), k.ended);
-        known = All-filter (λ x. not (has_slot s x)) (λ (h : Held QueuedMessage). h.item.service < length services) p.held k.known;
-        queues = queues-unlink ls es (queue_in p) (queue_in (without p s)) m.service s.index k.queues (same-size k kept) (omega (arith, k.ended)) (member s m live fresh)
-            (λ v. without-out (waits_for v) s it.0 p.held (only-here p s it.0 kept it.1) (own-slot s it.0 it.1));
-      }
+      keeps-left (without p s) s m kept k live fresh refl (All-filter (λ x. not (has_slot s x)) (λ (h : Held QueuedMessage). h.item.service < length es) p.held k.known)
+      (λ v. without-out (waits_for v) s it.0 p.held (only-here p s it.0 kept it.1) (own-slot s it.0 it.1))
 
   same-queues : (q r : ℕ → List ℕ) → ((v : ℕ) → r v ≡ q v) → AreQueues ls es q → AreQueues ls es r
   same-queues q r same a = let whole : r ≡ q = λ j v. same v j in subst (AreQueues ls es) (sym whole) a
 
-  keeps-given : (s : Slot) (m : QueuedMessage) → IsKept 304 p → KeepsQueues p services ls es → item_at p s ≡ Some m → m.delivered ≡ true → KeepsQueues (without p s) services ls es
+  keeps-given : (s : Slot) (m : QueuedMessage) → IsKept 304 p → KeepsQueues p ls es → item_at p s ≡ Some m → m.delivered ≡ true → KeepsQueues (without p s) ls es
   keeps-given s m kept k live on =
       let it = held-of p s m live in
       record {
         linked = k.linked;
-        ended = k.ended;
-        known = All-filter (λ x. not (has_slot s x)) (λ (h : Held QueuedMessage). h.item.service < length services) p.held k.known;
+        known = All-filter (λ x. not (has_slot s x)) (λ (h : Held QueuedMessage). h.item.service < length es) p.held k.known;
         queues = same-queues (queue_in p) (queue_in (without p s))
             (λ v. without-out (waits_for v) s it.0 p.held (only-here p s it.0 kept it.1) (own-slot s it.0 it.1)
             ∙ out-none s.index (queue_in p v) (absent it.0 it.1 it.2 v (times s.index (queue_in p v) == 0) refl)) k.queues;
@@ -335,43 +315,36 @@ module _ (p : Places QueuedMessage) (services : List OwnedSignal) (ls : List Lin
               on_off b e f = cc
 
   -- a message leaves its queue where it waits in one
-  pub keeps-out : (s : Slot) (m : QueuedMessage) → IsKept 304 p → KeepsQueues p services ls es → item_at p s ≡ Some m
-      → KeepsQueues (without p s) services (if m.delivered then ls else unlinked ls (link_at ls s.index))
+  pub keeps-out : (s : Slot) (m : QueuedMessage) → IsKept 304 p → KeepsQueues p ls es → item_at p s ≡ Some m
+      → KeepsQueues (without p s) (if m.delivered then ls else unlinked ls (link_at ls s.index))
       (if m.delivered then es else set es m.service (unlinked_ends (ends_at es m.service) (link_at ls s.index)))
   keeps-out s m kept k live =
       let go : (b : Bool) → m.delivered ≡ b
-      → KeepsQueues (without p s) services (cond b ls (unlinked ls (link_at ls s.index))) (cond b es (set es m.service (unlinked_ends (ends_at es m.service) (link_at ls s.index)))) =
+      → KeepsQueues (without p s) (cond b ls (unlinked ls (link_at ls s.index))) (cond b es (set es m.service (unlinked_ends (ends_at es m.service) (link_at ls s.index)))) =
       elim [ true ↦ λ e. keeps-given s m kept k live e | false ↦ λ e. keeps-dropped s m kept k live e ] in
       go m.delivered refl
 
-  fresh-oldest : (v : ℕ) (s : Slot) (m : QueuedMessage) → IsOldest p v s → item_at p s ≡ Some m → m.delivered ≡ false
-  fresh-oldest v s m o live =
-      let was : (o.held).item ≡ m = same_item (o.held).item m (sym (oldest-item p v s o) ∙ live) in
-      let off : is_none (shown_handle (o.held).item.delivered (o.held).slot) ≡ true =
-      (both (is_none (shown_handle (o.held).item.delivered (o.held).slot)) ((o.held).item.service == v) (find-passes (waits_for v) p.held o.held o.first)).0 in
-      sym (ap (λ (i : QueuedMessage). i.delivered) was) ∙ shows_none (o.held).item.delivered off where
-        same_item : (a b : QueuedMessage) → Some a ≡ Some b → a ≡ b
-        same_item a b e = cc
-
+  -- the oldest message of a service is delivered
+  pub keeps-oldest : (v : ℕ) (s : Slot) (m : QueuedMessage) → IsKept 304 p → KeepsQueues p ls es → IsOldest p v s → item_at p s ≡ Some m
+      → KeepsQueues (with_item p s (record m { delivered = true })) (unlinked ls (link_at ls s.index)) (set es v (unlinked_ends (ends_at es v) (link_at ls s.index)))
+  keeps-oldest v s m kept k o live =
+      let was : (o.held).item ≡ m = oldest-is p v s m o live in
+      let waited : waits_for v o.held ≡ true = find-passes (waits_for v) p.held o.held o.first in
+      let off : is_none (shown_handle (o.held).item.delivered (o.held).slot) ≡ true = (both (is_none (shown_handle (o.held).item.delivered (o.held).slot)) ((o.held).item.service == v) waited).0 in
+      let fresh : m.delivered ≡ false = sym (ap (λ (i : QueuedMessage). i.delivered) was) ∙ shows_none (o.held).item.delivered off in
+      let service : m.service ≡ v = sym (ap (λ (i : QueuedMessage). i.service) was) ∙ waits-service v o.held waited in
+      subst (λ (w : ℕ). KeepsQueues (with_item p s (record m { delivered = true })) (unlinked ls (link_at ls s.index)) (set es w (unlinked_ends (ends_at es w) (link_at ls s.index))))
+      service (keeps-delivered s m kept k live fresh) where
         shows_none : (b : Bool) → is_none (shown_handle b (o.held).slot) ≡ true → b ≡ false
         shows_none true e = cc
         shows_none false e = refl
 
-  pub keeps-oldest : (v : ℕ) (s : Slot) (m : QueuedMessage) → IsKept 304 p → KeepsQueues p services ls es → IsOldest p v s → item_at p s ≡ Some m
-      → KeepsQueues (with_item p s (record m { delivered = true })) services (if m.delivered then ls else unlinked ls (link_at ls s.index))
-      (if m.delivered then es else set es m.service (unlinked_ends (ends_at es m.service) (link_at ls s.index)))
-  keeps-oldest v s m kept k o live =
-      let fresh : m.delivered ≡ false = fresh-oldest v s m o live in
-      subst (λ (b : Bool). KeepsQueues (with_item p s (record m { delivered = true })) services (cond b ls (unlinked ls (link_at ls s.index))) (cond b es (set es m.service (unlinked_ends (ends_at es m.service) (link_at ls s.index)))))
-      (sym fresh) (keeps-delivered s m kept k live fresh)
-
-  pub keeps-vectors : (s : Slot) (m : QueuedMessage) (w : Vectors) → IsKept 304 p → KeepsQueues p services ls es → item_at p s ≡ Some m → KeepsQueues (with_item p s (record m { vectors = w })) services ls es
+  pub keeps-vectors : (s : Slot) (m : QueuedMessage) (w : Vectors) → IsKept 304 p → KeepsQueues p ls es → item_at p s ≡ Some m → KeepsQueues (with_item p s (record m { vectors = w })) ls es
   keeps-vectors s m w kept k live =
       let it = held-of p s m live in
       record {
         linked = k.linked;
-        ended = k.ended;
-        known = known-put (length services) s (record m { vectors = w }) p.held (service-below s m k live) k.known;
+        known = known-put (length es) s (record m { vectors = w }) p.held (service-below s m k live) k.known;
         queues = same-queues (queue_in p) (queue_in (with_item p s (record m { vectors = w })))
             (λ v. put-same (waits_for v) s (record m { vectors = w }) it.0 p.held
             (ap (λ (i : QueuedMessage). waits_for v (record it.0 { item = record i { vectors = w } })) (sym it.2)) (only-here p s it.0 kept it.1)) k.queues;
@@ -397,15 +370,15 @@ none-known v bound (x ∷ xs) past a =
     ] in
     go (waits_for v x) refl
 
-pub first-is : (p : Places QueuedMessage) (services : List OwnedSignal) (ls : List Link) (es : List Ends) (v : ℕ) → KeepsQueues p services ls es → (ends_at es v).first ≡ first_of (queue_in p v)
-first-is p services ls es v k =
+pub first-is : (p : Places QueuedMessage) (ls : List Link) (es : List Ends) (v : ℕ) → KeepsQueues p ls es → (ends_at es v).first ≡ first_of (queue_in p v)
+first-is p ls es v k =
     let go : (b : Bool) → nat_lt v (length es) ≡ b → (ends_at es v).first ≡ first_of (queue_in p v) =
     elim [
       | true ↦ λ e. k.queues.first v (below v (length es) e)
       | false ↦ λ e.
           let past : length es ≤ v = above v (length es) e in
           ap (λ (x : Ends). x.first) (get_or_past es v no_ends past)
-          ∙ sym (first-find (waits_for v) p.held ∙ ap (option_map (λ (h : Held QueuedMessage). h.slot.index)) (none-known v (length services) p.held (omega (arith, k.ended)) k.known))
+          ∙ sym (first-find (waits_for v) p.held ∙ ap (option_map (λ (h : Held QueuedMessage). h.slot.index)) (none-known v (length es) p.held past k.known))
     ] in
     go (nat_lt v (length es)) refl where
       below : (m n : ℕ) → nat_lt m n ≡ true → m < n
@@ -423,17 +396,35 @@ oldest-at p v o kept e =
       | None ↦ λ f. refl
       | Some h ↦ λ f. ap (option_map (λ (y : Held QueuedMessage). y.slot)) (found-too (waits_for v) (is_at h.slot.index) p.held h (same_itself h.slot.index) (kept.once h.slot.index) f)
     ] in
-    ap (λ (x : Option ℕ). option_map (λ (h : Held QueuedMessage). h.slot) (option_and_then (λ i. find (is_at i) p.held) x)) (e ∙ first-find (waits_for v) p.held) ∙ go (find (waits_for v) p.held) refl where
-      same_itself : (n : ℕ) → (n == n) ≡ true
-      same_itself n = grind arith
+    ap (λ (x : Option ℕ). option_map (λ (h : Held QueuedMessage). h.slot) (option_and_then (λ i. find (is_at i) p.held) x)) (e ∙ first-find (waits_for v) p.held) ∙ go (find (waits_for v) p.held) refl
+
+-- ---- for which services a message waits
 
 -- a service's queue has a first index where a message waits for it
-pub some-first : (p : Places QueuedMessage) (services : List OwnedSignal) (ls : List Link) (es : List Ends) → KeepsQueues p services ls es
-    → ◌≡◌ {A = ℕ → Bool} (λ v. is_some (ends_at es v).first) (λ v. is_some (find (waits_for v) p.held))
-some-first p services ls es k =
-    let each : (v : ℕ) → is_some (ends_at es v).first ≡ is_some (find (waits_for v) p.held) =
-    λ v. ap (λ (o : Option ℕ). is_some o) (first-is p services ls es v k ∙ first-find (waits_for v) p.held) ∙ seen (find (waits_for v) p.held) in
-    λ j v. each v j where
-      seen : (o : Option (Held QueuedMessage)) → is_some (option_map (λ (h : Held QueuedMessage). h.slot.index) o) ≡ is_some o
-      seen None = refl
-      seen (Some h) = refl
+pub waits-first : (p : Places QueuedMessage) (ls : List Link) (es : List Ends) (v : ℕ) → KeepsQueues p ls es → is_some (ends_at es v).first ≡ has_waiting p v
+waits-first p ls es v k = ap (λ (o : Option ℕ). is_some o) (first-is p ls es v k ∙ first-find (waits_for v) p.held) ∙ seen (find (waits_for v) p.held) where
+  seen : (o : Option (Held QueuedMessage)) → is_some (option_map (λ (h : Held QueuedMessage). h.slot.index) o) ≡ is_some o
+  seen None = refl
+  seen (Some h) = refl
+
+-- and that service is there
+pub waits-known : (p : Places QueuedMessage) (ls : List Link) (es : List Ends) (v : ℕ) → KeepsQueues p ls es → has_waiting p v ≡ true → v < length es
+waits-known p ls es v k waits = go (nat_lt v (length es)) refl where
+  go : (b : Bool) → nat_lt v (length es) ≡ b → v < length es
+  go true e = grind (arith, nat_tests)
+  go false e =
+      let none : has_waiting p v ≡ false = ap (λ (o : Option (Held QueuedMessage)). is_some o) (none-known v (length es) p.held (grind (arith, nat_tests)) k.known) in
+      cc
+
+-- where the ends of no other queue change
+pub others-wait : (p r : Places QueuedMessage) (ls ms : List Link) (es : List Ends) (v : ℕ) (e : Ends) → KeepsQueues p ls es → KeepsQueues r ms (set es v e) → OthersWaitAsBefore v p r
+others-wait p r ls ms es v e k l w other =
+    sym (waits-first r ms (set es v e) w l) ∙ ap (λ (x : Ends). is_some x.first) (get_or-set_other es v w e no_ends other) ∙ waits-first p ls es w k
+
+pub all-wait : (p r : Places QueuedMessage) (ls ms : List Link) (es : List Ends) → KeepsQueues p ls es → KeepsQueues r ms es → AllWaitAsBefore p r
+all-wait p r ls ms es k l v = sym (waits-first r ms es v l) ∙ waits-first p ls es v k
+
+-- where a message leaves its queue, unless it was delivered
+pub others-left : (p r : Places QueuedMessage) (ls ms : List Link) (es : List Ends) (v : ℕ) (e : Ends) (delivered : Bool) → KeepsQueues p ls es → KeepsQueues r ms (if delivered then es else set es v e) → OthersWaitAsBefore v p r
+others-left p r ls ms es v e true k l w other = all-wait p r ls ms es k l w
+others-left p r ls ms es v e false k l w other = others-wait p r ls ms es v e k l w other

@@ -5,8 +5,8 @@ use Rattle.std.proofs.Common.{inl, inr}
 use Rattle.std.proofs.Math.ListN.{length-set}
 use Rattle.std.proofs.lemmas.List.{get_or-set_same, get_or-set_other}
 use Rattle.object_pools.proofs.Orders.{times, same_number, other_number}
-use Rattle.spm_tables.specs.declared.queues.Link.{Link}
-use Rattle.spm_tables.specs.declared.queues.Ends.{Ends}
+use Rattle.spm_tables.specs.declared.links.Link.{Link}
+use Rattle.spm_tables.specs.declared.links.Ends.{Ends}
 use Rattle.spm_tables.specs.Queues.{first_of, last_of, Threaded, no_link, no_ends, link_at, ends_at, AreQueues, with_after, with_before, joined, unlinked, joined_ends, unlinked_ends}
 use Rattle.spm_tables.proofs.QueueLemmas.{out, out-none, some_is, some_not, frame, last-in, push, remove, next-in, prior-in, last-end, last-else, first-start, first-else}
 

@@ -32,13 +32,13 @@ some-any f p (x ∷ xs) =
     go (p (f x)) refl
 
 pub word-of : (d : TablesView) (s : System) (p : ℕ) → MadeFor d s
-    → bit_or (union_of (asserted (λ v. is_some (find (waits_for v) d.waiting.held)) d.services p))
+    → bit_or (union_of (asserted (λ v. is_some (find (waits_for v) d.messages.held)) d.services p))
     (bit_or (doorbell_signal (spm_of d) p) (union_of (asserted (λ i. (get_or d.flags i no_flags).asserted) d.sources p)))
     ≡ signals_of s (spm_of d) p
 word-of d s p made =
-    let services : asserted (λ v. is_some (find (waits_for v) d.waiting.held)) d.services p ≡ service_signals s (spm_of d) p =
-    ap (λ (xs : List OwnedSignal). asserted (λ v. is_some (find (waits_for v) d.waiting.held)) xs p) (ap (λ (h : Shape). h.services) made)
-    ∙ asserted-map service_signal (λ v. is_some (find (waits_for v) d.waiting.held)) (has_undelivered (spm_of d)) (λ v. some-any held_message (is_undelivered v) d.waiting.held) s.services 0 p in
+    let services : asserted (λ v. is_some (find (waits_for v) d.messages.held)) d.services p ≡ service_signals s (spm_of d) p =
+    ap (λ (xs : List OwnedSignal). asserted (λ v. is_some (find (waits_for v) d.messages.held)) xs p) (ap (λ (h : Shape). h.services) made)
+    ∙ asserted-map service_signal (λ v. is_some (find (waits_for v) d.messages.held)) (has_undelivered (spm_of d)) (λ v. some-any held_message (is_undelivered v) d.messages.held) s.services 0 p in
     let sources : asserted (λ i. (get_or d.flags i no_flags).asserted) d.sources p ≡ source_signals s (spm_of d) p =
     ap (λ (xs : List OwnedSignal). asserted (λ i. (get_or d.flags i no_flags).asserted) xs p) (ap (λ (h : Shape). h.sources) made)
     ∙ asserted-map source_signal (λ i. (get_or d.flags i no_flags).asserted) (λ i. (get_or d.flags i no_flags).asserted) (λ i. refl) s.sources 0 p in

@@ -1,6 +1,6 @@
 -- Which connection a message belongs to, after a connection or a message comes, changes or goes.
 use Rattle.std.proofs.Common.{ℕ, ◌≡◌, ◌<◌, ◌≤◌, ◌+◌, ◌==◌, Bool, true, false, cond, not, List, [], ◌∷◌, arith, ◌∙◌, ap, sym, refl, subst}
-use Rattle.std.specs.Prelude.{count_by, find, Option, Some, None, map, All, IsSome, IfSome, option_and_then, if◌then◌else◌}
+use Rattle.std.specs.Prelude.{find, Option, Some, None, map, All, IsSome, IfSome}
 use Rattle.std.specs.Option.{option_map}
 use Rattle.std.proofs.lemmas.List.Elements.{All-nil, All-cons, All-push, All-filter, All-weaker, All-map, All-head, All-tail}
 use Rattle.ffm_model.specs.declared.objects.OpenConnection.{OpenConnection}
@@ -9,11 +9,12 @@ use Rattle.object_pools.specs.declared.slot.Held.{Held}
 use Rattle.object_pools.specs.Pool.{Places, IsKept, has_slot, item_at, item_put, taken, with_item, without}
 use Rattle.handle_table.specs.Table.{connections, Rises, IsTable}
 use Rattle.handle_table.proofs.SlotLemmas.{has_own, one_slot, slot-is, held-of}
-use Rattle.handle_table.proofs.TableLemmas.{rises-bounds, one_serial}
-use Rattle.handle_table.proofs.Twins.{find-passes, count-map}
+use Rattle.handle_table.proofs.TableLemmas.{rises-bounds}
+use Rattle.handle_table.proofs.Twins.{find-passes}
 use Rattle.spm_tables.specs.declared.item.MessageItem.{MessageItem}
 use Rattle.spm_tables.specs.declared.item.QueuedMessage.{QueuedMessage}
 use Rattle.spm_tables.specs.TablesView.{queued, queued_as, serial_at}
+use Rattle.spm_tables.specs.Queues.{QueuesView}
 use Rattle.spm_tables.specs.Slots.{BelongsTo, KeepSlots}
 use Rattle.spm_tables.proofs.MessageLemmas.{find-map, found-too}
 
@@ -38,22 +39,6 @@ named-slot p s c m b live same =
     All-found (Slotted m) (has_slot s) p.held it.0 b.slot it.1 (same ∙ ap (λ (d : OpenConnection). Some d.serial) (sym it.2)) ∙ ap (λ (t : Slot). Some t) it.3
 
 -- ---- changes of the connections
-
-pub slots-start : (p : Places OpenConnection) (w : Places QueuedMessage) (s : Slot) (c : OpenConnection) → c.serial ≡ p.takes → p.takes < 1048575 → KeepSlots p w → KeepSlots (taken p s c) w
-slots-start p w s c serial few k =
-    All-weaker (λ h. BelongsTo p h.item) (λ h. BelongsTo (taken p s c) h.item)
-    (λ h b. record {
-      made = longer h.item.serial b.made;
-      slot = All-push (Slotted h.item) p.held (record { slot = s; item = c }) b.slot
-          (λ e. absurd (newer h.item.serial b.made e));
-    }) w.held k where
-      longer : (o : Option ℕ) → IfSome o (λ n. n < p.takes) → IfSome o (λ n. n < p.takes + 1)
-      longer None l = tt
-      longer (Some n) l = omega (arith, l)
-
-      newer : (o : Option ℕ) → IfSome o (λ n. n < p.takes) → o ≡ Some c.serial → ⊥
-      newer None l e = cc
-      newer (Some n) l e = let it : n ≡ c.serial = cc in omega (arith, l, it, serial)
 
 pub slots-change : (p : Places OpenConnection) (w : Places QueuedMessage) (s : Slot) (c d : OpenConnection) → item_at p s ≡ Some c → d.serial ≡ c.serial → KeepSlots p w → KeepSlots (with_item p s d) w
 slots-change p w s c d live same k =
@@ -103,6 +88,21 @@ slots-put p w s m n live serial slot k =
       put : (h : Held QueuedMessage) → BelongsTo p h.item → (b : Bool) → BelongsTo p (cond b (record h { item = n }) h).item
       put h old true = new (belongs-at p w s m k live)
       put h old false = old
+
+-- a message is written, of the same connection
+pub slots-written : (p : Places OpenConnection) (q r : QueuesView) (s : Slot) (f : QueuedMessage → QueuedMessage) → ((m : QueuedMessage) → (f m).serial ≡ m.serial) → ((m : QueuedMessage) → (f m).connection ≡ m.connection)
+    → IsSome (item_at q.messages s) → IfSome (item_at q.messages s) (λ m. r ≡ record q { messages = with_item q.messages s (f m) }) → KeepSlots p q.messages → KeepSlots p r.messages
+slots-written p q r s f serial slot some after k = go (item_at q.messages s) refl some after where
+  go : (o : Option QueuedMessage) → item_at q.messages s ≡ o → IsSome o → IfSome o (λ m. r ≡ record q { messages = with_item q.messages s (f m) }) → KeepSlots p r.messages
+  go None e n a = cc
+  go (Some m) e n a = subst (λ (x : QueuesView). KeepSlots p x.messages) (sym a) (slots-put p q.messages s m (f m) e (serial m) (slot m) k)
+
+pub services-written : (q r : QueuesView) (s : Slot) (f : QueuedMessage → QueuedMessage) → IsSome (item_at q.messages s)
+    → IfSome (item_at q.messages s) (λ m. r ≡ record q { messages = with_item q.messages s (f m) }) → r.services ≡ q.services
+services-written q r s f = go (item_at q.messages s) where
+  go : (o : Option QueuedMessage) → IsSome o → IfSome o (λ m. r ≡ record q { messages = with_item q.messages s (f m) }) → r.services ≡ q.services
+  go None n a = cc
+  go (Some m) n a = ap (λ (x : QueuesView). x.services) a
 
 pub slots-drop : (p : Places OpenConnection) (w : Places QueuedMessage) (s : Slot) → KeepSlots p w → KeepSlots p (without w s)
 slots-drop p w s k = All-filter (λ h. not (has_slot s h)) (λ h. BelongsTo p h.item) w.held k
@@ -192,72 +192,3 @@ slot-of-serial p m n c kept b numbered f =
     go (find (λ h. h.item.serial == n) p.held) refl (sym (find-map (λ (h : Held OpenConnection). h.item) (λ d. d.serial == n) p.held) ∙ f) where
       equal : (k n : ℕ) → (k == n) ≡ true → k ≡ n
       equal k n e = grind arith
-
--- a live connection is that of its serial number
-pub by-serial : (p : Places OpenConnection) (s : Slot) (c : OpenConnection) → IsKept 256 p → IsTable p → item_at p s ≡ Some c → find (λ d. d.serial == c.serial) (connections p) ≡ Some c
-by-serial p s c kept t live =
-    let it = held-of p s c live in
-    let passes : ((it.0).item.serial == c.serial) ≡ true = ap (λ (d : OpenConnection). d.serial == c.serial) it.2 ∙ same_itself c.serial in
-    let few : count_by (λ (h : Held OpenConnection). h.item.serial == c.serial) p.held ≤ 1 =
-    omega (arith, one_serial c.serial 0 p.takes (connections p) t.rising, count-map (λ (h : Held OpenConnection). h.item) (λ d. d.serial == c.serial) p.held) in
-    find-map (λ (h : Held OpenConnection). h.item) (λ d. d.serial == c.serial) p.held
-    ∙ ap (option_map (λ (h : Held OpenConnection). h.item)) (found-too (has_slot s) (λ h. h.item.serial == c.serial) p.held it.0 passes few it.1)
-    ∙ ap (λ (d : OpenConnection). Some d) it.2 where
-      same_itself : (n : ℕ) → (n == n) ≡ true
-      same_itself n = grind arith
-
--- the connection of a serial number, as the slot has it
-abbrev pub of_serial : ℕ → OpenConnection → Option OpenConnection
-of_serial serial c = if c.serial == serial then Some c else None
-
--- the connection with a message's serial number is what the slot has that the message names, if that has this number
-numbered-of : (p : Places OpenConnection) (m : QueuedMessage) (n : ℕ) → m.serial ≡ Some n → IsKept 256 p → IsTable p → BelongsTo p m
-    → find (λ d. d.serial == n) (connections p) ≡ option_and_then (λ s. option_and_then (of_serial n) (item_at p s)) m.connection
-numbered-of p m n numbered kept t b =
-    let go : (o : Option OpenConnection) → find (λ d. d.serial == n) (connections p) ≡ o → o ≡ option_and_then (λ s. option_and_then (of_serial n) (item_at p s)) m.connection =
-    elim [
-      | Some c ↦ λ f.
-          let it = slot-of-serial p m n c kept b numbered f in
-          let serial : (c.serial == n) ≡ true = find-passes (λ d. d.serial == n) (connections p) c f in
-          sym (ap (option_and_then (λ s. option_and_then (of_serial n) (item_at p s))) it.1 ∙ ap (option_and_then (of_serial n)) it.2 ∙ ap (λ x. cond x (Some c) None) serial)
-      | None ↦ λ f. none f m.connection
-    ] in
-    go (find (λ d. d.serial == n) (connections p)) refl where
-      other : find (λ d. d.serial == n) (connections p) ≡ None → (s : Slot) (c : OpenConnection) → item_at p s ≡ Some c → (x : Bool) → (c.serial == n) ≡ x → None ≡ cond x (Some c) None
-      other f s c live true e =
-          let same : c.serial ≡ n = equal c.serial n e in
-          let here : find (λ d. d.serial == n) (connections p) ≡ Some c = subst (λ n. find (λ d. d.serial == n) (connections p) ≡ Some c) same (by-serial p s c kept t live) in
-          cc where
-            equal : (k n : ℕ) → (k == n) ≡ true → k ≡ n
-            equal k n e = grind arith
-      other f s c live false e = refl
-
-      at : find (λ d. d.serial == n) (connections p) ≡ None → (s : Slot) (o : Option OpenConnection) → item_at p s ≡ o → None ≡ option_and_then (of_serial n) o
-      at f s None live = refl
-      at f s (Some c) live = other f s c live (c.serial == n) refl
-
-      none : find (λ d. d.serial == n) (connections p) ≡ None → (o : Option Slot) → None ≡ option_and_then (λ s. option_and_then (of_serial n) (item_at p s)) o
-      none f None = refl
-      none f (Some s) = at f s (item_at p s) refl
-
--- a message's connection, where it has one
-abbrev pub connection_in : Option ℕ → OpenConnection → Option OpenConnection
-connection_in None c = None
-connection_in (Some n) c = of_serial n c
-
-pub connection-of : (p : Places OpenConnection) (m : QueuedMessage) → IsKept 256 p → IsTable p → BelongsTo p m
-    → option_and_then (λ n. find (λ d. d.serial == n) (connections p)) m.serial ≡ option_and_then (λ s. option_and_then (connection_in m.serial) (item_at p s)) m.connection
-connection-of p m kept t b =
-    let go : (o : Option ℕ) → m.serial ≡ o → option_and_then (λ n. find (λ d. d.serial == n) (connections p)) o ≡ option_and_then (λ s. option_and_then (connection_in o) (item_at p s)) m.connection =
-    elim [
-      | None ↦ λ e. nowhere m.connection
-      | Some n ↦ λ e. numbered-of p m n e kept t b
-    ] in
-    go m.serial refl where
-      at : (o : Option OpenConnection) → None ≡ option_and_then (connection_in None) o
-      at None = refl
-      at (Some c) = refl
-
-      nowhere : (o : Option Slot) → None ≡ option_and_then (λ s. option_and_then (connection_in None) (item_at p s)) o
-      nowhere None = refl
-      nowhere (Some s) = at (item_at p s)

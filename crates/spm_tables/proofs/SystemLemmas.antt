@@ -1,16 +1,13 @@
 -- How many messages there may be.
-use Rattle.std.proofs.Common.{ℕ, zero, suc, ◌≡◌, ◌≤◌, ◌+◌, true, List, [], ◌∷◌, ◌++◌, length, arith, ◌∙◌, ap}
-use Rattle.std.specs.Prelude.{sum_by, nat_le, count_by}
+use Rattle.std.proofs.Common.{ℕ, zero, suc, ◌≡◌, ◌≤◌, ◌+◌, List, [], ◌∷◌, ◌++◌, length, arith, ◌∙◌, ap}
+use Rattle.std.specs.Prelude.{count_by}
 use Rattle.std.specs.List.{range_with_len}
-use Rattle.std.proofs.lemmas.Bool.Decides.{nat_tests}
 use Rattle.std.proofs.lemmas.List.Sums.{count_by-le-length}
 use Rattle.std.proofs.lemmas.List.FromFn.{length-range_with_len}
 use Rattle.ffm_model.specs.declared.system.System.{System}
-use Rattle.ffm_model.specs.Names.{calls_stateless, message_capacity}
+use Rattle.ffm_model.specs.Names.{calls_stateless}
 use Rattle.ffm_model.proofs.ActorLemmas.{few_partitions, few_clients}
-use Rattle.ffm_model.proofs.WellFormedLemmas.{few_connections}
 use Rattle.object_pools.proofs.Counts.{bit, count-push}
-use Rattle.handle_table.proofs.SlotLemmas.{both}
 
 -- ---- partitions and clients that may use a stateless service
 
@@ -38,6 +35,3 @@ pub few_callers : (s : System) → count_by (calls_stateless s) (range_with_len 
 few_callers s =
     let n : ℕ = length s.partitions + length s.clients in
     omega (arith, count_by-le-length (calls_stateless s) (range_with_len 0 n), length-range_with_len 0 n, few_partitions s, few_clients s)
-
-pub few_messages : (s : System) → message_capacity s ≤ 304
-few_messages s = omega (arith, few_connections s, few_callers s)

@@ -1,6 +1,6 @@
--- The words that the tables keep, as what asserts signals changes.
+-- The words that a board keeps, as what asserts signals changes.
 use Rattle.std.proofs.Common.{ℕ, zero, ◌≡◌, ◌≢◌, ◌<◌, ◌≤◌, ◌+◌, ◌==◌, Bool, true, false, ◌&&◌, List, [], ◌∷◌, length, map, get_or, set, replicate, ◌∙◌, ap, sym, refl, subst, arith, suc}
-use Rattle.std.specs.Prelude.{Option, Some, None, if◌then◌else◌, is_some, bit_or, nat_lt, not}
+use Rattle.std.specs.Prelude.{Option, Some, None, if◌then◌else◌, bit_or, nat_lt}
 use Rattle.std.specs.List.{filter_map, enumerate_from, cons_option, list_all}
 use Rattle.std.proofs.Math.ListN.{length-set}
 use Rattle.std.proofs.lemmas.List.{get_or-set_same, get_or-set_other, get_or_past, get_or-replicate, length-replicate}
@@ -16,15 +16,11 @@ use Rattle.ffm_model.specs.State.{no_flags}
 use Rattle.ffm_model.specs.Signals.{union_of, signals_of, service_signals, source_signals, doorbell_signal, has_undelivered}
 use Rattle.ffm_model.specs.WellFormed.{signal_fits, is_signal_bit}
 use Rattle.ffm_model.proofs.WellFormedLemmas.{service_signals_hold, source_signals_hold}
-use Rattle.spm_tables.specs.declared.queues.Ends.{Ends}
 use Rattle.spm_tables.specs.declared.signals.OwnedSignal.{OwnedSignal}
 use Rattle.spm_tables.specs.TablesView.{TablesView, Shape, MadeFor, spm_of, asserted}
-use Rattle.spm_tables.specs.declared.queues.Link.{Link}
-use Rattle.object_pools.specs.Pool.{empty}
-use Rattle.spm_tables.specs.Queues.{no_link, no_ends, ends_at, KeepsQueues}
-use Rattle.spm_tables.specs.Words.{word_of, owner_at, KeepsWords, with_word}
+use Rattle.spm_tables.specs.Queues.{QueuesView, has_waiting, AllWaitAsBefore, OthersWaitAsBefore}
+use Rattle.spm_tables.specs.Words.{InputsView, first_flags, opening_inputs, word_of, owner_at, KeepsWords, with_word, ShowsQueues}
 use Rattle.spm_tables.proofs.QueueLemmas.{some_is}
-use Rattle.spm_tables.proofs.QueueMessages.{some-first}
 use Rattle.spm_tables.proofs.SignalLemmas.{word-of}
 
 -- ---- the signals that pass a test
@@ -82,68 +78,71 @@ pub count-kept : (o : Option ℕ) (u : ℕ → ℕ) (words : List ℕ) → lengt
 count-kept None u words = refl
 count-kept (Some p) u words = length-set words p (u p)
 
-keeps-word : (services sources : List OwnedSignal) (ends ends-2 : List Ends) (bells bells-2 : List Bool) (flags flags-2 : List SourceFlags) (words : List ℕ) (o : Option ℕ)
-    → KeepsWords services ends bells sources flags words
-    → length bells-2 ≡ length bells
-    → ((p : ℕ) → (o ≡ Some p → ⊥) → word_of services ends bells sources flags p ≡ word_of services ends-2 bells-2 sources flags-2 p)
-    → KeepsWords services ends-2 bells-2 sources flags-2 (with_word o (word_of services ends-2 bells-2 sources flags-2) words)
-keeps-word services sources ends ends-2 bells bells-2 flags flags-2 words o k as_long same =
-    let counted = count-kept o (word_of services ends-2 bells-2 sources flags-2) words in
+-- a partition's signals, of those of its services, its doorbell and those of its sources
+abbrev united : List ℕ → Bool → List ℕ → ℕ
+united services rang sources = bit_or (union_of services) (bit_or (if rang then PSA_DOORBELL else 0) (union_of sources))
+
+keeps-word : (a b : InputsView) (words : List ℕ) (o : Option ℕ) → KeepsWords a words → length b.doorbells ≡ length a.doorbells
+    → ((p : ℕ) → (o ≡ Some p → ⊥) → word_of a p ≡ word_of b p) → KeepsWords b (with_word o (word_of b) words)
+keeps-word a b words o k as_long same =
+    let counted = count-kept o (word_of b) words in
     record {
       counted = counted ∙ k.counted ∙ sym as_long;
-      right = λ p inside. remade (word_of services ends bells sources flags) (word_of services ends-2 bells-2 sources flags-2) o words k.right same p (subst (λ n. p < n) counted inside);
+      right = λ p inside. remade (word_of a) (word_of b) o words k.right same p (subst (λ n. p < n) counted inside);
     }
 
--- the ends of one queue change
-pub keeps-ends : (services sources : List OwnedSignal) (ends : List Ends) (bells : List Bool) (flags : List SourceFlags) (words : List ℕ) (v : ℕ) (e : Ends)
-    → KeepsWords services ends bells sources flags words
-    → KeepsWords services (set ends v e) bells sources flags (with_word (owner_at services v) (word_of services (set ends v e) bells sources flags) words)
-keeps-ends services sources ends bells flags words v e k =
-    keeps-word services sources ends (set ends v e) bells bells flags flags words (owner_at services v) k refl
-    (λ p apart. ap (λ (ys : List ℕ). bit_or (union_of ys) (bit_or (if get_or bells p false then PSA_DOORBELL else 0) (union_of (asserted (λ i. (get_or flags i no_flags).asserted) sources p))))
-    (same-else (λ i. is_some (ends_at ends i).first) (λ i. is_some (ends_at (set ends v e) i).first) services v p
-    (λ i other. ap (λ (x : Ends). is_some x.first) (sym (get_or-set_other ends v i e no_ends other))) apart))
-
--- no queue's ends change
-keeps-again : (services sources : List OwnedSignal) (ends : List Ends) (bells : List Bool) (flags : List SourceFlags) (words : List ℕ) (o : Option ℕ)
-    → KeepsWords services ends bells sources flags words
-    → KeepsWords services ends bells sources flags (with_word o (word_of services ends bells sources flags) words)
-keeps-again services sources ends bells flags words o k = keeps-word services sources ends ends bells bells flags flags words o k refl (λ p apart. refl)
-
--- a message leaves its queue, unless it was delivered
-pub keeps-leave : (services sources : List OwnedSignal) (ends : List Ends) (bells : List Bool) (flags : List SourceFlags) (words : List ℕ) (v : ℕ) (e : Ends) (delivered : Bool)
-    → KeepsWords services ends bells sources flags words
-    → KeepsWords services (if delivered then ends else set ends v e) bells sources flags
-    (with_word (owner_at services v) (word_of services (if delivered then ends else set ends v e) bells sources flags) words)
-keeps-leave services sources ends bells flags words v e true k = keeps-again services sources ends bells flags words (owner_at services v) k
-keeps-leave services sources ends bells flags words v e false k = keeps-ends services sources ends bells flags words v e k
-
--- a message is gone; the words of one that was delivered stay
-pub keeps-drop : (services sources : List OwnedSignal) (ends : List Ends) (bells : List Bool) (flags : List SourceFlags) (words : List ℕ) (v : ℕ) (e : Ends) (delivered : Bool)
-    → KeepsWords services ends bells sources flags words
-    → KeepsWords services (if delivered then ends else set ends v e) bells sources flags
-    (if delivered then words else with_word (owner_at services v) (word_of services (if delivered then ends else set ends v e) bells sources flags) words)
-keeps-drop services sources ends bells flags words v e true k = k
-keeps-drop services sources ends bells flags words v e false k = keeps-ends services sources ends bells flags words v e k
+-- whether a message waits for one service changes
+pub keeps-waiting : (a : InputsView) (words : List ℕ) (v : ℕ) (waits : Bool) → KeepsWords a words
+    → KeepsWords (record a { waiting = set a.waiting v waits }) (with_word (owner_at a.services v) (word_of (record a { waiting = set a.waiting v waits })) words)
+keeps-waiting a words v waits k =
+    keeps-word a (record a { waiting = set a.waiting v waits }) words (owner_at a.services v) k refl
+    (λ p apart. ap (λ (ys : List ℕ). united ys (get_or a.doorbells p false) (asserted (λ i. (get_or a.flags i no_flags).asserted) a.sources p))
+    (same-else (λ i. get_or a.waiting i false) (λ i. get_or (set a.waiting v waits) i false) a.services v p
+    (λ i other. sym (get_or-set_other a.waiting v i waits false other)) apart))
 
 -- one doorbell changes
-pub keeps-bells : (services sources : List OwnedSignal) (ends : List Ends) (bells : List Bool) (flags : List SourceFlags) (words : List ℕ) (v : ℕ) (b : Bool)
-    → KeepsWords services ends bells sources flags words
-    → KeepsWords services ends (set bells v b) sources flags (with_word (Some v) (word_of services ends (set bells v b) sources flags) words)
-keeps-bells services sources ends bells flags words v b k =
-    keeps-word services sources ends ends bells (set bells v b) flags flags words (Some v) k (length-set bells v b)
-    (λ p apart. ap (λ (on : Bool). bit_or (union_of (asserted (λ i. is_some (ends_at ends i).first) services p)) (bit_or (if on then PSA_DOORBELL else 0) (union_of (asserted (λ i. (get_or flags i no_flags).asserted) sources p))))
-    (sym (get_or-set_other bells v p b false (λ at. apart (ap (λ (n : ℕ). Some n) (sym at))))))
+pub keeps-bells : (a : InputsView) (words : List ℕ) (v : ℕ) (b : Bool) → KeepsWords a words
+    → KeepsWords (record a { doorbells = set a.doorbells v b }) (with_word (Some v) (word_of (record a { doorbells = set a.doorbells v b })) words)
+keeps-bells a words v b k =
+    keeps-word a (record a { doorbells = set a.doorbells v b }) words (Some v) k (length-set a.doorbells v b)
+    (λ p apart. ap (λ (rang : Bool). united (asserted (λ i. get_or a.waiting i false) a.services p) rang (asserted (λ i. (get_or a.flags i no_flags).asserted) a.sources p))
+    (sym (get_or-set_other a.doorbells v p b false (λ at. apart (ap (λ (n : ℕ). Some n) (sym at))))))
 
 -- the flags of one source change
-pub keeps-flags : (services sources : List OwnedSignal) (ends : List Ends) (bells : List Bool) (flags : List SourceFlags) (words : List ℕ) (v : ℕ) (f : SourceFlags)
-    → KeepsWords services ends bells sources flags words
-    → KeepsWords services ends bells sources (set flags v f) (with_word (owner_at sources v) (word_of services ends bells sources (set flags v f)) words)
-keeps-flags services sources ends bells flags words v f k =
-    keeps-word services sources ends ends bells bells flags (set flags v f) words (owner_at sources v) k refl
-    (λ p apart. ap (λ (ys : List ℕ). bit_or (union_of (asserted (λ i. is_some (ends_at ends i).first) services p)) (bit_or (if get_or bells p false then PSA_DOORBELL else 0) (union_of ys)))
-    (same-else (λ i. (get_or flags i no_flags).asserted) (λ i. (get_or (set flags v f) i no_flags).asserted) sources v p
-    (λ i other. ap (λ (x : SourceFlags). x.asserted) (sym (get_or-set_other flags v i f no_flags other))) apart))
+pub keeps-flags : (a : InputsView) (words : List ℕ) (v : ℕ) (f : SourceFlags) → KeepsWords a words
+    → KeepsWords (record a { flags = set a.flags v f }) (with_word (owner_at a.sources v) (word_of (record a { flags = set a.flags v f })) words)
+keeps-flags a words v f k =
+    keeps-word a (record a { flags = set a.flags v f }) words (owner_at a.sources v) k refl
+    (λ p apart. ap (λ (ys : List ℕ). united (asserted (λ i. get_or a.waiting i false) a.services p) (get_or a.doorbells p false) ys)
+    (same-else (λ i. (get_or a.flags i no_flags).asserted) (λ i. (get_or (set a.flags v f) i no_flags).asserted) a.sources v p
+    (λ i other. ap (λ (x : SourceFlags). x.asserted) (sym (get_or-set_other a.flags v i f no_flags other))) apart))
+
+-- ---- the services for which a message waits
+
+pub shows-same : (b : InputsView) (q r : QueuesView) → ShowsQueues b q → r.services ≡ q.services → AllWaitAsBefore q.messages r.messages → ShowsQueues b r
+shows-same b q r k same all = record { owned = k.owned ∙ sym same; told = k.told ∙ sym same; right = λ v. k.right v ∙ sym (all v) }
+
+pub shows-changed : (b : InputsView) (q r : QueuesView) (v : ℕ) (waits : Bool) → ShowsQueues b q → r.services ≡ q.services → OthersWaitAsBefore v q.messages r.messages
+    → waits ≡ has_waiting r.messages v → (waits ≡ true → v < r.services) → ShowsQueues (record b { waiting = set b.waiting v waits }) r
+shows-changed b q r v waits k same others is known = record {
+  owned = k.owned ∙ sym same;
+  told = length-set b.waiting v waits ∙ k.told ∙ sym same;
+  right = λ w. at w (w == v) refl;
+} where
+  past : (x : Bool) → (x ≡ true → v < r.services) → length b.waiting ≤ v → get_or (set b.waiting v x) v false ≡ x
+  past true low high = absurd (omega (arith, low refl, k.told, same))
+  past false low high = get_or_past (set b.waiting v false) v false (omega (arith, length-set b.waiting v false))
+
+  here : (x : Bool) → nat_lt v (length b.waiting) ≡ x → get_or (set b.waiting v waits) v false ≡ waits
+  here true low = get_or-set_same b.waiting v waits false (grind (arith, nat_tests))
+  here false high = past waits known (grind (arith, nat_tests))
+
+  at : (w : ℕ) (x : Bool) → (w == v) ≡ x → get_or (set b.waiting v waits) w false ≡ has_waiting r.messages w
+  at w true e =
+      subst (λ (n : ℕ). get_or (set b.waiting v waits) n false ≡ has_waiting r.messages n) (sym (same_number w v e)) (here (nat_lt v (length b.waiting)) refl ∙ is)
+  at w false e =
+      let apart : w ≢ v = other_number w v e in
+      get_or-set_other b.waiting v w waits false apart ∙ k.right w ∙ sym (others w apart)
 
 -- ---- at the start
 
@@ -156,47 +155,27 @@ all-clear X f n i x d e g =
     ] in
     go (nat_lt i n) refl
 
--- nothing asserts a signal: no queue has a message, no doorbell rang and no source is asserted
-silent : (services sources : List OwnedSignal) (n m p : ℕ) (fs : List SourceFlags) → ((i : ℕ) → (get_or fs i no_flags).asserted ≡ false)
-    → word_of services (replicate n no_ends) (replicate m false) sources fs p ≡ 0
-silent services sources n m p fs clear =
-    let firsts = none-from (λ v. is_some (ends_at (replicate n no_ends) v).first) (λ v. all-clear Ends (λ x. is_some x.first) n v no_ends no_ends refl refl) p services 0 in
-    let asserted-none = none-from (λ i. (get_or fs i no_flags).asserted) clear p sources 0 in
-    let bell = all-clear Bool (λ b. b) m p false false refl refl in
-    ap (λ (ys : List ℕ). bit_or (union_of ys) (bit_or (if get_or (replicate m false) p false then PSA_DOORBELL else 0) (union_of (asserted (λ i. (get_or fs i no_flags).asserted) sources p)))) firsts
-    ∙ ap (λ (ys : List ℕ). bit_or 0 (bit_or (if get_or (replicate m false) p false then PSA_DOORBELL else 0) (union_of ys))) asserted-none
-    ∙ ap (λ (b : Bool). bit_or 0 (bit_or (if b then PSA_DOORBELL else 0) 0)) bell
-
--- the flags of the sources at the start
-abbrev pub first_flags : List Source → List SourceFlags
-first_flags xs = map (λ (x : Source). record { enabled = x.enabled; pending = false; asserted = false }) xs
-
-pub unasserted : (xs : List Source) (i : ℕ) → (get_or (first_flags xs) i no_flags).asserted ≡ false
+pub unasserted : (xs : List Source) (i : ℕ) → (get_or (map first_flags xs) i no_flags).asserted ≡ false
 unasserted [] i = refl
 unasserted (x ∷ xs) zero = refl
 unasserted (x ∷ xs) (suc i) = unasserted xs i
 
-pub keeps-new : (services sources : List OwnedSignal) (n m : ℕ) (xs : List Source) → KeepsWords services (replicate n no_ends) (replicate m false) sources (first_flags xs) (replicate m 0)
-keeps-new services sources n m xs = record {
-  counted = length-replicate m 0 ∙ sym (length-replicate m false);
-  right = λ p inside. get_or-replicate m p 0 0 (subst (λ q. p < q) (length-replicate m 0) inside) ∙ sym (silent services sources n m p (first_flags xs) (unasserted xs));
-}
+-- nothing asserts a signal: no message waits, no doorbell rang and no source is asserted
+silent : (s : System) (p : ℕ) → word_of (opening_inputs s) p ≡ 0
+silent s p =
+    let b = opening_inputs s in
+    let clear : (n i : ℕ) → get_or (replicate n false) i false ≡ false = λ n i. all-clear Bool (λ x. x) n i false false refl refl in
+    let waiting = none-from (λ v. get_or b.waiting v false) (clear (length s.services)) p b.services 0 in
+    let sources = none-from (λ i. (get_or b.flags i no_flags).asserted) (unasserted s.sources) p b.sources 0 in
+    ap (λ (ys : List ℕ). united ys (get_or b.doorbells p false) (asserted (λ i. (get_or b.flags i no_flags).asserted) b.sources p)) waiting
+    ∙ ap (λ (ys : List ℕ). united [] (get_or b.doorbells p false) ys) sources
+    ∙ ap (λ (rang : Bool). united [] rang []) (clear (length s.partitions) p)
 
-pub queues-new : (services : List OwnedSignal) (size m : ℕ) → m ≡ length services
-    → KeepsQueues (empty size) services (replicate size no_link) (replicate m no_ends)
-queues-new services size m as_many =
-    let free : (v : ℕ) → v < length (replicate m no_ends) → ends_at (replicate m no_ends) v ≡ no_ends =
-    λ v inside. get_or-replicate m v no_ends no_ends (subst (λ k. v < k) (length-replicate m no_ends) inside) in
-    record {
-      linked = length-replicate size no_link ∙ sym (length-replicate size 0);
-      ended = length-replicate m no_ends ∙ as_many;
-      known = λ k h none. omega arith;
-      queues = record {
-        first = λ v inside. ap (λ (e : Ends). e.first) (free v inside);
-        last = λ v inside. ap (λ (e : Ends). e.last) (free v inside);
-        threaded = λ v inside. tt;
-      };
-    }
+pub keeps-new : (s : System) → KeepsWords (opening_inputs s) (replicate (length s.partitions) 0)
+keeps-new s = record {
+  counted = length-replicate (length s.partitions) 0 ∙ sym (length-replicate (length s.partitions) false);
+  right = λ p inside. get_or-replicate (length s.partitions) p 0 0 (subst (λ q. p < q) (length-replicate (length s.partitions) 0) inside) ∙ sym (silent s p);
+}
 
 -- ---- beyond the partitions
 
@@ -224,18 +203,21 @@ none-there d s p past made =
     ∙ ap (λ (ys : List ℕ). bit_or 0 (bit_or (doorbell_signal (spm_of d) p) (union_of ys))) sources
     ∙ ap (λ (b : Bool). bit_or 0 (bit_or (if b then PSA_DOORBELL else 0) 0)) bell)
 
+-- what asserts the signals of tables
+abbrev inputs_of : TablesView → List Bool → InputsView
+inputs_of d waiting = record { services = d.services; sources = d.sources; waiting = waiting; doorbells = d.doorbells; flags = d.flags }
+
 -- the stored word of a partition is what the machine asserts
-pub stored : (d : TablesView) (s : System) (links : List Link) (ends : List Ends) (words : List ℕ) (p : ℕ)
-    → KeepsQueues d.waiting d.services links ends → KeepsWords d.services ends d.doorbells d.sources d.flags words → MadeFor d s
-    → get_or words p 0 ≡ signals_of s (spm_of d) p
-stored d s links ends words p queues k made =
-    let go : (b : Bool) → nat_lt p (length words) ≡ b → get_or words p 0 ≡ signals_of s (spm_of d) p = elim [
-      | true ↦ λ low. k.right p (grind (arith, nat_tests))
-          ∙ ap (λ (q : ℕ → Bool). bit_or (union_of (asserted q d.services p)) (bit_or (doorbell_signal (spm_of d) p) (union_of (asserted (λ i. (get_or d.flags i no_flags).asserted) d.sources p))))
-          (some-first d.waiting d.services links ends queues)
+pub stored : (d : TablesView) (s : System) (waiting : List Bool) (n word p : ℕ) → ShowsQueues (inputs_of d waiting) (record { messages = d.messages; services = n })
+    → (p < length d.doorbells → word ≡ word_of (inputs_of d waiting) p) → (length d.doorbells ≤ p → word ≡ 0) → MadeFor d s → word ≡ signals_of s (spm_of d) p
+stored d s waiting n word p shows there none made =
+    let same : ◌≡◌ {A = ℕ → Bool} (λ v. get_or waiting v false) (λ v. has_waiting d.messages v) = λ j v. shows.right v j in
+    let go : (b : Bool) → nat_lt p (length d.doorbells) ≡ b → word ≡ signals_of s (spm_of d) p = elim [
+      | true ↦ λ low. there (grind (arith, nat_tests))
+          ∙ ap (λ (q : ℕ → Bool). united (asserted q d.services p) (get_or d.doorbells p false) (asserted (λ i. (get_or d.flags i no_flags).asserted) d.sources p)) same
           ∙ word-of d s p made
       | false ↦ λ high.
-          let past : length words ≤ p = grind (arith, nat_tests) in
-          get_or_past words p 0 past ∙ none-there d s p (subst (λ n. n ≤ p) k.counted past) made
+          let past : length d.doorbells ≤ p = grind (arith, nat_tests) in
+          none past ∙ none-there d s p past made
     ] in
-    go (nat_lt p (length words)) refl
+    go (nat_lt p (length d.doorbells)) refl

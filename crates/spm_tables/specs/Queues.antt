@@ -1,11 +1,10 @@
 -- Queues of indices, threaded by what comes before and after each index.
 -- Source: FF-M 1.0, messages of a service are delivered in order of arrival; the links are this manager's.
-use Rattle.std.specs.Prelude.{◌≡◌, ℕ, ◌<◌, List, [], ◌∷◌, length, Option, Some, None, get_or, slice_set, map, filter, All, is_none, if◌then◌else◌}
+use Rattle.std.specs.Prelude.{◌≡◌, ◌≢◌, ℕ, ◌<◌, Bool, List, [], ◌∷◌, length, Option, Some, None, get_or, slice_set, map, filter, All, find, is_some, is_none, if◌then◌else◌}
 use Rattle.object_pools.specs.Pool.{Places}
-use Rattle.spm_tables.specs.declared.queues.Link.{Link}
-use Rattle.spm_tables.specs.declared.queues.Ends.{Ends}
+use Rattle.spm_tables.specs.declared.links.Link.{Link}
+use Rattle.spm_tables.specs.declared.links.Ends.{Ends}
 use Rattle.spm_tables.specs.declared.item.QueuedMessage.{QueuedMessage}
-use Rattle.spm_tables.specs.declared.signals.OwnedSignal.{OwnedSignal}
 use Rattle.spm_tables.specs.TablesView.{waits_for}
 
 abbrev pub first_of : List ℕ → Option ℕ
@@ -44,13 +43,30 @@ pub record AreQueues (links : List Link) (ends : List Ends) (queues : ℕ → Li
 abbrev pub queue_in : Places QueuedMessage → ℕ → List ℕ
 queue_in p v = map (λ h. h.slot.index) (filter (waits_for v) p.held)
 
--- what the tables keep of their queues
-pub record KeepsQueues (messages : Places QueuedMessage) (services : List OwnedSignal) (links : List Link) (ends : List Ends) : Type 0 where
+-- what the queues keep
+pub record KeepsQueues (messages : Places QueuedMessage) (links : List Link) (ends : List Ends) : Type 0 where
   pub linked : length links ≡ length messages.generations
-  pub ended : length ends ≡ length services
   -- each message's service is there
-  pub known : All (λ h. h.item.service < length services) messages.held
+  pub known : All (λ h. h.item.service < length ends) messages.held
   pub queues : AreQueues links ends (queue_in messages)
+
+-- what contracts see of the queues
+pub record QueuesView : Type 0 where
+  pub messages : Places QueuedMessage
+  -- how many services there are
+  pub services : ℕ
+
+-- whether a message waits for the service
+abbrev pub has_waiting : Places QueuedMessage → ℕ → Bool
+has_waiting p v = is_some (find (waits_for v) p.held)
+
+-- a change leaves the services for which a message waits
+abbrev pub AllWaitAsBefore : Places QueuedMessage → Places QueuedMessage → Type 0
+AllWaitAsBefore old new = (v : ℕ) → has_waiting new v ≡ has_waiting old v
+
+-- a change leaves them but for one
+abbrev pub OthersWaitAsBefore : ℕ → Places QueuedMessage → Places QueuedMessage → Type 0
+OthersWaitAsBefore v old new = (w : ℕ) → w ≢ v → has_waiting new w ≡ has_waiting old w
 
 -- ---- changes of the links
 

@@ -26,9 +26,9 @@ use Rattle.spm_tables.specs.declared.signals.OwnedSignal.{OwnedSignal}
 
 pub record TablesView : Type 0 where
   -- the connections, each under its slot
-  pub linked : Places OpenConnection
+  pub connections : Places OpenConnection
   -- the messages, each under its slot
-  pub waiting : Places QueuedMessage
+  pub messages : Places QueuedMessage
   pub phases : List ActorPhase
   pub doorbells : List Bool
   pub flags : List SourceFlags
@@ -73,9 +73,9 @@ held_message h = message_of h.slot h.item
 
 abbrev pub spm_of : TablesView → SpmState
 spm_of d = record {
-  connections = connections d.linked;
-  connections_made = d.linked.takes;
-  messages = map held_message d.waiting.held;
+  connections = connections d.connections;
+  connections_made = d.connections.takes;
+  messages = map held_message d.messages.held;
   phases = d.phases;
   doorbells = d.doorbells;
   sources = d.flags;
@@ -83,7 +83,7 @@ spm_of d = record {
 
 -- the message of a slot
 abbrev pub message_at : TablesView → Slot → Option PendingMessage
-message_at d s = option_map (message_of s) (item_at d.waiting s)
+message_at d s = option_map (message_of s) (item_at d.messages s)
 
 -- a message of the service that waits for psa_get
 abbrev pub waits_for : ℕ → Held QueuedMessage → Bool
@@ -108,8 +108,8 @@ shape_of d = record {
   actors = length d.phases;
   services = d.services;
   sources = d.sources;
-  connections = length d.linked.generations;
-  messages = length d.waiting.generations;
+  connections = length d.connections.generations;
+  messages = length d.messages.generations;
 }
 
 abbrev pub service_signal : Service → OwnedSignal
@@ -143,5 +143,5 @@ abbrev pub asserted : (ℕ → Bool) → List OwnedSignal → ℕ → List ℕ
 asserted p xs owner = filter_map (λ e. if (e.1.owner == owner) && p e.0 then Some e.1.signal else None) (enumerate_from 0 xs)
 
 -- whether the signal of that place is the partition's
-abbrev pub is_owned : List OwnedSignal → ℕ → ℕ → Bool
-is_owned xs owner place = option_map_or (λ x. x.owner == owner) (slice_get xs place) false
+abbrev pub is_signal_of : List OwnedSignal → ℕ → ℕ → Bool
+is_signal_of xs owner place = option_map_or (λ x. x.owner == owner) (slice_get xs place) false

@@ -6,7 +6,7 @@ ghost use Rattle.object_pools.specs.Pool.{item_at, is_at};
 ghost use Rattle.spm_tables.specs.TablesView.{item_of, queued, serial_at, waits_for};
 ghost use Rattle.spm_tables.specs.Queues.{ends_at, first_of, queue_in};
 
-use crate::queues::{Ends, ends_at};
+use crate::links::{Ends, ends_at};
 use ffm_model::{ActorId, Vectors};
 use handle_table::Connections;
 use object_pools::{Held, Pool, Slot};

@@ -1,9 +1,12 @@
 //! The tables of a manager: connections, messages in their queues, what each actor does, doorbells and interrupt sources.
 #![tactic(auto)]
 
+mod board;
 mod item;
+mod links;
 mod queues;
 mod signals;
+mod slices;
 mod tables;
 
 pub use item::{MessageItem, QueuedMessage};

@@ -1,135 +1,157 @@
-//! Queues of indices, threaded through links.
+//! The messages of a manager, in the queues of their services.
 
-ghost use Rattle.std.specs.Prelude.{◌≡◌, slice_set, if◌then◌else◌};
-ghost use Rattle.spm_tables.specs.Queues.{link_at, ends_at, with_after, with_before, joined, unlinked, joined_ends, unlinked_ends};
+ghost use Rattle.std.specs.Prelude.{◌≡◌, ◌<◌, ◌≤◌, length, IsSome, IfSome, IfOk, MatchOption, Some, find, false, true};
+ghost use Rattle.std.specs.Option.{option_map};
+ghost use Rattle.object_pools.specs.Pool.{empty, free_slot, taken, item_at, with_item, without, IsKept};
+ghost use Rattle.spm_tables.specs.TablesView.{waits_for};
+ghost use Rattle.spm_tables.specs.Queues.{has_waiting, OthersWaitAsBefore, AllWaitAsBefore};
 
-use crate::item::QueuedMessage;
+use crate::item::{QueuedMessage, live_item, oldest};
+use crate::links::{Ends, Link, NO_ENDS, NO_LINK, ends_at, join, leave, unlink};
+use ffm_model::{Memory, Vectors};
+use object_pools::{Pool, Slot};
+use std::alloc::Global;
+use std::boxed::BoxedSlice;
+use std::marker::Model;
 
-/// The indices before and after one in its queue.
-#[derive(Clone, Copy, Debug)]
-pub(crate) struct Link {
-    pub(crate) before: Option<u32>,
-    pub(crate) after: Option<u32>,
+/// The messages, at most 304 at once, each under its slot; those that aren't delivered wait in the queues of their services. The slot
+/// that a call is given has a message.
+///
+/// Contracts see the pool of the messages, and how many services there are.
+#[derive(Drop)]
+pub(crate) struct MessageQueues {
+    messages: Pool<QueuedMessage, 304>,
+    // by the index of a message, those before and after it in its service's queue
+    links: BoxedSlice<Link>,
+    // by service
+    ends: BoxedSlice<Ends>,
 }
 
-/// The first and the last index of a queue.
-#[derive(Clone, Copy, Debug)]
-pub(crate) struct Ends {
-    pub(crate) first: Option<u32>,
-    pub(crate) last: Option<u32>,
+impl Model for MessageQueues {
+    ghost use Rattle.std.specs.Prelude.{length};
+    ghost use Rattle.std.specs.Box.{boxed_slice_items};
+    ghost use Rattle.spm_tables.specs.Queues.{QueuesView, KeepsQueues};
+
+    ghost Value = { QueuesView };
+
+    ghost view = { λ q. record { messages = q.messages; services = length (boxed_slice_items q.ends) } };
+
+    ghost invariant = { λ q. KeepsQueues q.messages (boxed_slice_items q.links) (boxed_slice_items q.ends) };
 }
 
-pub(crate) const NO_LINK: Link = Link {
-    before: None,
-    after: None,
-};
-
-pub(crate) const NO_ENDS: Ends = Ends {
-    first: None,
-    last: None,
-};
-
-fn link_at(links: &[Link], index: u32) -> Link
-    ensures { result ≡ link_at links.now index }
-{
-    match links.get(index as usize) {
-        Some(link) => *link,
-        None => NO_LINK,
+impl MessageQueues {
+    /// No message yet, and room for `size`, at most 304. `Memory` where memory is wanting.
+    pub(crate) fn new(alloc: Global, size: u32, services: usize) -> Result<MessageQueues, Memory>
+        requires { size ≤ 304 }
+        ensures { IfOk result (λ q. q ≡ record { messages = empty size; services = services }) }
+    {
+        let links = vec![in alloc; NO_LINK; size as usize]?;
+        let ends = vec![in alloc; NO_ENDS; services]?;
+        Ok(MessageQueues {
+            messages: Pool::new(size),
+            links: links.into_boxed_slice(),
+            ends: ends.into_boxed_slice(),
+        })
     }
-}
 
-pub(crate) fn ends_at(ends: &[Ends], service: usize) -> Ends
-    ensures { result ≡ ends_at ends.now service }
-{
-    match ends.get(service) {
-        Some(ends) => *ends,
-        None => NO_ENDS,
+    /// Says what the messages always keep. It does nothing.
+    pub(crate) fn law(&self)
+        ensures { IsKept 304 self.now.messages }
+    {
+        self.messages.law();
     }
-}
 
-fn put_link(links: &mut [Link], index: u32, link: Link)
-    ensures { links.new ≡ slice_set links.old index link }
-{
-    let at = index as usize;
-    if at < links.len() {
-        links[at] = link;
+    /// The messages, lent to be read.
+    pub(crate) fn messages(&self) -> &Pool<QueuedMessage, 304>
+        ensures { result.now ≡ self.now.messages }
+    {
+        &self.messages
     }
-}
 
-fn put_ends(ends: &mut [Ends], service: u32, set: Ends)
-    ensures { ends.new ≡ slice_set ends.old service set }
-{
-    let at = service as usize;
-    if at < ends.len() {
-        ends[at] = set;
+    /// Whether a message waits for the service, in constant time; false where there is no such service.
+    pub(crate) fn has_waiting(&self, service: u32) -> bool
+        ensures waits { result ≡ has_waiting self.now.messages service }
+        ensures there { result ≡ true → service < self.now.services }
+    {
+        let ends = ends_at(self.ends.as_slice(), service as usize);
+        ends.first.is_some()
     }
-}
 
-fn set_after(links: &mut [Link], index: Option<u32>, after: Option<u32>)
-    ensures { links.new ≡ with_after index after links.old }
-{
-    if let Some(index) = index {
-        let before = link_at(links, index).before;
-        put_link(links, index, Link { before, after });
+    /// Takes a message in; it goes last in its service's queue. The service exists, there is room for one more, fewer than 1,048,575
+    /// were taken in, and it isn't delivered.
+    pub(crate) fn enqueue(&mut self, message: QueuedMessage) -> Slot
+        requires service { message.service < self.old.services }
+        requires undelivered { message.delivered ≡ false }
+        requires room { length self.old.messages.held < length self.old.messages.generations }
+        requires few { self.old.messages.takes < 1048575 }
+        ensures slot { free_slot self.old.messages ≡ Some result }
+        ensures after { self.new ≡ record self.old { messages = taken self.old.messages result message } }
+        ensures others { OthersWaitAsBefore message.service self.old.messages self.new.messages }
+    {
+        self.messages.law();
+        match self.messages.take(message) {
+            Ok(slot) => {
+                join(
+                    self.links.as_mut_slice(),
+                    self.ends.as_mut_slice(),
+                    message.service,
+                    slot.index,
+                );
+                slot
+            }
+            Err(_) => unreachable!(),
+        }
     }
-}
 
-fn set_before(links: &mut [Link], index: Option<u32>, before: Option<u32>)
-    ensures { links.new ≡ with_before index before links.old }
-{
-    if let Some(index) = index {
-        let after = link_at(links, index).after;
-        put_link(links, index, Link { before, after });
+    /// The oldest undelivered message of a service, which is delivered from now on; None exactly where there is none.
+    pub(crate) fn deliver(&mut self, service: u32) -> Option<Slot>
+        ensures oldest { result ≡ option_map (λ h. h.slot) (find (waits_for service) self.old.messages.held) }
+        ensures after { MatchOption result (self.new ≡ self.old) (λ slot. IfSome (item_at self.old.messages slot) (λ m. self.new ≡ record self.old { messages = with_item self.old.messages slot (record m { delivered = true }) })) }
+        ensures others { OthersWaitAsBefore service self.old.messages self.new.messages }
+    {
+        self.messages.law();
+        let Some(slot) = oldest(&self.messages, self.ends.as_slice(), service as usize) else {
+            return None;
+        };
+        let mut message = live_item(&self.messages, slot);
+        unlink(
+            self.links.as_mut_slice(),
+            self.ends.as_mut_slice(),
+            service,
+            slot.index,
+        );
+        message.delivered = true;
+        self.messages.set(slot, message);
+        Some(slot)
     }
-}
 
-/// Puts an index last into the queue of a service.
-pub(crate) fn join(links: &mut [Link], ends: &mut [Ends], service: u32, index: u32)
-    ensures links { links.new ≡ joined links.old (ends_at ends.old service).last index }
-    ensures ends { ends.new ≡ slice_set ends.old service (joined_ends (ends_at ends.old service) index) }
-{
-    let old = ends_at(ends, service as usize);
-    let before = old.last;
-    let after = None;
-    put_link(links, index, Link { before, after });
-    set_after(links, before, Some(index));
-    let first = if old.first.is_none() {
-        Some(index)
-    } else {
-        old.first
-    };
-    let last = Some(index);
-    put_ends(ends, service, Ends { first, last });
-}
-
-/// Takes a message that goes out of its queue, where it waits in one.
-pub(crate) fn leave(links: &mut [Link], ends: &mut [Ends], item: &QueuedMessage, index: u32)
-    ensures links { links.new ≡ (if item.now.delivered then links.old else unlinked links.old (link_at links.old index)) }
-    ensures ends { ends.new ≡ (if item.now.delivered then ends.old else slice_set ends.old item.now.service (unlinked_ends (ends_at ends.old item.now.service) (link_at links.old index))) }
-{
-    if !item.delivered {
-        unlink(links, ends, item.service, index);
+    /// Gives a message other vectors.
+    pub(crate) fn set_vectors(&mut self, slot: Slot, vectors: Vectors)
+        requires { IsSome (item_at self.old.messages slot) }
+        ensures after { IfSome (item_at self.old.messages slot) (λ m. self.new ≡ record self.old { messages = with_item self.old.messages slot (record m { vectors = vectors }) }) }
+        ensures all { AllWaitAsBefore self.old.messages self.new.messages }
+    {
+        self.messages.law();
+        let mut message = live_item(&self.messages, slot);
+        message.vectors = vectors;
+        self.messages.set(slot, message);
     }
-}
 
-/// Takes an index out of the queue of a service.
-pub(crate) fn unlink(links: &mut [Link], ends: &mut [Ends], service: u32, index: u32)
-    ensures links { links.new ≡ unlinked links.old (link_at links.old index) }
-    ensures ends { ends.new ≡ slice_set ends.old service (unlinked_ends (ends_at ends.old service) (link_at links.old index)) }
-{
-    let link = link_at(links, index);
-    set_after(links, link.before, link.after);
-    set_before(links, link.after, link.before);
-    let old = ends_at(ends, service as usize);
-    let first = if link.before.is_none() {
-        link.after
-    } else {
-        old.first
-    };
-    let last = if link.after.is_none() {
-        link.before
-    } else {
-        old.last
-    };
-    put_ends(ends, service, Ends { first, last });
+    /// Gives a message up, delivered or not; its slot is free.
+    pub(crate) fn take_out(&mut self, slot: Slot) -> QueuedMessage
+        requires { IsSome (item_at self.old.messages slot) }
+        ensures item { item_at self.old.messages slot ≡ Some result }
+        ensures after { self.new ≡ record self.old { messages = without self.old.messages slot } }
+        ensures others { OthersWaitAsBefore result.service self.old.messages self.new.messages }
+    {
+        self.messages.law();
+        let message = self.messages.put_back(slot);
+        leave(
+            self.links.as_mut_slice(),
+            self.ends.as_mut_slice(),
+            &message,
+            slot.index,
+        );
+        message
+    }
 }

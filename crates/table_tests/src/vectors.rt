@@ -50,6 +50,7 @@ fn piece(alloc: Global, address: u32, bytes: &[u8]) -> Result<Bytes, Fail> {
 
 // Eight descriptors of the client, one at the end of its memory, and two of the second partition
 // with the bytes of its input vector.
+#[tactic(auto, using(memory_image::proofs::Systems::system_fits, memory_image::proofs::Systems::system_few))]
 fn image_of(rt: &impl Abort, alloc: Global, system: &System) -> Result<Image, Fail>
     ensures { IfOk result (λ image. regions_of image ≡ ranges_of system.now.regions) }
 {
@@ -83,7 +84,6 @@ fn image_of(rt: &impl Abort, alloc: Global, system: &System) -> Result<Image, Fa
         piece(alloc, 0xffff_fff0, b"0123456789abcdef")?,
     ]?;
     assert!(rt; open_within(system.regions.as_slice(), opening.as_slice()));
-    assert!(rt; system.regions.len() < 2147483648);
     Ok(Image::new(alloc, &system.regions, &List::of(opening))?)
 }
 

@@ -51,7 +51,7 @@ sizes_again (a ∷ b ∷ c ∷ []) rest fits = absurd (omega (arith, fits.0))
 sizes_again (a ∷ b ∷ c ∷ d ∷ []) rest fits = rw (unsigned_again a fits.1, unsigned_again b fits.2, unsigned_again c fits.3, unsigned_again d fits.4) refl
 sizes_again (a ∷ b ∷ c ∷ d ∷ e ∷ es) rest fits = absurd (omega (arith, fits.0))
 
-two_sizes : (s t : List ℕ) (rest : List Word) → map field_word (size_fields s ++ size_fields t) ++ rest ≡ map field_word (size_fields s) ++ (map field_word (size_fields t) ++ rest)
+pub two_sizes : (s t : List ℕ) (rest : List Word) → map field_word (size_fields s ++ size_fields t) ++ rest ≡ map field_word (size_fields s) ++ (map field_word (size_fields t) ++ rest)
 two_sizes s t rest = rw map-append (append_assoc (map field_word (size_fields s)) (map field_word (size_fields t)) rest)
 
 message_again : (m : Message) (rest : List Word) → MessageFits m → outcome_at (phrase_words (message_phrase m) ++ rest) ≡ Some (outcome.Got m, rest)

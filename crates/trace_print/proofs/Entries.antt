@@ -1,13 +1,11 @@
--- An entry that was printed is read again, and what is read is printed so.
-use Rattle.std.proofs.Common.{◌≡◌, ℕ, ◌+◌, ◌-◌, ◌<◌, ◌≤◌, Bool, true, false, ◌&&◌, cond, nat_lt, List, [], ◌∷◌, ◌++◌, Option, None, Some, refl, sym, ap, ◌∙◌, arith, inl, inr, lit<}
-use Rattle.std.specs.Prelude.{codes, decimal}
-use Rattle.std.specs.Str.{bytes_eq}
+-- An entry that was printed is read again.
+use Rattle.std.proofs.Common.{◌≡◌, ℕ, ◌+◌, ◌-◌, ◌<◌, ◌≤◌, Bool, true, false, ◌&&◌, cond, nat_lt, List, [], ◌∷◌, ◌++◌, None, Some, refl, sym, ap, ◌∙◌, arith, inl, inr, lit<}
+use Rattle.std.specs.Prelude.{codes, decimal, nat_le}
 use Rattle.std.specs.List.{flat_map}
 use Rattle.std.proofs.lemmas.List.Concat.{flat_map-append}
 use Rattle.std.proofs.lemmas.List.{append-nil}
 use Rattle.std.proofs.lemmas.Bool.{lt-ltb, le-ltb, cases_lt}
 use Rattle.std.proofs.lemmas.Bool.Decides.{nat_tests}
-use Rattle.std.proofs.lemmas.Slice.Eq.{bytes_eq-Decides}
 use Rattle.ffm_model.specs.Counts.{ActorCounts}
 use Rattle.ffm_model.specs.declared.machine.Call.{Call}
 use Rattle.ffm_model.specs.declared.machine.Call.TheVariants as call
@@ -15,10 +13,9 @@ use Rattle.ffm_model.specs.declared.machine.Entry.{Entry}
 use Rattle.ffm_model.specs.declared.machine.Outcome.{Outcome}
 use Rattle.ffm_model.specs.declared.machine.Outcome.TheVariants as outcome
 use Rattle.ffm_model.specs.TraceText.{Word, call_phrase, outcome_phrase, message_phrase, actor_word, entry_text, EntryFits, OutcomeFits, IsActorOf, spaced}
-use Rattle.trace_print.specs.Numbers.{◌>>=◌}
 use Rattle.trace_print.specs.View.{parts}
 use Rattle.trace_print.specs.Lines.{IsEntryText}
-use Rattle.trace_print.specs.Reading.{outcome_at, small_number_of, actor_of, entry_at, is_actor_of, checked, entry_of}
+use Rattle.trace_print.specs.Reading.{outcome_at, place_of, actor_of, entry_at, entry_of}
 use Rattle.trace_print.proofs.Numbers.{unsigned_again}
 use Rattle.trace_print.proofs.Again.{phrase_words, call_again, outcome_again}
 use Rattle.trace_print.proofs.Plain.{IsText, text_append, text_from_plain, text_spaced, IsPlain, AllPlain, plain_tests, plain_from_test, plain_decimal_word, plain_phrase, all_plain_append, all_plain_cons, split_words, spaced_phrase_is}
@@ -61,7 +58,7 @@ outcome_names outcome.Blocked = refl
 outcome_names outcome.Done = refl
 outcome_names outcome.Panicked = refl
 
-entry_words : ActorCounts → Entry → List Word
+unfoldable pub entry_words : ActorCounts → Entry → List Word
 entry_words counts e = phrase_words (call_phrase e.call) ++ (codes "->" ∷ phrase_words (outcome_phrase e.outcome))
 
 text_is : (counts : ActorCounts) (e : Entry) → entry_text counts e ≡ actor_word counts e.actor.0 ++ flat_map spaced (entry_words counts e)
@@ -86,18 +83,22 @@ plain_actor counts a =
       ]
     ]
 
-split_again : (counts : ActorCounts) (e : Entry) → parts 32 (entry_text counts e) ≡ actor_word counts e.actor.0 ∷ entry_words counts e
+pub split_again : (counts : ActorCounts) (e : Entry) → parts 32 (entry_text counts e) ≡ actor_word counts e.actor.0 ∷ entry_words counts e
 split_again counts e = rw text_is (split_words (actor_word counts e.actor.0) (entry_words counts e) (plain_actor counts e.actor.0) (plain_words counts e))
 
-small_again : (k : ℕ) → 1 ≤ k → k ≤ 32 → small_number_of (decimal k) ≡ Some k
-small_again k lo hi = rw (unsigned_again k (omega arith)) (grind (arith, nat_tests))
+place_again : (count k : ℕ) → k < count → count ≤ 32 → place_of count (decimal (k + 1)) ≡ Some k
+place_again count k lt few =
+    let same : k + 1 - 1 ≡ k = omega arith in
+    let low : nat_le 1 (k + 1) ≡ true = grind (arith, nat_tests) in
+    let high : nat_le (k + 1) count ≡ true = grind (arith, nat_tests) in
+    rw (unsigned_again (k + 1) (omega arith), low, high, same) refl
 
 -- how many actors of each kind there may be
 abbrev pub FewActors : ActorCounts → Type 0
 FewActors counts = (counts.partitions ≤ 32) × (counts.clients ≤ 16)
 
-last_actor : (n a : ℕ) (device : Bool) → a < n + cond device 1 0 → n ≤ a → n ≡ a
-last_actor n a true lt le = omega arith
+last_actor : (n a : ℕ) (device : Bool) → a < n + cond device 1 0 → n ≤ a → (n ≡ a) × (device ≡ true)
+last_actor n a true lt le = (omega arith, refl)
 last_actor n a false lt le = absurd (omega arith)
 
 actor_again : (counts : ActorCounts) (a : ℕ) → FewActors counts → IsActorOf counts a → actor_of counts (actor_word counts a) ≡ Some a
@@ -106,16 +107,14 @@ actor_again counts a few named =
     let few_partitions : counts.partitions ≤ 32 = few.0 in
     let few_clients : counts.clients ≤ 16 = few.1 in
     elim (cases_lt a counts.partitions) [
-      | inl lt ↦
-          let e : a + 1 - 1 ≡ a = omega arith in
-          rw (lt-ltb a counts.partitions lt, small_again (a + 1) (omega arith) (omega arith)) (ap Some e)
+      | inl lt ↦ rw (lt-ltb a counts.partitions lt, place_again counts.partitions a lt few_partitions) refl
       | inr le ↦ elim (cases_lt a (counts.partitions + counts.clients)) [
         | inl lt ↦
-            let e : counts.partitions + (a - counts.partitions + 1 - 1) ≡ a = omega arith in
-            rw (le-ltb a counts.partitions le, lt-ltb a (counts.partitions + counts.clients) lt, small_again (a - counts.partitions + 1) (omega arith) (omega arith)) (ap Some e)
+            let e : counts.partitions + (a - counts.partitions) ≡ a = omega arith in
+            rw (le-ltb a counts.partitions le, lt-ltb a (counts.partitions + counts.clients) lt, place_again counts.clients (a - counts.partitions) (omega arith) (omega arith)) (ap Some e)
         | inr past ↦
-            let e : counts.partitions + counts.clients ≡ a = last_actor (counts.partitions + counts.clients) a counts.device named past in
-            rw (le-ltb a counts.partitions le, le-ltb a (counts.partitions + counts.clients) past) (ap Some e)
+            let last = last_actor (counts.partitions + counts.clients) a counts.device named past in
+            rw (le-ltb a counts.partitions le, le-ltb a (counts.partitions + counts.clients) past, last.1) (ap Some last.0)
       ]
     ]
 
@@ -129,33 +128,11 @@ read_words counts e few fits =
 
 pub entry_again : (counts : ActorCounts) (e : Entry) → FewActors counts → EntryFits counts e → entry_of counts (entry_text counts e) ≡ Some e
 unfolding entry_of
-entry_again counts e few fits =
-    let same : bytes_eq (entry_text counts e) (entry_text counts e) ≡ true = (bytes_eq-Decides (entry_text counts e) (entry_text counts e)).1 refl in
-    let named : is_actor_of counts e.actor.0 ≡ true = lt-ltb e.actor.0 (counts.partitions + counts.clients + cond counts.device 1 0) fits.actor in
-    rw (split_again counts e, read_words counts e few fits, named, same) refl
+entry_again counts e few fits = rw (split_again counts e) (read_words counts e few fits)
 
-guard : (b : Bool) (d e : Entry) → cond b (Some d) None ≡ Some e → (b ≡ true) × (d ≡ e)
-guard true d e h = (refl, cc)
-guard false d e h = absurd cc
-
-and_true : (a b : Bool) → (a && b) ≡ true → (a ≡ true) × (b ≡ true)
+pub and_true : (a b : Bool) → (a && b) ≡ true → (a ≡ true) × (b ≡ true)
 and_true true b e = (refl, e)
 and_true false b e = absurd cc
-
-checked_is : (counts : ActorCounts) (text : List ℕ) (d e : Entry) → checked counts text d ≡ Some e → text ≡ entry_text counts e
-checked_is counts text d e h =
-    let g = guard (is_actor_of counts d.actor.0 && bytes_eq (entry_text counts d) text) d e h in
-    let both = and_true (is_actor_of counts d.actor.0) (bytes_eq (entry_text counts d) text) g.0 in
-    rw (← g.1) (sym ((bytes_eq-Decides (entry_text counts d) text).0 both.1))
-
-bound_is : (counts : ActorCounts) (text : List ℕ) (o : Option Entry) (e : Entry) → (o >>= checked counts text) ≡ Some e → text ≡ entry_text counts e
-bound_is counts text None e h = absurd cc
-bound_is counts text (Some d) e h = checked_is counts text d e h
-
--- what is read is printed so
-pub text_of : (counts : ActorCounts) (text : List ℕ) (e : Entry) → entry_of counts text ≡ Some e → text ≡ entry_text counts e
-unfolding entry_of
-text_of counts text e h = bound_is counts text (entry_at counts (parts 32 text)) e h
 
 -- where nothing is read, it is no entry's text
 pub no_entry : (counts : ActorCounts) (text : List ℕ) → FewActors counts → entry_of counts text ≡ None → IsEntryText counts text → ⊥

@@ -12,7 +12,8 @@ use Rattle.trace_print.specs.View.{parts}
 use Rattle.trace_print.specs.Answers.{BeginsWithEntry}
 use Rattle.trace_print.specs.Reading.{entry_of}
 use Rattle.trace_print.specs.Lines.{verdict_of, IsWrong, unended, neither, one_too_many, past_end}
-use Rattle.trace_print.proofs.Entries.{FewActors, text_of, no_entry}
+use Rattle.trace_print.proofs.Entries.{FewActors, no_entry}
+use Rattle.trace_print.proofs.Printed.{text_of}
 use Rattle.trace_print.proofs.Verdicts.{text_of_verdict, no_verdict}
 
 pub wrong_unended : (counts : ActorCounts) (n : ℕ) (text first : List ℕ) → parts 10 text ≡ first ∷ [] → IsWrong counts n (parts 10 text) (n + 1)

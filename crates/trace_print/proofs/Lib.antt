@@ -2,10 +2,13 @@ pub mod Messages
 pub mod Counting
 pub mod Decimals
 pub mod Parts
+pub mod DecimalDigits
+pub mod HexadecimalDigits
 pub mod Numbers
 pub mod Again
 pub mod Plain
 pub mod Entries
+pub mod Printed
 pub mod Verdicts
 pub mod Traces
 pub mod FirstLine

@@ -1,11 +1,13 @@
 -- A number that was printed is read again.
-use Rattle.std.proofs.Common.{pow-suc, ◌≡◌, ℕ, zero, suc, ◌+◌, ◌*◌, ◌/◌, ◌%◌, ◌^◌, ◌<◌, ◌≤◌, List, [], ◌∷◌, ◌++◌, Option, None, Some, refl, ap, ◌∙◌, arith}
+use Rattle.std.proofs.Common.{pow-suc, ◌≡◌, ℕ, zero, suc, ◌+◌, ◌*◌, ◌/◌, ◌%◌, ◌^◌, ◌<◌, ◌≤◌, ◌==◌, ◌≢◌, true, false, inl, inr, List, [], ◌∷◌, ◌++◌, length, get_or, drop, Option, None, Some, refl, ap, ◌∙◌, arith}
 use Rattle.std.specs.Prelude.{ℤ, pos, negsuc, decimal}
 use Rattle.std.specs.Fmt.{signed_decimal}
 use Rattle.std.proofs.lemmas.Fmt.{decimal_by_steps}
+use Rattle.std.proofs.lemmas.Bool.{cases_lt}
 use Rattle.std.proofs.lemmas.Bool.Decides.{nat_tests}
 use Rattle.ffm_model.specs.TraceText.{hexadecimal_digit, hexadecimal_digits, hexadecimal_word, IsI32}
-use Rattle.trace_print.specs.Numbers.{◌>>=◌, digit_at, more, with_digit, number_after, unsigned_of, hexadecimal_of, signed_of, positive, negative}
+use Rattle.trace_print.specs.Numbers.{◌>>=◌, digit_at, more, with_digit, number_after, begins_well, is_hexadecimal, unsigned_of, hexadecimal_of, signed_of, positive, negative}
+use Rattle.trace_print.proofs.DecimalDigits.{some_byte, other_first}
 
 digit_again : (d : ℕ) → d < 16 → digit_at (hexadecimal_digit d) ≡ Some d
 digit_again d lt = grind (arith, nat_tests)
@@ -37,9 +39,16 @@ hexadecimal_digits_again (suc k) n lt fits =
     let e : (n / 16) * 16 + n % 16 ≡ n = omega arith in
     number_push 16 0 (n / 16) (n % 16) (hexadecimal_digits k (n / 16)) (hexadecimal_digits_again k (n / 16) shorter (omega arith)) (omega arith) (omega arith) (omega arith) ∙ ap Some e
 
-pub hexadecimal_again : (n : ℕ) → n < 2 ^ 32 → hexadecimal_of (hexadecimal_word n) ≡ Some n
+ten_bytes : (n : ℕ) → is_hexadecimal (hexadecimal_word n) ≡ true
+unfolding hexadecimal_word hexadecimal_digits
+ten_bytes n = refl
+
+digits_behind : (n : ℕ) → n < 2 ^ 32 → number_after 16 0 (drop 2 (hexadecimal_word n)) ≡ Some n
 unfolding hexadecimal_word
-hexadecimal_again n lt = hexadecimal_digits_again 8 n lt lt
+digits_behind n lt = hexadecimal_digits_again 8 n lt lt
+
+pub hexadecimal_again : (n : ℕ) → n < 2 ^ 32 → hexadecimal_of (hexadecimal_word n) ≡ Some n
+hexadecimal_again n lt = rw (ten_bytes n) (digits_behind n lt)
 
 DecimalAgain : ℕ → List ℕ → Type 0
 DecimalAgain n ds = n < 2 ^ 32 → number_after 10 0 ds ≡ Some n
@@ -61,9 +70,19 @@ more_digits n ds le h fits =
     let e : (n / 10) * 10 + n % 10 ≡ n = omega arith in
     rw (glyph_of (n % 10) lt) (number_push 10 0 (n / 10) (n % 10) ds (h (omega arith)) (omega arith) (omega arith) (omega arith) ∙ ap Some e)
 
-pub unsigned_again : (n : ℕ) → n < 2 ^ 32 → unsigned_of (decimal n) ≡ Some n
+digits_again : (n : ℕ) → n < 2 ^ 32 → number_after 10 0 (decimal n) ≡ Some n
 unfolding DecimalAgain
-unsigned_again n lt = decimal_by_steps DecimalAgain one_digit more_digits n (omega arith) lt
+digits_again n lt = decimal_by_steps DecimalAgain one_digit more_digits n (omega arith) lt
+
+well_begun : (w : List ℕ) → 0 < length w → (1 < length w → get_or w 0 0 ≢ 48) → begins_well w ≡ true
+well_begun w some other =
+    elim (cases_lt 1 (length w)) [
+      | inl long ↦ let first : get_or w 0 0 ≢ 48 = other long in grind (arith, nat_tests, long, first)
+      | inr short ↦ let one : length w ≡ 1 = omega (arith, some, short) in rw one refl
+    ]
+
+pub unsigned_again : (n : ℕ) → n < 2 ^ 32 → unsigned_of (decimal n) ≡ Some n
+unsigned_again n lt = rw (well_begun (decimal n) (some_byte n (decimal n) lt refl) (other_first n (decimal n) lt refl)) (digits_again n lt)
 
 -- its first byte is a digit
 FirstIsDigit : List ℕ → Type 0
@@ -75,10 +94,10 @@ unfolding FirstIsDigit
 first_append [] ys h = absurd h
 first_append (x ∷ xs) ys h = h
 
-plain : (ds : List ℕ) → FirstIsDigit ds → signed_of ds ≡ (number_after 10 0 ds >>= positive)
+plain : (ds : List ℕ) → FirstIsDigit ds → signed_of ds ≡ (unsigned_of ds >>= positive)
 unfolding FirstIsDigit
 plain [] h = absurd h
-plain (b ∷ bs) h = grind (arith, nat_tests)
+plain (b ∷ bs) h = let digit : (b == 45) ≡ false = grind (arith, nat_tests) in rw digit refl
 
 first_decimal_digit : (n : ℕ) → n < 2 ^ 64 → FirstIsDigit (decimal n)
 unfolding FirstIsDigit

@@ -4,7 +4,7 @@ use Rattle.std.specs.List.{All, position_or_len, before_first, after_first}
 use Rattle.std.proofs.lemmas.Bool.{ne_eqb, eq-eqb}
 use Rattle.std.proofs.lemmas.List.Sums.{position_or_len_is}
 use Rattle.std.proofs.lemmas.List.Elements.{All-from_get_or}
-use Rattle.std.proofs.lemmas.List.Splits.{slice_split_first, slice_split_none}
+use Rattle.std.proofs.lemmas.List.Splits.{slice_split_first, slice_split_none, length-slice_split}
 use Rattle.std.proofs.lemmas.Bool.Decides.{nat_tests}
 use Rattle.memchr.specs.Find.{NoneBefore, Nowhere, Passes, is_byte}
 use Rattle.trace_print.specs.View.{parts}
@@ -31,3 +31,7 @@ found_at s xs i first here = cut_at s xs i first.high (is_at s (get_or xs i 0) h
 -- a search found no separator
 pub found_nowhere : (s : ℕ) (xs : List ℕ) → Nowhere (Passes (is_byte s) xs) 0 (length xs) → parts s xs ≡ xs ∷ []
 found_nowhere s xs none = not_cut s xs (All-from_get_or (λ b. (b == s) ≡ false) xs 0 (λ k lt. ne_eqb (get_or xs k 0) s (λ is. none k (omega arith) lt (eq-eqb (get_or xs k 0) s is))))
+
+-- a text has at least one part
+pub some_word : (text : List ℕ) → (length (parts 32 text) == 0) ≡ false
+some_word text = grind (arith, nat_tests, length-slice_split {X = ℕ} (λ b. b == 32) text)

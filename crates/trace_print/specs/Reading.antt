@@ -1,6 +1,6 @@
--- What the words of a line say: the actor, the call and the outcome, each read word by word. What is read is printed again, so that a line says exactly the entry whose text it is.
+-- What the words of a line say: the actor, the call and the outcome, each read word by word, in the one spelling that is printed.
 -- Source: this simulator's trace format.
-use Rattle.std.specs.Prelude.{ℕ, ℤ, ◌+◌, ◌-◌, ◌==◌, Bool, true, false, ◌&&◌, List, [], ◌∷◌, codes, nat_le, nat_lt, if◌then◌else◌, Option, None, Some}
+use Rattle.std.specs.Prelude.{ℕ, ℤ, ◌+◌, ◌-◌, ◌==◌, Bool, true, false, ◌&&◌, List, [], ◌∷◌, length, codes, nat_le, if◌then◌else◌, Option, None, Some}
 use Rattle.std.specs.Str.{bytes_eq}
 use Rattle.ffm_model.specs.Counts.{ActorCounts}
 use Rattle.ffm_model.specs.declared.machine.Entry.{Entry}
@@ -8,8 +8,8 @@ use Rattle.ffm_model.specs.declared.machine.Call.{Call}
 use Rattle.ffm_model.specs.declared.machine.Call.TheVariants as call
 use Rattle.ffm_model.specs.declared.machine.Outcome.{Outcome}
 use Rattle.ffm_model.specs.declared.machine.Outcome.TheVariants as outcome
-use Rattle.ffm_model.specs.TraceText.{Word, entry_text}
-use Rattle.trace_print.specs.Numbers.{◌>>=◌, number_after, unsigned_of, signed_of, hexadecimal_of}
+use Rattle.ffm_model.specs.TraceText.{Word}
+use Rattle.trace_print.specs.Numbers.{◌>>=◌, unsigned_of, signed_of, hexadecimal_of}
 use Rattle.trace_print.specs.View.{parts}
 
 -- the first word, and the words behind it
@@ -264,37 +264,32 @@ abbrev pub outcome_at : List Word → Option (Outcome × List Word)
 outcome_at [] = None
 outcome_at (name ∷ ws) = outcome_named name ws
 
--- an actor's number among those of its kind, from 1 to 32
-abbrev pub small : ℕ → Option ℕ
-small k = if nat_le 1 k && nat_le k 32 then Some k else None
+-- the place of an actor among so many, whose number is one more
+abbrev pub place_of : ℕ → Word → Option ℕ
+place_of count digits = unsigned_of digits >>= λ k. if nat_le 1 k && nat_le k count then Some (k - 1) else None
 
-abbrev pub small_number_of : Word → Option ℕ
-small_number_of digits = number_after 10 0 digits >>= small
-
--- behind `p` a partition, behind `n` a client, and else the device
+-- behind `p` a partition, behind `n` a client, and `dev` is the device
 unfoldable pub actor_of : ActorCounts → Word → Option ℕ
 actor_of counts [] = None
 actor_of counts (b ∷ digits) =
-    if b == 112 then (small_number_of digits >>= λ k. Some (k - 1))
-    else (if b == 110 then (small_number_of digits >>= λ k. Some (counts.partitions + (k - 1))) else Some (counts.partitions + counts.clients))
+    if b == 112 then place_of counts.partitions digits
+    else (if b == 110 then (place_of counts.clients digits >>= λ k. Some (counts.partitions + k))
+    else (if counts.device && bytes_eq (b ∷ digits) (codes "dev") then Some (counts.partitions + counts.clients) else None))
 
--- the word before the outcome isn't looked at
+-- the words behind `->`
+abbrev pub behind_arrow : List Word → Option (List Word)
+behind_arrow [] = None
+behind_arrow (w ∷ ws) = if bytes_eq w (codes "->") then Some ws else None
+
+-- no word is left behind the outcome
 unfoldable pub entry_at : ActorCounts → List Word → Option Entry
 entry_at counts ws = do
   actor ← first_by (actor_of counts) ws
   call ← call_at actor.1
-  arrow ← word_at call.1
-  outcome ← outcome_at arrow.1
-  Some (record { actor = record { 0 = actor.0 }; call = call.0; outcome = outcome.0 })
-
--- the counts name the actor
-abbrev pub is_actor_of : ActorCounts → ℕ → Bool
-is_actor_of counts actor = nat_lt actor (counts.partitions + counts.clients + (if counts.device then 1 else 0))
-
--- an entry whose text it is, by an actor that the counts name
-abbrev pub checked : ActorCounts → List ℕ → Entry → Option Entry
-checked counts text e = if is_actor_of counts e.actor.0 && bytes_eq (entry_text counts e) text then Some e else None
+  answer ← behind_arrow call.1
+  outcome ← outcome_at answer
+  if length outcome.1 == 0 then Some (record { actor = record { 0 = actor.0 }; call = call.0; outcome = outcome.0 }) else None
 
 -- the entry whose text it is
 unfoldable pub entry_of : ActorCounts → List ℕ → Option Entry
-entry_of counts text = entry_at counts (parts 32 text) >>= checked counts text
+entry_of counts text = entry_at counts (parts 32 text)

@@ -1,5 +1,4 @@
-//! Words of a line, and the numbers that they spell. What a line says is printed again and compared
-//! with it, so more is read here than is ever printed, as leading zeros.
+//! Words of a line, and the numbers that they spell, each in the one spelling that is printed.
 
 ghost use Rattle.std.specs.Prelude.{◌≡◌, ◌∷◌, ◌++◌, IfSome};
 ghost use Rattle.std.specs.Option.{option_map};
@@ -81,18 +80,36 @@ pub fn number(base: u8, digits: &[u8]) -> Option<u32>
     Some(n)
 }
 
+// `0x` and eight lower-case digits.
 fn hexadecimal_of(word: &[u8]) -> Option<u32>
     ensures { result ≡ hexadecimal_of word.now }
 {
-    let (_zero, word) = word.split_first()?;
-    let (_x, digits) = word.split_first()?;
-    number(16, digits)
+    if word.len() == 10 && word[0] == b'0' && word[1] == b'x' {
+        number(16, &word[2..])
+    } else {
+        None
+    }
+}
+
+/// The number below 2^32 that decimal digits spell, with no zero in front of others.
+pub fn unsigned_of(word: &[u8]) -> Option<u32>
+    ensures { result ≡ unsigned_of word.now }
+{
+    if word.len() == 1 || word.len() > 1 && word[0] != b'0' {
+        number(10, word)
+    } else {
+        None
+    }
 }
 
 fn negative(n: u32) -> Option<i32>
     ensures { result ≡ negative n }
 {
-    i32::try_from(-i64::from(n)).ok()
+    if n >= 1 {
+        i32::try_from(-i64::from(n)).ok()
+    } else {
+        None
+    }
 }
 
 fn positive(n: u32) -> Option<i32>
@@ -106,9 +123,9 @@ fn signed_of(word: &[u8]) -> Option<i32>
 {
     let (first, digits) = word.split_first()?;
     if *first == b'-' {
-        negative(number(10, digits)?)
+        negative(unsigned_of(digits)?)
     } else {
-        positive(number(10, word)?)
+        positive(unsigned_of(word)?)
     }
 }
 
@@ -117,7 +134,7 @@ pub fn unsigned<'a>(words: Words<'a>) -> Option<(u32, Words<'a>)>
     ensures { option_map seen result ≡ unsigned_at (words_of words.entry) }
 {
     let (word, words) = word(words)?;
-    Some((number(10, word)?, words))
+    Some((unsigned_of(word)?, words))
 }
 
 /// The first word as a hexadecimal number, and the words behind it.

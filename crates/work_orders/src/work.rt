@@ -1,13 +1,13 @@
 //! What a command and its files ask to be done.
 
-ghost use Rattle.std.specs.Prelude.{◌≡◌, ◌≤◌, ℕ, [], Ok, IsOkAnd, false, true, IfOk, IfErr, IfSome, IsErrOf, length};
+ghost use Rattle.std.specs.Prelude.{◌≡◌, ◌≤◌, ℕ, [], None, Ok, Some, IsOkAnd, false, true, IfOk, IfErr, IfSome, IsErrOf, length};
 ghost use Rattle.outside_io.specs.Count.{Rose};
 ghost use Rattle.outside_io.specs.Reads.{HasRead};
 ghost use Rattle.ffm_model.specs.Reading.{Gives, Reads, file_at};
 ghost use Rattle.ffm_model.specs.Scenarios.{IsScenarioOf};
 ghost use Rattle.command_words.specs.Words.{has_threads, make, order};
 ghost use Rattle.work_orders.specs.Work.{system_in, system_at, scenario_at, scenario_for, run_in, list_in, run_at, trace_in, judge_in, judge_at, make_of, work_of};
-ghost use Rattle.work_orders.specs.View.{work, IsWork, threads_of};
+ghost use Rattle.work_orders.specs.View.{work, IsWork, inspection_asked, inspection_of, threads_of};
 
 use crate::limits::MAX_TRACE_BYTES;
 use actor_programs::{Program, programs_of};
@@ -183,6 +183,7 @@ fn run_in<F: Files>(
     ensures failed { IsErrOf result PartsError.ReadFault → Rose (F.faults files.old) (F.faults files.new) }
     ensures kept { IfOk result IsWork }
     ensures threads { IfOk result (λ work. threads_of work ≡ threads) }
+    ensures inspection { IfOk result (λ work. inspection_of work ≡ None) }
 {
     let scenario = scenario_at(alloc, files, &system, name)?;
     let programs = programs_of(alloc, &system, &scenario)?;
@@ -206,6 +207,7 @@ fn list_in<F: Files>(alloc: Global, files: &mut F, name: &str) -> Result<Work, P
     ensures failed { IsErrOf result PartsError.ReadFault → Rose (F.faults files.old) (F.faults files.new) }
     ensures kept { IfOk result IsWork }
     ensures threads { IfOk result (λ work. threads_of work ≡ false) }
+    ensures inspection { IfOk result (λ work. inspection_of work ≡ None) }
 {
     let system = system_at(alloc, files, name)?;
     Ok(Work::Listing(system))
@@ -228,6 +230,7 @@ fn run_at<F: Files>(
     ensures failed { IsErrOf result PartsError.ReadFault → Rose (F.faults files.old) (F.faults files.new) }
     ensures kept { IfOk result IsWork }
     ensures threads { IfOk result (λ work. threads_of work ≡ threads) }
+    ensures inspection { IfOk result (λ work. inspection_of work ≡ None) }
 {
     let system = system_at(alloc, files, system)?;
     run_in(alloc, files, threads, system, scenario)
@@ -252,6 +255,7 @@ fn trace_in<F: Files>(
     ensures failed { IsErrOf result PartsError.ReadFault → Rose (F.faults files.old) (F.faults files.new) }
     ensures kept { IfOk result IsWork }
     ensures threads { IfOk result (λ work. threads_of work ≡ false) }
+    ensures inspection { IfOk result (λ work. inspection_of work ≡ Some inspection) }
 {
     let trace = bytes_of(alloc, files, Root::Trace, MAX_TRACE_BYTES, name)?;
     Ok(Work::Judge(TraceWork {
@@ -281,6 +285,7 @@ fn judge_in<F: Files>(
     ensures failed { IsErrOf result PartsError.ReadFault → Rose (F.faults files.old) (F.faults files.new) }
     ensures kept { IfOk result IsWork }
     ensures threads { IfOk result (λ work. threads_of work ≡ false) }
+    ensures inspection { IfOk result (λ work. inspection_of work ≡ Some inspection) }
 {
     let scenario = scenario_at(alloc, files, &system, scenario)?;
     let _programs = programs_of(alloc, &system, &scenario)?;
@@ -306,6 +311,7 @@ fn judge_at<F: Files>(
     ensures failed { IsErrOf result PartsError.ReadFault → Rose (F.faults files.old) (F.faults files.new) }
     ensures kept { IfOk result IsWork }
     ensures threads { IfOk result (λ work. threads_of work ≡ false) }
+    ensures inspection { IfOk result (λ work. inspection_of work ≡ Some inspection) }
 {
     let system = system_at(alloc, files, system)?;
     judge_in(alloc, files, inspection, system, scenario, trace)
@@ -325,6 +331,7 @@ pub fn work_of<F: Files>(
     ensures failed { IsErrOf result PartsError.ReadFault → Rose (F.faults files.old) (F.faults files.new) }
     ensures kept { IfOk result IsWork }
     ensures threads { IfOk result (λ work. threads_of work ≡ has_threads (order command.entry)) }
+    ensures inspection { IfOk result (λ work. inspection_of work ≡ inspection_asked (order command.entry)) }
 
     // A generated run asks for no file.
     ensures made { (rounds : ℕ) → order command.entry ≡ make rounds → IsOkAnd result (λ w. work w ≡ make_of rounds) }

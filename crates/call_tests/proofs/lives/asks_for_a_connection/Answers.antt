@@ -6,6 +6,10 @@ use Rattle.memory_image.specs.Pieces.{regions_of}
 use Rattle.message_vectors.specs.Vectors.{AreWithin}
 use Rattle.call_tests.proofs.lives.asks_for_a_connection.Goals as goal
 
-pub asked_once-done-requires-clause-vectors : goal.asked_once-done-requires-clause-vectors
-asked_once-done-requires-clause-vectors g c =
-    subst (λ (b : SpmState). All (λ m. AreWithin (regions_of c.in_ok-image.image) m.vectors) b.messages) (sym c.in_ok-tables.ensures.state) (All-nil (λ m. AreWithin (regions_of c.in_ok-image.image) m.vectors))
+pub asked_once-done-requires-clause-premises : goal.asked_once-done-requires-clause-premises
+asked_once-done-requires-clause-premises g c = record {
+  tables = c.in_ok-tables.ensures.premises;
+  regions = c.in_ok-image.ensures;
+  vectors =
+      subst (λ (b : SpmState). All (λ m. AreWithin (regions_of c.in_ok-image.image) m.vectors) b.messages) (sym c.in_ok-tables.ensures.state) (All-nil (λ m. AreWithin (regions_of c.in_ok-image.image) m.vectors));
+}

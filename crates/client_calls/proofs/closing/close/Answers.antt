@@ -26,7 +26,7 @@ send-requires-clause-connection c =
     let m = c.set_connection_phase.new.self in
     let a = c.args.actor.0 in
     let it = held-item d c.connections.result.now a c.args.handle c.in-Some.slot c.connections.ensures c.in-Some.ensures.live c.in-Some.ensures.connection in
-    may-send d m a c.args.handle c.in-Some.slot it.0 Closing it.1 c.set_connection_phase.ensures.item c.requires.fits.0 c.requires.fits.1.0 c.requires.fits.1.1
+    may-send d m a c.args.handle c.in-Some.slot it.0 Closing it.1 c.set_connection_phase.ensures.item c.requires.premises.0 c.requires.premises.1.made c.requires.premises.1.fits
 
 pub send-requires-clause-room : goal.send-requires-clause-room
 send-requires-clause-room c =
@@ -36,7 +36,7 @@ send-requires-clause-room c =
     let it = held-item d c.connections.result.now a c.args.handle c.in-Some.slot c.connections.ensures c.in-Some.ensures.live c.in-Some.ensures.connection in
     let phase = told-phase d c.connections-2.result.now c.in-Some.slot it.0 c.connection.result c.connections-2.ensures (it.1).live c.connection.ensures in
     let alive : is_dead (it.0).phase ≡ false = ap is_dead (sym phase) ∙ not-dead c.connection.result.phase c.in_default-phase.not-Dead in
-    has-room d m a c.args.handle c.in-Some.slot it.0 Closing it.1 c.set_connection_phase.ensures.item c.requires.fits.0 c.requires.fits.1.0 c.requires.fits.1.1 c.requires.running alive
+    has-room d m a c.args.handle c.in-Some.slot it.0 Closing it.1 c.set_connection_phase.ensures.item c.requires.premises.0 c.requires.premises.1.made c.requires.premises.1.fits c.requires.running alive
 
 pub returns-in_default-phase-clause-answer : goal.returns-in_default-phase-clause-answer
 returns-in_default-phase-clause-answer c =
@@ -69,7 +69,7 @@ returns-in_default-phase-clause-names c = λ s made.
     let a = c.args.actor.0 in
     let it = held-item d c.connections.result.now a c.args.handle c.in-Some.slot c.connections.ensures c.in-Some.ensures.live c.in-Some.ensures.connection in
     names-held s d c.set_connection_phase.new.self c.send.new.tables a c.args.handle c.in-Some.slot it.0 Closing PSA_IPC_DISCONNECT no_vectors it.1 c.set_connection_phase.ensures.item
-    made c.law.ensures.connections c.send.ensures.linked c.send.ensures.waiting
+    made c.law.ensures.connections c.send.ensures.connections c.send.ensures.messages
 
 pub returns-in_default-phase-clause-fits : goal.returns-in_default-phase-clause-fits
 returns-in_default-phase-clause-fits c = λ s fit.

@@ -22,8 +22,8 @@ start-slot-requires-clause-room c =
     let s = c.args.system.now in
     let d = c.args.tables.now in
     let free : in_use (spm_of d) c.args.actor.0 c.in-Some.place ≡ c.in-Some-budget.budget → ⊥ = λ e. c.if-in_use-budget.false (cc) in
-    let rooms = connect-rooms s (spm_of d) c.args.actor.0 c.in-Some.place c.in-Some-budget.budget c.requires.fits c.requires.running (sym c.in-Some-budget.ensures) free in
-    room-for-connection d s c.requires.made rooms.0
+    let rooms = connect-rooms s (spm_of d) c.args.actor.0 c.in-Some.place c.in-Some-budget.budget c.requires.premises.fits c.requires.running (sym c.in-Some-budget.ensures) free in
+    room-for-connection d s c.requires.premises.made rooms.0
 
 pub send-requires-clause-connection : goal.send-requires-clause-connection
 send-requires-clause-connection c =
@@ -31,19 +31,19 @@ send-requires-clause-connection c =
     let d = c.args.tables.now in
     let m = c.start-slot.new.self in
     let new : OpenConnection = new_connection (spm_of d) c.args.actor.0 c.in-Some.place in
-    let live : item_at m.linked c.start-slot.result ≡ Some new = ap (λ (x : TablesView). item_at x.linked c.start-slot.result) c.start-slot.ensures.after ∙ item-taken d.linked c.start-slot.result new c.start-slot.ensures.slot in
+    let live : item_at m.connections c.start-slot.result ≡ Some new = ap (λ (x : TablesView). item_at x.connections c.start-slot.result) c.start-slot.ensures.after ∙ item-taken d.connections c.start-slot.result new c.start-slot.ensures.slot in
     let there : c.in-Some.place < length s.services = taking-service s c.in-Some.place c.args.version (search rules) in
-    has-item (item_at m.linked c.start-slot.result) new (λ x. x.service < length m.services) live
-    (omega (arith, made-services d s c.requires.made, ap (λ (x : TablesView). length x.services) c.start-slot.ensures.after))
+    has-item (item_at m.connections c.start-slot.result) new (λ x. x.service < length m.services) live
+    (omega (arith, made-services d s c.requires.premises.made, ap (λ (x : TablesView). length x.services) c.start-slot.ensures.after))
 
 pub send-requires-clause-room : goal.send-requires-clause-room
 send-requires-clause-room c =
     let s = c.args.system.now in
     let d = c.args.tables.now in
     let free : in_use (spm_of d) c.args.actor.0 c.in-Some.place ≡ c.in-Some-budget.budget → ⊥ = λ e. c.if-in_use-budget.false (cc) in
-    let rooms = connect-rooms s (spm_of d) c.args.actor.0 c.in-Some.place c.in-Some-budget.budget c.requires.fits c.requires.running (sym c.in-Some-budget.ensures) free in
-    let room : length (spm_of d).messages < length d.waiting.generations = room-for-message d s c.requires.made rooms.1 in
-    let P : TablesView → Type 0 = λ x. length (spm_of x).messages < length x.waiting.generations in
+    let rooms = connect-rooms s (spm_of d) c.args.actor.0 c.in-Some.place c.in-Some-budget.budget c.requires.premises.fits c.requires.running (sym c.in-Some-budget.ensures) free in
+    let room : length (spm_of d).messages < length d.messages.generations = room-for-message d s c.requires.premises.made rooms.1 in
+    let P : TablesView → Type 0 = λ x. length (spm_of x).messages < length x.messages.generations in
     subst P (sym c.start-slot.ensures.after) room
 
 pub returns-clause-answer : goal.returns-clause-answer
@@ -54,9 +54,9 @@ returns-clause-answer c =
     let a = c.args.actor.0 in
     let new : OpenConnection = new_connection (spm_of d) c.args.actor.0 c.in-Some.place in
     let free : in_use (spm_of d) c.args.actor.0 c.in-Some.place ≡ c.in-Some-budget.budget → ⊥ = λ e. c.if-in_use-budget.false (cc) in
-    let live : item_at m.linked c.start-slot.result ≡ Some new = ap (λ (x : TablesView). item_at x.linked c.start-slot.result) c.start-slot.ensures.after ∙ item-taken d.linked c.start-slot.result new c.start-slot.ensures.slot in
+    let live : item_at m.connections c.start-slot.result ≡ Some new = ap (λ (x : TablesView). item_at x.connections c.start-slot.result) c.start-slot.ensures.after ∙ item-taken d.connections c.start-slot.result new c.start-slot.ensures.slot in
     let sent : spm_of c.send.new.tables ≡ with_phase (with_message (spm_of m) new PSA_IPC_CONNECT no_vectors) a Blocked =
-    at-item (item_at m.linked c.start-slot.result) new (λ x. spm_of c.send.new.tables ≡ with_phase (with_message (spm_of m) x PSA_IPC_CONNECT no_vectors) x.client.0 Blocked) live c.send.ensures.state in
+    at-item (item_at m.connections c.start-slot.result) new (λ x. spm_of c.send.new.tables ≡ with_phase (with_message (spm_of m) x PSA_IPC_CONNECT no_vectors) x.client.0 Blocked) live c.send.ensures.state in
     let issued : spm_of c.send.new.tables ≡ connect_issued (spm_of d) a c.in-Some.place =
     sent ∙ ap (λ (b : SpmState). with_phase (with_message b new PSA_IPC_CONNECT no_vectors) a Blocked) c.start-slot.ensures.state in
     connect-issues s (spm_of d) a c.args.version c.in-Some.place c.in-Some-budget.budget c.args.sid (sym c.in-Some.ensures) (sym c.in-Some-budget.ensures) (search rules) (search rules) (search rules) free
@@ -81,11 +81,11 @@ pub returns-clause-names : goal.returns-clause-names
 returns-clause-names c =
     let d = c.args.tables.now in
     names-connect c.args.system.now d c.start-slot.new.self c.send.new.tables c.start-slot.result (new_connection (spm_of d) c.args.actor.0 c.in-Some.place) PSA_IPC_CONNECT no_vectors
-    c.requires.made c.law.ensures.table c.start-slot.ensures.slot refl c.start-slot.ensures.after c.send.ensures.linked c.send.ensures.waiting
+    c.requires.premises.made c.law.ensures.table c.start-slot.ensures.slot refl c.start-slot.ensures.after c.send.ensures.connections c.send.ensures.messages
 
 pub returns-clause-fits : goal.returns-clause-fits
 returns-clause-fits c =
-    connect-keeps c.args.system.now (spm_of c.args.tables.now) c.args.actor.0 c.args.sid c.args.version (move Blocks (spm_of c.send.new.tables)) c.requires.fits c.requires.running (returns-clause-answer c)
+    connect-keeps c.args.system.now (spm_of c.args.tables.now) c.args.actor.0 c.args.sid c.args.version (move Blocks (spm_of c.send.new.tables)) c.requires.premises.fits c.requires.running (returns-clause-answer c)
 
 pub returns-clause-within : goal.returns-clause-within
 returns-clause-within c = λ ranges.

@@ -20,7 +20,7 @@ send-requires-clause-connection c =
     let m = c.set_connection_phase.new.self in
     let a = c.args.actor.0 in
     let it = held-item d c.connections.result.now a c.args.handle c.in-Some.slot c.connections.ensures c.in-Some.ensures.live c.in-Some.ensures.connection in
-    may-send d m a c.args.handle c.in-Some.slot it.0 Busy it.1 c.set_connection_phase.ensures.item c.args.system.now c.requires.made c.requires.fits
+    may-send d m a c.args.handle c.in-Some.slot it.0 Busy it.1 c.set_connection_phase.ensures.item c.args.system.now c.requires.premises.tables.made c.requires.premises.tables.fits
 
 pub send-requires-clause-room : goal.send-requires-clause-room
 send-requires-clause-room c =
@@ -30,7 +30,7 @@ send-requires-clause-room c =
     let it = held-item d c.connections.result.now a c.args.handle c.in-Some.slot c.connections.ensures c.in-Some.ensures.live c.in-Some.ensures.connection in
     let phase = told-phase d c.connections-2.result.now c.in-Some.slot it.0 c.connection-phase.result c.connections-2.ensures (it.1).live c.connection-phase.ensures in
     let alive : is_dead (it.0).phase ≡ false = ap is_dead (sym phase) ∙ sym c.is_dead.ensures ∙ c.if-is_dead.false in
-    has-room d m a c.args.handle c.in-Some.slot it.0 Busy it.1 c.set_connection_phase.ensures.item c.args.system.now c.requires.made c.requires.fits c.requires.running alive
+    has-room d m a c.args.handle c.in-Some.slot it.0 Busy it.1 c.set_connection_phase.ensures.item c.args.system.now c.requires.premises.tables.made c.requires.premises.tables.fits c.requires.running alive
 
 pub returns-clause-answer : goal.returns-clause-answer
 returns-clause-answer c =
@@ -69,4 +69,4 @@ returns-clause-names c =
     let a = c.args.actor.0 in
     let it = held-item d c.connections.result.now a c.args.handle c.in-Some.slot c.connections.ensures c.in-Some.ensures.live c.in-Some.ensures.connection in
     names-held c.args.system.now d c.set_connection_phase.new.self c.send.new.tables a c.args.handle c.in-Some.slot it.0 Busy (to_z w32 (of_z w32 c.args.kind)) c.in-Some-snapshot.vectors it.1 c.set_connection_phase.ensures.item
-    c.requires.made c.law.ensures.connections c.send.ensures.linked c.send.ensures.waiting
+    c.requires.premises.tables.made c.law.ensures.connections c.send.ensures.connections c.send.ensures.messages

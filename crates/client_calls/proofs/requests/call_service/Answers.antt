@@ -20,14 +20,14 @@ use Rattle.client_calls.proofs.requests.call_service.Goals as goal
 pub send_request-requires-clause-service : goal.send_request-requires-clause-service
 send_request-requires-clause-service c =
     let s = c.args.system.now in
-    omega (arith, made-services c.args.tables.now s c.requires.made, stateless-service s c.in-Some.service (stateless_is s c.args.index c.in-Some.service (sym c.in-Some.ensures)))
+    omega (arith, made-services c.args.tables.now s c.requires.premises.tables.made, stateless-service s c.in-Some.service (stateless_is s c.args.index c.in-Some.service (sym c.in-Some.ensures)))
 
 pub send_request-requires-clause-room : goal.send_request-requires-clause-room
 send_request-requires-clause-room c =
     let s = c.args.system.now in
     let d = c.args.tables.now in
     let may : permits s c.args.actor.0 c.in-Some.service ≡ true = search rules in
-    room-for-message d s c.requires.made (call-room s (spm_of d) c.args.actor.0 c.in-Some.service c.requires.fits c.requires.running (stateless_is s c.args.index c.in-Some.service (sym c.in-Some.ensures)) may)
+    room-for-message d s c.requires.premises.tables.made (call-room s (spm_of d) c.args.actor.0 c.in-Some.service c.requires.premises.tables.fits c.requires.running (stateless_is s c.args.index c.in-Some.service (sym c.in-Some.ensures)) may)
 
 pub returns-clause-answer : goal.returns-clause-answer
 returns-clause-answer c =
@@ -55,5 +55,5 @@ returns-then-is_service_panicked-clause-names c = names_kept c.args.system.now c
 
 pub returns-clause-names : goal.returns-clause-names
 returns-clause-names c =
-    names-asked-of c.args.system.now c.args.tables.now c.send_request.new.tables (request_message c.args.actor c.in-Some.service (to_z w32 (of_z w32 c.args.kind)) c.in-Some-snapshot.vectors) c.requires.made
-    c.send_request.ensures.linked c.send_request.ensures.waiting
+    names-asked-of c.args.system.now c.args.tables.now c.send_request.new.tables (request_message c.args.actor c.in-Some.service (to_z w32 (of_z w32 c.args.kind)) c.in-Some-snapshot.vectors) c.requires.premises.tables.made
+    c.send_request.ensures.connections c.send_request.ensures.messages

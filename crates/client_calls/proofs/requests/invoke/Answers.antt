@@ -46,8 +46,8 @@ pub returns-in-Some-clause-fits : goal.returns-in-Some-clause-fits
 returns-in-Some-clause-fits c =
     let s = c.args.system.now in
     let due : List Handle → Option Move = λ given. psa_call s (state_with c.args.tables.now given (byte_at c.args.image.now)) c.args.actor.0 c.args.handle c.args.kind c.args.in_vec c.args.in_len c.args.out_vec c.args.out_len in
-    answers-keep (ObjectsFit s) due c.args.tables.now c.call_service.new.tables c.call_service.result (returns-in-Some-clause-answer c) c.requires.fits
-    (λ m e. call-keeps s (spm_of c.args.tables.now) (byte_at c.args.image.now) c.args.actor.0 c.args.handle c.args.kind c.args.in_vec c.args.in_len c.args.out_vec c.args.out_len m c.requires.fits c.requires.running e)
+    answers-keep (ObjectsFit s) due c.args.tables.now c.call_service.new.tables c.call_service.result (returns-in-Some-clause-answer c) c.requires.premises.tables.fits
+    (λ m e. call-keeps s (spm_of c.args.tables.now) (byte_at c.args.image.now) c.args.actor.0 c.args.handle c.args.kind c.args.in_vec c.args.in_len c.args.out_vec c.args.out_len m c.requires.premises.tables.fits c.requires.running e)
 
 pub returns-in-Some-clause-vectors : goal.returns-in-Some-clause-vectors
 returns-in-Some-clause-vectors c = λ all.
@@ -56,16 +56,16 @@ returns-in-Some-clause-vectors c = λ all.
     let W : List (ℕ × ℕ) → SpmState → Type 0 = λ ranges b. All (λ m. AreWithin ranges m.vectors) b.messages in
     answers-keep (W (regions_of c.args.image.now)) due c.args.tables.now c.call_service.new.tables c.call_service.result (returns-in-Some-clause-answer c) all
     (λ m e.
-    subst (λ (ranges : List (ℕ × ℕ)). W ranges m.spm) (sym c.requires.regions)
+    subst (λ (ranges : List (ℕ × ℕ)). W ranges m.spm) (sym c.requires.premises.regions)
     (call-within s (state_with c.args.tables.now [] (byte_at c.args.image.now)) c.args.actor.0 c.args.handle c.args.kind c.args.in_vec c.args.in_len c.args.out_vec c.args.out_len m (e [])
-    (subst (λ (ranges : List (ℕ × ℕ)). W ranges (spm_of c.args.tables.now)) c.requires.regions all)))
+    (subst (λ (ranges : List (ℕ × ℕ)). W ranges (spm_of c.args.tables.now)) c.requires.premises.regions all)))
 
 pub returns-in-None-clause-fits : goal.returns-in-None-clause-fits
 returns-in-None-clause-fits c =
     let s = c.args.system.now in
     let due : List Handle → Option Move = λ given. psa_call s (state_with c.args.tables.now given (byte_at c.args.image.now)) c.args.actor.0 c.args.handle c.args.kind c.args.in_vec c.args.in_len c.args.out_vec c.args.out_len in
-    answers-keep (ObjectsFit s) due c.args.tables.now c.call_connection.new.tables c.call_connection.result (returns-in-None-clause-answer c) c.requires.fits
-    (λ m e. call-keeps s (spm_of c.args.tables.now) (byte_at c.args.image.now) c.args.actor.0 c.args.handle c.args.kind c.args.in_vec c.args.in_len c.args.out_vec c.args.out_len m c.requires.fits c.requires.running e)
+    answers-keep (ObjectsFit s) due c.args.tables.now c.call_connection.new.tables c.call_connection.result (returns-in-None-clause-answer c) c.requires.premises.tables.fits
+    (λ m e. call-keeps s (spm_of c.args.tables.now) (byte_at c.args.image.now) c.args.actor.0 c.args.handle c.args.kind c.args.in_vec c.args.in_len c.args.out_vec c.args.out_len m c.requires.premises.tables.fits c.requires.running e)
 
 pub returns-in-None-clause-vectors : goal.returns-in-None-clause-vectors
 returns-in-None-clause-vectors c = λ all.
@@ -74,6 +74,6 @@ returns-in-None-clause-vectors c = λ all.
     let W : List (ℕ × ℕ) → SpmState → Type 0 = λ ranges b. All (λ m. AreWithin ranges m.vectors) b.messages in
     answers-keep (W (regions_of c.args.image.now)) due c.args.tables.now c.call_connection.new.tables c.call_connection.result (returns-in-None-clause-answer c) all
     (λ m e.
-    subst (λ (ranges : List (ℕ × ℕ)). W ranges m.spm) (sym c.requires.regions)
+    subst (λ (ranges : List (ℕ × ℕ)). W ranges m.spm) (sym c.requires.premises.regions)
     (call-within s (state_with c.args.tables.now [] (byte_at c.args.image.now)) c.args.actor.0 c.args.handle c.args.kind c.args.in_vec c.args.in_len c.args.out_vec c.args.out_len m (e [])
-    (subst (λ (ranges : List (ℕ × ℕ)). W ranges (spm_of c.args.tables.now)) c.requires.regions all)))
+    (subst (λ (ranges : List (ℕ × ℕ)). W ranges (spm_of c.args.tables.now)) c.requires.premises.regions all)))

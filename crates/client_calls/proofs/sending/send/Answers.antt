@@ -12,26 +12,26 @@ use Rattle.client_calls.specs.Sending.{item_on, message_on}
 use Rattle.client_calls.proofs.SendLemmas.{at-items, has-item, queued-on}
 use Rattle.client_calls.proofs.sending.send.Goals as goal
 
-queued-so : (c : goal.After-set_phase) → IfSome (item_at c.args.tables.now.linked c.args.slot) (λ x. queued c.args.tables.now.linked c.item_on-item.result ≡ message_on c.args.slot x c.args.kind c.args.vectors)
+queued-so : (c : goal.After-set_phase) → IfSome (item_at c.args.tables.now.connections c.args.slot) (λ x. queued c.args.tables.now.connections c.item_on-item.result ≡ message_on c.args.slot x c.args.kind c.args.vectors)
 queued-so c =
-    let is : ℤ → Type 0 = λ k. IfSome (item_at c.args.tables.now.linked c.args.slot) (λ x. c.item_on-item.result ≡ item_on c.args.slot x k c.args.vectors) in
-    queued-on c.args.tables.now.linked c.args.slot c.args.kind c.args.vectors c.item_on-item.result (subst is (to_z-of_z w32 c.args.kind c.ranges.kind) (rw c.connections.ensures at c.item_on-item.ensures.item))
+    let is : ℤ → Type 0 = λ k. IfSome (item_at c.args.tables.now.connections c.args.slot) (λ x. c.item_on-item.result ≡ item_on c.args.slot x k c.args.vectors) in
+    queued-on c.args.tables.now.connections c.args.slot c.args.kind c.args.vectors c.item_on-item.result (subst is (to_z-of_z w32 c.args.kind c.ranges.kind) (rw c.connections.ensures at c.item_on-item.ensures.item))
 
-pub returns-clause-waiting : goal.returns-clause-waiting
-returns-clause-waiting c =
+pub returns-clause-messages : goal.returns-clause-messages
+returns-clause-messages c =
     let d = c.args.tables.now in
-    let lies : OpenConnection → TablesView → Type 0 = λ x new. IsSomeAnd (free_slot d.waiting) (λ place. new.waiting ≡ taken d.waiting place (message_on c.args.slot x c.args.kind c.args.vectors)) in
-    at-items (item_at d.linked c.args.slot) (λ x. queued d.linked c.item_on-item.result ≡ message_on c.args.slot x c.args.kind c.args.vectors) (λ x. lies x c.set_phase.new.self)
+    let lies : OpenConnection → TablesView → Type 0 = λ x new. IsSomeAnd (free_slot d.messages) (λ place. new.messages ≡ taken d.messages place (message_on c.args.slot x c.args.kind c.args.vectors)) in
+    at-items (item_at d.connections c.args.slot) (λ x. queued d.connections c.item_on-item.result ≡ message_on c.args.slot x c.args.kind c.args.vectors) (λ x. lies x c.set_phase.new.self)
     (λ x is.
-    has-item (free_slot d.waiting) c.enqueue.result (λ place. c.set_phase.new.self.waiting ≡ taken d.waiting place (message_on c.args.slot x c.args.kind c.args.vectors)) c.enqueue.ensures.slot
-    (ap (λ (e : TablesView). e.waiting) c.set_phase.ensures.after ∙ ap (λ (e : TablesView). e.waiting) c.enqueue.ensures.after ∙ ap (λ (m : QueuedMessage). taken d.waiting c.enqueue.result m) is))
+    has-item (free_slot d.messages) c.enqueue.result (λ place. c.set_phase.new.self.messages ≡ taken d.messages place (message_on c.args.slot x c.args.kind c.args.vectors)) c.enqueue.ensures.slot
+    (ap (λ (e : TablesView). e.messages) c.set_phase.ensures.after ∙ ap (λ (e : TablesView). e.messages) c.enqueue.ensures.after ∙ ap (λ (m : QueuedMessage). taken d.messages c.enqueue.result m) is))
     (queued-so c)
 
 pub returns-clause-state : goal.returns-clause-state
 returns-clause-state c =
     let d = c.args.tables.now in
     let with_sent : QueuedMessage → SpmState = λ m. record (spm_of d) { messages = (spm_of d).messages ++ fresh_message m ∷ [] } in
-    at-items (item_at d.linked c.args.slot) (λ x. queued d.linked c.item_on-item.result ≡ message_on c.args.slot x c.args.kind c.args.vectors)
+    at-items (item_at d.connections c.args.slot) (λ x. queued d.connections c.item_on-item.result ≡ message_on c.args.slot x c.args.kind c.args.vectors)
     (λ x. spm_of c.set_phase.new.self ≡ with_phase (with_message (spm_of d) x c.args.kind c.args.vectors) x.client.0 Blocked)
     (λ x is.
     c.set_phase.ensures.state

@@ -1,9 +1,9 @@
 use Rattle.std.proofs.Common.{sym, subst}
-use Rattle.machine_calls.specs.Machine.{spm_of, VectorsFit}
+use Rattle.machine_calls.specs.Machine.{spm_of_objects, VectorsFit}
 use Rattle.machine_check.proofs.Covered.{held-fits}
 use Rattle.machine_check.proofs.written.written_by_reply.Goals as goal
 
 pub length_words-requires : goal.length_words-requires
 length_words-requires c =
     subst (λ rs. VectorsFit rs c.in-Some.message.vectors) (sym c.requires.regions)
-    (held-fits c.args.system.now (spm_of c.args.machine.now.objects) c.args.actor.0 c.args.handle c.in-Some.message (sym c.in-Some.ensures) c.requires.messages)
+    (held-fits c.args.system.now (spm_of_objects c.args.machine.now.objects) c.args.actor.0 c.args.handle c.in-Some.message (sym c.in-Some.ensures) c.requires.messages)

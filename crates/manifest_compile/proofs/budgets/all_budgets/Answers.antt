@@ -10,6 +10,6 @@ pub returns : goal.returns
 returns c =
     let P : List ConnectionRecord → Type 0 = TellsCounts c.in_ok-counts.counts in
     c.loop-pair.invariant
-    ∙ ap (λ ps. map (budget_by c.in_ok-counts.counts) (map pair_seen ps)) (take_all c.loop-pair.pair-index c.deref-pair-items.result.now c.loop-pair-test.false ∙ c.deref-pair-items.ensures.value)
-    ∙ ap (map (budget_by c.in_ok-counts.counts)) c.in_ok-pairs.ensures
+    ∙ ap (λ ps. map (budget_by c.in_ok-counts.counts) (map pair_seen ps)) (take_all c.loop-pair.pair-index c.args.pairs.now c.loop-pair-test.false)
+    ∙ ap (map (budget_by c.in_ok-counts.counts)) c.requires
     ∙ budgets_by c.in_ok-counts.counts c.args.parts.now (subst P (c.as_slice.ensures ∙ ap (λ (p : PartsRecord). p.connections) c.parts.view_is) c.in_ok-counts.ensures)

@@ -14,7 +14,7 @@ returns-then-not-is_permitted c =
     let xs = c.as_slice-connection-items.result.now in
     let item = c.connection-item.result in
     let none : list_any (λ pair. pair.connects && is_for pair item) (permitted p) ≡ false =
-    sym (permitted_by c.in_ok-names.names p (map pair_seen c.as_slice.result.now) c.in_ok-names.ensures (ap (map pair_seen) c.as_slice.ensures.value ∙ c.in_ok-pairs.ensures) item)
+    sym (permitted_by c.in_ok-names.names p (map pair_seen c.args.pairs.now) c.in_ok-names.ensures c.requires item)
     ∙ sym c.is_permitted.ensures ∙ c.if-not-is_permitted.true in
     let here : t (c.loop-place.place, get_or xs c.loop-place.place item) ≡ true = ap (λ x. not (list_any (λ pair. pair.connects && is_for pair x) (permitted p))) (sym c.connection-item.is) ∙ ap not none in
     ap Some c.in_ok-number.ensures ∙ sym (ap (option_map (λ (e : ℕ × ConnectionRecord). e.0)) (sym c.loop-place.invariant ∙ first_here t xs c.loop-place.place item c.loop-place-test.true here))
@@ -26,7 +26,7 @@ loop-place-preserved c =
     let xs = c.as_slice-connection-items.result.now in
     let item = c.connection-item.result in
     let some : list_any (λ pair. pair.connects && is_for pair item) (permitted p) ≡ true =
-    sym (permitted_by c.in_ok-names.names p (map pair_seen c.as_slice.result.now) c.in_ok-names.ensures (ap (map pair_seen) c.as_slice.ensures.value ∙ c.in_ok-pairs.ensures) item)
+    sym (permitted_by c.in_ok-names.names p (map pair_seen c.args.pairs.now) c.in_ok-names.ensures c.requires item)
     ∙ sym c.is_permitted.ensures ∙ c.if-not-is_permitted.false in
     let here : t (c.loop-place.place, get_or xs c.loop-place.place item) ≡ false = ap (λ x. not (list_any (λ pair. pair.connects && is_for pair x) (permitted p))) (sym c.connection-item.is) ∙ ap not some in
     first_past t xs c.loop-place.place item c.loop-place-test.true here ∙ c.loop-place.invariant

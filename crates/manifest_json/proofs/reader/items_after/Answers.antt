@@ -1,8 +1,9 @@
 use Rattle.std.proofs.Common.{[]}
 use Rattle.std.proofs.lemmas.Result.{err_from_is_err_and, IfOk-at_ok}
+use Rattle.list_laws.proofs.Lists.{AllByRecursion-push}
 use Rattle.serde_json.specs.View.{view, items_view}
 use Rattle.ffm_model.specs.Attributes.{items_after}
-use Rattle.manifest_json.proofs.Lists.{goes_on, ends, is_done, kept_push}
+use Rattle.manifest_json.proofs.Lists.{goes_on, ends, is_done}
 use Rattle.manifest_json.proofs.reader.items_after.Goals as goal
 
 pub returns-in_err-value-clause-given : goal.returns-in_err-value-clause-given
@@ -25,7 +26,7 @@ loop-i-preserved g c =
     let read = rw c.in_ok-step.ensures at (c.in_ok-value.ensures.placed (gives c.loop-i.found.items (view v)) given) in
     record {
       told = rw c.in_ok-push.ensures.items (goes_on gives c.loop-i.found.items c.args.items.now c.loop-i.i v c.in_ok-value.value all c.loop-i-test.true c.index-items-i.is read c.loop-i.invariant.told);
-      kept = rw c.in_ok-push.ensures.items (kept_push keeps c.loop-i.found.items c.in_ok-value.value c.loop-i.invariant.kept (IfOk-at_ok keeps c.in_ok-value.ensures.same c.read_after.ensures.kept));
+      kept = rw c.in_ok-push.ensures.items (AllByRecursion-push keeps c.loop-i.found.items c.in_ok-value.value c.loop-i.invariant.kept (IfOk-at_ok keeps c.in_ok-value.ensures.same c.read_after.ensures.kept));
     }
 
 pub returns-clause-given : goal.returns-clause-given

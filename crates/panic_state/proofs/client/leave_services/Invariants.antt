@@ -6,4 +6,4 @@ abbrev pub invariant-loop-place : goal.invariant-loop-place
 invariant-loop-place l = Leaves l.partition.0 l.fn.tables l.place l.tables
 
 abbrev pub decreases-loop-place : goal.decreases-loop-place
-decreases-loop-place l = length l.tables.linked.held - l.place
+decreases-loop-place l = length l.tables.connections.held - l.place

@@ -15,7 +15,7 @@ pub leave_services-requires-clause-services : goal.leave_services-requires-claus
 leave_services-requires-clause-services c =
     let s = c.args.system.now in
     let p = c.args.partition.0 in
-    subst (λ (d : TablesView). All (λ h. h.item.service < length d.services) d.linked.held) (sym c.end_services.ensures) (services-of s p c.args.tables.now c.requires.made c.requires.fits)
+    subst (λ (d : TablesView). All (λ h. h.item.service < length d.services) d.connections.held) (sym c.end_services.ensures) (services-of s p c.args.tables.now c.requires.made c.requires.fits)
 
 pub leave_services-requires-clause-room : goal.leave_services-requires-clause-room
 leave_services-requires-clause-room c =
@@ -25,8 +25,8 @@ leave_services-requires-clause-room c =
       arith,
       room-of s p c.args.tables.now c.requires.made c.requires.partition c.requires.fits,
       ap (λ (x : Shape). x.messages) c.requires.made,
-      ap (λ (d : TablesView). length d.waiting.held + length (disconnect_messages p d.linked)) c.end_services.ensures,
-      ap (λ (d : TablesView). length d.waiting.generations) c.end_services.ensures,
+      ap (λ (d : TablesView). length d.messages.held + length (disconnect_messages p d.connections)) c.end_services.ensures,
+      ap (λ (d : TablesView). length d.messages.generations) c.end_services.ensures,
     )
 
 pub leave_services-requires-clause-few : goal.leave_services-requires-clause-few
@@ -36,8 +36,8 @@ leave_services-requires-clause-few c =
     omega (
       arith,
       few-disconnects s p c.args.tables.now c.requires.fits,
-      c.requires.few,
-      ap (λ (d : TablesView). d.waiting.takes + length (disconnect_messages p d.linked)) c.end_services.ensures,
+      c.requires.takes,
+      ap (λ (d : TablesView). d.messages.takes + length (disconnect_messages p d.connections)) c.end_services.ensures,
     )
 
 pub returns-clause-state : goal.returns-clause-state
@@ -67,7 +67,7 @@ returns-clause-message_takes c =
       arith,
       few-disconnects s p c.args.tables.now c.requires.fits,
       c.leave_services.ensures.takes,
-      ap (λ (d : TablesView). d.waiting.takes + length (disconnect_messages p d.linked)) c.end_services.ensures,
+      ap (λ (d : TablesView). d.messages.takes + length (disconnect_messages p d.connections)) c.end_services.ensures,
     )
 
 pub returns-clause-fits : goal.returns-clause-fits

@@ -7,12 +7,12 @@ use Rattle.panic_state.proofs.places.connection_at.Goals as goal
 
 pub returns-clause-item : goal.returns-clause-item
 returns-clause-item c =
-    live-nth 256 c.args.tables.now.linked c.args.place c.nth.result c.law.ensures.connections
+    live-nth 256 c.args.tables.now.connections c.args.place c.nth.result c.law.ensures.connections
     (ap (λ (p : Places OpenConnection). slice_get p.held c.args.place) (sym c.connections.ensures) ∙ c.nth.ensures)
 
 pub returns-clause-live : goal.returns-clause-live
 returns-clause-live c =
-    let item : item_at c.args.tables.now.linked c.nth.result.slot ≡ Some c.nth.result.item =
-    live-nth 256 c.args.tables.now.linked c.args.place c.nth.result c.law.ensures.connections
+    let item : item_at c.args.tables.now.connections c.nth.result.slot ≡ Some c.nth.result.item =
+    live-nth 256 c.args.tables.now.connections c.args.place c.nth.result c.law.ensures.connections
     (ap (λ (p : Places OpenConnection). slice_get p.held c.args.place) (sym c.connections.ensures) ∙ c.nth.ensures) in
     subst (λ (o : Option OpenConnection). IsSome o) (sym item) (search rules)

@@ -7,5 +7,5 @@ use Rattle.panic_state.proofs.places.message_at.Goals as goal
 
 pub returns-clause-item : goal.returns-clause-item
 returns-clause-item c =
-    live-nth 304 c.args.tables.now.waiting c.args.place c.nth.result c.law.ensures.messages
+    live-nth 304 c.args.tables.now.messages c.args.place c.nth.result c.law.ensures.messages
     (ap (λ (p : Places QueuedMessage). slice_get p.held c.args.place) (sym c.messages.ensures) ∙ c.nth.ensures)

@@ -10,7 +10,7 @@ loop-place-init c = messages_from-none c.args.system.now c.args.partition.0 c.ar
 pub loop-place-smaller-then-is_service_of : goal.loop-place-smaller-then-is_service_of
 loop-place-smaller-then-is_service_of c =
     let n = c.loop-place.place in
-    let shorter : length c.drop_message.new.tables.waiting.held + 1 ≡ length c.loop-place.tables.waiting.held =
+    let shorter : length c.drop_message.new.tables.messages.held + 1 ≡ length c.loop-place.tables.messages.held =
     gone-shorter n c.loop-place.tables c.drop_message.new.tables c.message_at-held.result c.message_at-held.ensures.kept c.message_at-held.ensures.at c.drop_message.ensures in
     omega (arith, shorter, c.live.ensures, c.loop-place-test.true, ap (λ (q : Places QueuedMessage). length q.held) c.messages.ensures)
 

@@ -7,4 +7,4 @@ abbrev pub invariant-loop-place : goal.invariant-loop-place
 invariant-loop-place l = messages_from l.system l.partition.0 l.place l.tables ≡ without_messages l.system l.partition.0 l.fn.tables
 
 abbrev pub decreases-loop-place : goal.decreases-loop-place
-decreases-loop-place l = length l.tables.waiting.held - l.place
+decreases-loop-place l = length l.tables.messages.held - l.place

@@ -27,7 +27,7 @@ loop-place-preserved-in-loop-place c =
 pub loop-place-smaller : goal.loop-place-smaller
 loop-place-smaller c =
     let n = c.loop-place.place in
-    let shorter : length c.lose.new.tables.linked.held + 1 ≡ length c.loop-place.tables.linked.held =
+    let shorter : length c.lose.new.tables.connections.held + 1 ≡ length c.loop-place.tables.connections.held =
     lost-shorter n c.loop-place.tables c.lose.new.tables c.connection_at-held.result c.lose.result c.connection_at-held.ensures.kept c.connection_at-held.ensures.at c.lose.ensures.after c.lose.ensures.kept c.if-lose.false in
     omega (arith, shorter, c.live.ensures, c.loop-place-test.true, ap (λ (q : Places OpenConnection). length q.held) c.connections.ensures)
 

@@ -6,4 +6,4 @@ abbrev pub invariant-loop-place : goal.invariant-loop-place
 invariant-loop-place l = services_from l.system l.partition.0 l.place l.tables ≡ services_from l.system l.partition.0 0 l.fn.tables
 
 abbrev pub decreases-loop-place : goal.decreases-loop-place
-decreases-loop-place l = length l.tables.linked.held - l.place
+decreases-loop-place l = length l.tables.connections.held - l.place

@@ -1,15 +1,13 @@
 -- The system's regions are few, and the scenario's opening bytes lie in them.
-use Rattle.std.proofs.Common.{◌^◌, length, nat_lt, ltb-true}
+use Rattle.std.proofs.Common.{length}
 use Rattle.std.specs.List.{list_any}
-use Rattle.std.proofs.lemmas.Bool.{and_parts}
 use Rattle.ffm_model.specs.Memory.{lies_in}
+use Rattle.memory_image.proofs.Systems.{system_few}
 use Rattle.scenario_runs.proofs.Tested.{list_all-each}
 use Rattle.scenario_runs.proofs.scheduled.opening_image.Goals as goal
 
 pub new-requires-clause-few : goal.new-requires-clause-few
-new-requires-clause-few c =
-    let system = c.args.system.now in
-    ltb-true _ _ (and_parts (nat_lt (length system.services) (2 ^ 31)) (nat_lt (length system.regions) (2 ^ 31)) system.counted).1
+new-requires-clause-few c = system_few c.args.system.now
 
 pub new-requires-clause-opening : goal.new-requires-clause-opening
 new-requires-clause-opening c = list_all-each (λ b. list_any (lies_in b.address (length b.content)) c.args.system.now.regions) c.args.scenario.now.memory c.requires.memory

@@ -29,7 +29,7 @@ shown-shown-requires-clause-there c =
     let it = was-delivered c.args.tables.now c.dequeue.new.self c.in-Some.service c.in-Some-dequeue.slot c.queued-message.result c.in-Some-dequeue.ensures.found c.in-Some-dequeue.ensures.oldest
     c.in-Some-dequeue.ensures.after c.queued-message.ensures in
     let there : IfSome it.item.serial (λ n. IsSome (connection_by_serial (spm_of c.args.tables.now) n)) =
-    connection-there c.args.system.now (spm_of c.args.tables.now) (is_undelivered c.in-Some.service) (message_of c.in-Some-dequeue.slot it.item) c.requires.fits it.first in
+    connection-there c.args.system.now (spm_of c.args.tables.now) (is_undelivered c.in-Some.service) (message_of c.in-Some-dequeue.slot it.item) c.requires.premises.tables.fits it.first in
     let same : it.item.serial ≡ c.queued-message.result.serial = ap (λ (m : QueuedMessage). m.serial) (sym it.since) in
     subst (λ (d : TablesView). IfSome c.queued-message.result.serial (λ n. IsSome (connection_by_serial (spm_of d) n))) (sym it.after)
     (subst (λ (o : Option ℕ). IfSome o (λ n. IsSome (connection_by_serial (spm_of c.args.tables.now) n))) same there)
@@ -39,10 +39,10 @@ shown-shown-requires-clause-client c =
     let it = was-delivered c.args.tables.now c.dequeue.new.self c.in-Some.service c.in-Some-dequeue.slot c.queued-message.result c.in-Some-dequeue.ensures.found c.in-Some-dequeue.ensures.oldest
     c.in-Some-dequeue.ensures.after c.queued-message.ensures in
     subst (λ (m : QueuedMessage). m.client.0 < actor_count c.args.system.now) (sym it.since)
-    (client-counted c.args.system.now c.args.tables.now (is_undelivered c.in-Some.service) (message_of c.in-Some-dequeue.slot it.item) c.requires.made c.requires.fits it.first)
+    (client-counted c.args.system.now c.args.tables.now (is_undelivered c.in-Some.service) (message_of c.in-Some-dequeue.slot it.item) c.requires.premises.tables.made c.requires.premises.tables.fits it.first)
 
 pub store_words-requires : goal.store_words-requires
-store_words-requires c = rw (c.words_of.ensures.count, c.requires.regions) (buffer_inside c.args.system.now c.args.actor.0 c.args.msg 48 (sym c.if-not-valid_buffer.ensures))
+store_words-requires c = rw (c.words_of.ensures.count, c.requires.premises.regions) (buffer_inside c.args.system.now c.args.actor.0 c.args.msg 48 (sym c.if-not-valid_buffer.ensures))
 
 pub returns-clause-answer : goal.returns-clause-answer
 returns-clause-answer c =
@@ -85,7 +85,7 @@ returns-clause-fresh c = λ st stands.
     let it = delivered-so c in
     let waited = was-undelivered c.args.tables.now c.dequeue.new.self c.in-Some.service c.in-Some-dequeue.slot c.queued-message.result it in
     subst (λ (m : ShownMessage). fresh st m.handle ≡ true) (sym c.shown-shown.ensures)
-    (fresh-at Message (λ (m : QueuedMessage). m.delivered) c.args.tables.now.waiting st c.in-Some-dequeue.slot it.item c.law.ensures.messages stands.messages it.live waited)
+    (fresh-at Message (λ (m : QueuedMessage). m.delivered) c.args.tables.now.messages st c.in-Some-dequeue.slot it.item c.law.ensures.messages stands.messages it.live waited)
 
 pub returns-clause-fits : goal.returns-clause-fits
 returns-clause-fits c =
@@ -95,4 +95,4 @@ returns-clause-fits c =
     let it = delivered-so c in
     let waited = was-undelivered d c.dequeue.new.self c.in-Some.service t c.queued-message.result it in
     let none = objects-without d t it.item c.law.ensures.messages c.law.ensures.connections c.law.ensures.table it.live waited in
-    subst (λ (b : SpmState). ObjectsFit s b) (sym c.in-Some-dequeue.ensures.state) (get-fits s (spm_of d) c.in-Some.service (handle_at Message t) c.requires.fits none)
+    subst (λ (b : SpmState). ObjectsFit s b) (sym c.in-Some-dequeue.ensures.state) (get-fits s (spm_of d) c.in-Some.service (handle_at Message t) c.requires.premises.tables.fits none)

@@ -21,18 +21,18 @@ use Rattle.service_calls.proofs.ReplyLemmas.{settled-fits}
 pub connection_of-connection-requires-clause-there : goal.connection_of-connection-requires-clause-there
 connection_of-connection-requires-clause-there c =
     let s = c.args.system.now in
-    let found = message-is c.args.tables.now c.in-Some.slot c.queued-message.result _ c.queued-message.ensures (c.in-Some.ensures.message s c.requires.made) in
-    connection-there s (spm_of c.args.tables.now) (λ m. is_service_of s c.args.actor.0 m.service && has_handle m.handle c.args.handle) (message_of c.in-Some.slot c.queued-message.result) c.requires.fits
+    let found = message-is c.args.tables.now c.in-Some.slot c.queued-message.result _ c.queued-message.ensures (c.in-Some.ensures.message s c.requires.premises.tables.made) in
+    connection-there s (spm_of c.args.tables.now) (λ m. is_service_of s c.args.actor.0 m.service && has_handle m.handle c.args.handle) (message_of c.in-Some.slot c.queued-message.result) c.requires.premises.tables.fits
     (reply-held s (spm_of c.args.tables.now) c.args.actor.0 c.args.handle c.args.status.0 (message_of c.in-Some.slot c.queued-message.result) found)
 
 pub tell_lengths-requires : goal.tell_lengths-requires
 tell_lengths-requires c =
-    holds-at (λ m. AreWithin (regions_of c.args.image.now) m.vectors) c.args.tables.now c.in-Some.slot c.queued-message.result c.requires.vectors c.queued-message.ensures
+    holds-at (λ m. AreWithin (regions_of c.args.image.now) m.vectors) c.args.tables.now c.in-Some.slot c.queued-message.result c.requires.premises.vectors c.queued-message.ensures
 
 replied-so : (c : goal.After-answer) → IsReplied c.args.system.now c.args.tables.now c.answer.new.tables c.args.actor.0 c.args.handle c.args.status.0 c.in-Some.slot c.queued-message.result c.answer.result
 replied-so c =
     let s = c.args.system.now in
-    let found = message-is c.args.tables.now c.in-Some.slot c.queued-message.result _ c.queued-message.ensures (c.in-Some.ensures.message s c.requires.made) in
+    let found = message-is c.args.tables.now c.in-Some.slot c.queued-message.result _ c.queued-message.ensures (c.in-Some.ensures.message s c.requires.premises.tables.made) in
     let both : Some c.drop_message.result ≡ Some (item_of c.queued-message.result) = sym c.drop_message.ensures.item ∙ ap (option_map item_of) c.queued-message.ensures in
     let same : c.drop_message.result ≡ item_of c.queued-message.result = cc in
     was-replied s c.args.tables.now c.drop_message.new.self c.answer.new.tables c.args.actor.0 c.args.handle c.args.status.0 c.in-Some.slot c.queued-message.result c.answer.result found
@@ -49,22 +49,22 @@ returns-clause-answer c = λ given.
 
 pub returns-clause-owed : goal.returns-clause-owed
 returns-clause-owed c =
-    owing-fits c.args.system.now c.args.tables.now c.answer.new.tables c.args.actor.0 c.args.handle c.args.status.0 c.in-Some.slot c.queued-message.result c.answer.result c.requires.fits (replied-so c)
+    owing-fits c.args.system.now c.args.tables.now c.answer.new.tables c.args.actor.0 c.args.handle c.args.status.0 c.in-Some.slot c.queued-message.result c.answer.result c.requires.premises.tables.fits (replied-so c)
 
 pub returns-in_default-clause-names : goal.returns-in_default-clause-names
 returns-in_default-clause-names c = unchanged-names c.args.system.now c.args.tables.now c.args.tables.now refl
 
 pub returns-clause-vectors : goal.returns-clause-vectors
 returns-clause-vectors c =
-    let waiting = c.answer.ensures.waiting ∙ ap (λ (d : TablesView). d.waiting) c.drop_message.ensures.after in
+    let waiting = c.answer.ensures.messages ∙ ap (λ (d : TablesView). d.messages) c.drop_message.ensures.after in
     subst (λ rs. All (λ m. AreWithin rs m.vectors) (spm_of c.answer.new.tables).messages) (sym c.tell_lengths.ensures.regions)
-    (all-out (λ m. AreWithin (regions_of c.args.image.now) m.vectors) c.args.tables.now c.answer.new.tables c.in-Some.slot waiting c.requires.vectors)
+    (all-out (λ m. AreWithin (regions_of c.args.image.now) m.vectors) c.args.tables.now c.answer.new.tables c.in-Some.slot waiting c.requires.premises.vectors)
 
 pub returns-clause-names : goal.returns-clause-names
 returns-clause-names c =
-    reply-names c.args.system.now c.args.tables.now c.drop_message.new.self c.answer.new.tables c.in-Some.slot c.connection_of-connection.result c.requires.fits c.law.ensures.connections c.drop_message.ensures.after
-    c.answer.ensures.linked c.answer.ensures.waiting
+    reply-names c.args.system.now c.args.tables.now c.drop_message.new.self c.answer.new.tables c.in-Some.slot c.connection_of-connection.result c.requires.premises.tables.fits c.law.ensures.connections c.drop_message.ensures.after
+    c.answer.ensures.connections c.answer.ensures.messages
 
 pub returns-clause-settled : goal.returns-clause-settled
 returns-clause-settled c =
-    settled-fits c.args.system.now c.args.tables.now c.answer.new.tables c.args.actor.0 c.args.handle c.args.status.0 c.in-Some.slot c.queued-message.result c.answer.result c.requires.fits (replied-so c)
+    settled-fits c.args.system.now c.args.tables.now c.answer.new.tables c.args.actor.0 c.args.handle c.args.status.0 c.in-Some.slot c.queued-message.result c.answer.result c.requires.premises.tables.fits (replied-so c)

@@ -15,9 +15,9 @@ use Rattle.service_calls.proofs.Kept.{rhandle-fit, rhandle-within}
 
 pub connection_of-requires-clause-there : goal.connection_of-requires-clause-there
 connection_of-requires-clause-there c =
-    let s = c.requires.fits.0 in
-    connection-there s (spm_of c.args.tables.now) (λ m. is_service_of s c.args.actor.0 m.service && has_handle m.handle c.args.handle) (message_of c.in-Some.slot c.queued-message.result) c.requires.fits.1.1
-    (message-is c.args.tables.now c.in-Some.slot c.queued-message.result _ c.queued-message.ensures (c.in-Some.ensures.message s c.requires.fits.1.0))
+    let s = c.requires.premises.0 in
+    connection-there s (spm_of c.args.tables.now) (λ m. is_service_of s c.args.actor.0 m.service && has_handle m.handle c.args.handle) (message_of c.in-Some.slot c.queued-message.result) c.requires.premises.1.fits
+    (message-is c.args.tables.now c.in-Some.slot c.queued-message.result _ c.queued-message.ensures (c.in-Some.ensures.message s c.requires.premises.1.made))
 
 pub returns-in_default-clause-names : goal.returns-in_default-clause-names
 returns-in_default-clause-names c = λ s made. unchanged-names s c.args.tables.now c.args.tables.now refl
@@ -31,10 +31,10 @@ returns-clause-names c = λ s made.
 
 pub returns-clause-fits : goal.returns-clause-fits
 returns-clause-fits c = λ s fit.
-    let live : IsSome (item_at c.args.tables.now.linked c.in-Some-connection_of.connection) = search rules in
+    let live : IsSome (item_at c.args.tables.now.connections c.in-Some-connection_of.connection) = search rules in
     rhandle-fit s (spm_of c.args.tables.now) (spm_of c.set_rhandle.new.self) c.args.rhandle _ live c.set_rhandle.ensures.state fit
 
 pub returns-clause-within : goal.returns-clause-within
 returns-clause-within c = λ ranges all.
-    let live : IsSome (item_at c.args.tables.now.linked c.in-Some-connection_of.connection) = search rules in
+    let live : IsSome (item_at c.args.tables.now.connections c.in-Some-connection_of.connection) = search rules in
     rhandle-within ranges (spm_of c.args.tables.now) (spm_of c.set_rhandle.new.self) c.args.rhandle _ live c.set_rhandle.ensures.state all

@@ -18,10 +18,10 @@ use Rattle.spm_tables.specs.Answers.{state_with}
 
 pub read-count-requires-clause-within : goal.read-count-requires-clause-within
 read-count-requires-clause-within c =
-    holds-at (λ m. AreWithin (regions_of c.args.image.now) m.vectors) c.args.tables.now c.in-Some.slot c.queued.result c.requires.vectors c.queued.ensures
+    holds-at (λ m. AreWithin (regions_of c.args.image.now) m.vectors) c.args.tables.now c.in-Some.slot c.queued.result c.requires.premises.vectors c.queued.ensures
 
 pub read-count-requires-clause-buffer : goal.read-count-requires-clause-buffer
-read-count-requires-clause-buffer c = rw c.requires.regions (buffer_inside c.args.system.now c.args.actor.0 c.args.buffer c.args.len (sym c.if-not-valid_buffer.ensures))
+read-count-requires-clause-buffer c = rw c.requires.premises.regions (buffer_inside c.args.system.now c.args.actor.0 c.args.buffer c.args.len (sym c.if-not-valid_buffer.ensures))
 
 pub returns-clause-answer : goal.returns-clause-answer
 returns-clause-answer c =
@@ -29,7 +29,7 @@ returns-clause-answer c =
     λ given.
     read-due c.args.system.now c.args.tables.now c.set_vectors.new.tables given c.args.image.now c.read-count.new.image c.args.actor.0 c.args.index c.args.buffer c.args.len c.read-count.result
     c.args.handle c.in-Some.slot c.queued.result c.read-count.new.vectors
-    (message-is c.args.tables.now c.in-Some.slot c.queued.result _ c.queued.ensures (c.in-Some.ensures.request c.args.system.now c.requires.made)) (sym c.if-not-valid_buffer.ensures)
+    (message-is c.args.tables.now c.in-Some.slot c.queued.result _ c.queued.ensures (c.in-Some.ensures.request c.args.system.now c.requires.premises.tables.made)) (sym c.if-not-valid_buffer.ensures)
     c.read-count.ensures.number c.read-count.ensures.vectors c.read-count.ensures.bytes changed
 
 pub returns-in_default-clause-names : goal.returns-in_default-clause-names
@@ -40,7 +40,7 @@ returns-then-not-valid_buffer-clause-names c = unchanged-names c.args.system.now
 
 pub returns-clause-vectors : goal.returns-clause-vectors
 returns-clause-vectors c =
-    c.set_vectors.ensures.within (regions_of c.read-count.new.image) c.read-count.ensures.within (subst (λ rs. All (λ m. AreWithin rs m.vectors) (spm_of c.args.tables.now).messages) (sym c.read-count.ensures.regions) c.requires.vectors)
+    c.set_vectors.ensures.within (regions_of c.read-count.new.image) c.read-count.ensures.within (subst (λ rs. All (λ m. AreWithin rs m.vectors) (spm_of c.args.tables.now).messages) (sym c.read-count.ensures.regions) c.requires.premises.vectors)
 
 pub returns-clause-fits : goal.returns-clause-fits
 returns-clause-fits c = λ fit.

@@ -9,4 +9,4 @@ pub returns-in-Some-clause-names : goal.returns-in-Some-clause-names
 returns-in-Some-clause-names c =
     let left : reply_on c.args.system.now (spm_of c.args.tables.now) c.args.actor.0 c.args.handle c.args.status.0 ≡ Some (record { spm = spm_of c.reply.new.tables; owing = Some c.in-Some.client.0 }) = search rules in
     names-owed c.args.system.now c.args.tables.now c.reply.new.tables c.panic.new.tables c.args.actor.0 c.in-Some.client.0 c.args.handle c.args.status.0
-    c.requires.fits left c.panic.ensures.state c.reply.ensures.names c.panic.ensures.names
+    c.requires.premises.tables.fits left c.panic.ensures.state c.reply.ensures.names c.panic.ensures.names

@@ -10,8 +10,8 @@ use Rattle.spm_tables.specs.Answers.{Answers, state_with}
 use Rattle.spm_core.proofs.Attempted.{attempts-answer, shows-all}
 use Rattle.spm_core.proofs.calls.client_call.Goals as goal
 
-pub close-requires-clause-fits : goal.close-requires-clause-fits
-close-requires-clause-fits c = (c.args.system.now, (c.requires.made, c.requires.fits))
+pub close-requires-clause-premises : goal.close-requires-clause-premises
+close-requires-clause-premises c = (c.args.system.now, c.requires.premises.tables)
 
 pub returns-in-FrameworkVersion-clause-names : goal.returns-in-FrameworkVersion-clause-names
 returns-in-FrameworkVersion-clause-names c = names-same c.args.system.now c.args.tables.now c.args.tables.now refl refl

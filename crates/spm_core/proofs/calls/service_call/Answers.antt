@@ -8,7 +8,7 @@ use Rattle.spm_core.proofs.Attempted.{attempts-effect, attempts-err, shows-due}
 use Rattle.spm_core.proofs.calls.service_call.Goals as goal
 
 pub set_rhandle-requires : goal.set_rhandle-requires
-set_rhandle-requires c = record { fits = (c.args.system.now, (c.requires.made, c.requires.fits)) }
+set_rhandle-requires c = record { premises = (c.args.system.now, c.requires.premises.tables) }
 
 pub returns-in_err-message-in-Get-clause-attempts : goal.returns-in_err-message-in-Get-clause-attempts
 returns-in_err-message-in-Get-clause-attempts c =

@@ -1,6 +1,6 @@
 use Rattle.std.proofs.Common.{arith, length, length-append, [], ◌∷◌, None, ◌-◌, ◌+◌, ◌≡◌, rules, sym, ◌∙◌, ap, refl, subst}
 use Rattle.atomic_table.specs.Table.{rest}
-use Rattle.spm_core.specs.Manager.{Answers}
+use Rattle.spm_core.specs.Manager.{StepAnswers}
 use Rattle.spm_lock.specs.declared.view.Stage.TheVariants.{Has, Idle}
 use Rattle.spm_lock.specs.Views.{pass_with, right_of}
 use Rattle.spm_lock.specs.Passes.{front, turns}
@@ -14,7 +14,7 @@ compare_exchange_with-requires c =
     let m = c.args.seat.now.me in
     let t = c.requires.stepped in
     let after = c.args.manager.value.history in
-    let made = subst (λ r. Answers m.0.start.opening (front m) c.args.actor.0 t.call r after) c.in-Made.is t.answered in
+    let made = subst (λ r. StepAnswers m.0.start.opening (front m) c.args.actor.0 t.call r after) c.in-Made.is t.answered in
     let new : c.from-length.result ≡ length after = c.from-length.ensures ∙ made.place_is in
     let longer : length after ≡ length (front m) + 1 = ap length made.added ∙ length-append (front m) (c.in-Made.entry ∷ []) in
     let short = t.short in

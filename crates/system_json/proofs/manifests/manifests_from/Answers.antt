@@ -1,12 +1,12 @@
 use Rattle.std.proofs.Common.{Err, Ok, arith, ◌≡◌, ◌+◌, ◌∙◌, ◌∷◌, ◌++◌, [], length-append}
 use Rattle.std.proofs.lemmas.Result.{err_from_is_err_and}
+use Rattle.list_laws.proofs.Lists.{AllByRecursion-push}
 use Rattle.serde_json.specs.View.{view}
 use Rattle.ffm_model.specs.declared.manifest.Manifest.{Manifest}
 use Rattle.ffm_model.specs.ManifestItems.{IsManifest}
 use Rattle.ffm_model.specs.Reading.{Gives}
 use Rattle.ffm_model.specs.Systems.{manifest_item}
 use Rattle.outside_io.specs.Reads.{ReadBetween, HasRead}
-use Rattle.manifest_json.proofs.Lists.{kept_push}
 use Rattle.system_json.proofs.ManifestSteps.{goes_on, ends, is_done, rest_of, told_still, whole_of}
 use Rattle.system_json.proofs.ManifestReads.{goes_on_read, ends_read, is_done_read, stops_read}
 use Rattle.system_json.proofs.AloneLemmas.{ends_alone, goes_on_alone, is_done_alone, item_alone}
@@ -89,7 +89,7 @@ loop-i-preserved g c =
       keeps = c.manifest_item.ensures.keeps ∙ c.loop-i.invariant.keeps;
       steady = c.in_ok-manifest.ensures.steady (λ h. cc) ∙ c.loop-i.invariant.steady;
       later = omega (arith, c.loop-i.invariant.later, c.manifest_item.ensures.later);
-      kept = rw c.in_ok-push.ensures.items (kept_push IsManifest c.loop-i.found.items m c.loop-i.invariant.kept c.in_ok-manifest.ensures.kept);
+      kept = rw c.in_ok-push.ensures.items (AllByRecursion-push IsManifest c.loop-i.found.items m c.loop-i.invariant.kept c.in_ok-manifest.ensures.kept);
       count = rw c.in_ok-push.ensures.items (omega (arith, c.loop-i.invariant.count, length-append {A = Manifest} c.loop-i.found.items (m ∷ [])));
     }
 

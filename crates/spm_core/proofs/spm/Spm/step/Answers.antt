@@ -5,7 +5,7 @@ use Rattle.ffm_model.specs.Actors.{actor_count}
 use Rattle.spm_tables.specs.TablesView.{spm_of}
 use Rattle.spm_core.specs.Manager.{refusal_at}
 use Rattle.spm_core.proofs.Made.{IsCalled}
-use Rattle.spm_core.proofs.Kept.{IsFree, free, keeps-next, made-next, may-kept, objects-kept, reach-next, refusal-kept, refused-answers, takes-kept, vectors-kept}
+use Rattle.spm_core.proofs.Kept.{IsFree, free, keeps-next, made-next, may-kept, premises-kept, reach-next, refusal-kept, refused-answers, takes-kept}
 use Rattle.spm_core.proofs.spm.Spm.step.Goals as goal
 
 pub returns-in-Some-clause-answer : goal.returns-in-Some-clause-answer
@@ -19,17 +19,11 @@ perform-outcome-requires-clause-may c =
     let none : refusal_at c.self.inside.system c.self.inside.limit (length c.self.inside.history.items) (spm_of c.self.inside.tables.value) c.args.actor.0 ≡ None = search rules in
     rw c.deref_mut.ensures.value (may-kept _ _ _ _ _ c.args.actor.0 c.args.call c.self.invariant below (rw (← c.self.view_is) at c.requires.due) none)
 
-pub perform-outcome-requires-clause-fits : goal.perform-outcome-requires-clause-fits
-perform-outcome-requires-clause-fits c = rw c.deref_mut.ensures.value (objects-kept _ _ _ _ _ c.self.invariant)
+pub perform-outcome-requires-clause-premises : goal.perform-outcome-requires-clause-premises
+perform-outcome-requires-clause-premises c = rw c.deref_mut.ensures.value (premises-kept _ _ _ _ _ c.self.invariant)
 
-pub perform-outcome-requires-clause-few_connections : goal.perform-outcome-requires-clause-few_connections
-perform-outcome-requires-clause-few_connections c = rw c.deref_mut.ensures.value ((takes-kept _ _ _ _ _ c.self.invariant).connections)
-
-pub perform-outcome-requires-clause-few_messages : goal.perform-outcome-requires-clause-few_messages
-perform-outcome-requires-clause-few_messages c = rw c.deref_mut.ensures.value ((takes-kept _ _ _ _ _ c.self.invariant).messages)
-
-pub perform-outcome-requires-clause-vectors : goal.perform-outcome-requires-clause-vectors
-perform-outcome-requires-clause-vectors c = rw c.deref_mut.ensures.value (vectors-kept _ _ _ _ _ c.self.invariant)
+pub perform-outcome-requires-clause-takes : goal.perform-outcome-requires-clause-takes
+perform-outcome-requires-clause-takes c = rw c.deref_mut.ensures.value (takes-kept _ _ _ _ _ c.self.invariant)
 
 pub invariant_of-self : goal.invariant_of-self
 invariant_of-self c =

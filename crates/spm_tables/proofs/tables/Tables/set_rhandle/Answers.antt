@@ -5,7 +5,6 @@ use Rattle.spm_tables.proofs.tables.Tables.set_rhandle.Goals as goal
 pub invariant_of-self : goal.invariant_of-self
 invariant_of-self c = (
   c.self.invariant.0,
-  c.self.invariant.1,
-  slots-changed c.self.inside.connections c.set_rhandle.new.self c.self.inside.messages c.args.slot (λ d. record d { rhandle = c.args.rhandle }) (λ d. refl)
-      (rw (← c.self.view_is) at c.requires) c.set_rhandle.ensures.item c.self.invariant.2,
+  slots-changed c.self.inside.connections c.set_rhandle.new.self c.self.inside.queues.messages c.args.slot (λ d. record d { rhandle = c.args.rhandle }) (λ d. refl)
+      (rw (← c.self.view_is) at c.requires) c.set_rhandle.ensures.item c.self.invariant.1,
 )

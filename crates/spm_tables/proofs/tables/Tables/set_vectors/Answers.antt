@@ -1,19 +1,20 @@
 use Rattle.std.proofs.Common.{refl}
-use Rattle.spm_tables.proofs.QueueMessages.{keeps-vectors}
-use Rattle.spm_tables.proofs.SlotLemmas.{slots-put}
-use Rattle.spm_tables.proofs.MessageLemmas.{vectors-state}
+use Rattle.spm_tables.proofs.MessageLemmas.{vectors-states}
+use Rattle.spm_tables.proofs.SlotLemmas.{services-written, slots-written}
+use Rattle.spm_tables.proofs.WordLemmas.{shows-same}
 use Rattle.spm_tables.specs.contracts.tables.Tables.{the_view}
 use Rattle.spm_tables.proofs.tables.Tables.set_vectors.Goals as goal
 
 pub returns-clause-state : goal.returns-clause-state
 returns-clause-state c =
-    rw (← c.self.view_is, c.live_item-item.ensures, c.set.ensures)
-    (λ on. vectors-state (the_view c.self.inside) c.args.slot c.live_item-item.result c.args.vectors c.law.ensures c.live_item-item.ensures on)
+    let t = c.self.inside in
+    rw (← c.self.view_is) (vectors-states (the_view t) t.queues.services c.set_vectors.new.self c.args.slot c.args.vectors c.law.ensures c.set_vectors.ensures.after)
 
 pub invariant_of-self : goal.invariant_of-self
 invariant_of-self c =
-    rw c.set.ensures (
-      keeps-vectors c.self.inside.messages c.self.inside.services.items.items c.self.inside.links.items.items c.self.inside.ends.items.items c.args.slot c.live_item-item.result c.args.vectors c.law.ensures c.self.invariant.0 c.live_item-item.ensures,
-      c.self.invariant.1,
-      slots-put c.self.inside.connections c.self.inside.messages c.args.slot c.live_item-item.result (record c.live_item-item.result { vectors = c.args.vectors }) c.live_item-item.ensures refl refl c.self.invariant.2,
+    let t = c.self.inside in
+    let r = c.set_vectors.new.self in
+    let live = rw (← c.self.view_is) at c.requires in (
+      shows-same t.board t.queues r c.self.invariant.0 (services-written t.queues r c.args.slot (λ m. record m { vectors = c.args.vectors }) live c.set_vectors.ensures.after) c.set_vectors.ensures.all,
+      slots-written t.connections t.queues r c.args.slot (λ m. record m { vectors = c.args.vectors }) (λ m. refl) (λ m. refl) live c.set_vectors.ensures.after c.self.invariant.1,
     )

@@ -4,5 +4,5 @@ use Rattle.spm_tables.proofs.tables.Tables.signals.Goals as goal
 
 pub returns : goal.returns
 returns c =
-    rw (c.word_at.ensures, c.as_slice.ensures.value, ← c.self.view_is)
-    (λ s made. stored (the_view c.self.inside) s c.self.inside.links.items.items c.self.inside.ends.items.items c.self.inside.words.items.items c.args.partition.0 c.self.invariant.0 c.self.invariant.1 made)
+    let t = c.self.inside in
+    rw (← c.self.view_is) (λ s made. stored (the_view t) s t.board.waiting t.queues.services c.word.result c.args.partition.0 c.self.invariant.0 c.word.ensures.there c.word.ensures.none made)

@@ -1,0 +1,4 @@
+pub mod Bools
+pub mod Lists
+pub mod Tests
+pub mod Counts

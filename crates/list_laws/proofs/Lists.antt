@@ -1,0 +1,27 @@
+-- Lists with one item more, lists that are empty, and what holds of each item.
+use Rattle.std.proofs.Common.{ℕ, zero, suc, ◌≡◌, ◌+◌, List, [], ◌∷◌, ◌++◌, map, arith, ◌∙◌, ap, refl, subst}
+use Rattle.std.specs.Prelude.{Some, slice_get}
+use Rattle.std.specs.List.{AllByRecursion, range_with_len}
+
+pub append_nil : {X : Type 0} (xs ys : List X) → xs ++ ys ≡ [] → (xs ≡ []) × (ys ≡ [])
+append_nil [] ys e = (refl, e)
+append_nil (x ∷ xs) ys e = absurd cc
+
+pub map_nil : {X Y : Type 0} (f : X → Y) (xs : List X) → map f xs ≡ [] → xs ≡ []
+map_nil f [] e = refl
+map_nil f (x ∷ xs) e = absurd cc
+
+pub range_with_len-more : (a n : ℕ) → range_with_len a (suc n) ≡ range_with_len a n ++ (a + n) ∷ []
+range_with_len-more a zero = ap (λ (x : ℕ). x ∷ []) (omega arith)
+range_with_len-more a (suc n) =
+    let same : a + 1 + n ≡ a + suc n = omega arith in
+    ap (λ (xs : List ℕ). a ∷ xs) (range_with_len-more (a + 1) n ∙ ap (λ (x : ℕ). range_with_len (a + 1) n ++ x ∷ []) same)
+
+pub AllByRecursion-push : {X : Type 0} (P : X → Type 0) (xs : List X) (x : X) → AllByRecursion P xs → P x → AllByRecursion P (xs ++ x ∷ [])
+AllByRecursion-push P [] x h k = (k, tt)
+AllByRecursion-push P (y ∷ ys) x h k = (h.0, AllByRecursion-push P ys x h.1 k)
+
+pub AllByRecursion-at : {X : Type 0} (P : X → Type 0) (xs : List X) (i : ℕ) (x : X) → AllByRecursion P xs → slice_get xs i ≡ Some x → P x
+AllByRecursion-at P [] i x h e = absurd (cc)
+AllByRecursion-at P (y ∷ ys) zero x h e = let same : y ≡ x = cc in subst P same h.0
+AllByRecursion-at P (y ∷ ys) (suc i) x h e = AllByRecursion-at P ys i x h.1 e

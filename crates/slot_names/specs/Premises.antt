@@ -1,0 +1,39 @@
+-- What a call of an actor rests on: the manager knows it of its tables and its image behind each event of a run.
+-- Source: this manager's; that handles have generations up to 0xfffff is this profile's, and FF-M 1.0 leaves open how many objects a manager can make.
+use Rattle.std.specs.Prelude.{◌≡◌, ℕ, ◌+◌, ◌≤◌, List, All}
+use Rattle.ffm_model.specs.declared.scenario.Bytes.{Bytes}
+use Rattle.ffm_model.specs.declared.system.System.{System}
+use Rattle.counting_law.specs.Objects.{ObjectsFit}
+use Rattle.counting_law.specs.Takes.{last_generation}
+use Rattle.memory_image.specs.Pieces.{ranges_of, regions_of}
+use Rattle.message_vectors.specs.Vectors.{AreWithin}
+use Rattle.spm_tables.specs.TablesView.{MadeFor, TablesView, spm_of}
+
+-- what a call that touches no memory rests on
+pub record Premises (s : System) (d : TablesView) : Type 0 where
+  -- the tables were made for the system
+  pub made : MadeFor d s
+  -- their connections and messages fit it
+  pub fits : ObjectsFit s (spm_of d)
+
+-- what a call that reads or writes memory rests on
+pub record PremisesWithMemory (s : System) (d : TablesView) (bytes : List Bytes) : Type 0 where
+  pub tables : Premises s d
+  -- the image has the regions of the system
+  pub regions : regions_of bytes ≡ ranges_of s.regions
+  -- the vectors of each message lie in them
+  pub vectors : All (λ m. AreWithin (regions_of bytes) m.vectors) (spm_of d).messages
+
+-- ---- calls that make connections or messages
+
+-- the most connections, and the most messages, that one call makes with the panic that it owes
+abbrev pub most_taken : ℕ
+most_taken = 256
+
+-- of objects of which so many were made, so many more can be made: each may need a generation of its own, and those end at the last one that a handle shows
+abbrev pub AreLeft : ℕ → Type 0
+AreLeft takes = takes + most_taken ≤ last_generation
+
+pub record LeavesTakes (d : TablesView) : Type 0 where
+  pub connections : AreLeft d.connections.takes
+  pub messages : AreLeft d.messages.takes

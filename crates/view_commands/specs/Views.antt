@@ -1,0 +1,37 @@
+-- What is shown of a trace: the record that a text is written of, and the status that goes with it.
+-- Source: this simulator's.
+use Rattle.std.specs.Prelude.{◌≡◌, ◌<◌, ◌≤◌, ℕ, length, None, Some}
+use Rattle.ffm_model.specs.Memory.{ByteMap, opening_memory}
+use Rattle.trace_counts.specs.Counted.{IsCounted}
+use Rattle.trace_view.specs.Showing.{IsIllegalAt, IsLastLegal, IsStateBehind}
+use Rattle.trace_view.specs.Why.{IsFinding}
+use Rattle.trace_view.specs.declared.reasons.Finding.TheVariants as finding
+use Rattle.view_commands.specs.declared.files.TraceFiles.{TraceFiles}
+use Rattle.view_commands.specs.declared.view.View.{View}
+use Rattle.view_commands.specs.declared.view.View.TheVariants as view
+use Rattle.view_words.specs.declared.words.Aspect.{Aspect}
+use Rattle.view_words.specs.declared.words.Aspect.TheVariants as aspect
+
+-- the memory that the trace begins with
+abbrev pub memory_of : TraceFiles → ByteMap
+memory_of f = opening_memory f.work.scenario.memory
+
+-- what an aspect shows of the files of a trace
+abbrev pub IsView : TraceFiles → Aspect → View → Type 0
+IsView f (aspect.State None) (view.State b) = IsLastLegal f.work.system (memory_of f) f.work.scenario.limit f.trace.entries b
+IsView f (aspect.State (Some k)) (view.State b) = IsStateBehind f.work.system (memory_of f) f.trace.entries k b
+IsView f (aspect.State (Some k)) (view.NoPlace place total) = (place ≡ k) × ((total ≡ length f.trace.entries) × (total < k))
+IsView f (aspect.State (Some k)) (view.NoState illegal place) = (place ≡ k) × ((illegal ≤ k) × IsIllegalAt f.work.system (memory_of f) f.work.scenario.limit f.trace.entries illegal)
+IsView f aspect.Why (view.Why found) = IsFinding f.work.system (memory_of f) f.work.scenario.limit f.trace.entries f.trace.verdict found
+IsView f aspect.Stats (view.Stats counts) = IsCounted f.work.system (memory_of f) f.work.scenario.limit f.trace.entries counts
+IsView f (aspect.Diagram from to format) (view.NoPlace place total) = (total ≡ length f.trace.entries) × (total < place)
+IsView f (aspect.Diagram from to format) (view.Diagram text) = Unit {0}
+IsView _ _ _ = ⊥
+
+-- 0: it is shown, and a trace of which `why` tells is legal. 2: the trace has no such place. 6: the trace is illegal
+abbrev pub status_of : View → ℕ
+status_of (view.NoPlace place total) = 2
+status_of (view.NoState illegal place) = 6
+status_of (view.Why (finding.Legal count)) = 0
+status_of (view.Why _) = 6
+status_of _ = 0

@@ -1,0 +1,8 @@
+//! The commands of `ffm_view`: the files that they read, their texts and statuses.
+#![tactic(auto)]
+
+mod files;
+mod top;
+mod view;
+
+pub use top::ffm_view;

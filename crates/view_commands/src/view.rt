@@ -1,0 +1,202 @@
+//! What is shown of a trace.
+ghost use Rattle.std.specs.Prelude.{◌≡◌, IfOk, length};
+ghost use Rattle.ffm_model.specs.Memory.{opening_memory};
+ghost use Rattle.memory_image.specs.Pieces.{byte_at, ranges_of, regions_of};
+ghost use Rattle.view_commands.specs.Files.{AreTraceFiles};
+ghost use Rattle.view_commands.specs.Views.{IsView, memory_of, status_of};
+
+use crate::files::TraceFiles;
+use ffm_model::{Memory, System};
+use itoa::Buffer;
+use memory_image::Image;
+use scenario_runs::opening_image;
+use std::alloc::{AllocError, Global};
+use trace_counts::{TraceCounts, stats, stats_text};
+use trace_diagram::{Part, diagram};
+use trace_view::{
+    Finding, Place, StateBehind, behind_last, behind_place, state_text, why, why_text,
+};
+use view_words::{Aspect, Format};
+
+/// What is shown.
+#[derive(Drop)]
+pub enum View {
+    /// The state behind an entry.
+    State(StateBehind),
+    /// That the trace has no such place, but so many entries.
+    NoPlace { place: u32, total: u32 },
+    /// That no state is behind a place, since an entry up to it is illegal.
+    NoState { illegal: u32, place: u32 },
+    Why(Finding),
+    /// A diagram's text.
+    Diagram(Vec<u8>),
+    Stats(TraceCounts),
+}
+
+fn state_at(alloc: Global, files: &TraceFiles, image: &Image, place: u32) -> Result<View, Memory>
+    requires files { AreTraceFiles files.now }
+    requires regions { regions_of image.now ≡ ranges_of files.now.work.system.regions }
+    requires bytes { byte_at image.now ≡ memory_of files.now }
+    ensures { IfOk result (IsView files.now (Aspect.State (Some place))) }
+{
+    let system = &files.work.system;
+    let limit = files.work.scenario.limit;
+    match behind_place(alloc, system, image, limit, &files.trace, place)? {
+        Place::State(behind) => Ok(View::State(behind)),
+        Place::Beyond => Ok(View::NoPlace {
+            place,
+            total: files.trace.entries.len() as u32,
+        }),
+        Place::Illegal(illegal) => Ok(View::NoState { illegal, place }),
+    }
+}
+
+fn last_state(alloc: Global, files: &TraceFiles, image: &Image) -> Result<View, Memory>
+    requires files { AreTraceFiles files.now }
+    requires regions { regions_of image.now ≡ ranges_of files.now.work.system.regions }
+    requires bytes { byte_at image.now ≡ memory_of files.now }
+    ensures { IfOk result (IsView files.now (Aspect.State None)) }
+{
+    let system = &files.work.system;
+    let limit = files.work.scenario.limit;
+    Ok(View::State(behind_last(alloc, system, image, limit, &files.trace)?))
+}
+
+fn finding_of(alloc: Global, files: &TraceFiles, image: &Image) -> Result<View, Memory>
+    requires files { AreTraceFiles files.now }
+    requires regions { regions_of image.now ≡ ranges_of files.now.work.system.regions }
+    requires bytes { byte_at image.now ≡ memory_of files.now }
+    ensures { IfOk result (IsView files.now Aspect.Why) }
+{
+    let system = &files.work.system;
+    let limit = files.work.scenario.limit;
+    Ok(View::Why(why(alloc, system, image, limit, &files.trace)?))
+}
+
+fn counts_of(alloc: Global, files: &TraceFiles, image: &Image) -> Result<View, Memory>
+    requires files { AreTraceFiles files.now }
+    requires regions { regions_of image.now ≡ ranges_of files.now.work.system.regions }
+    requires bytes { byte_at image.now ≡ memory_of files.now }
+    ensures { IfOk result (IsView files.now Aspect.Stats) }
+{
+    let system = &files.work.system;
+    let limit = files.work.scenario.limit;
+    Ok(View::Stats(stats(alloc, system, image, limit, &files.trace)?))
+}
+
+fn drawn_as(format: Format) -> trace_diagram::Format {
+    match format {
+        Format::Mermaid => trace_diagram::Format::Mermaid,
+        Format::Html => trace_diagram::Format::Html,
+    }
+}
+
+// The diagram between two places, or that the trace has not the second, or not the first.
+fn diagram_of(
+    alloc: Global,
+    files: &TraceFiles,
+    image: &Image,
+    from: Option<u32>,
+    to: Option<u32>,
+    format: Format,
+) -> Result<View, Memory>
+    requires files { AreTraceFiles files.now }
+    requires regions { regions_of image.now ≡ ranges_of files.now.work.system.regions }
+    ensures { IfOk result (IsView files.now (Aspect.Diagram from to format)) }
+{
+    let total = files.trace.entries.len() as u32;
+    let part = Part {
+        from: from.unwrap_or(1),
+        to: to.unwrap_or(total),
+    };
+    if part.to > total {
+        return Ok(View::NoPlace {
+            place: part.to,
+            total,
+        });
+    }
+    if part.from > total && from.is_some() {
+        return Ok(View::NoPlace {
+            place: part.from,
+            total,
+        });
+    }
+    let system = &files.work.system;
+    let limit = files.work.scenario.limit;
+    let text = diagram(
+        alloc,
+        system,
+        image,
+        limit,
+        &files.trace,
+        part,
+        drawn_as(format),
+    )?;
+    Ok(View::Diagram(text))
+}
+
+/// What an aspect shows of a trace. Memory where no memory was found.
+pub fn view_of(alloc: Global, files: &TraceFiles, aspect: Aspect) -> Result<View, Memory>
+    requires { AreTraceFiles files.now }
+    ensures { IfOk result (IsView files.now aspect) }
+{
+    let image = opening_image(alloc, &files.work.system, &files.work.scenario)?;
+    match aspect {
+        Aspect::State(Some(place)) => state_at(alloc, files, &image, place),
+        Aspect::State(None) => last_state(alloc, files, &image),
+        Aspect::Why => finding_of(alloc, files, &image),
+        Aspect::Diagram { from, to, format } => diagram_of(alloc, files, &image, from, to, format),
+        Aspect::Stats => counts_of(alloc, files, &image),
+    }
+}
+
+// A line of words and numbers.
+fn line(alloc: Global, pieces: &[(&str, u32)], end: &str) -> Result<Vec<u8>, AllocError> {
+    let mut text = Vec::new(alloc);
+    for (words, number) in pieces {
+        text.extend_from_slice(words.as_bytes())?;
+        text.extend_from_slice(Buffer::new().format(*number).as_bytes())?;
+    }
+    text.extend_from_slice(end.as_bytes())?;
+    Ok(text)
+}
+
+fn no_place(alloc: Global, place: u32, total: u32) -> Result<Vec<u8>, AllocError> {
+    let pieces = [("no entry ", place), (": the trace has ", total)];
+    line(alloc, &pieces, "\n")
+}
+
+fn no_state(alloc: Global, illegal: u32, place: u32) -> Result<Vec<u8>, AllocError> {
+    let pieces = [
+        ("entry ", illegal),
+        (" is illegal: no state behind entry ", place),
+    ];
+    line(alloc, &pieces, "; ffm_view why tells more\n")
+}
+
+impl View {
+    /// The text of what is shown of a trace over this system.
+    pub fn into_text(self, alloc: Global, system: &System) -> Result<Vec<u8>, AllocError> {
+        match self {
+            View::State(behind) => state_text(alloc, system, &behind),
+            View::NoPlace { place, total } => no_place(alloc, place, total),
+            View::NoState { illegal, place } => no_state(alloc, illegal, place),
+            View::Why(finding) => why_text(alloc, system, &finding),
+            View::Diagram(text) => Ok(text),
+            View::Stats(counts) => stats_text(alloc, system, &counts),
+        }
+    }
+
+    /// The status to end with.
+    pub fn status(&self) -> u8
+        ensures { result ≡ status_of self.now }
+    {
+        match self {
+            View::NoPlace { .. } => 2,
+            View::NoState { .. } => 6,
+            View::Why(Finding::Legal(_)) => 0,
+            View::Why(_) => 6,
+            _ => 0,
+        }
+    }
+}

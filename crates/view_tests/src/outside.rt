@@ -1,0 +1,174 @@
+//! Words that are no command, refused files, failing reads and puts.
+
+use crate::texts::{files_of, words_of, written};
+use ffm_model::List;
+use outside_io::MemorySink;
+use std::alloc::Global;
+use std::test::Fail;
+use view_commands::ffm_view;
+use view_words::VERSION;
+
+/// A trace that is legal where the client and the partitions end.
+const ENDED: &str =
+    "p1 stop end -> done\np2 stop end -> done\nn1 stop end -> done\ndev stop end -> done\nquiet 4\n";
+
+/// Lists of words, and the status that comes of each.
+const LISTS: [(&[&str], u8); 22] = [
+    (&[], 2),
+    (&["ffm_view"], 2),
+    (&["ffm_view", "show"], 2),
+    (&["ffm_view", "why"], 2),
+    (&["ffm_view", "why", "system", "scenario"], 2),
+    (&["ffm_view", "why", "system", "scenario", "trace", "1"], 2),
+    (
+        &["ffm_view", "why", "--all", "system", "scenario", "trace"],
+        2,
+    ),
+    (
+        &["ffm_view", "state", "system", "scenario", "trace", "x"],
+        2,
+    ),
+    (
+        &["ffm_view", "state", "system", "scenario", "trace", "-1"],
+        2,
+    ),
+    (
+        &[
+            "ffm_view",
+            "state",
+            "system",
+            "scenario",
+            "trace",
+            "4294967296",
+        ],
+        2,
+    ),
+    (
+        &["ffm_view", "state", "system", "scenario", "trace", "5"],
+        2,
+    ),
+    (
+        &["ffm_view", "state", "system", "scenario", "trace", "4"],
+        0,
+    ),
+    (
+        &[
+            "ffm_view", "diagram", "--from", "0", "system", "scenario", "trace",
+        ],
+        2,
+    ),
+    (
+        &[
+            "ffm_view", "diagram", "--to", "5", "system", "scenario", "trace",
+        ],
+        2,
+    ),
+    (
+        &[
+            "ffm_view", "diagram", "--format", "text", "system", "scenario", "trace",
+        ],
+        2,
+    ),
+    (
+        &[
+            "ffm_view", "diagram", "--from", "2", "--to", "3", "system", "scenario", "trace",
+        ],
+        0,
+    ),
+    (&["ffm_view", "stats", "system", "scenario", "trace"], 0),
+    (&["ffm_view", "stats", "nothing", "scenario", "trace"], 7),
+    (&["ffm_view", "stats", "system", "nothing", "trace"], 7),
+    (&["ffm_view", "stats", "system", "scenario", "nothing"], 7),
+    (&["ffm_view", "--help"], 0),
+    (&["ffm_view", "state", "--help"], 0),
+];
+
+#[test]
+fn lists_of_words(rt: HostRuntime) -> Result<(), Fail> {
+    for (words, wanted) in LISTS {
+        let (status, text) = written(rt.alloc(), words, "{}", ENDED)?;
+        assert_eq!(rt; status, wanted, "{words:?}");
+        assert_eq!(rt; text.is_empty(), wanted == 7, "{words:?}");
+    }
+    Ok(())
+}
+
+#[test]
+fn version(rt: HostRuntime) -> Result<(), Fail> {
+    let (status, text) = written(rt.alloc(), &["ffm_view", "--version"], "{}", ENDED)?;
+    assert_eq!(rt; status, 0);
+    assert_eq!(rt;
+        text.as_slice(),
+        format!(in rt.alloc(); "ffm_view {VERSION}\n")?.as_bytes()
+    );
+    Ok(())
+}
+
+/// Scenarios and traces, and the refusal of each pair.
+const REFUSALS: [(&str, &str, &str); 4] = [
+    ("{", ENDED, "refused 1 Json scenario\n"),
+    (
+        r#"{"interrupts":[1]}"#,
+        ENDED,
+        "refused 20 UnknownActor scenario /interrupts/0\n",
+    ),
+    (
+        r#"{"restarts":1}"#,
+        ENDED,
+        "refused 4 BadValue scenario /restarts\n",
+    ),
+    (
+        "{}",
+        "p1 stop end -> done\np9 stop end -> done\nquiet 2\n",
+        "refused 24 TraceSyntax trace /2\n",
+    ),
+];
+
+#[test]
+fn refusals(rt: HostRuntime) -> Result<(), Fail> {
+    let words = ["ffm_view", "state", "system", "scenario", "trace"];
+    for (scenario, trace, refusal) in REFUSALS {
+        let (status, text) = written(rt.alloc(), &words, scenario, trace)?;
+        assert_eq!(rt; status, 1, "{refusal}");
+        assert_eq!(rt; text.as_slice(), refusal.as_bytes(), "{refusal}");
+    }
+    Ok(())
+}
+
+#[test]
+fn no_state_behind_an_illegal_entry(rt: HostRuntime) -> Result<(), Fail> {
+    let words = ["ffm_view", "state", "system", "scenario", "trace", "2"];
+    let trace = "p1 stop end -> done\np1 stop end -> done\nquiet 2\n";
+    let (status, text) = written(rt.alloc(), &words, "{}", trace)?;
+    let wanted = "entry 2 is illegal: no state behind entry 2; ffm_view why tells more\n";
+    assert_eq!(rt; status, 6);
+    assert_eq!(rt; text.as_slice(), wanted.as_bytes());
+    Ok(())
+}
+
+// The status of `why` where a read or a put fails, each by its number, and how many bytes were written.
+fn status_of(alloc: Global, failing_read: u32, failing_put: u32) -> Result<(u8, usize), Fail> {
+    let words = words_of(alloc, &["ffm_view", "why", "system", "scenario", "trace"])?;
+    let mut files = files_of(alloc, "{}", ENDED)?;
+    files.fail_at(List::of(vec![in alloc; failing_read]?));
+    let failing = List::of(vec![in alloc; failing_put]?);
+    let mut sink = MemorySink::new(alloc, 4096, 256, failing)?;
+    let status = ffm_view(alloc, words.as_slice(), &mut files, &mut sink);
+    Ok((status, sink.bytes().len()))
+}
+
+#[test]
+fn failing_reads_and_puts(rt: HostRuntime) -> Result<(), Fail> {
+    for (failing_read, failing_put, status, bytes) in [
+        (1, 0, 7, 0),
+        (2, 0, 7, 0),
+        (3, 0, 7, 0),
+        (4, 0, 0, 8),
+        (0, 1, 8, 0),
+        (0, 0, 0, 8),
+    ] {
+        let found = status_of(rt.alloc(), failing_read, failing_put)?;
+        assert_eq!(rt; found, (status, bytes), "{failing_read} {failing_put}");
+    }
+    Ok(())
+}

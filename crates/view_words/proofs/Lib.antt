@@ -1,0 +1,3 @@
+mod Commands
+mod Getters
+mod Parsed

@@ -1,0 +1,50 @@
+"""Where the files of the examples are, for the tools beside this one.
+
+An example stands in the data/ folder of the program with which the gate runs it. All paths begin at the top of the
+repository."""
+
+import json
+import pathlib
+import re
+from dataclasses import dataclass
+
+GUIDED = pathlib.Path("crates/guided_examples")
+FIRMWARE = pathlib.Path("crates/firmware_commands")
+FIRST = pathlib.Path("crates/ffm")
+
+
+@dataclass(frozen=True)
+class Example:
+    """An example, with the folder in which one stands to run it, the folder of its files, and its trace."""
+    name: str
+    stand: pathlib.Path
+    folder: pathlib.Path
+    trace: pathlib.Path
+
+    def words(self, *files):
+        """The names of the files as seen from where one stands."""
+        return [str((self.folder / file).relative_to(self.stand)) for file in files]
+
+    def inputs(self):
+        """The files that `run` reads: the system, the scenario, and the manifests in files of their own."""
+        system = self.folder / "system.json"
+        named = [self.stand / item for item in json.loads(system.read_text())["manifests"] if isinstance(item, str)]
+        return [system, self.folder / "scenario.json", *named]
+
+    def is_named_in(self, text):
+        """Whether commands name the example's folder."""
+        return re.search(rf"\b{self.name}/|{self.folder}(?!/\w)", text) is not None
+
+
+def guided():
+    """The examples that stand in a folder of their own each."""
+    stand = GUIDED / "data"
+    folders = sorted(path.parent for path in stand.glob("*/scenario.json"))
+    return [Example(folder.name, stand, folder, folder / "trace.txt") for folder in folders]
+
+
+def examples():
+    """All examples, by their names."""
+    firmware, first = FIRMWARE / "data", FIRST / "data"
+    others = [Example("firmware", firmware, firmware, firmware / "trace.txt"), Example("first", first, first, FIRST / "stdout")]
+    return {example.name: example for example in guided() + others}
