@@ -5,13 +5,16 @@
 
 Run at the top of the repository. In the tables of PAGES each file, function, clause, wrong body and test has to be
 there, in the file or crate that is named before it in the same cell; a wrong body for which none is named is one
-of the row's contract's crate. In proved.md each public call of a crate has to stand in the crate's section, in code
-marks, and each clause that a section names has to be the crate's. The figures of the gate in evidence.md have to be
-those counted. Prints what isn't so. The status is 1 where something is wrong."""
+of the row's contract's crate, and in evidence.md in italics where it stands in wrong_bodies/. In proved.md each
+public call of a crate has to stand in the crate's section, in code marks, and each clause that a section names has
+to be the crate's. The figures of crates, wrong bodies, tests, calls, examples and stored runs that the README and the
+pages state have to be those counted (figures.py). Prints what isn't so. The status is 1 where something is wrong."""
 
 import pathlib
 import re
 import sys
+
+from figures import figures, wrong_figures
 
 CRATES = pathlib.Path("crates")
 WRONG_BODIES = pathlib.Path("wrong_bodies")
@@ -28,6 +31,7 @@ ITEM = r"\b(?:fn|struct|enum|trait|record|data|abbrev pub|pub) {}\b"
 CLAUSE = r"\bensures {}\b"
 NAMED = r"\b(?:ensures|requires)\*? {0}\b|\bpub {0} :|\bghost {0}\b"
 TEST = r"#\[test\]\s+(?:pub )?fn {}\b"
+EDIT = re.compile(r"(\*?)\b([a-z][a-z0-9]*(?:_[a-z0-9]+)+)\b\1")
 
 
 def rows(page):
@@ -106,6 +110,15 @@ def wrong_cells(page):
                 yield f"{page}:{number}: {column}: {what}"
 
 
+def wrong_italics(page):
+    """The wrong bodies in italics that the gate tries, and those without that stand beside it."""
+    in_gate, beside = ({path.stem for path in edits} for edits in (CRATES.glob("*/must-fail/*.edit"), WRONG_BODIES.glob("*/*.edit")))
+    for number, row in rows(page):
+        for italic, name in EDIT.findall(re.sub(r"`[^`]*`", "", without_links(" | ".join(row.values())))):
+            if name in in_gate ^ beside and (name in beside) != bool(italic):
+                yield f"{page}:{number}: {name}: {'stands beside the gate' if name in beside else 'is tried by the gate'}"
+
+
 def exported(library):
     """The names that a crate's root makes public."""
     text = library.read_text()
@@ -155,22 +168,13 @@ def wrong_proved(page):
             yield from (f"{crate}: {name} is no clause" for name in sorted(clauses_told(section)) if not has(files, name, NAMED))
 
 
-def wrong_figures(page):
-    """The figures of the whole that a page tells are those that are counted."""
-    edits = len(list(CRATES.glob("*/must-fail/*.edit")))
-    further = len(list(WRONG_BODIES.glob("*/*.edit")))
-    tests = sum(path.read_text().count("#[test]") for path in CRATES.glob("*/src/**/*.rt"))
-    counted = f"{len(NAMES)} crates, {edits} wrong bodies in the gate and {further} beside it, {tests} tests"
-    if counted not in page.read_text():
-        yield f"{page}: the figures are {counted}"
-
-
 def main():
     wrong = [what for page in PAGES for what in wrong_cells(page)]
     wrong += [f"{PROVED}: {what}" for what in wrong_proved(PROVED)]
-    wrong += wrong_figures(pathlib.Path("docs/evidence.md"))
+    wrong += wrong_italics(pathlib.Path("docs/evidence.md"))
+    wrong += wrong_figures()
     count = sum(bool(set(row) & set(CITED)) for page in PAGES for _, row in rows(page))
-    print("\n".join(wrong) if wrong else f"{count} rows, and all public calls")
+    print("\n".join(wrong) if wrong else f"{count} rows, all public calls, {len(list(figures()))} texts with figures")
     sys.exit(1 if wrong else 0)
 
 

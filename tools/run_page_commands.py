@@ -1,17 +1,18 @@
 #!/usr/bin/env python3
 """Runs the commands of the pages as a new user would, and compares what comes with what the pages show.
 
-    python3 tools/run_page_commands.py [--program FILE] [PAGE ..]
+    python3 tools/run_page_commands.py [--program FILE] [--view FILE] [PAGE ..]
 
 Run at the top of the repository. Takes README.md, docs/*.md and the README.md of the examples, or the pages that are
 named. The blocks of commands of a page are run in their order on a copy of the repository: the first at its top, and
-each further one in the folder in which the one before it ended. Where the commands say ffm, FILE is run, the proved
-program; with no FILE it is tools/try_ffm.sh, which takes a minute or two at each call. The gate, proofs and git are
-not run, and told.
+each further one in the folder in which the one before it ended. Where the commands say ffm, the FILE of --program is
+run, and where they say ffm_view that of --view, the proved programs; with no FILE it is tools/try_ffm.sh or
+tools/try_ffm_view.sh, which takes a minute or two at each call. The gate, proofs and git are not run, and told.
 
 What the page shows is looked for in what its commands wrote, and in the texts that stand beside the examples they
 name. Compared are:
-- blocks of lines that the program writes: they come, in this order;
+- blocks of lines that ffm writes: they come, in this order;
+- the block behind commands of ffm_view: it is all that they write, where a line `..` stands for any lines;
 - lines of a trace or an audit in the first cells of a table: they come, and one with its number behind it, as in
   `quiet 31` (32), is that line; `..` stands for anything;
 - a last line, as `legal 6`, outside of the sections "To try": it comes, and with the status behind it;
@@ -34,8 +35,10 @@ from dataclasses import dataclass, field
 from example_files import GUIDED, examples
 
 COMMAND = re.compile(
-    r"ffm (?:compile|run|replay|audit|make)\b|(?:python3|rt|git|jq|sed|awk|grep|diff|\(?cd|export) |tools/|\.ci/run|set -eu"
+    r"ffm (?:compile|run|replay|audit|make)\b|ffm_view \w+ (?![A-Z])"
+    r"|(?:python3|rt|git|jq|sed|awk|grep|diff|\(?cd|export) |tools/|\.ci/run|set -eu"
 )
+VIEW = re.compile(r"^ffm_view ", re.M)
 NOT_RUN = re.compile(r"\.ci/run|\brt (run|check|ci|version)\b|\bgit ")
 ENTRY = r"(?:p\d+|n\d+|dev) [a-z_]+\b[^`]*"
 VERDICT = r"(?:quiet|stalled|full|legal|illegal|clean|restart) \d+"
@@ -50,7 +53,7 @@ LINKED = re.compile(r"\[(trace\.txt|listing\.txt|audit\.txt)\]\(([^)]*)\)")
 EXAMPLE = re.compile(r"\| \[(\w+)\]\(")
 BESIDE = ("listing.txt", "audit.txt")
 
-# It runs the program, or what stands in for it, and notes its status.
+# It runs a program, or what stands in for it, and notes its status.
 STAND_IN = """#!/bin/bash
 {program} "$@"
 status=$?
@@ -105,20 +108,26 @@ def parts_of(page):
 
 
 class Shell:
-    """A user's shell in a copy of the repository, with a program in the place of the built one."""
+    """A user's shell in a copy of the repository, with programs, by their names, in the place of the built ones. A name
+    with none is run by its script, without proofs."""
 
-    def __init__(self, folder, program):
+    def __init__(self, folder, programs):
         folder = pathlib.Path(folder).resolve()
         self.top = folder / "copy"
         shutil.copytree(".", self.top, symlinks=True, ignore=shutil.ignore_patterns("out", ".git", "__pycache__"))
         self.statuses, self.stands = folder / "statuses", folder / "stands"
-        stand_in = self.top / "crates/ffm/out/ffm"
-        stand_in.parent.mkdir()
-        words = [shlex.quote(str(path.resolve())) for path in (program or self.top / "tools/try_ffm.sh", self.statuses)]
-        stand_in.write_text(STAND_IN.format(program=words[0], statuses=words[1]))
-        stand_in.chmod(0o755)
-        self.environment = os.environ | {"PATH": f"{stand_in.parent}:{os.environ['PATH']}"}
+        folders = [str(self.stand_in(name, program).parent) for name, program in programs.items()]
+        self.environment = os.environ | {"PATH": ":".join([*folders, os.environ["PATH"]])}
         self.to_the_top()
+
+    def stand_in(self, name, program):
+        """The file that stands where the program of that name is built, and runs the given one."""
+        place = self.top / "crates" / name / "out" / name
+        place.parent.mkdir()
+        words = [shlex.quote(str(path.resolve())) for path in (program or self.top / f"tools/try_{name}.sh", self.statuses)]
+        place.write_text(STAND_IN.format(program=words[0], statuses=words[1]))
+        place.chmod(0o755)
+        return place
 
     def to_the_top(self):
         self.stands.write_text(str(self.top))
@@ -144,6 +153,12 @@ def comes_in_order(quotes, lines):
     """Whether the quotes are lines of a text, one behind the other."""
     left = iter(lines)
     return all(any(is_line(quoted, line) for line in left) for quoted in quotes)
+
+
+def is_all(shown, text):
+    """Whether the text shown is that text, where a line `..` stands for any lines."""
+    lines = (r"(?:.*\n)*" if line == ".." else re.escape(line) + r"\n" for line in shown.splitlines())
+    return re.fullmatch("".join(lines), text) is not None
 
 
 def comes_at(quoted, number, lines):
@@ -229,6 +244,16 @@ def examples_of(commands):
     return [path.read_text().splitlines() for path in paths if path.exists()]
 
 
+def wrong_views(parts, outputs, commands):
+    """The blocks behind commands of ffm_view that aren't what these write."""
+    written = {block.line: output.text for block, output in zip(commands, outputs)}
+    blocks = [part for part in parts if part.is_block]
+    for before, block in zip(blocks, blocks[1:]):
+        if VIEW.search(before.text) and before.line in written and not block.is_command():
+            if not is_all(block.text, written[before.line]):
+                yield block, "the commands above write another text"
+
+
 def shown_wrong(page, parts, outputs, commands):
     """What the page shows and its commands don't write."""
     texts = [output.lines() for output in outputs] + examples_of(commands)
@@ -244,6 +269,7 @@ def shown_wrong(page, parts, outputs, commands):
             yield from wrong_in_line(part, outputs, texts)
     for table in table_rows(part for part in parts if part.section != "To try"):
         yield from wrong_in_table(table, texts)
+    yield from wrong_views(parts, outputs, commands)
 
 
 def wrong_of(page, shell):
@@ -268,14 +294,15 @@ def wrong_of(page, shell):
 
 def main():
     parser = argparse.ArgumentParser(description=__doc__.splitlines()[0])
-    parser.add_argument("--program", type=pathlib.Path, help="the proved program")
+    parser.add_argument("--program", type=pathlib.Path, help="the proved ffm")
+    parser.add_argument("--view", type=pathlib.Path, help="the proved ffm_view")
     parser.add_argument("pages", nargs="*", type=pathlib.Path)
     arguments = parser.parse_args()
     of_examples = [pathlib.Path("examples/README.md"), *sorted(GUIDED.glob("data/*/README.md"))]
     all_pages = [pathlib.Path("README.md"), *sorted(pathlib.Path("docs").glob("*.md")), *of_examples]
     count = 0
     with tempfile.TemporaryDirectory() as folder:
-        shell = Shell(folder, arguments.program)
+        shell = Shell(folder, {"ffm": arguments.program, "ffm_view": arguments.view})
         for page in arguments.pages or all_pages:
             for part, words in wrong_of(page, shell):
                 print(f"{page}:{part.line}: {words}", flush=True)

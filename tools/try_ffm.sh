@@ -3,9 +3,9 @@
 #
 # It builds the program with checks, which takes a minute or two, and runs it on copies of the files that the words
 # name and of all .json files of the current folder, since a system file may name manifests there. The lines of the kit
-# go to standard error. Where the program ends, the status is its own.
+# go to standard error. Where the program ends, the status is its own. FFM_CRATE may name the crate of another program.
 set -eu
-crate="$(dirname "$(readlink -f "$0")")/../crates/ffm"
+crate="$(dirname "$(readlink -f "$0")")/../crates/${FFM_CRATE:-ffm}"
 data=()
 words=()
 for word in "$@"; do

@@ -42,29 +42,6 @@ put_back made actor p left was own lt is more =
 pub with_long : (made : Made) (actor : ActorId) (p : Program) → length (with_program made actor p) ≡ length made
 with_long made actor p = length-set made actor.0 (get_or made actor.0 [] ++ p ∷ [])
 
-pub made-more : (s : System) (made : Made) (actor : ActorId) (p : Program) → actor.0 < length made → AreMade s made → IsOfOneScript s actor.0 p → length (get_or made actor.0 []) < most_scripts s actor.0
-    → AreMade s (with_program made actor p)
-made-more s made actor p here are one room =
-    let own = get_or made actor.0 [] ++ p ∷ [] in
-    let same : get_or (with_program made actor p) actor.0 [] ≡ own = get_or-set_same made actor.0 own [] here in
-    let longer : length own ≡ length (get_or made actor.0 []) + 1 = length-append (get_or made actor.0 []) (p ∷ []) in
-    record {
-      each = λ a lt.
-          let low : a < length made = subst (λ (k : ℕ). a < k) (with_long made actor p) lt in
-          ⊎_elim
-          (λ e. subst (λ (k : ℕ). AllByRecursion (IsOfOneScript s k) (get_or (with_program made actor p) k [])) (sym e)
-          (subst (AllByRecursion (IsOfOneScript s actor.0)) (sym same) (AllByRecursion-push (IsOfOneScript s actor.0) (get_or made actor.0 []) p (are.each actor.0 here) one)))
-          (λ other. subst (AllByRecursion (IsOfOneScript s a)) (sym (get_or-set_other made actor.0 a own [] other)) (are.each a low))
-          (cases_eq a actor.0);
-      few = λ a lt.
-          let low : a < length made = subst (λ (k : ℕ). a < k) (with_long made actor p) lt in
-          ⊎_elim
-          (λ e. subst (λ (k : ℕ). length (get_or (with_program made actor p) k []) ≤ most_scripts s k) (sym e)
-          (subst (λ (k : ℕ). k ≤ most_scripts s actor.0) (sym (ap length same ∙ longer)) (omega arith)))
-          (λ other. subst (λ (k : List Program). length k ≤ most_scripts s a) (sym (get_or-set_other made actor.0 a own [] other)) (are.few a low))
-          (cases_eq a actor.0);
-    }
-
 -- ---- script by script
 
 pub made-next : (s : System) (c : Scenario) (n : ℕ) (xs : List ActorId) (made more : Made) (d : ActorId) → n < length xs

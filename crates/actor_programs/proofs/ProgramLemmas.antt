@@ -117,11 +117,6 @@ own-kept s made front behind own n are whole here =
 
 -- ---- the scripts by which programs run
 
--- a script has as many parts as its actor may have scripts, at most
-pub script-parts : (s : System) (a : ℕ) (p : Program) → IsProgramOf s a p → length (script_of s a p) ≤ most_scripts s a
-script-parts s a (Plain parts) h = h.2
-script-parts s a (Functions functions) h = some-scripts s a
-
 pub all-yielded : {X : Type 0} (ys rest all : List X) → ys ++ rest ≡ all → length rest ≡ 0 → ys ≡ all
 all-yielded ys [] all h none = sym (append-nil ys) ∙ h
 all-yielded ys (x ∷ xs) all h none = absurd (omega arith)

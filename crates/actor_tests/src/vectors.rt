@@ -97,7 +97,7 @@ fn held(alloc: Global) -> Result<Held, Fail> {
     if system.partitions.is_empty() {
         return Err("a partition")?;
     }
-    let mut held = Held::new(alloc, &system, 0)?;
+    let mut held = Held::new(&system, 0);
     held.got(MAPPER, message(0, 1));
     held.got(MAPPER, message(7, 2));
     held.got(PLAIN, message(0, 3));
@@ -436,7 +436,7 @@ fn windows_at_the_end(rt: HostRuntime) -> Result<(), Fail> {
     if system.partitions.len() < 2 {
         return Err("two partitions")?;
     }
-    let mut held = Held::new(rt.alloc(), &system, 1)?;
+    let mut held = Held::new(&system, 1);
     held.got(0x40, message(0, 1));
     assert_eq!(rt;
         held.act(map_out(1, 3)),

@@ -136,10 +136,6 @@ across_right R xs ys zs h k =
     each_weaker (λ x. Each (R x) ys × Each (R x) zs) (λ x. Each (R x) (ys ++ zs)) (λ x b. each_append (R x) ys zs b.0 b.1) xs
     (each_both (λ x. Each (R x) ys) (λ x. Each (R x) zs) xs h k)
 
-pub across_map : {A B C D : Type 0} (R : C → D → Type 0) (f : A → C) (g : B → D) (xs : List A) (ys : List B) → Across (λ x y. R (f x) (g y)) xs ys → Across R (map f xs) (map g ys)
-across_map R f g [] ys h = tt
-across_map R f g (x ∷ xs) ys h = (each_map (R (f x)) g ys h.0, across_map R f g xs ys h.1)
-
 pub across_turned : {A B : Type 0} (R : A → B → Type 0) (xs : List A) (ys : List B) → Across R xs ys → Across (λ y x. R x y) ys xs
 across_turned R [] ys h = each_always (λ y. Unit {0}) (λ y. tt) ys
 across_turned R (x ∷ xs) ys h = across_cons (λ y x. R x y) x xs ys h.0 (across_turned R xs ys h.1)

@@ -1,42 +1,43 @@
 //! The conditions of an access to memory.
+ghost use Rattle.std.specs.Prelude.{◌≡◌, IfOk, map};
+ghost use Rattle.call_conditions.specs.Conditions.{memory_conditions, size_condition, told};
 ghost use Rattle.machine_calls.specs.Machine.{IsMachineOf};
 
 use crate::condition::{Condition, marked};
 use ffm_model::{ActorId, Call, System};
 use machine_calls::Machine;
 use memory_image::{may_read, may_write};
-use std::alloc::AllocError;
+use std::alloc::{AllocError, Global};
 
-fn of_size(size: u32) -> Condition {
+fn of_size(size: u32) -> Condition
+    ensures { told result ≡ size_condition size }
+{
     marked("the size isn't 1, 2 or 4", !matches!(size, 1 | 2 | 4))
 }
 
 /// Those of a load or a store.
 pub fn memory_conditions(
-    conditions: &mut Vec<Condition>,
+    alloc: Global,
     system: &System,
     machine: &Machine,
     actor: ActorId,
     call: Call,
-) -> Result<(), AllocError>
+) -> Result<Vec<Condition>, AllocError>
     requires { IsMachineOf system.now machine.now }
+    ensures { IfOk result (λ conditions. map told conditions.items ≡ memory_conditions system.now actor.0 call) }
 {
     let memory = &machine.memory;
     match call {
-        Call::Load { address, size } => conditions.extend_from_slice(&[
-            of_size(size),
-            marked(
-                "the caller may not read the range",
-                !may_read(system, memory, actor, address, size),
-            ),
-        ]),
-        Call::Store { address, size, .. } => conditions.extend_from_slice(&[
-            of_size(size),
-            marked(
-                "the caller may not write the range",
-                !may_write(system, memory, actor, address, size),
-            ),
-        ]),
-        _ => Ok(()),
+        Call::Load { address, size } => {
+            let is_wrong = !may_read(system, memory, actor, address, size);
+            let range = marked("the caller may not read the range", is_wrong);
+            Ok(Vec::from_array(alloc, [of_size(size), range])?)
+        }
+        Call::Store { address, size, .. } => {
+            let is_wrong = !may_write(system, memory, actor, address, size);
+            let range = marked("the caller may not write the range", is_wrong);
+            Ok(Vec::from_array(alloc, [of_size(size), range])?)
+        }
+        _ => Ok(Vec::new(alloc)),
     }
 }

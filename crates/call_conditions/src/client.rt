@@ -1,62 +1,106 @@
 //! The conditions of the calls of clients.
-ghost use Rattle.machine_calls.specs.Machine.{IsMachineOf};
+ghost use Rattle.std.specs.Prelude.{◌≡◌, IfOk, false, map};
+ghost use Rattle.std.specs.Option.{option_map_or};
+ghost use Rattle.call_conditions.specs.Conditions.{are_arrays_wrong, client_conditions, close_conditions, connect_conditions, connection_closed, connection_named, invoke_conditions, names_own, told};
+ghost use Rattle.ffm_model.specs.Actors.{is_stateless, permits, stateless_index};
+ghost use Rattle.ffm_model.specs.ClientCalls.{is_busy, refuses_requests, takes_version};
+ghost use Rattle.machine_calls.specs.Machine.{IsMachineOf, spm_of_objects};
 
 use crate::condition::{Condition, marked};
 use ffm_model::{
-    ActorId, Call, ConnPhase, Handle, OpenConnection, PSA_IPC_CALL, PSA_MAX_IOVEC, PSA_NULL_HANDLE,
-    Policy, STATELESS_BASE, Service, Sid, System,
+    ActorId, Call, ConnPhase, Handle, MAX_STATELESS, OpenConnection, PSA_IPC_CALL, PSA_MAX_IOVEC,
+    PSA_NULL_HANDLE, Policy, STATELESS_BASE, Sid, System,
 };
 use machine_calls::{Machine, Objects};
 use memory_image::valid_buffer;
-use std::alloc::AllocError;
+use std::alloc::{AllocError, Global};
 
-fn may_use(system: &System, actor: ActorId, service: Option<u32>) -> bool {
-    match service {
-        Some(service) => system.budget(actor, service).is_some(),
+fn permits(system: &System, actor: ActorId, service: u32) -> bool
+    ensures { result ≡ permits system.now actor.0 service }
+{
+    system.budget(actor, service).is_some()
+}
+
+fn is_stateless(system: &System, service: u32) -> bool
+    ensures { result ≡ is_stateless system.now service }
+{
+    match system.services.as_slice().get(service as usize) {
+        Some(found) => found.stateless != 0,
         None => false,
     }
 }
 
-fn found(system: &System, service: Option<u32>) -> Option<&Service> {
-    system.services.as_slice().get(service? as usize)
-}
-
-fn takes_version(service: &Service, version: u32) -> bool {
-    match service.policy {
-        Policy::Strict => service.version == version,
-        Policy::Relaxed => version <= service.version,
+fn takes_version(system: &System, service: u32, version: u32) -> bool
+    ensures { result ≡ takes_version system.now service version }
+{
+    match system.services.as_slice().get(service as usize) {
+        Some(found) => match found.policy {
+            Policy::Strict => found.version == version,
+            Policy::Relaxed => version <= found.version,
+        },
+        None => false,
     }
 }
 
-fn of_connect(system: &System, actor: ActorId, sid: Sid, version: u32) -> [Condition; 4] {
+fn of_connect(system: &System, actor: ActorId, sid: Sid, version: u32) -> [Condition; 4]
+    ensures { map told result ≡ connect_conditions system.now actor.0 sid version }
+{
     let place = system.service_at(sid);
-    let service = found(system, place);
+    let (is_stateless, is_closed, is_misfit) = match place {
+        Some(service) => (
+            is_stateless(system, service),
+            !permits(system, actor, service),
+            !takes_version(system, service, version),
+        ),
+        None => (false, false, false),
+    };
     [
         marked("no service has the SID", place.is_none()),
-        marked(
-            "the service is stateless",
-            service.is_some_and(|s| s.stateless != 0),
-        ),
-        marked(
-            "the caller isn't permitted",
-            place.is_some() && !may_use(system, actor, place),
-        ),
-        marked(
-            "the version doesn't fit",
-            service.is_some_and(|s| !takes_version(s, version)),
-        ),
+        marked("the service is stateless", is_stateless),
+        marked("the caller isn't permitted", is_closed),
+        marked("the version doesn't fit", is_misfit),
     ]
 }
 
-// The place of the service of a stateless handle.
-fn stateless_service(system: &System, handle: Handle) -> Option<u32> {
-    let index = u32::try_from(handle.0).ok()?.checked_sub(STATELESS_BASE)?;
-    system.stateless_at(index)
+// The index that a stateless handle shows.
+fn stateless_index(handle: Handle) -> Option<u32>
+    ensures { result ≡ stateless_index handle }
+{
+    if handle.0 > STATELESS_BASE as i32 && handle.0 <= (STATELESS_BASE + MAX_STATELESS) as i32 {
+        Some(handle.0 as u32 - STATELESS_BASE)
+    } else {
+        None
+    }
 }
 
-fn is_in(connection: Option<OpenConnection>, phase: ConnPhase) -> bool {
+// The connection that a handle names: a stateless handle names none.
+fn connection_named(objects: &Objects, actor: ActorId, handle: Handle) -> Option<OpenConnection>
+    ensures { result ≡ connection_named (spm_of_objects objects.now) actor.0 handle }
+{
+    match stateless_index(handle) {
+        Some(_) => None,
+        None => objects.connection_held(actor.0, handle),
+    }
+}
+
+// Whether a handle names a connection of the caller, or a stateless service that it may use.
+fn names_own(system: &System, objects: &Objects, actor: ActorId, handle: Handle) -> bool
+    ensures { result ≡ names_own system.now (spm_of_objects objects.now) actor.0 handle }
+{
+    match stateless_index(handle) {
+        Some(index) => match system.stateless_at(index) {
+            Some(service) => permits(system, actor, service),
+            None => false,
+        },
+        None => objects.connection_held(actor.0, handle).is_some(),
+    }
+}
+
+fn refuses_requests(connection: Option<OpenConnection>) -> bool
+    ensures { result ≡ option_map_or (λ c. refuses_requests c.phase) connection false }
+{
     match connection {
-        Some(connection) => connection.phase == phase,
+        Some(connection) => matches!(connection.phase, ConnPhase::Busy | ConnPhase::Error),
         None => false,
     }
 }
@@ -70,6 +114,7 @@ fn are_arrays_wrong(
     outputs: (u32, u32),
 ) -> bool
     requires { IsMachineOf system.now machine.now }
+    ensures { result ≡ are_arrays_wrong system.now actor.0 inputs.0 inputs.1 outputs.0 outputs.1 }
 {
     let (in_vec, in_len) = inputs;
     let (out_vec, out_len) = outputs;
@@ -82,26 +127,23 @@ fn are_arrays_wrong(
 
 fn of_invoke(
     system: &System,
-    machine: &Machine,
+    objects: &Objects,
     actor: ActorId,
     handle: Handle,
     kind: i32,
-    inputs: (u32, u32),
-    outputs: (u32, u32),
+    are_wrong: bool,
 ) -> [Condition; 4]
-    requires { IsMachineOf system.now machine.now }
+    ensures { map told result ≡ invoke_conditions system.now (spm_of_objects objects.now) actor.0 handle kind are_wrong }
 {
-    let connection = machine.objects.connection_held(actor.0, handle);
-    let is_own = connection.is_some() || may_use(system, actor, stateless_service(system, handle));
-    let are_wrong = are_arrays_wrong(system, machine, actor, inputs, outputs);
+    let connection = connection_named(objects, actor, handle);
     [
         marked(
             "neither a handle of the caller nor a stateless handle of the caller",
-            !is_own,
+            !names_own(system, objects, actor, handle),
         ),
         marked(
             "the connection is Busy or Error",
-            is_in(connection, ConnPhase::Busy) || is_in(connection, ConnPhase::Error),
+            refuses_requests(connection),
         ),
         marked("the kind is negative", kind < PSA_IPC_CALL),
         Condition {
@@ -111,30 +153,54 @@ fn of_invoke(
     ]
 }
 
-fn of_close(objects: &Objects, actor: ActorId, handle: Handle) -> [Condition; 2] {
-    let connection = objects.connection_held(actor.0, handle);
+// The connection that a handle names at psa_close: handle 0 names none.
+fn connection_closed(objects: &Objects, actor: ActorId, handle: Handle) -> Option<OpenConnection>
+    ensures { result ≡ connection_closed (spm_of_objects objects.now) actor.0 handle }
+{
+    if handle.0 == PSA_NULL_HANDLE {
+        None
+    } else {
+        objects.connection_held(actor.0, handle)
+    }
+}
+
+fn is_busy(connection: Option<OpenConnection>) -> bool
+    ensures { result ≡ option_map_or (λ c. is_busy c.phase) connection false }
+{
+    match connection {
+        Some(connection) => matches!(connection.phase, ConnPhase::Busy),
+        None => false,
+    }
+}
+
+fn of_close(objects: &Objects, actor: ActorId, handle: Handle) -> [Condition; 2]
+    ensures { map told result ≡ close_conditions (spm_of_objects objects.now) actor.0 handle }
+{
+    let connection = connection_closed(objects, actor, handle);
     [
         marked(
             "neither handle 0 nor a handle of the caller",
             handle.0 != PSA_NULL_HANDLE && connection.is_none(),
         ),
-        marked("the connection is Busy", is_in(connection, ConnPhase::Busy)),
+        marked("the connection is Busy", is_busy(connection)),
     ]
 }
 
 /// Those of a call of `psa/client.h`.
 pub fn client_conditions(
-    conditions: &mut Vec<Condition>,
+    alloc: Global,
     system: &System,
     machine: &Machine,
     actor: ActorId,
     call: Call,
-) -> Result<(), AllocError>
+) -> Result<Vec<Condition>, AllocError>
     requires { IsMachineOf system.now machine.now }
+    ensures { IfOk result (λ conditions. map told conditions.items ≡ client_conditions system.now (spm_of_objects machine.now.objects) actor.0 call) }
 {
+    let objects = &machine.objects;
     match call {
         Call::Connect { sid, version } => {
-            conditions.extend_from_slice(&of_connect(system, actor, sid, version))
+            Ok(Vec::from_array(alloc, of_connect(system, actor, sid, version))?)
         }
         Call::Invoke {
             handle,
@@ -143,18 +209,13 @@ pub fn client_conditions(
             in_len,
             out_vec,
             out_len,
-        } => conditions.extend_from_slice(&of_invoke(
-            system,
-            machine,
-            actor,
-            handle,
-            kind,
-            (in_vec, in_len),
-            (out_vec, out_len),
-        )),
-        Call::Close { handle } => {
-            conditions.extend_from_slice(&of_close(&machine.objects, actor, handle))
+        } => {
+            let inputs = (in_vec, in_len);
+            let are_wrong = are_arrays_wrong(system, machine, actor, inputs, (out_vec, out_len));
+            let conditions = of_invoke(system, objects, actor, handle, kind, are_wrong);
+            Ok(Vec::from_array(alloc, conditions)?)
         }
-        _ => Ok(()),
+        Call::Close { handle } => Ok(Vec::from_array(alloc, of_close(objects, actor, handle))?),
+        _ => Ok(Vec::new(alloc)),
     }
 }

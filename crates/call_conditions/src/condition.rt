@@ -1,4 +1,6 @@
 //! A condition of a call.
+ghost use Rattle.std.specs.Prelude.{◌≡◌};
+ghost use Rattle.call_conditions.specs.Conditions.{looked, told};
 
 /// A condition under which a call is a PROGRAMMER ERROR.
 #[derive(Clone, Copy, Debug, PartialEq, Eq)]
@@ -9,7 +11,9 @@ pub struct Condition {
 }
 
 /// A condition that was looked at.
-pub fn marked(words: &'static str, holds: bool) -> Condition {
+pub fn marked(words: &'static str, holds: bool) -> Condition
+    ensures { told result ≡ looked words.now holds }
+{
     Condition {
         words,
         holds: Some(holds),

@@ -1,43 +1,68 @@
 //! The conditions of the calls by which a partition takes and answers messages.
-ghost use Rattle.machine_calls.specs.Machine.{IsMachineOf};
+ghost use Rattle.std.specs.Prelude.{◌≡◌, ◌&&◌, ◌==◌, IfOk, map, filter};
+ghost use Rattle.call_conditions.specs.Conditions.{get_conditions, reply_conditions, service_conditions, set_rhandle_conditions, told, wait_conditions};
+ghost use Rattle.ffm_model.specs.ServiceCalls.{is_connect_status, service_of_signal};
+ghost use Rattle.ffm_model.specs.Signals.{assigned_to, union_of};
+ghost use Rattle.machine_calls.specs.Machine.{IsMachineOf, spm_of_objects};
 
 use crate::condition::{Condition, marked};
 use ffm_model::{
-    ActorId, Call, Handle, PSA_DOORBELL, PSA_ERROR_CONNECTION_BUSY, PSA_ERROR_CONNECTION_REFUSED,
-    PSA_IPC_CONNECT, PSA_SUCCESS, PendingMessage, Status, System,
+    ActorId, Call, PSA_DOORBELL, PSA_ERROR_CONNECTION_BUSY, PSA_ERROR_CONNECTION_REFUSED,
+    PSA_IPC_CONNECT, PSA_SUCCESS, PendingMessage, Service, Source, Status, System,
 };
-use machine_calls::{Machine, Objects};
+use machine_calls::Machine;
 use memory_image::valid_buffer;
-use std::alloc::AllocError;
+use std::alloc::{AllocError, Global};
 
 /// How many bytes `psa_msg_t` has.
 const MESSAGE_SIZE: u32 = 48;
 
-fn signals_of(system: &System, partition: u32) -> u32 {
-    let mut word = PSA_DOORBELL;
-    for service in system.services.as_slice() {
-        if service.owner == partition {
-            word |= service.signal;
-        }
-    }
-    for source in system.sources.as_slice() {
-        if source.owner == partition {
-            word |= source.signal;
-        }
-    }
-    word
+// The signals of a partition's services.
+fn service_signals(services: &[Service], partition: u32) -> u32
+    ensures { result ≡ union_of (map (λ v. v.signal) (filter (λ v. v.owner == partition) services.now)) }
+{
+    services
+        .iter()
+        .filter(|v| v.owner == partition)
+        .map(|v| v.signal)
+        .fold(0, |word, signal| word | signal)
 }
 
-fn of_wait(system: &System, actor: ActorId, mask: u32) -> [Condition; 1] {
+// The signals of a partition's interrupt sources.
+fn source_signals(sources: &[Source], partition: u32) -> u32
+    ensures { result ≡ union_of (map (λ v. v.signal) (filter (λ v. v.owner == partition) sources.now)) }
+{
+    sources
+        .iter()
+        .filter(|v| v.owner == partition)
+        .map(|v| v.signal)
+        .fold(0, |word, signal| word | signal)
+}
+
+// The signals that a partition has at all.
+fn assigned_to(system: &System, partition: u32) -> u32
+    ensures { result ≡ assigned_to system.now partition }
+{
+    let services = service_signals(system.services.as_slice(), partition);
+    let sources = source_signals(system.sources.as_slice(), partition);
+    PSA_DOORBELL | (services | sources)
+}
+
+fn of_wait(system: &System, actor: ActorId, mask: u32) -> [Condition; 1]
+    ensures { map told result ≡ wait_conditions system.now actor.0 mask }
+{
     [marked(
         "the mask has no signal that the caller has at all",
-        signals_of(system, actor.0) & mask == 0,
+        assigned_to(system, actor.0) & mask == 0,
     )]
 }
 
-fn service_with(system: &System, actor: ActorId, signal: u32) -> Option<usize> {
+// The place of the caller's service that has the signal.
+fn service_with(system: &System, actor: ActorId, signal: u32) -> Option<usize>
+    ensures { result ≡ service_of_signal system.now actor.0 signal }
+{
     let mut services = system.services.as_slice().iter();
-    services.position(|s| s.owner == actor.0 && s.signal == signal)
+    services.position(|service| service.owner == actor.0 && service.signal == signal)
 }
 
 fn of_get(
@@ -48,6 +73,7 @@ fn of_get(
     msg: u32,
 ) -> [Condition; 3]
     requires { IsMachineOf system.now machine.now }
+    ensures { map told result ≡ get_conditions system.now (spm_of_objects machine.now.objects) actor.0 signal msg }
 {
     let service = service_with(system, actor, signal);
     let is_empty = match service {
@@ -67,72 +93,69 @@ fn of_get(
     ]
 }
 
-fn is_of_kind(message: &Option<PendingMessage>, kind: i32) -> bool {
-    match message {
-        Some(message) => message.kind == kind,
+fn of_set_rhandle(message: &Option<PendingMessage>) -> [Condition; 2]
+    ensures { map told result ≡ set_rhandle_conditions message.now }
+{
+    let is_without = match message {
+        Some(message) => message.connection.is_none(),
         None => false,
-    }
-}
-
-fn of_set_rhandle(
-    system: &System,
-    objects: &Objects,
-    actor: ActorId,
-    handle: Handle,
-) -> [Condition; 2] {
-    let message = objects.message_held(system, actor.0, handle);
+    };
     [
         marked("no handle of the caller", message.is_none()),
-        marked(
-            "the message has no connection",
-            message.is_some_and(|m| m.connection.is_none()),
-        ),
+        marked("the message has no connection", is_without),
     ]
 }
 
-fn of_reply(
-    system: &System,
-    objects: &Objects,
-    actor: ActorId,
-    handle: Handle,
-    status: Status,
-) -> [Condition; 2] {
-    let message = objects.message_held(system, actor.0, handle);
-    let fits_connect = matches!(
+// Whether it is what a service may answer to psa_connect.
+fn is_connect_status(status: Status) -> bool
+    ensures { result ≡ is_connect_status status.0 }
+{
+    matches!(
         status.0,
         PSA_SUCCESS | PSA_ERROR_CONNECTION_REFUSED | PSA_ERROR_CONNECTION_BUSY
-    );
+    )
+}
+
+fn of_reply(message: &Option<PendingMessage>, status: Status) -> [Condition; 2]
+    ensures { map told result ≡ reply_conditions message.now status.0 }
+{
+    let is_misfit = match message {
+        Some(message) => message.kind == PSA_IPC_CONNECT && !is_connect_status(status),
+        None => false,
+    };
     [
         marked("no handle of the caller", message.is_none()),
         marked(
             "at a message of kind -1, a status other than 0, -130, -131",
-            is_of_kind(&message, PSA_IPC_CONNECT) && !fits_connect,
+            is_misfit,
         ),
     ]
 }
 
 /// Those of psa_wait, psa_get, psa_set_rhandle and psa_reply.
 pub fn service_conditions(
-    conditions: &mut Vec<Condition>,
+    alloc: Global,
     system: &System,
     machine: &Machine,
     actor: ActorId,
     call: Call,
-) -> Result<(), AllocError>
+) -> Result<Vec<Condition>, AllocError>
     requires { IsMachineOf system.now machine.now }
+    ensures { IfOk result (λ conditions. map told conditions.items ≡ service_conditions system.now (spm_of_objects machine.now.objects) actor.0 call) }
 {
-    let objects = &machine.objects;
     match call {
-        Call::Wait { mask, .. } => conditions.extend_from_slice(&of_wait(system, actor, mask)),
+        Call::Wait { mask, .. } => Ok(Vec::from_array(alloc, of_wait(system, actor, mask))?),
         Call::Get { signal, msg } => {
-            conditions.extend_from_slice(&of_get(system, machine, actor, signal, msg))
+            Ok(Vec::from_array(alloc, of_get(system, machine, actor, signal, msg))?)
         }
         Call::SetRhandle { handle, .. } => {
-            conditions.extend_from_slice(&of_set_rhandle(system, objects, actor, handle))
+            let message = machine.objects.message_held(system, actor.0, handle);
+            Ok(Vec::from_array(alloc, of_set_rhandle(&message))?)
         }
         Call::Reply { handle, status } => {
-            conditions.extend_from_slice(&of_reply(system, objects, actor, handle, status))
+            let message = machine.objects.message_held(system, actor.0, handle);
+            Ok(Vec::from_array(alloc, of_reply(&message, status))?)
         }
-        _ => Ok(()),
+        _ => Ok(Vec::new(alloc)),
     }
 }

@@ -1,118 +1,162 @@
 //! The conditions of the calls on doorbells and interrupts.
+ghost use Rattle.std.specs.Prelude.{◌≡◌, ◌&&◌, ◌==◌, IfOk, false, get_or, map, position};
+ghost use Rattle.std.specs.Option.{option_map_or};
+ghost use Rattle.call_conditions.specs.Conditions.{asserted_condition, clear_conditions, enable_conditions, first_level_condition, notify_conditions, number_condition, second_level_condition, signal_conditions, source_numbered, told};
+ghost use Rattle.ffm_model.specs.SignalCalls.{has_flih, source_of_signal};
+ghost use Rattle.ffm_model.specs.State.{flags_at};
+ghost use Rattle.machine_calls.specs.Machine.{spm_of_objects};
 
 use crate::condition::{Condition, marked};
-use ffm_model::{ActorId, Call, Source, System};
+use ffm_model::{ActorId, Call, System};
 use machine_calls::Objects;
-use std::alloc::AllocError;
+use std::alloc::{AllocError, Global};
 
-fn of_notify(system: &System, partition: i32) -> [Condition; 1] {
-    let is_there = match u32::try_from(partition) {
-        Ok(id) => id > 0 && id as usize <= system.partitions.len(),
-        Err(_) => false,
-    };
+fn of_notify(system: &System, partition: i32) -> [Condition; 1]
+    ensures { map told result ≡ notify_conditions system.now partition }
+{
+    let is_there = partition >= 1 && partition as usize <= system.partitions.len();
     [marked("no partition has the ID", !is_there)]
 }
 
-fn of_clear(objects: &Objects, actor: ActorId) -> [Condition; 1] {
-    let is_asserted = match objects.doorbells.as_slice().get(actor.0 as usize) {
-        Some(is_asserted) => *is_asserted,
-        None => false,
-    };
-    [marked("the caller's doorbell isn't asserted", !is_asserted)]
-}
-
-fn source_with(system: &System, actor: ActorId, signal: u32) -> Option<usize> {
-    let mut sources = system.sources.as_slice().iter();
-    sources.position(|s| s.owner == actor.0 && s.signal == signal)
-}
-
-fn is_asserted(objects: &Objects, source: Option<usize>) -> bool {
-    match source {
-        Some(place) => match objects.sources.as_slice().get(place) {
-            Some(flags) => flags.asserted,
-            None => false,
-        },
+fn is_rung(objects: &Objects, actor: ActorId) -> bool
+    ensures { result ≡ get_or objects.now.doorbells.items actor.0 false }
+{
+    match objects.doorbells.as_slice().get(actor.0 as usize) {
+        Some(is_rung) => *is_rung,
         None => false,
     }
 }
 
-fn source_at(system: &System, source: Option<usize>) -> Option<&Source> {
-    system.sources.as_slice().get(source?)
+fn of_clear(objects: &Objects, actor: ActorId) -> [Condition; 1]
+    ensures { map told result ≡ clear_conditions (spm_of_objects objects.now) actor.0 }
+{
+    let is_rung = is_rung(objects, actor);
+    [marked("the caller's doorbell isn't asserted", !is_rung)]
 }
 
-// Those of psa_eoi, or of psa_reset_signal.
-fn of_end(
-    system: &System,
-    objects: &Objects,
-    actor: ActorId,
-    signal: u32,
-    is_first_level: bool,
-) -> [Condition; 2] {
-    let place = source_with(system, actor, signal);
-    let source = source_at(system, place);
-    [
-        marked(
-            "the word isn't the asserted signal of one of the caller's sources",
-            !is_asserted(objects, place),
-        ),
-        of_handler(source, is_first_level),
-    ]
+// The place of the caller's source that has the signal.
+fn source_with(system: &System, actor: ActorId, signal: u32) -> Option<usize>
+    ensures { result ≡ source_of_signal system.now actor.0 signal }
+{
+    let mut sources = system.sources.as_slice().iter();
+    sources.position(|source| source.owner == actor.0 && source.signal == signal)
 }
 
-// That a source has the handler that the call isn't for.
-fn of_handler(source: Option<&Source>, is_first_level: bool) -> Condition {
-    let words = if is_first_level {
-        "the source has a second-level handler"
+// The place of the source with a number.
+fn source_numbered(system: &System, source: u32) -> Option<usize>
+    ensures { result ≡ source_numbered system.now source }
+{
+    if (source as usize) < system.sources.len() {
+        Some(source as usize)
     } else {
-        "the source has a first-level handler"
-    };
-    marked(words, source.is_some_and(|s| s.flih != is_first_level))
+        None
+    }
 }
 
-fn of_enable(system: &System, actor: ActorId, signal: u32) -> [Condition; 1] {
+fn is_asserted(objects: &Objects, source: usize) -> bool
+    ensures { result ≡ (flags_at (spm_of_objects objects.now) source).asserted }
+{
+    match objects.sources.as_slice().get(source) {
+        Some(flags) => flags.asserted,
+        None => false,
+    }
+}
+
+fn has_flih(system: &System, source: usize) -> bool
+    ensures { result ≡ has_flih system.now source }
+{
+    match system.sources.as_slice().get(source) {
+        Some(source) => source.flih,
+        None => false,
+    }
+}
+
+fn of_assertion(objects: &Objects, source: Option<usize>) -> Condition
+    ensures { told result ≡ asserted_condition (spm_of_objects objects.now) source }
+{
+    let is_asserted = match source {
+        Some(place) => is_asserted(objects, place),
+        None => false,
+    };
+    marked(
+        "the word isn't the asserted signal of one of the caller's sources",
+        !is_asserted,
+    )
+}
+
+fn of_first_level(system: &System, source: Option<usize>) -> Condition
+    ensures { told result ≡ first_level_condition system.now source }
+{
+    let is_first_level = match source {
+        Some(place) => has_flih(system, place),
+        None => false,
+    };
+    marked("the source has a first-level handler", is_first_level)
+}
+
+fn of_second_level(system: &System, source: Option<usize>) -> Condition
+    ensures { told result ≡ second_level_condition system.now source }
+{
+    let is_second_level = match source {
+        Some(place) => !has_flih(system, place),
+        None => false,
+    };
+    marked("the source has a second-level handler", is_second_level)
+}
+
+fn of_enable(system: &System, actor: ActorId, signal: u32) -> [Condition; 1]
+    ensures { map told result ≡ enable_conditions system.now actor.0 signal }
+{
     [marked(
         "the word isn't the signal of one of the caller's sources",
         source_with(system, actor, signal).is_none(),
     )]
 }
 
-fn of_interrupt(system: &System, source: u32, is_first_level: bool) -> [Condition; 2] {
-    let source = source_at(system, Some(source as usize));
-    [
-        marked("no source has the number", source.is_none()),
-        of_handler(source, is_first_level),
-    ]
+fn of_number(system: &System, source: u32) -> Condition
+    ensures { told result ≡ number_condition system.now source }
+{
+    marked(
+        "no source has the number",
+        source_numbered(system, source).is_none(),
+    )
 }
 
 /// Those of a call on the doorbell or on an interrupt.
 pub fn signal_conditions(
-    conditions: &mut Vec<Condition>,
+    alloc: Global,
     system: &System,
     objects: &Objects,
     actor: ActorId,
     call: Call,
-) -> Result<(), AllocError> {
+) -> Result<Vec<Condition>, AllocError>
+    ensures { IfOk result (λ conditions. map told conditions.items ≡ signal_conditions system.now (spm_of_objects objects.now) actor.0 call) }
+{
     match call {
-        Call::Notify { partition } => {
-            conditions.extend_from_slice(&of_notify(system, partition))
-        }
-        Call::Clear => conditions.extend_from_slice(&of_clear(objects, actor)),
+        Call::Notify { partition } => Ok(Vec::from_array(alloc, of_notify(system, partition))?),
+        Call::Clear => Ok(Vec::from_array(alloc, of_clear(objects, actor))?),
         Call::Eoi { signal } => {
-            conditions.extend_from_slice(&of_end(system, objects, actor, signal, false))
+            let source = source_with(system, actor, signal);
+            let level = of_first_level(system, source);
+            Ok(Vec::from_array(alloc, [of_assertion(objects, source), level])?)
         }
         Call::ResetSignal { signal } => {
-            conditions.extend_from_slice(&of_end(system, objects, actor, signal, true))
+            let source = source_with(system, actor, signal);
+            let level = of_second_level(system, source);
+            Ok(Vec::from_array(alloc, [of_assertion(objects, source), level])?)
         }
         Call::IrqEnable { signal } | Call::IrqDisable { signal } => {
-            conditions.extend_from_slice(&of_enable(system, actor, signal))
+            Ok(Vec::from_array(alloc, of_enable(system, actor, signal))?)
         }
         Call::Raise { source } => {
-            conditions.extend_from_slice(&of_interrupt(system, source, false))
+            let level = of_first_level(system, source_numbered(system, source));
+            Ok(Vec::from_array(alloc, [of_number(system, source), level])?)
         }
         Call::Fire { source, result } => {
-            conditions.extend_from_slice(&of_interrupt(system, source, true))?;
-            conditions.extend_from_slice(&[marked("the result is neither 0 nor 1", result > 1)])
+            let level = of_second_level(system, source_numbered(system, source));
+            let answer = marked("the result is neither 0 nor 1", result > 1);
+            Ok(Vec::from_array(alloc, [of_number(system, source), level, answer])?)
         }
-        _ => Ok(()),
+        _ => Ok(Vec::new(alloc)),
     }
 }

@@ -1,8 +1,8 @@
 //! Calls one after another: the condition of each is met by what those before it left.
 
-ghost use Rattle.std.specs.Prelude.{◌≡◌};
+ghost use Rattle.std.specs.Prelude.{◌≡◌, ◌≢◌, ◌+◌};
 ghost use Rattle.ffm_model.specs.State.{phase_of};
-ghost use Rattle.slot_names.specs.Premises.{LeavesTakes, PremisesWithMemory};
+ghost use Rattle.slot_names.specs.Premises.{AreLeft, PremisesWithMemory};
 ghost use Rattle.spm_tables.specs.TablesView.{spm_of};
 
 use crate::setup::{CLIENT, SYSTEM, VAULT, image_of, ready, runs};
@@ -36,8 +36,11 @@ fn asked_once(
     closed: Handle,
 ) -> Result<(Handle, Result<u32, Fault>, Result<Outcome, Fault>), Fault>
     requires premises { PremisesWithMemory system.now tables.old image.old }
-    requires takes { LeavesTakes tables.old }
+    requires connections { AreLeft tables.old.connections.takes }
+    requires messages { AreLeft (tables.old.messages.takes + 1) }
     requires running { phase_of (spm_of tables.old) asked.client.0 ≡ ActorPhase.Running }
+    requires running_partition { phase_of (spm_of tables.old) asked.partition.0 ≡ ActorPhase.Running }
+    requires apart { asked.partition.0 ≢ asked.client.0 }
 {
     connect(system, tables, asked.client, asked.sid, asked.version)?;
     let message = get(
@@ -62,9 +65,6 @@ fn asked_once(
     if reply(system, tables, image, asked.partition, handle, status)?.is_some() {
         return Err(Fault);
     }
-    if !runs(tables, asked.partition) || tables.messages().takes() >= 1000 {
-        return Err(Fault);
-    }
     Ok((handle, moved, close(tables, asked.partition, closed)))
 }
 
@@ -72,8 +72,9 @@ fn asked_once(
 fn asks_for_a_connection(rt: HostRuntime) -> Result<(), Fail> {
     let system = system_of(rt.alloc(), SYSTEM)?;
     let mut image = image_of(&rt, rt.alloc(), &system)?;
-    let mut tables = ready(&rt, rt.alloc(), &system)?;
+    let mut tables = ready(rt.alloc(), &system)?;
     assert!(rt; runs(&tables, CLIENT));
+    assert!(rt; runs(&tables, VAULT));
     let asked = Asked {
         client: CLIENT,
         sid: Sid(0x40),

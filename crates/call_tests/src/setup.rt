@@ -2,7 +2,7 @@
 ghost use Rattle.std.specs.Prelude.{◌≡◌, IfOk, IsTrue};
 ghost use Rattle.ffm_model.specs.State.{opening_spm, phase_of};
 ghost use Rattle.memory_image.specs.Pieces.{ranges_of, regions_of};
-ghost use Rattle.slot_names.specs.Premises.{LeavesTakes, Premises};
+ghost use Rattle.slot_names.specs.Premises.{Premises};
 ghost use Rattle.spm_tables.specs.TablesView.{spm_of};
 
 use ffm_model::{ActorId, ActorPhase, Bytes, List, System};
@@ -31,15 +31,14 @@ pub(crate) fn runs(tables: &Tables, actor: ActorId) -> bool
     matches!(tables.phase(actor), ActorPhase::Running)
 }
 
-// Tables at their start.
-pub(crate) fn ready(rt: &impl Abort, alloc: Global, system: &System) -> Result<Tables, Fail>
+// Tables at their start: no connection and no message was made yet.
+pub(crate) fn ready(alloc: Global, system: &System) -> Result<Tables, Fail>
     ensures premises { IfOk result (λ t. Premises system.now t) }
-    ensures takes { IfOk result (λ t. LeavesTakes t) }
+    ensures connections { IfOk result (λ t. t.connections.takes ≡ 0) }
+    ensures messages { IfOk result (λ t. t.messages.takes ≡ 0) }
     ensures state { IfOk result (λ t. spm_of t ≡ opening_spm system.now) }
 {
-    let tables = Tables::new(alloc, system)?;
-    assert!(rt; tables.messages().takes() < 1000);
-    Ok(tables)
+    Ok(Tables::new(alloc, system)?)
 }
 
 // The descriptors of a vector of the client, and of one in the partition's RAM.

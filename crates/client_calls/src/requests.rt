@@ -1,5 +1,5 @@
 //! `psa_call`.
-ghost use Rattle.std.specs.Prelude.{◌≡◌, All, List};
+ghost use Rattle.std.specs.Prelude.{◌≡◌, ◌+◌, ◌≤◌, All, List};
 ghost use Rattle.ffm_model.specs.declared.machine.Handle.{Handle as HandleSeen};
 ghost use Rattle.ffm_model.specs.State.{phase_of};
 ghost use Rattle.ffm_model.specs.ClientCalls.{connection_called, psa_call, refuses_requests, service_called};
@@ -10,7 +10,7 @@ ghost use Rattle.message_vectors.specs.Vectors.{AreWithin};
 ghost use Rattle.spm_tables.specs.TablesView.{shape_of, spm_of};
 ghost use Rattle.spm_tables.specs.Answers.{Answers, state_with};
 ghost use Rattle.slot_names.specs.Named.{KeepsNames};
-ghost use Rattle.slot_names.specs.Premises.{AreLeft, PremisesWithMemory};
+ghost use Rattle.slot_names.specs.Premises.{AreLeft, PremisesWithImage};
 
 use crate::connecting::is_service_panicked;
 use crate::sending::{send, send_request};
@@ -48,12 +48,13 @@ fn call_connection(
     out_vec: u32,
     out_len: u32,
 ) -> Result<Outcome, Fault>
-    requires premises { PremisesWithMemory system.now tables.old image.now }
+    requires premises { PremisesWithImage system.now tables.old image.now }
     requires takes { AreLeft tables.old.messages.takes }
     requires running { phase_of (spm_of tables.old) actor.0 ≡ ActorPhase.Running }
     ensures answer { (given : List HandleSeen) → Answers (λ o. o) (connection_called system.now (state_with tables.old given (byte_at image.now)) actor.0 handle kind in_vec in_len out_vec out_len) tables.old result tables.new }
     ensures shape { shape_of tables.new ≡ shape_of tables.old }
     ensures names { KeepsNames system.now tables.old tables.new }
+    ensures takes { tables.new.messages.takes ≤ tables.old.messages.takes + 1 }
 {
     let Some(slot) = tables.connections().find(actor, handle) else {
         return Err(Fault);
@@ -87,12 +88,13 @@ fn call_service(
     out_vec: u32,
     out_len: u32,
 ) -> Result<Outcome, Fault>
-    requires premises { PremisesWithMemory system.now tables.old image.now }
+    requires premises { PremisesWithImage system.now tables.old image.now }
     requires takes { AreLeft tables.old.messages.takes }
     requires running { phase_of (spm_of tables.old) actor.0 ≡ ActorPhase.Running }
     ensures answer { (given : List HandleSeen) → Answers (λ o. o) (service_called system.now (state_with tables.old given (byte_at image.now)) actor.0 index kind in_vec in_len out_vec out_len) tables.old result tables.new }
     ensures shape { shape_of tables.new ≡ shape_of tables.old }
     ensures names { KeepsNames system.now tables.old tables.new }
+    ensures takes { tables.new.messages.takes ≤ tables.old.messages.takes + 1 }
 {
     let Some(service) = system.stateless_at(index) else {
         return Err(Fault);
@@ -134,12 +136,13 @@ pub fn invoke(
     out_vec: u32,
     out_len: u32,
 ) -> Result<Outcome, Fault>
-    requires premises { PremisesWithMemory system.now tables.old image.now }
+    requires premises { PremisesWithImage system.now tables.old image.now }
     requires takes { AreLeft tables.old.messages.takes }
     requires running { phase_of (spm_of tables.old) actor.0 ≡ ActorPhase.Running }
     ensures answer { (given : List HandleSeen) → Answers (λ o. o) (psa_call system.now (state_with tables.old given (byte_at image.now)) actor.0 handle kind in_vec in_len out_vec out_len) tables.old result tables.new }
     ensures shape { shape_of tables.new ≡ shape_of tables.old }
     ensures names { KeepsNames system.now tables.old tables.new }
+    ensures takes { tables.new.messages.takes ≤ tables.old.messages.takes + 1 }
     ensures fits { ObjectsFit system.now (spm_of tables.new) }
     ensures vectors { All (λ m. AreWithin (regions_of image.now) m.vectors) (spm_of tables.old).messages → All (λ m. AreWithin (regions_of image.now) m.vectors) (spm_of tables.new).messages }
 {

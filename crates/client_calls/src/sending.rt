@@ -1,7 +1,7 @@
 //! Messages of connections, and requests without one.
-ghost use Rattle.std.specs.Prelude.{◌≡◌, ◌<◌, length, false, IsSome, IsSomeAnd, IfSome};
+ghost use Rattle.std.specs.Prelude.{◌≡◌, ◌<◌, ◌+◌, length, false, IsSome, IsSomeAnd, IfSome};
 ghost use Rattle.ffm_model.specs.State.{with_phase, with_message, with_request};
-ghost use Rattle.object_pools.specs.Pool.{free_slot, item_at, taken};
+ghost use Rattle.object_pools.specs.Pool.{most_takes, free_slot, item_at, taken};
 ghost use Rattle.spm_tables.specs.TablesView.{spm_of, shape_of};
 ghost use Rattle.client_calls.specs.Sending.{item_on, message_on, request_message};
 
@@ -45,10 +45,11 @@ fn item_on(connections: &Connections, slot: Slot, kind: i32, vectors: Vectors) -
 pub(crate) fn send(tables: &mut Tables, slot: Slot, kind: i32, vectors: Vectors)
     requires connection { IsSomeAnd (item_at tables.old.connections slot) (λ c. c.service < length tables.old.services) }
     requires room { length (spm_of tables.old).messages < (shape_of tables.old).messages }
-    requires few { tables.old.messages.takes < 1048575 }
+    requires few { tables.old.messages.takes < most_takes }
     ensures connections { tables.new.connections ≡ tables.old.connections }
     ensures messages { IfSome (item_at tables.old.connections slot) (λ c. IsSomeAnd (free_slot tables.old.messages) (λ place. tables.new.messages ≡ taken tables.old.messages place (message_on slot c kind vectors))) }
     ensures state { IfSome (item_at tables.old.connections slot) (λ c. spm_of tables.new ≡ with_phase (with_message (spm_of tables.old) c kind vectors) c.client.0 ActorPhase.Blocked) }
+    ensures takes { tables.new.messages.takes ≡ tables.old.messages.takes + 1 }
     ensures shape { shape_of tables.new ≡ shape_of tables.old }
 {
     let item = item_on(tables.connections(), slot, kind, vectors);
@@ -66,10 +67,11 @@ pub(crate) fn send_request(
 )
     requires service { service < length tables.old.services }
     requires room { length (spm_of tables.old).messages < (shape_of tables.old).messages }
-    requires few { tables.old.messages.takes < 1048575 }
+    requires few { tables.old.messages.takes < most_takes }
     ensures connections { tables.new.connections ≡ tables.old.connections }
     ensures messages { IsSomeAnd (free_slot tables.old.messages) (λ place. tables.new.messages ≡ taken tables.old.messages place (request_message client service kind vectors)) }
     ensures state { spm_of tables.new ≡ with_phase (with_request (spm_of tables.old) client.0 service kind vectors) client.0 ActorPhase.Blocked }
+    ensures takes { tables.new.messages.takes ≡ tables.old.messages.takes + 1 }
     ensures shape { shape_of tables.new ≡ shape_of tables.old }
 {
     tables.enqueue(MessageItem {

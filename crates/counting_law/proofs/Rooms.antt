@@ -57,12 +57,6 @@ request-room s b a h c fit running held alive =
     subst (λ (d : Bool). ObjectsFit s (cond {A = Move} d (move (Value PSA_ERROR_COMMUNICATION_FAILURE) b) (move Blocks new)).spm) alive (call-fits s b a h c 0 no_vectors fit running held) in
     omega (arith, few-messages-of s new kept, length-append b.messages (m ∷ []))
 
-pub close-fits : (s : System) (b : SpmState) (a : ℕ) (h : Handle) (c : OpenConnection) → ObjectsFit s b → phase_of b a ≡ Running → connection_held b a h ≡ Some c → ObjectsFit s (close_on b a c).spm
-close-fits s b a h c fit running held = balanced-fit s one _ (close-keeps s one b a h c (fit-balanced s b fit) running held)
-
-pub asked-fits : (s : System) (b : SpmState) (a v n : ℕ) (vs : Vectors) → ObjectsFit s b → phase_of b a ≡ Running → is_stateless s v ≡ true → permits s a v ≡ true → ObjectsFit s (call_to s b a v (pos n) vs).spm
-asked-fits s b a v n vs fit running stateless may = balanced-fit s one _ (asked-keeps s one b a v n vs (fit-balanced s b fit) running stateless may)
-
 -- psa_call by a stateless handle
 pub call-room : (s : System) (b : SpmState) (a v : ℕ) → ObjectsFit s b → phase_of b a ≡ Running → is_stateless s v ≡ true → permits s a v ≡ true → length b.messages + 1 ≤ message_capacity s
 call-room s b a v fit running stateless may =

@@ -77,14 +77,6 @@ after_badly n edge home t front e bad j b =
     subst P (sym e) (λ h g. let on : GoesOn n edge home t j = goes_by n edge home t j g in
     clash (nat_lt home n && are_different (home ∷ t)) h (and_from (nat_lt home n) _ on.low on.different)) bad b
 
-pub first_found : (n : ℕ) (edge : ℕ → ℕ → Bool) (marks : List Bool) (k : ℕ) → k < n → TellsWays n edge k [] marks → get_or marks k false ≡ true → Begins n edge ([] ++ k ∷ [])
-first_found n edge marks k low tells h =
-    let w : Homeward n edge k [] k = tells.found k low refl h in
-    record { rest = w.rest; circle = and_from (nat_lt k n) _ (test k n low) (and_from (are_different (k ∷ w.rest)) _ w.different w.way) }
-  where
-    test : (k n : ℕ) → k < n → nat_lt k n ≡ true
-    test k n e = grind (arith, nat_tests)
-
 homeward_first : (n : ℕ) (edge : ℕ → ℕ → Bool) (k : ℕ) → (b : Begins n edge ([] ++ k ∷ [])) → (k < n) × Homeward n edge k [] k
 homeward_first n edge k b =
     let inner : (are_different (k ∷ b.rest) && is_way n edge k k b.rest) ≡ true = (and_parts (nat_lt k n) _ b.circle).1 in (

@@ -34,9 +34,6 @@ pub record Spread (edge : ℕ → ℕ → Bool) (y : ℕ) (old : List ℕ) (befo
   pub past : (z : ℕ) → z < x → get_or marks z false ≡ (get_or before z false || edge z y)
   pub rest : (z : ℕ) → x ≤ z → get_or marks z false ≡ get_or before z false
 
-pub spread_init : (edge : ℕ → ℕ → Bool) (y : ℕ) (old : List ℕ) (before : List Bool) → Spread edge y old before old before 0
-spread_init edge y old before = record { found_is = sym (append-nil old); len = refl; past = λ z h. absurd (omega (arith, h)); rest = λ z h. refl }
-
 below_or_at : (P : ℕ → Type 0) (x : ℕ) → ((z : ℕ) → z < x → P z) → P x → (z : ℕ) → z < x + 1 → P z
 below_or_at P x below here z h = by (cases_eq x z)
   where

@@ -23,10 +23,6 @@ IsClosed n edge home front marks = (x y : ℕ) → x < n → is_new x front ≡ 
 
 -- ---- tests
 
-either_by : {P : Type 0} (a b : Bool) → (a || b) ≡ true → (a ≡ true → P) → (b ≡ true → P) → P
-either_by true b h f g = f refl
-either_by false b h f g = g h
-
 -- ---- marks that are closed reach every way home
 pub reached : (n : ℕ) (edge : ℕ → ℕ → Bool) (home : ℕ) (front : List ℕ) (marks : ℕ → Bool) → IsClosed n edge home front marks
     → (x : ℕ) (rest : List ℕ) → x < n → is_way n edge home x rest ≡ true → are_apart front (x ∷ rest) ≡ true → marks x ≡ true

@@ -88,7 +88,8 @@ pub(crate) fn drawn(
         return Err(Fail::from("too many regions or entries"));
     }
     let image = Image::new(alloc, &system.regions, &List::of(Vec::new(alloc)))?;
-    Ok(diagram(alloc, system, &image, 1000, &trace, part, format)?)
+    let diagram = diagram(alloc, system, &image, 1000, &trace, part, format)?;
+    Ok(diagram.text(alloc, system, &trace)?)
 }
 
 /// The arrows of a trace's text, from a memory whose bytes are 0.

@@ -38,22 +38,15 @@ fn script(rt: &impl Abort, alloc: Global, text: &str) -> Result<Script, Fail>
 
 // A worker of the log's actor, before its first event. The actor has as many contexts as the script has
 // parts.
-fn worker(
-    rt: &impl Abort,
-    alloc: Global,
-    system: &System,
-    log: Log,
-    script: Script,
-) -> Result<Worker<Log>, Fail>
+fn worker(rt: &impl Abort, system: &System, log: Log, script: Script) -> Worker<Log>
     requires { log.entries.items ≡ [] }
-    ensures { IfOk result (λ w. (a : Alone) → IsFresh (λ s l. Unit {0}) (λ l. l.entries.items) a w) }
+    ensures { (a : Alone) → IsFresh (λ s l. Unit {0}) (λ l. l.entries.items) a result }
 {
     assert!(rt; log.actor.0 < system.actor_count());
     let contexts = script.parts.len() as u32;
     assert!(rt; contexts == 1 || system.actor_kind(log.actor) == ActorKind::Client);
-    let runner = Runner::new(alloc, system, log.actor, contexts)?;
-    let worker = Worker::new(log, runner, script);
-    Ok(worker)
+    let runner = Runner::new(system, log.actor, contexts);
+    Worker::new(log, runner, script)
 }
 
 fn version() -> Call {
@@ -66,12 +59,11 @@ const STOP: Call = Call::Stop { spent: false };
 fn two_actors(rt: HostRuntime) -> Result<(), Fail> {
     let alloc = rt.alloc();
     let system = system_of(alloc, SYSTEM)?;
-    let first_log = Log::new(alloc, 0, 9, 2)?;
-    let second_log = Log::new(alloc, 1, 9, 0)?;
-    let waiting = script(&rt, alloc, "version 7\nwait 1 0x80000000")?;
-    let calling = script(&rt, alloc, "version 7")?;
-    let first = worker(&rt, alloc, &system, first_log, waiting)?;
-    let second = worker(&rt, alloc, &system, second_log, calling)?;
+    let first = Log::new(alloc, 0, 9, 2)?;
+    let second = Log::new(alloc, 1, 9, 0)?;
+    let text = "version 7\nwait 1 0x80000000";
+    let first = worker(&rt, &system, first, script(&rt, alloc, text)?);
+    let second = worker(&rt, &system, second, script(&rt, alloc, "version 7")?);
     let mut workers = List::of(vec![in alloc; first, second]?);
     let book = Book::new();
     drive(&rt, &Alone { over: false }, &mut workers, &book);
@@ -108,7 +100,7 @@ fn one_actor<R: Abort + Wait>(
     requires { log.entries.items ≡ [] }
 {
     let system = system_of(alloc, SYSTEM)?;
-    let one = worker(rt, alloc, &system, log, script)?;
+    let one = worker(rt, &system, log, script);
     let mut workers = List::of(vec![in alloc; one]?);
     let book = Book::new();
     drive(rt, api, &mut workers, &book);

@@ -50,20 +50,9 @@ apart f g a b small below differ =
     ] in
     go _ refl
 
-pub one-slot-one-handle : (f : Family) (a b : Slot) → IsNameable f a → IsNameable f b → handle_at f a ≡ handle_at f b → a ≡ b
-one-slot-one-handle f a b m n e =
-    let number : a.generation * 1024 + a.index + base_of f ≡ b.generation * 1024 + b.index + base_of f = same (ap (λ (h : Handle). h.0) e) in
-    let parts = same_number f f a b m.index n.index number in
-    λ j. record { index = parts.1 j; generation = parts.2 j } where
-      same : {x y : ℕ} → pos x ≡ pos y → x ≡ y
-      same e = cc
-
 -- a pool of no more items than a family has indices
 pub kept-in : {T : Type 0} (f : Family) (capacity : ℕ) (p : Places T) → capacity ≤ indices_of f → IsKept capacity p → IsKept (indices_of f) p
 kept-in f capacity p few k = record { size = omega (arith, few, k.size); live = k.live; named = k.named; once = k.once; given = k.given; takes_left = k.takes_left }
-
-other_index : (generations : List ℕ) (i g x : ℕ) → x ≢ i → get_or (slice_set generations i g) x 0 ≡ get_or generations x 0
-other_index generations i g x n = grind (arith, common_steps)
 
 grown : (generations : List ℕ) (i g x k : ℕ) → g ≡ get_or generations i 0 + 1 → get_or (slice_set generations i g) x 0 < k → get_or generations x 0 < k
 grown generations i g x k e h = grind (arith, common_steps)

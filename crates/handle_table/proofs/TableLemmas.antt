@@ -53,9 +53,6 @@ rises-filter low made q (c ∷ cs) r =
     elim [ true ↦ (r.0, rest) | false ↦ rises-weaker (c.serial + 1) low made (filter q cs) (omega (arith, r.0)) rest ] in
     go (q c)
 
-at_bit : (k n : ℕ) → bit (k == n) ≤ 1
-at_bit k n = bit-le (k == n)
-
 above_none : (n low made : ℕ) (cs : List OpenConnection) → n < low → Rises low cs made → count_by (λ c. c.serial == n) cs ≡ 0
 above_none n low made [] above r = refl
 above_none n low made (c ∷ cs) above r =

@@ -3,7 +3,7 @@
 ghost use Rattle.std.specs.Prelude.{◌≡◌, ◌<◌, ◌≤◌, ◌==◌, ◌&&◌, ◌↔◌, length, IsTrue, IsSome, IfSome, Some, find, All, option_and_then, nat_le, slice_get};
 ghost use Rattle.ffm_model.specs.State.{connection_held, in_use, has_handle, with_connection_phase, with_rhandle, with_connection_handle, without_connection};
 ghost use Rattle.ffm_model.specs.ClientCalls.{new_connection};
-ghost use Rattle.object_pools.specs.Pool.{Places, empty, taken, free_slot, item_at, without, with_item, IsKept};
+ghost use Rattle.object_pools.specs.Pool.{Places, most_takes, empty, taken, free_slot, item_at, without, with_item, IsKept};
 ghost use Rattle.handle_table.specs.declared.handles.Family.TheVariants as family;
 ghost use Rattle.handle_table.specs.declared.handles.Family.{Family as TheFamily};
 ghost use Rattle.object_pools.specs.declared.slot.Slot.{Slot as TheSlot};
@@ -148,7 +148,7 @@ impl Connections {
     /// one more, and fewer than 1,048,575 were started.
     pub fn start(&mut self, owner: ActorId, service: u32) -> Slot
         requires room { length self.old.held < length self.old.generations }
-        requires few { self.old.takes < 1048575 }
+        requires few { self.old.takes < most_takes }
         ensures slot { free_slot self.old ≡ Some result }
         ensures after { self.new ≡ taken self.old result (new_connection (spm_of_connections self.old) owner.0 service) }
         ensures state { spm_of_connections self.new ≡ with_started (spm_of_connections self.old) (new_connection (spm_of_connections self.old) owner.0 service) }

@@ -395,10 +395,6 @@ four-kept s = record {
   output = λ v index n fits four. record { inputs = four.inputs; outputs = length-set v.output index _ ∙ four.outputs };
 }
 
--- each step keeps four input and four output vectors
-pub step-four : (s : System) (st new : State) (e : Entry) → HaveFour st.spm → step s st e ≡ Some new → HaveFour new.spm
-step-four s st new e four h = step-meets AreFour s st new e (four-kept s) four h
-
 -- in each state of a run messages have them
 pub run-four : (s : System) (m : ByteMap) (es : List Entry) (st : State) → after s m es ≡ Some st → HaveFour st.spm
 run-four s m es st h = run-meets AreFour s m es st (four-kept s) h
@@ -437,10 +433,6 @@ within-kept s = record {
   input = input-kept s;
   output = output-kept s;
 }
-
--- each step keeps the condition on vectors
-pub step-vectors : (s : System) (st new : State) (e : Entry) → LieWithin s st.spm → step s st e ≡ Some new → LieWithin s new.spm
-step-vectors s st new e within h = step-meets (AreWithin (ranges_of s.regions)) s st new e (within-kept s) within h
 
 -- each state of a run meets it
 pub run-vectors : (s : System) (m : ByteMap) (es : List Entry) (st : State) → after s m es ≡ Some st → LieWithin s st.spm

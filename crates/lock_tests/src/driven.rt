@@ -65,9 +65,8 @@ fn worker_of(
         return Err(Fail::from("an actor is wanted"));
     }
     let script = script_of(rt, alloc, actor)?;
-    let runner = Runner::new(alloc, system, actor, 1)?;
-    let worker = Worker::new(pass, runner, script);
-    Ok(worker)
+    let runner = Runner::new(system, actor, 1);
+    Ok(Worker::new(pass, runner, script))
 }
 
 // A worker for each pass, in order.

@@ -11,20 +11,6 @@ use Rattle.memory_image.proofs.Stored.{part_inside}
 use Rattle.machine_calls.specs.Machine.{SpanFits, VectorsFit}
 use Rattle.machine_calls.specs.Moved.{input_of, output_of, with_input_moved, with_output_moved}
 
--- no more than the rest is moved
-one_moved : (regions : List (ℕ × ℕ)) (v : Span) (n : ℕ) → v.moved + n ≤ v.len → SpanFits regions v → SpanFits regions (moved_by v n)
-one_moved regions v n fits k = record { inside = k.inside; moved = fits }
-
-spans_moved : (regions : List (ℕ × ℕ)) (vs : List Span) (i n : ℕ) → i < length vs → (get_or vs i no_span).moved + n ≤ (get_or vs i no_span).len → All (SpanFits regions) vs
-    → All (SpanFits regions) (set vs i (moved_by (get_or vs i no_span) n))
-spans_moved regions vs i n below fits all = All-set (SpanFits regions) vs i (moved_by (get_or vs i no_span) n) (one_moved regions (get_or vs i no_span) n fits (all i no_span below)) all
-
-pub input_fits : (regions : List (ℕ × ℕ)) (v : Vectors) (i n : ℕ) → i < length v.input → (input_of v i).moved + n ≤ (input_of v i).len → VectorsFit regions v → VectorsFit regions (with_input_moved v i n)
-input_fits regions v i n below fits k = record { few = k.few; inputs = spans_moved regions v.input i n below fits k.inputs; outputs = k.outputs; descriptors = k.descriptors }
-
-pub output_fits : (regions : List (ℕ × ℕ)) (v : Vectors) (i n : ℕ) → i < length v.output → (output_of v i).moved + n ≤ (output_of v i).len → VectorsFit regions v → VectorsFit regions (with_output_moved v i n)
-output_fits regions v i n below fits k = record { few = k.few; inputs = k.inputs; outputs = spans_moved regions v.output i n below fits k.outputs; descriptors = k.descriptors }
-
 -- one more length is written
 pub lengths_step : (m n all : ByteMap) (at k : ℕ) (v : Span) (vs : List Span) → k < length vs → v ≡ get_or vs k no_span → n ≡ store_number m (at + 8 * k + 4) 4 v.moved
     → lengths_written m (at + 8 * k) (drop k vs) ≡ all → lengths_written n (at + 8 * (k + 1)) (drop (k + 1) vs) ≡ all

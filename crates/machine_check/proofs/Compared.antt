@@ -94,16 +94,6 @@ more-differences s a old new r rs one others both first rest lowest count outsid
       (least-more (λ x. differs old new x && not (own_ram s a x)) r rs one.outside others.outside first.outside rest.outside);
 }
 
-pub no-differences : (s : System) (a : ℕ) (old new : ByteMap) → AreDifferences s a old new [] (record { lowest = None; count = 0; outside = None })
-no-differences s a old new = record {
-  lowest = λ x. none (differs old new x);
-  count = refl;
-  outside = λ x. none (differs old new x && not (own_ram s a x));
-} where
-  none : (b : Bool) → (b && false) ≡ false
-  none true = refl
-  none false = refl
-
 -- ---- the ranges, one by one
 
 -- a range has a byte, and ends by 2^32

@@ -73,15 +73,6 @@ stopped s m limit front rest es old new k e false parts within accepts is = reco
 no_more : (s : System) (m : ByteMap) (front back : List Entry) → after s m front ≡ None → after s m (front ++ back) ≡ None
 no_more s m front back none = fold-append (step_on s) (Some (opening s m)) front back ∙ ap (λ o. fold (step_on s) o back) none ∙ none-stays s back
 
--- all entries lead to it
-pub all_reached : (s : System) (m : ByteMap) (limit : ℕ) (es : List Entry) (c : Checker) → IsBehind s m es c → c.count ≤ limit → IsReached s m limit es c
-all_reached s m limit es c behind within = record {
-  few = omega (arith, behind.count);
-  within = within;
-  behind = subst (λ (l : List Entry). IsBehind s m l c) (sym (ap (λ n. take n es) behind.count ∙ take-length es)) behind;
-  last = inl behind.count;
-}
-
 front_taken : (s : System) (m : ByteMap) (limit : ℕ) (es : List Entry) (n : ℕ) (k : Stops s m limit es n) → take n es ≡ k.front
 front_taken s m limit es n k = ap (λ i. take i es) k.count ∙ ap (take (length k.front)) k.parts ∙ take-append_seam k.front (k.entry ∷ k.rest)
 

@@ -58,12 +58,6 @@ kept_short P most read d vs (Err e) is few kept given = tt
 
 -- ---- lists that have an item
 
-pub list_empty : {A : Type 0} (read : Data → Result A PartRefusal) (d : Data) (vs : List Value) → Some (items_view vs) ≡ as_array d → length vs ≡ 0 → list_of_some read d ≡ refuse BAD_VALUE
-unfolding list_of_some
-list_empty read d vs is none =
-    let test : (items_len (items_view vs) == 0) ≡ true = rw items_len-items_view (grind (arith, nat_tests)) in
-    rw (← is, test) refl
-
 pub list_some : {A : Type 0} (read : Data → Result A PartRefusal) (d : Data) (vs : List Value) → Some (items_view vs) ≡ as_array d → 0 < length vs → list_of_some read d ≡ list_of read d
 unfolding list_of_some
 list_some read d vs is some =

@@ -15,10 +15,6 @@ use Rattle.list_laws.proofs.Tests.{list_any-more}
 use Rattle.list_laws.proofs.Bools.{or_rest}
 use Rattle.memory_image.proofs.Places.{holds_at}
 
-either_more : (a b c d : Bool) → (a || c) ≡ true → (a ≡ true → b ≡ true) → (c ≡ true → d ≡ true) → (b || d) ≡ true
-either_more true b c d h first rest = let holds : b ≡ true = first refl in rw holds refl
-either_more false b c d h first rest = or_right b d (rest h)
-
 or_then : (a b : Bool) (P : Type 0) → (a || b) ≡ true → (a ≡ true → P) → (b ≡ true → P) → P
 or_then true b P h first second = first refl
 or_then false b P h first second = second h

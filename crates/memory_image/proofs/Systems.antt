@@ -82,7 +82,3 @@ readable_inside s a base len h = or_else _ _ _ h (buffer_inside s a base len) (c
 -- and what it may write
 pub writable_inside : (s : System) (a base len : ℕ) → may_write s a base len ≡ true → is_inside base len (ranges_of s.regions) ≡ true
 writable_inside s a base len h = or_else _ _ _ h (buffer_inside s a base len) (class_inside (λ r. is_writable_mmio_of a r.class) base len s.regions)
-
--- an image has a piece for each region
-pub as_many_pieces : (pieces : List Bytes) (rs : List Region) → regions_of pieces ≡ ranges_of rs → length pieces ≡ length rs
-as_many_pieces pieces rs same = sym (length-map pieces range_of) ∙ ap length same ∙ length-map rs (λ (r : Region). (r.base, r.size))

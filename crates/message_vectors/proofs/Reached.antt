@@ -119,10 +119,6 @@ buffer-ram s a base len x valid inside = ram-covers s a base len x s.regions ins
   second true c h none = cc
   second false c h none = h
 
--- the next bytes of a vector lie in it
-pub rest-vector : (v : Span) (n x : ℕ) → v.moved + n ≤ v.len → range_covers (v.base + v.moved, n) x ≡ true → span_has x v ≡ true
-rest-vector v n x within inside = grind (arith, nat_tests)
-
 span_at-same : (one other : ByteMap) (a : ℕ) → AgreeWhere (λ x. range_covers (a, 8) x) one other → span_at one a ≡ span_at other a
 span_at-same one other a same = both (load_number one a 4) (load_number other a 4) _ _ base len where
   span : ℕ → ℕ → Span

@@ -22,10 +22,6 @@ vector_of v = record { size = v.size; state = state_of v.state }
 abbrev pub message_of : HeldItem → model.HeldMessage
 message_of m = record { handle = m.handle; kind = m.kind; mm = m.mm; input = map vector_of m.input; output = map vector_of m.output }
 
--- the messages as the list that keeps them shows them
-pub record MessageList : Type 0 where
-  pub items : List HeldItem
-
 abbrev pub service_of : HolderService → model.HolderService
 service_of v = record { signal = v.signal; mm = v.mm }
 

@@ -2,15 +2,14 @@
 
 use crate::holder::Holder;
 use crate::line::{MmLine, MmStep};
-use crate::messages::Messages;
-use crate::{steps, table};
-use ffm_model::{Call, Handle, Instruction, Memory, Message, Outcome, System};
-use std::alloc::Global;
+use crate::steps;
+use crate::table::{self, Messages};
+use arrayvec::ArrayVec;
+use ffm_model::{Call, Handle, Instruction, Message, Outcome, System};
 use std::marker::Model;
 
 /// The messages that a partition got and hasn't answered, each with what has become of its vectors: at
-/// most 304 messages, with four input and four output vectors each. The memory for all of them is taken in
-/// `new`, and no other method takes any.
+/// most 304 messages, with four input and four output vectors each. No method takes memory.
 ///
 /// Contracts see the partition for which it was made, as far as messages and windows rest on it, and the
 /// list of the messages, the older ones first.
@@ -35,24 +34,22 @@ impl Model for Held {
 }
 
 impl Held {
-    ghost use Rattle.std.specs.Prelude.{◌≡◌, ◌<◌, ◌↔◌, ℕ, [], IfOk, false, length};
+    ghost use Rattle.std.specs.Prelude.{◌≡◌, ◌<◌, ◌↔◌, ℕ, [], false, length};
     ghost use Rattle.ffm_model.specs.declared.machine.Call.TheVariants as call;
     ghost use Rattle.ffm_model.specs.declared.machine.Outcome.TheVariants as outcome;
     ghost use Rattle.ffm_model.specs.Held.{holder_of, table_behind, without};
     ghost use Rattle.ffm_model.specs.HeldPlans.{Holding, table_noted};
     ghost use Rattle.mm_iovec.specs.Lines.{can_do, engine_line, engine_step, step_of, table_of};
 
-    /// A partition of a system, which holds no message. It has to be one of the system's. Err where there
-    /// is no memory for 304 messages.
-    pub fn new(alloc: Global, system: &System, partition: u32) -> Result<Held, Memory>
+    /// A partition of a system, which holds no message. It has to be one of the system's.
+    pub fn new(system: &System, partition: u32) -> Held
         requires { partition < length system.now.partitions }
-        ensures { IfOk result (λ held. held ≡ record { holder = holder_of system.now partition; table = [] }) }
+        ensures { result ≡ record { holder = holder_of system.now partition; table = [] } }
     {
-        let messages = Messages::new(alloc)?;
-        Ok(Held {
+        Held {
             holder: Holder::of(system, partition),
-            messages,
-        })
+            messages: ArrayVec::new(),
+        }
     }
 
     /// Takes in a message that `psa_get` got by a signal, its vectors fresh, where the signal is a

@@ -1,12 +1,11 @@
 //! The messages that a partition got and hasn't answered, and what has become of their vectors: mapped
-//! vectors (MM-IOVEC). Their memory is taken when the table is made, and no call takes any.
+//! vectors (MM-IOVEC). No call takes memory.
 #![tactic(auto)]
 
 mod held;
 mod holder;
 mod item;
 mod line;
-mod messages;
 mod steps;
 mod table;
 mod vector;

@@ -11,8 +11,7 @@ ghost use Rattle.mm_iovec.specs.Lines.{can_do, maps_in, step_done, table_done, t
 use crate::holder::Holder;
 use crate::item::HeldItem;
 use crate::line::{MmLine, MmStep};
-use crate::messages::Messages;
-use crate::table;
+use crate::table::{self, Messages};
 use crate::vector::VectorState;
 use ffm_model::{Call, Handle, Instruction, MapName, Message, Outcome};
 

@@ -7,9 +7,12 @@ ghost use Rattle.mm_iovec.specs.Items.{message_of, service_of, state_of};
 
 use crate::holder::{Holder, HolderService};
 use crate::item::{HeldItem, input_at, output_at};
-use crate::messages::Messages;
 use crate::vector::VectorState;
+use arrayvec::ArrayVec;
 use ffm_model::{Handle, Message, PSA_MAX_IOVEC};
+
+/// The messages. A system has at most 304 at once.
+pub(crate) type Messages = ArrayVec<HeldItem, 304>;
 
 // ---- look-ups
 
@@ -122,6 +125,14 @@ pub(crate) fn is_output_refused(items: &[HeldItem], handle: Handle, index: u32) 
 
 // ---- changes
 
+// The item at a place is written over.
+fn put(items: &mut Messages, place: usize, item: HeldItem)
+    requires { place < length items.old.items }
+    ensures { items.new.items ≡ slice_set items.old.items place item }
+{
+    items.as_mut_slice()[place] = item;
+}
+
 /// A message of a service comes last, where there is room.
 pub(crate) fn take_in(items: &mut Messages, service: HolderService, message: Message)
     ensures { map message_of items.new.items ≡ with_message_of (service_of service) message (map message_of items.old.items) }
@@ -146,7 +157,7 @@ pub(crate) fn set_input(items: &mut Messages, handle: Handle, index: u32, state:
 {
     if let Some(place) = place_of(items.as_slice(), handle) {
         let item = items.as_slice()[place];
-        items.put(place, item.with_input(state, index));
+        put(items, place, item.with_input(state, index));
     }
 }
 
@@ -156,7 +167,7 @@ pub(crate) fn set_output(items: &mut Messages, handle: Handle, index: u32, state
 {
     if let Some(place) = place_of(items.as_slice(), handle) {
         let item = items.as_slice()[place];
-        items.put(place, item.with_output(state, index));
+        put(items, place, item.with_output(state, index));
     }
 }
 
@@ -166,7 +177,7 @@ pub(crate) fn touch_input(items: &mut Messages, handle: Handle, index: u32)
 {
     if let Some(place) = place_of(items.as_slice(), handle) {
         let item = items.as_slice()[place];
-        items.put(place, item.with_input_touched(index));
+        put(items, place, item.with_input_touched(index));
     }
 }
 
@@ -176,6 +187,6 @@ pub(crate) fn touch_output(items: &mut Messages, handle: Handle, index: u32)
 {
     if let Some(place) = place_of(items.as_slice(), handle) {
         let item = items.as_slice()[place];
-        items.put(place, item.with_output_touched(index));
+        put(items, place, item.with_output_touched(index));
     }
 }

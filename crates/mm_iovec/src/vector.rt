@@ -6,9 +6,9 @@ ghost use Rattle.mm_iovec.specs.Items.{state_of, vector_of};
 /// What has become of a vector.
 #[derive(Clone, Copy)]
 pub(crate) enum VectorState {
-    Fresh,
     /// `psa_read`, `psa_skip` or `psa_write` used it.
     Used,
+    Fresh,
     Mapped,
     /// It was mapped, and is no more.
     Unmapped,

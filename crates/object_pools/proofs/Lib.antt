@@ -1,4 +1,3 @@
-pub mod Counts
 pub mod Orders
 pub mod Stores
 pub mod Pigeons

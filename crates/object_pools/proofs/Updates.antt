@@ -11,7 +11,7 @@ use Rattle.std.proofs.lemmas.Option.{slice_get_within, slice_get-get_or, slice_g
 use Rattle.object_pools.specs.declared.slot.Slot.{Slot}
 use Rattle.object_pools.specs.declared.slot.Held.{Held}
 use Rattle.object_pools.specs.declared.cells.Cell.{Cell}
-use Rattle.object_pools.specs.Pool.{has_slot, item_put, item_at, free_slot, taken, without, with_item, IsNamed, IsKept}
+use Rattle.object_pools.specs.Pool.{most_takes, has_slot, item_put, item_at, free_slot, taken, without, with_item, IsNamed, IsKept}
 use Rattle.object_pools.specs.Cells.{under_slot, held_in, held_at, item_in, generations_of, generation_at, places_of, Stored}
 use Rattle.list_laws.proofs.Counts.{bit, bit-le, count-cons, count-push}
 use Rattle.object_pools.proofs.Orders.{times, same-else, filter-out, map-put, all-held, same_number, other_number, same_bit, other_bit}
@@ -199,7 +199,7 @@ module _ {T : Type 0} where
   free-times : (capacity : ℕ) (cells : List (Cell T)) (order : List ℕ) (takes i : ℕ) → Stored capacity cells order takes → is_none (held_at cells i) ≡ true → times i order ≡ 0
   free-times capacity cells order takes i st free = omega (arith, st.once i, ap bit (free_none (held_at cells i) free))
 
-  pub Stored-take : (capacity : ℕ) (cells : List (Cell T)) (order : List ℕ) (takes i : ℕ) (x : T) → Stored capacity cells order takes → takes < 1048575 → i < length cells
+  pub Stored-take : (capacity : ℕ) (cells : List (Cell T)) (order : List ℕ) (takes i : ℕ) (x : T) → Stored capacity cells order takes → takes < most_takes → i < length cells
       → is_none (held_at cells i) ≡ true → Stored capacity (filled cells i x) (order ++ i ∷ []) (takes + 1)
   Stored-take capacity cells order takes i x st left inside free =
       let new : Cell T = record { generation = generation_at cells i + 1; item = Some x } in

@@ -6,7 +6,7 @@ use Rattle.std.specs.Option.{option_map}
 use Rattle.object_pools.specs.declared.slot.Slot.{Slot}
 use Rattle.object_pools.specs.declared.slot.Held.{Held}
 use Rattle.object_pools.specs.declared.cells.Cell.{Cell}
-use Rattle.object_pools.specs.Pool.{Places}
+use Rattle.object_pools.specs.Pool.{Places, most_takes}
 
 module _ {T : Type 0} where
   -- an item with its slot
@@ -47,4 +47,4 @@ module _ {T : Type 0} where
     pub used : (i : ℕ) → is_some (held_at cells i) ≡ true → 1 ≤ generation_at cells i
     -- no generation exceeds the number of takes
     pub given : (i : ℕ) → generation_at cells i ≤ takes
-    pub takes_left : takes ≤ 1048575
+    pub takes_left : takes ≤ most_takes

@@ -6,6 +6,10 @@ use Rattle.std.specs.Option.{option_map}
 use Rattle.object_pools.specs.declared.slot.Slot.{Slot}
 use Rattle.object_pools.specs.declared.slot.Held.{Held}
 
+-- how often a pool is taken from at most: each take may need a generation of its own, and a handle shows those up to 0xfffff
+abbrev pub most_takes : ℕ
+most_takes = 0xfffff
+
 pub record Places (T : Type 0) : Type 0 where
   -- by index, the last generation that was given, and 0 where none was
   pub generations : List ℕ
@@ -89,4 +93,4 @@ module _ {T : Type 0} where
     pub once : (i : ℕ) → count_by (is_at i) p.held ≤ 1
     -- no generation exceeds the number of takes
     pub given : (i : ℕ) → get_or p.generations i 0 ≤ p.takes
-    pub takes_left : p.takes ≤ 1048575
+    pub takes_left : p.takes ≤ most_takes

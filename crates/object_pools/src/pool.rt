@@ -2,7 +2,7 @@
 
 ghost use Rattle.std.specs.Prelude.{◌≡◌, ◌<◌, ◌≤◌, ◌+◌, ◌↔◌, length, IsSome, IsErr, Some, find, slice_get};
 ghost use Rattle.std.specs.Option.{option_copied, option_copied_mut};
-ghost use Rattle.object_pools.specs.Pool.{Places, is_at, empty, taken, item_at, without, with_item, Takes, IsKept};
+ghost use Rattle.object_pools.specs.Pool.{Places, most_takes, is_at, empty, taken, item_at, without, with_item, Takes, IsKept};
 
 use crate::cells::{self, Cell};
 use crate::slot::{Held, Slot};
@@ -79,7 +79,7 @@ impl<T: Copy, const CAP: usize> Pool<T, CAP> {
 
     /// Takes an item in at the lowest free index with its next generation, or hands it back where the pool is full.
     pub fn take(&mut self, item: T) -> Result<Slot, T>
-        requires { self.old.takes < 1048575 }
+        requires { self.old.takes < most_takes }
         ensures takes { Takes self.old item result self.new }
         ensures full { IsErr result ↔ (length self.old.held ≡ length self.old.generations) }
     {

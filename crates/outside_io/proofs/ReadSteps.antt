@@ -76,19 +76,6 @@ after_names_read a b c (Err parts_error.Memory) xs ys p q = front_read_then a b 
 pub read_after_ok : {X Y Z : Type 0} (a b c : Option (List (List ℕ))) (r : Result X PartsError) (first : Reading Y) (f : Y → Reading Z) (y : Y) → first.gives ≡ Ok y → ReadBetween a b first.names → HasRead b c r (f y).names → HasRead a c r (first >>= f).names
 read_after_ok a b c r first f y e p q = rw e (after_names_read a b c r first.names (f y).names p q)
 
--- A step that asks for no file asks for no name, nor do those behind it.
-pub asks_none : {Y Z : Type 0} (gives : Result Y Stop) (f : Y → Reading Z) → ((y : Y) → (f y).names ≡ []) → (asks_nothing gives >>= f).names ≡ []
-asks_none (Ok y) f none = none y
-asks_none (Err e) f none = refl
-
-names_of_last : {Y Z : Type 0} (names : List (List ℕ)) (gives : Result Y Stop) (f : Y → Reading Z) → ((y : Y) → (f y).names ≡ []) → (go_on names gives f).names ≡ names
-names_of_last names (Ok y) f none = ap (λ (s : List (List ℕ)). names ++ s) (none y) ∙ append-nil names
-names_of_last names (Err e) f none = refl
-
--- Behind the last step that asks for a file.
-pub read_before : {X Y Z : Type 0} (a b : Option (List (List ℕ))) (r : Result X PartsError) (first : Reading Y) (f : Y → Reading Z) → ((y : Y) → (f y).names ≡ []) → ReadBetween a b first.names → HasRead a b r (first >>= f).names
-read_before a b r first f none p = rw (names_of_last first.names first.gives f none) (read_by_all a b r first.names p)
-
 ended : (X : Type 0) {W Y Z : Type 0} (a b : Option (List (List ℕ))) (seen : W → Y) (last : Option (Option (List ℕ))) (t : PartsError) (names : List (List ℕ)) (gives : Result Y Stop) (f : Y → Reading Z)
     → Gives seen last (Err t) (record { names = names; gives = gives }) → HasRead {X = W} a b (Err t) names → HasRead {X = X} a b (Err t) (go_on names gives f).names
 ended X a b seen last (parts_error.Refused r) names (Ok y) f h p = absurd cc
@@ -112,12 +99,6 @@ pub read_second : {X Y Z : Type 0} (held mid : Option Contents) (a b c : Option 
 read_second None mid a b c r first second y same one read two = tt
 read_second (Some of) mid a b c r first second y same one read two =
     read_after_ok a b c r (first of) (second of) y one read (subst (λ (o : Option Contents). IfSome o (λ at. HasRead b c r (second at y).names)) same two)
-
--- The first of two steps alone asks for files, and gave something.
-pub read_first : {X Y Z : Type 0} (held : Option Contents) (a b : Option (List (List ℕ))) (r : Result X PartsError) (first : Contents → Reading Y) (second : Y → Reading Z)
-    → ((y : Y) → (second y).names ≡ []) → IfSome held (λ of. ReadBetween a b (first of).names) → IfSome held (λ of. HasRead a b r (first of >>= second).names)
-read_first None a b r first second none read = tt
-read_first (Some of) a b r first second none read = read_before a b r (first of) second none read
 
 -- The first of two steps gave nothing.
 pub read_no_second : (X : Type 0) {W Y Z : Type 0} (held : Option Contents) (a b : Option (List (List ℕ))) (seen : W → Y) (last : Option (Option (List ℕ))) (t : PartsError) (first : Contents → Reading Y) (second : Contents → Y → Reading Z)

@@ -49,6 +49,3 @@ part_of_items f xs i d a b c lt p q =
 -- The same of an equal text.
 pub part_as : (a b : Option (List ℕ)) (x y : List ℕ) → x ≡ y → TakesPart a b x → TakesPart a b y
 part_as a b x y e p = subst (λ (t : List ℕ). TakesPart a b t) e p
-
-pub puts_as : {T E : Type 0} (a b : Option (List ℕ)) (r : Result T E) (x y : List ℕ) → x ≡ y → Puts a b r x → Puts a b r y
-puts_as a b r x y e p = subst (λ (t : List ℕ). Puts a b r t) e p

@@ -12,12 +12,12 @@ use Rattle.ffm_model.specs.Names.{SlotName}
 use Rattle.ffm_model.specs.Panic.{is_dead, disconnection}
 use Rattle.object_pools.specs.declared.slot.Slot.{Slot}
 use Rattle.object_pools.specs.declared.slot.Held.{Held}
-use Rattle.object_pools.specs.Pool.{Places, IsKept, free_slot, item_at, item_put, with_item, without, taken}
+use Rattle.object_pools.specs.Pool.{most_takes, Places, IsKept, free_slot, item_at, item_put, with_item, without, taken}
 use Rattle.spm_tables.specs.declared.item.QueuedMessage.{QueuedMessage}
 use Rattle.spm_tables.specs.TablesView.{TablesView, held_message}
 use Rattle.slot_names.specs.Changes.{TakesOn}
 use Rattle.slot_names.proofs.Moves.{relinks-item, relinks-without}
-use Rattle.slot_names.proofs.Panics.{takes-more, takes-relinked}
+use Rattle.slot_names.proofs.Panics.{takes-more, takes-connections}
 use Rattle.panic_state.specs.Losses.{in_slot, left_by, held_without_client, disconnect_message, disconnect_messages}
 use Rattle.panic_state.proofs.Lists.{left_from, left_from-same, left_from-set, left_from-out, left_from-all, length-out, drop-nth, drop-set, drop-out, drop-all}
 use Rattle.panic_state.proofs.PlaceLemmas.{with_item-at, without-at}
@@ -49,9 +49,6 @@ pub record Leaves (p : ℕ) (old : TablesView) (n : ℕ) (d : TablesView) : Type
   pub names : NamesGoOn old sent d
   pub services : All (IsServed old) (drop n d.connections.held)
 
-pub leaves-none : (p : ℕ) (old : TablesView) → All (IsServed old) old.connections.held → Leaves p old 0 old
-leaves-none p old served = record { connections = refl; messages = refl; rest = refl; size = refl; sent = 0; counted = omega arith; takes = omega arith; names = λ first kept so_far. so_far; services = served }
-
 disconnects-all : (p n : ℕ) (d : TablesView) → length d.connections.held ≤ n → disconnect_messages_from p n d ≡ []
 disconnects-all p n d past = ap (λ (hs : List (Held OpenConnection)). filter_map (disconnection p) (items hs)) (drop-all d.connections.held n past)
 
@@ -60,8 +57,8 @@ append-none [] = refl
 append-none (m ∷ ms) = ap (λ (ns : List PendingMessage). m ∷ ns) (append-none ms)
 
 -- at the end
-pub left-linked : (p n : ℕ) (old d : TablesView) → Leaves p old n d → length d.connections.held ≤ n → d.connections ≡ left_by (held_without_client p) old.connections
-left-linked p n old d l past = sym (λ j. record d.connections { held = left_from-all (held_without_client p) d.connections.held n past j }) ∙ l.connections
+pub left-connections : (p n : ℕ) (old d : TablesView) → Leaves p old n d → length d.connections.held ≤ n → d.connections ≡ left_by (held_without_client p) old.connections
+left-connections p n old d l past = sym (λ j. record d.connections { held = left_from-all (held_without_client p) d.connections.held n past j }) ∙ l.connections
 
 pub left-messages : (p n : ℕ) (old d : TablesView) → Leaves p old n d → length d.connections.held ≤ n → messages_of d ≡ messages_of old ++ disconnect_messages p old.connections
 left-messages p n old d l past = sym (append-none (messages_of d)) ∙ ap (λ (ms : List PendingMessage). messages_of d ++ ms) (sym (disconnects-all p n d past)) ∙ l.messages
@@ -128,7 +125,7 @@ leaves-dead p n old d new h l k here own dead after =
       counted = omega (arith, l.counted, ap (λ (ms : List PendingMessage). length ms) byes);
       takes = l.takes;
       names = λ first kept so_far.
-          takes-relinked (length old.messages.generations) first d (record d { connections = without d.connections h.slot }) kept l.sent (l.names first kept so_far) (relinks-without d.connections h.slot) refl;
+          takes-connections (length old.messages.generations) first d (record d { connections = without d.connections h.slot }) kept l.sent (l.names first kept so_far) (relinks-without d.connections h.slot) refl;
       services = subst (λ (hs : List (Held OpenConnection)). All (IsServed old) hs) (sym tail) (served-next n old d h here l.services).1;
     })
 
@@ -157,7 +154,7 @@ room-left p n old d h l here own alive room =
     )
 
 pub takes-left : (p n : ℕ) (old d : TablesView) (h : Held OpenConnection) → Leaves p old n d → slice_get d.connections.held n ≡ Some h → (h.item.client.0 == p) ≡ true → is_dead h.item.phase ≡ false
-    → old.messages.takes + length (disconnect_messages p old.connections) ≤ 1048575 → d.messages.takes < 1048575
+    → old.messages.takes + length (disconnect_messages p old.connections) ≤ most_takes → d.messages.takes < most_takes
 takes-left p n old d h l here own alive few = omega (arith, l.takes, l.counted, ap (λ (ms : List PendingMessage). length ms) (own-disconnect p n d h here own alive))
 
 pub service-known : (p n : ℕ) (old d : TablesView) (h : Held OpenConnection) → Leaves p old n d → slice_get d.connections.held n ≡ Some h → h.item.service < length d.services

@@ -3,6 +3,7 @@
 ghost use Rattle.std.specs.Prelude.{◌≡◌, ◌<◌, ◌≤◌, ◌+◌, ◌++◌, List, length, false, All, Some};
 ghost use Rattle.ffm_model.specs.Panic.{is_dead};
 ghost use Rattle.ffm_model.specs.Names.{SlotName};
+ghost use Rattle.object_pools.specs.Pool.{most_takes};
 ghost use Rattle.spm_tables.specs.TablesView.{TablesView, spm_of, fresh_message, queued_as};
 ghost use Rattle.slot_names.specs.Changes.{TakesOn};
 ghost use Rattle.panic_state.specs.Losses.{left_by, held_without_client, disconnect_message, disconnect_messages};
@@ -44,7 +45,7 @@ fn is_dead(phase: ConnPhase) -> bool
 pub(crate) fn leave_services(tables: &mut Tables, partition: ActorId)
     requires services { All (λ h. h.item.service < length tables.old.services) tables.old.connections.held }
     requires room { length tables.old.messages.held + length (disconnect_messages partition.0 tables.old.connections) ≤ length tables.old.messages.generations }
-    requires few { tables.old.messages.takes + length (disconnect_messages partition.0 tables.old.connections) ≤ 1048575 }
+    requires few { tables.old.messages.takes + length (disconnect_messages partition.0 tables.old.connections) ≤ most_takes }
     ensures connections { tables.new.connections ≡ left_by (held_without_client partition.0) tables.old.connections }
     ensures messages { (spm_of tables.new).messages ≡ (spm_of tables.old).messages ++ disconnect_messages partition.0 tables.old.connections }
     ensures rest { tables.new ≡ record tables.old { connections = tables.new.connections; messages = tables.new.messages } }

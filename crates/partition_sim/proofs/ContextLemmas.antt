@@ -1,8 +1,7 @@
 -- Contexts side by side: their next calls, and which of them calls.
 use Rattle.std.proofs.Common.{ℕ, zero, suc, ◌+◌, ◌<◌, ◌≡◌, ◌≢◌, ◌==◌, Bool, true, false, List, [], ◌∷◌, length, get_or, refl, ap, ap₂, sym, ◌∙◌, subst, arith, inl, inr}
-use Rattle.std.specs.Prelude.{Option, Some, None, IfSome, if◌then◌else◌, slice_set, map, ◌||◌, ◌⊎◌}
+use Rattle.std.specs.Prelude.{Some, if◌then◌else◌, slice_set, map, ◌||◌, ◌⊎◌}
 use Rattle.std.specs.List.{list_any}
-use Rattle.std.specs.Option.{unwrap_or}
 use Rattle.std.proofs.lemmas.Bool.{cases_eq, or_right}
 use Rattle.std.proofs.lemmas.Bool.Decides.{nat_tests}
 use Rattle.std.proofs.lemmas.List.{get_or-set_same, get_or-set_other}
@@ -73,10 +72,6 @@ picked-same scripts x ended long inside same =
     picks-agree (length scripts) ended (map is_stop calls)
     (λ k low. same k low ∙ sym (map-get calls k (call.Stop false) (omega (arith, calls-length scripts x.points long)) ∙ ap is_stop (calls-get scripts x.points k (call.Stop false) long low)))
     (length scripts) x.turn inside
-
-pub caller-within : (o : Option ℕ) (turn count : ℕ) → IfSome o (λ k. k < count) → turn < count → unwrap_or o turn < count
-caller-within None turn count h t = t
-caller-within (Some k) turn count h t = h
 
 -- ---- spent lines
 

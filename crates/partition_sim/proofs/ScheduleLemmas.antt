@@ -1,18 +1,22 @@
 -- Turn after turn.
-use Rattle.std.proofs.Common.{ℕ, zero, suc, ◌≡◌, ◌<◌, ◌≤◌, ◌+◌, ◌-◌, ◌*◌, Bool, true, false, List, [], ◌∷◌, ◌++◌, length, refl, ap, sym, ◌∙◌, arith, subst, get_or, inl, inr, add-zero, add_assoc, true≢false, length-append, below_more}
-use Rattle.std.specs.Prelude.{Option, Some, None, option_and_then, IsSome, nat_lt, Ok, ◌||◌, fold, ◌==◌}
+use Rattle.std.proofs.Common.{ℕ, zero, suc, ◌≡◌, ◌<◌, ◌≤◌, ◌+◌, ◌-◌, ◌*◌, Bool, true, false, List, [], ◌∷◌, ◌++◌, length, refl, ap, sym, ◌∙◌, arith, subst, get_or, inl, inr, add_assoc, true≢false, length-append, below_more}
+use Rattle.std.specs.Prelude.{Option, Some, None, option_and_then, IsSome, nat_lt, Ok, ◌||◌, fold, ◌==◌, ◌⊎◌}
 use Rattle.std.specs.List.{list_any, range_with_len}
 use Rattle.std.proofs.lemmas.Bool.{cases_lt}
 use Rattle.std.proofs.lemmas.List.{get_or_default, get_or_append_left}
 use Rattle.std.proofs.lemmas.Nat.{mod-mul-add}
 use Rattle.std.proofs.Math.Seq.{get_or-append_seam}
 use Rattle.spm_core.proofs.Refusals.{verdict_off}
+use Rattle.ffm_model.specs.declared.system.ActorKind.{ActorKind}
+use Rattle.ffm_model.specs.declared.system.ActorKind.TheVariants as kind
 use Rattle.ffm_model.specs.declared.system.System.{System}
 use Rattle.ffm_model.specs.declared.machine.ActorId.{ActorId}
 use Rattle.ffm_model.specs.declared.machine.Entry.{Entry}
 use Rattle.ffm_model.specs.declared.script.Instruction.{Instruction}
-use Rattle.ffm_model.specs.Actors.{actor_count}
+use Rattle.ffm_model.specs.Actors.{actor_count, kind_of}
+use Rattle.ffm_model.specs.Held.{holder_of}
 use Rattle.ffm_model.specs.Schedule.{turn_at, enabled_in, IsNext, Turns}
+use Rattle.ffm_model.specs.ScriptRuns.{only_part}
 use Rattle.ffm_model.specs.Signals.{enabled}
 use Rattle.ffm_model.specs.State.{State, opening}
 use Rattle.ffm_model.specs.Step.{step_on}
@@ -20,7 +24,10 @@ use Rattle.ffm_model.specs.Verdicts.{verdict_of, verdict_at, some_enabled, some_
 use Rattle.memory_image.specs.Pieces.{byte_at}
 use Rattle.spm_core.specs.Manager.{Opening, Managed, state_after, state_of}
 use Rattle.partition_sim.specs.declared.runner.Runner.{Runner}
-use Rattle.partition_sim.specs.ActorPlans.{parts_at, role_at}
+use Rattle.partition_sim.specs.declared.runner.Runner.TheVariants as runner
+use Rattle.partition_sim.specs.ActorPlans.{parts_at, role_at, role_of_kind}
+use Rattle.partition_sim.specs.Clients.{ClientStanding, FollowsAll}
+use Rattle.partition_sim.specs.Partitions.{PartitionStanding, FollowsHeld}
 use Rattle.partition_sim.specs.Standing.{Follows}
 use Rattle.partition_sim.specs.Driving.{Driving, MadeOne, PassedOne, Turned, InOrder, Underway, IsDriven, AreNew, no_runner}
 
@@ -165,12 +172,6 @@ rounds-start scripts schedule o m rs i e u =
     let at : i ≡ length schedule + 0 * actor_count o.system = omega arith in
     record { r = 0; underway = subst P at u }
 
-pub round-start : (scripts : List (List (List Instruction))) (schedule : List ActorId) (o : Opening) (m : Managed) (rs : List Runner) → InRounds scripts schedule o m rs
-    → InRound scripts schedule o m.history m rs false 0
-round-start scripts schedule o m rs i =
-    let P : ℕ → Type 0 = λ x. Underway scripts schedule o m rs x in
-    record { r = i.r; underway = subst P (sym (add-zero (length schedule + i.r * actor_count o.system))) i.underway; progress = (refl, λ b h. absurd (omega arith)) }
-
 pub round-next : (scripts : List (List (List Instruction))) (schedule : List ActorId) (o : Opening) (began : List Entry) (rs rs' : List Runner) (old new : Managed) (made one : Bool) (a : ℕ) → a < actor_count o.system
     → new.opening ≡ old.opening → Turned old.opening old.history a (Ok one) new.history → Driving scripts old.opening new.history rs'
     → InRound scripts schedule o began old rs made a → InRound scripts schedule o began new rs' (made || one) (a + 1)
@@ -223,12 +224,19 @@ pub next-at : (scripts : List (List (List Instruction))) (schedule : List ActorI
 next-at scripts schedule o began m rs true a e k i = rounds-next scripts schedule o began m rs a k i
 next-at scripts schedule o began m rs false a e k i = absurd (true≢false (sym e))
 
-pub longer-at : (scripts : List (List (List Instruction))) (schedule : List ActorId) (o : Opening) (began : List Entry) (m : Managed) (rs : List Runner) (made : Bool) (a : ℕ) → made ≡ true
-    → InRound scripts schedule o began m rs made a → length began < length m.history
-longer-at scripts schedule o began m rs true a e i = i.progress
-longer-at scripts schedule o began m rs false a e i = absurd (true≢false (sym e))
-
 -- ---- the start
+
+-- the first runner of a partition, and of an actor of another kind
+pub new-partition : (s : System) (scripts : List (List (List Instruction))) (a : ℕ) (r : PartitionStanding) → length (parts_at scripts a) ≡ 1 → kind_of s a ≡ kind.Partition
+    → ((script : List Instruction) → FollowsHeld (holder_of s a) script [] r) → Follows (role_at s a) (parts_at scripts a) [] (runner.Partition r)
+new-partition s scripts a r one is new =
+    subst (λ (k : ActorKind). Follows (role_of_kind k (holder_of s a)) (parts_at scripts a) [] (runner.Partition r)) (sym is) (one, new (only_part (parts_at scripts a)))
+
+pub new-other : (s : System) (scripts : List (List (List Instruction))) (a : ℕ) (r : ClientStanding) → (kind_of s a ≡ kind.Client) ⊎ (kind_of s a ≡ kind.Device)
+    → FollowsAll (parts_at scripts a) [] r → Follows (role_at s a) (parts_at scripts a) [] (runner.Client r)
+new-other s scripts a r is new =
+    let P : ActorKind → Type 0 = λ k. Follows (role_of_kind k (holder_of s a)) (parts_at scripts a) [] (runner.Client r) in
+    elim is [ inl client ↦ subst P (sym client) new | inr device ↦ subst P (sym device) new ]
 
 pub new-push : (s : System) (scripts : List (List (List Instruction))) (count : ℕ) (rs : List Runner) (r : Runner) → Follows (role_at s count) (parts_at scripts count) [] r
     → AreNew s scripts count rs → AreNew s scripts (count + 1) (rs ++ r ∷ [])

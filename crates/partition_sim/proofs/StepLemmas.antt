@@ -36,10 +36,6 @@ pub local_step-at : (script : List Instruction) (p : Point) (line : Instruction)
 unfolding local_step
 local_step-at script p line e = rw e refl
 
-pub local_step-past : (script : List Instruction) (p : Point) → slice_get script p.place ≡ None → local_step script p ≡ None
-unfolding local_step
-local_step-past script p e = rw e refl
-
 pub fits-at : (script : List Instruction) (i : ℕ) (d : Instruction) → IsPart script → i < length script → (count : ℕ) × FitsIn count (get_or script i d)
 fits-at script i d h inside = (length script, AllByRecursion-at (FitsIn (length script)) script i (get_or script i d) h (slice_get-get_or script i d inside))
 

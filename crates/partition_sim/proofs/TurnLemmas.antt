@@ -10,8 +10,6 @@ use Rattle.ffm_model.specs.declared.machine.Entry.{Entry}
 use Rattle.ffm_model.specs.declared.machine.Call.{Call}
 use Rattle.ffm_model.specs.declared.machine.Outcome.{Outcome}
 use Rattle.ffm_model.specs.declared.machine.Answer.TheVariants as answer
-use Rattle.ffm_model.specs.declared.objects.ActorPhase.TheVariants as phase
-use Rattle.ffm_model.specs.declared.machine.Verdict.TheVariants.{Full}
 use Rattle.ffm_model.specs.Actors.{actor_count}
 use Rattle.ffm_model.specs.State.{State, phase_of}
 use Rattle.ffm_model.specs.Signals.{enabled, signals_of}

@@ -27,20 +27,6 @@ pub role-kept : (role : Role) (parts : List (List Instruction)) (before after : 
 role-kept role parts before after old new f g = role-is role parts after new g ∙ sym (role-is role parts before old f)
 
 module _ {S P : Type 0} (own : S → P → Type 0) (record_of : P → List Entry) (is_done : P → Type 0) where
-  -- no entry more
-  pub good-still : (api : S) (old new : Worker P) → IsGood own record_of is_done api old → own api new.pass → record_of new.pass ≡ record_of old.pass → new.script ≡ old.script
-      → Follows (role_of old.runner) old.script (outcomes_of (record_of old.pass)) new.runner → (new.done ≡ true → is_done new.pass) → new.number ≡ old.number
-      → IsGood own record_of is_done api new
-  good-still api old new good mine same script follows ends number =
-      let role = role-kept (role_of old.runner) old.script (outcomes_of (record_of old.pass)) (outcomes_of (record_of old.pass)) old.runner new.runner good.follows follows in
-      record {
-        own_is = mine;
-        runs = rw (role, script, same) good.runs;
-        follows = rw (role, script, same) follows;
-        ends = ends;
-        numbered = rw (number, same) good.numbered;
-      }
-
   -- an entry more
   pub good-made : (api : S) (old new : Worker P) (a : ℕ) (c : Call) (e : Entry) (asked : Runner) → IsGood own record_of is_done api old → own api new.pass
       → AddsEntry a c e (record_of old.pass) (record_of new.pass) (is_done new.pass)

@@ -8,9 +8,8 @@ ghost use Rattle.partition_sim.specs.Partitions.{holding};
 use crate::calls::is_blocked;
 use crate::held_lines::{held_call, held_effect, note_held};
 use crate::lines::{MOST_LINES, place_behind};
-use ffm_model::{Call, Instruction, Memory, Outcome, System};
+use ffm_model::{Call, Instruction, Outcome, System};
 use mm_iovec::Held;
-use std::alloc::Global;
 use std::marker::Model;
 
 // Does the line at a place where it makes no call, and says where it leads.
@@ -116,22 +115,20 @@ impl Model for PartitionRunner {
 }
 
 impl PartitionRunner {
-    ghost use Rattle.std.specs.Prelude.{◌<◌, ◌∷◌, ◌++◌, [], IfOk, List, length};
+    ghost use Rattle.std.specs.Prelude.{◌<◌, ◌∷◌, ◌++◌, [], List, length};
     ghost use Rattle.ffm_model.specs.declared.machine.Outcome.{Outcome};
     ghost use Rattle.ffm_model.specs.declared.script.Instruction.{Instruction};
     ghost use Rattle.ffm_model.specs.Held.{Holder, holder_of};
     ghost use Rattle.ffm_model.specs.HeldPlans.{held_plan};
     ghost use Rattle.partition_sim.specs.Partitions.{AskedHeld, FollowsHeld};
 
-    /// A runner at the start of a script, for a partition of the system. It has seen no outcome. Err where
-    /// there is no memory for the messages that the partition may hold.
-    pub fn new(alloc: Global, system: &System, partition: u32) -> Result<PartitionRunner, Memory>
+    /// A runner at the start of a script, for a partition of the system. It has seen no outcome.
+    pub fn new(system: &System, partition: u32) -> PartitionRunner
         requires { partition < length system.now.partitions }
-        ensures { IfOk result (λ runner. (script : List Instruction) → FollowsHeld (holder_of system.now partition) script [] runner) }
+        ensures { (script : List Instruction) → FollowsHeld (holder_of system.now partition) script [] result }
     {
-        let held = Held::new(alloc, system, partition)?;
-        Ok(PartitionRunner {
-            held,
+        PartitionRunner {
+            held: Held::new(system, partition),
             registers: [0; 16],
             place: 0,
             ran: 0,
@@ -139,7 +136,7 @@ impl PartitionRunner {
             line: None,
             call: Call::Resume,
             after: 0,
-        })
+        }
     }
 
     /// The call that the partition makes next. Asked again before `after`, it is the same call.

@@ -2,8 +2,7 @@
 
 use crate::client::ClientRunner;
 use crate::partition::PartitionRunner;
-use ffm_model::{ActorId, ActorKind, Call, Memory, Outcome, Script, System};
-use std::alloc::Global;
+use ffm_model::{ActorId, ActorKind, Call, Outcome, Script, System};
 
 /// Runs the script of an actor.
 ///
@@ -19,7 +18,7 @@ pub enum Runner {
 }
 
 impl Runner {
-    ghost use Rattle.std.specs.Prelude.{◌≡◌, ◌≢◌, ◌≤◌, ◌<◌, ◌∷◌, ◌++◌, [], IfOk, List, length};
+    ghost use Rattle.std.specs.Prelude.{◌≡◌, ◌≢◌, ◌≤◌, ◌<◌, ◌∷◌, ◌++◌, [], List, length};
     ghost use Rattle.ffm_model.specs.declared.machine.Outcome.{Outcome};
     ghost use Rattle.ffm_model.specs.declared.script.Instruction.{Instruction};
     ghost use Rattle.ffm_model.specs.Actors.{actor_count, kind_of};
@@ -27,30 +26,19 @@ impl Runner {
     ghost use Rattle.partition_sim.specs.Standing.{Asked, Follows, contexts_of, role_of};
 
     /// A runner at the start of its actor's script, which has as many parts as the actor has
-    /// contexts: 1, or up to 8 for a non-secure client. It has seen no outcome. Err where there is no
-    /// memory for the messages that a partition may hold; the runner takes none after that.
-    pub fn new(
-        alloc: Global,
-        system: &System,
-        actor: ActorId,
-        contexts: u32,
-    ) -> Result<Runner, Memory>
+    /// contexts: 1, or up to 8 for a non-secure client. It has seen no outcome.
+    pub fn new(system: &System, actor: ActorId, contexts: u32) -> Runner
         requires exists { actor.0 < actor_count system.now }
         requires some { 1 ≤ contexts }
         requires few { contexts ≤ 8 }
         requires single { kind_of system.now actor.0 ≢ ActorKind.Client → contexts ≡ 1 }
-        ensures role { IfOk result (λ runner. role_of runner ≡ role_at system.now actor.0) }
-        ensures contexts { IfOk result (λ runner. contexts_of runner ≡ contexts) }
-        ensures follows { IfOk result (λ runner. (parts : List (List Instruction)) → length parts ≡ contexts → Follows (role_at system.now actor.0) parts [] runner) }
+        ensures role { role_of result ≡ role_at system.now actor.0 }
+        ensures contexts { contexts_of result ≡ contexts }
+        ensures follows { (parts : List (List Instruction)) → length parts ≡ contexts → Follows (role_at system.now actor.0) parts [] result }
     {
         match system.actor_kind(actor) {
-            ActorKind::Partition => {
-                let runner = PartitionRunner::new(alloc, system, actor.0)?;
-                Ok(Runner::Partition(runner))
-            }
-            ActorKind::Client | ActorKind::Device => {
-                Ok(Runner::Client(ClientRunner::new(contexts)))
-            }
+            ActorKind::Partition => Runner::Partition(PartitionRunner::new(system, actor.0)),
+            ActorKind::Client | ActorKind::Device => Runner::Client(ClientRunner::new(contexts)),
         }
     }
 

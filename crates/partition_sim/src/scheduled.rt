@@ -10,9 +10,11 @@ ghost use Rattle.memory_image.specs.Pieces.{byte_at};
 ghost use Rattle.partition_sim.specs.ActorPlans.{plan_at};
 ghost use Rattle.partition_sim.specs.Driving.{AreNew, Driving, HaveContexts, IsDriven, Turned, Underway};
 
+use crate::client::ClientRunner;
+use crate::partition::PartitionRunner;
 use crate::runner::Runner;
 use actor_plans::plans_resume_behind_blocked;
-use ffm_model::{ActorId, Answer, List, Memory, Script, System};
+use ffm_model::{ActorId, ActorKind, Answer, List, Memory, Script, System};
 use spm_core::Spm;
 use std::alloc::Global;
 
@@ -84,18 +86,27 @@ fn run_turns(
     }
 }
 
-// A runner for each actor, with as many contexts as its script has parts.
+// A runner for each actor, with as many contexts as its script has parts. A runner is large, since it has
+// room for all messages that a partition may hold; so the vector doesn't grow, and each runner is built
+// here as its kind, which saves the moves out of `Runner::new`.
 fn new_runners(alloc: Global, system: &System, scripts: &[Script]) -> Result<Vec<Runner>, Memory>
     requires count { length scripts.now ≡ actor_count system.now }
     requires contexts { HaveContexts system.now scripts.now }
     ensures { IfOk result (λ v. AreNew system.now scripts.now (actor_count system.now) v.items) }
 {
-    let mut runners = Vec::new(alloc);
-    for a in 0..system.actor_count() {
-        let script = &scripts[a as usize];
-        let contexts = script.parts.len() as u32;
-        let runner = Runner::new(alloc, system, ActorId(a), contexts)?;
-        runners.push(runner)?;
+    let count = system.actor_count();
+    let mut runners = Vec::with_capacity(alloc, count as usize)?;
+    for a in 0..count {
+        match system.actor_kind(ActorId(a)) {
+            ActorKind::Partition => {
+                runners.push_reserved(Runner::Partition(PartitionRunner::new(system, a)));
+            }
+            ActorKind::Client | ActorKind::Device => {
+                let script = &scripts[a as usize];
+                let contexts = script.parts.len() as u32;
+                runners.push_reserved(Runner::Client(ClientRunner::new(contexts)));
+            }
+        }
     }
     Ok(runners)
 }

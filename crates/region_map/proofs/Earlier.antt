@@ -30,16 +30,6 @@ pub record Holds (m : BTreeMap ℕ ℕ) (rs : List Region) : Type 0 where
 none_there : (m : BTreeMap ℕ ℕ) → m.entries ≡ [] → (base size : ℕ) → get nat_cmp m base ≡ Some size → ⊥
 none_there m empty base size there = let e : get nat_cmp m base ≡ None = ap (lookup (is_at (nat_cmp base))) empty in cc
 
-pub holds_none : (m : BTreeMap ℕ ℕ) → m.entries ≡ [] → Holds m []
-holds_none m empty = record {
-  disjoint = record {
-    filled = λ base size there. absurd (none_there m empty base size there);
-    apart = λ base size next next_size there next_there less. absurd (none_there m empty base size there);
-  };
-  there = tt;
-  from = λ base size there. absurd (none_there m empty base size there);
-}
-
 meets_here : (base size : ℕ) (x r : Region) → 0 < size → 0 < x.size → base < x.base + x.size → x.base < base + size → has_range base size r ≡ true → not (apart r x) ≡ true
 meets_here base size x r filled some before behind same = grind (arith, nat_tests)
 

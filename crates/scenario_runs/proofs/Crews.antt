@@ -1,5 +1,5 @@
 -- Crews of workers, before and after they are driven.
-use Rattle.std.proofs.Common.{ℕ, zero, suc, ◌+◌, ◌≡◌, ◌<◌, ◌≤◌, add-zero, Bool, false, List, [], ◌∷◌, ◌++◌, append_assoc, append-nil, length, length-append, get_or, Some, refl, sym, ap, ◌∙◌, subst, arith}
+use Rattle.std.proofs.Common.{ℕ, zero, suc, ◌+◌, ◌≡◌, ◌<◌, ◌≤◌, add-zero, false, List, [], ◌∷◌, ◌++◌, append_assoc, append-nil, length, length-append, get_or, Some, refl, sym, ap, ◌∙◌, subst, arith}
 use Rattle.std.specs.Prelude.{slice_get}
 use Rattle.std.proofs.lemmas.List.{length-map, nil_from_length}
 use Rattle.std.proofs.lemmas.List.Elements.{All-append}
@@ -266,10 +266,6 @@ seats_more s (y ∷ seats) x h more = (h.0, seats_more s seats x h.1 more)
 pub waiting_more : (seats : List Seat) (x : Seat) → waiting (seats ++ x ∷ []) ≡ waiting seats ++ left_of x.crew.value x.progress
 waiting_more [] x = append-nil (left_of x.crew.value x.progress)
 waiting_more (y ∷ seats) x = ap (λ (ws : Crew). left_of y.crew.value y.progress ++ ws) (waiting_more seats x) ∙ sym (append_assoc (left_of y.crew.value y.progress) (waiting seats) (left_of x.crew.value x.progress))
-
--- a trip that wasn't driven leaves new workers
-pub trip_fresh : (s : SharedView) (before after : Crew) (drove : Bool) → AllFresh s before → (drove ≡ false → after ≡ before) → drove ≡ false → AllFresh s after
-trip_fresh s before after drove fresh kept off = subst (AllFresh s) (sym (kept off)) fresh
 
 pub same_trans : (a b c : Crew) → SameWorkers a b → SameWorkers b c → SameWorkers a c
 same_trans a b c p q = record { actors = q.actors ∙ p.actors; scripts = q.scripts ∙ p.scripts; roles = q.roles ∙ p.roles }

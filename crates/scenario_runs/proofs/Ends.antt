@@ -1,7 +1,7 @@
 -- A run in which each actor is done in a front has a verdict.
 -- An actor that is gone stays so, and behind a front with a verdict a run doesn't go on.
 use Rattle.std.proofs.Common.{ℕ, zero, suc, ◌≡◌, ◌<◌, ◌≤◌, ◌+◌, ◌==◌, ◌&&◌, Bool, true, false, true≢false, List, [], ◌∷◌, ◌++◌, append-nil, length, length-append, get_or, ◌⊎◌, inl, inr, refl, sym, ap, ◌∙◌, subst, arith}
-use Rattle.std.specs.Prelude.{Option, Some, None, IsSome, nat_lt, fold, option_and_then, replicate, if◌then◌else◌}
+use Rattle.std.specs.Prelude.{Option, Some, None, IsSome, nat_lt, fold, option_and_then, if◌then◌else◌}
 use Rattle.std.specs.Option.{option_map_or}
 use Rattle.std.proofs.lemmas.Bool.Decides.{nat_tests}
 use Rattle.std.proofs.lemmas.List.Folds.{list_any_none}

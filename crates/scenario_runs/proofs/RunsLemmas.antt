@@ -1,5 +1,5 @@
 -- Runs behind each other: one more in front, other words for each of them, and whose events they have.
-use Rattle.std.proofs.Common.{ℕ, suc, zero, ◌≡◌, ◌≤◌, ◌-◌, ◌&&◌, Bool, true, false, List, [], ◌∷◌, ◌++◌, length, map, append_assoc, refl, ap, sym, subst, ◌∙◌, arith}
+use Rattle.std.proofs.Common.{ℕ, suc, ◌≡◌, ◌≤◌, ◌-◌, ◌&&◌, Bool, true, false, List, [], ◌∷◌, ◌++◌, length, map, append_assoc, refl, ap, sym, subst, ◌∙◌, arith}
 use Rattle.std.specs.Prelude.{Option, Some, IfSome, Result, Ok, Err, IfOk, nat_lt, slice_get}
 use Rattle.std.specs.List.{list_all}
 use Rattle.std.specs.Option.{option_map_or}
@@ -11,7 +11,6 @@ use Rattle.ffm_model.specs.declared.scenario.Scenario.{Scenario}
 use Rattle.ffm_model.specs.declared.system.System.{System}
 use Rattle.ffm_model.specs.declared.trace.Trace.{Trace}
 use Rattle.ffm_model.specs.Actors.{actor_count, counts_of}
-use Rattle.ffm_model.specs.Counts.{ActorCounts}
 use Rattle.ffm_model.specs.Memory.{ByteMap, opening_memory}
 use Rattle.ffm_model.specs.Restarts.{FinishedRun, RunsFrom, ends_panicked, memory_behind, memory_reset}
 use Rattle.ffm_model.specs.Step.{Run}

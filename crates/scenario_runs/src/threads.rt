@@ -82,7 +82,7 @@ fn starts_of(alloc: Global, system: &System, scripts: List<Script>) -> Result<Li
     let mut left = scripts.into_vec().into_iter();
     for a in 0..system.actor_count() {
         let script = left.next().unwrap();
-        let runner = Runner::new(alloc, system, ActorId(a), script.parts.len() as u32)?;
+        let runner = Runner::new(system, ActorId(a), script.parts.len() as u32);
         starts.push(Start { runner, script })?;
     }
     Ok(List::of(starts))

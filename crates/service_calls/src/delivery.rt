@@ -17,7 +17,7 @@ ghost use Rattle.message_vectors.specs.Vectors.{AreWithin};
 ghost use Rattle.object_pools.specs.Pool.{item_at};
 ghost use Rattle.service_calls.specs.Answers.{IsGot};
 ghost use Rattle.slot_names.specs.Named.{KeepsNames, NamesAre};
-ghost use Rattle.slot_names.specs.Premises.{PremisesWithMemory};
+ghost use Rattle.slot_names.specs.Premises.{PremisesWithImage};
 ghost use Rattle.slot_names.specs.Stands.{Stands};
 ghost use Rattle.spm_tables.specs.Answers.{state_with};
 ghost use Rattle.spm_tables.specs.TablesView.{message_of, shape_of, spm_of};
@@ -130,7 +130,7 @@ pub fn get(
     signal: u32,
     msg: u32,
 ) -> Result<Message, Fault>
-    requires premises { PremisesWithMemory system.now tables.old image.old }
+    requires premises { PremisesWithImage system.now tables.old image.old }
     ensures answer { (given : List HandleSeen) → IsGot system.now tables.old given image.old actor.0 signal msg result tables.new image.new }
     ensures fresh { IfOk result (λ m. (st : StateSeen) → Stands tables.old image.old st → fresh st m.handle ≡ true) }
     ensures name { IfOk result (λ m. (k : NamesSoFar) → NamesAre tables.old k → (given : List HandleSeen) → name_due system.now (state_with tables.old given (byte_at image.old)) actor.0 (Get signal msg) k ≡ Some m.handle) }
@@ -138,6 +138,7 @@ pub fn get(
     ensures within { (ranges : List (ℕ × ℕ)) → All (λ m. AreWithin ranges m.vectors) (spm_of tables.old).messages → All (λ m. AreWithin ranges m.vectors) (spm_of tables.new).messages }
     ensures shape { shape_of tables.new ≡ shape_of tables.old }
     ensures regions { regions_of image.new ≡ regions_of image.old }
+    ensures takes { tables.new.messages.takes ≡ tables.old.messages.takes }
     ensures names { KeepsNames system.now tables.old tables.new }
 {
     tables.law();

@@ -45,6 +45,7 @@ pub fn set_rhandle(
     requires premises { (s : SystemSeen) × Premises s tables.old }
     ensures answer { (s : SystemSeen) → MadeFor tables.old s → Answers (λ u. Done) (psa_set_rhandle s (spm_of tables.old) actor.0 handle rhandle) tables.old result tables.new }
     ensures shape { shape_of tables.new ≡ shape_of tables.old }
+    ensures takes { tables.new.messages.takes ≡ tables.old.messages.takes }
     ensures names { (s : SystemSeen) → MadeFor tables.old s → KeepsNames s tables.old tables.new }
     ensures fits { (s : SystemSeen) → ObjectsFit s (spm_of tables.old) → ObjectsFit s (spm_of tables.new) }
     ensures within { (ranges : List (ℕ × ℕ)) → All (λ m. AreWithin ranges m.vectors) (spm_of tables.old).messages → All (λ m. AreWithin ranges m.vectors) (spm_of tables.new).messages }

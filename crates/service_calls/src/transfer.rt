@@ -14,7 +14,7 @@ ghost use Rattle.message_vectors.specs.Vectors.{AreMovedWithin, AreWithin};
 ghost use Rattle.object_pools.specs.Pool.{item_at};
 ghost use Rattle.service_calls.specs.Answers.{AnswersOver};
 ghost use Rattle.slot_names.specs.Named.{KeepsNames};
-ghost use Rattle.slot_names.specs.Premises.{PremisesWithMemory};
+ghost use Rattle.slot_names.specs.Premises.{TransferPremises};
 ghost use Rattle.spm_tables.specs.Answers.{Answers, state_with};
 ghost use Rattle.spm_tables.specs.TablesView.{MadeFor, message_at, shape_of, spm_of};
 
@@ -46,6 +46,7 @@ fn set_vectors(tables: &mut Tables, slot: Slot, vectors: Vectors)
     ensures moved { AreMovedWithin vectors → All (λ m. AreMovedWithin m.vectors) (spm_of tables.old).messages → All (λ m. AreMovedWithin m.vectors) (spm_of tables.new).messages }
     ensures within { (regions : List (ℕ × ℕ)) → AreWithin regions vectors → All (λ m. AreWithin regions m.vectors) (spm_of tables.old).messages → All (λ m. AreWithin regions m.vectors) (spm_of tables.new).messages }
     ensures shape { shape_of tables.new ≡ shape_of tables.old }
+    ensures takes { tables.new.messages.takes ≡ tables.old.messages.takes }
     ensures names { (s : SystemSeen) → KeepsNames s tables.old tables.new }
 {
     tables.law();
@@ -66,6 +67,7 @@ pub fn skip(
     ensures moved { All (λ m. AreMovedWithin m.vectors) (spm_of tables.new).messages }
     ensures within { (regions : List (ℕ × ℕ)) → All (λ m. AreWithin regions m.vectors) (spm_of tables.old).messages → All (λ m. AreWithin regions m.vectors) (spm_of tables.new).messages }
     ensures shape { shape_of tables.new ≡ shape_of tables.old }
+    ensures takes { tables.new.messages.takes ≡ tables.old.messages.takes }
     ensures names { (s : SystemSeen) → MadeFor tables.old s → KeepsNames s tables.old tables.new }
     ensures fits { (s : SystemSeen) → MadeFor tables.old s → ObjectsFit s (spm_of tables.old) → ObjectsFit s (spm_of tables.new) }
 {
@@ -91,11 +93,12 @@ pub fn read(
     buffer: u32,
     len: u32,
 ) -> Result<u32, Fault>
-    requires premises { PremisesWithMemory system.now tables.old image.old }
+    requires premises { TransferPremises system.now tables.old image.old }
     ensures answer { (given : List HandleSeen) → AnswersOver Number (psa_read system.now (state_with tables.old given (byte_at image.old)) actor.0 handle index buffer len) given tables.old image.old result tables.new image.new }
     ensures shape { shape_of tables.new ≡ shape_of tables.old }
     ensures regions { regions_of image.new ≡ regions_of image.old }
     ensures vectors { All (λ m. AreWithin (regions_of image.new) m.vectors) (spm_of tables.new).messages }
+    ensures takes { tables.new.messages.takes ≡ tables.old.messages.takes }
     ensures names { KeepsNames system.now tables.old tables.new }
     ensures fits { ObjectsFit system.now (spm_of tables.old) → ObjectsFit system.now (spm_of tables.new) }
 {
@@ -124,11 +127,12 @@ pub fn write(
     buffer: u32,
     len: u32,
 ) -> Result<(), Fault>
-    requires premises { PremisesWithMemory system.now tables.old image.old }
+    requires premises { TransferPremises system.now tables.old image.old }
     ensures answer { (given : List HandleSeen) → AnswersOver (λ u. Done) (psa_write system.now (state_with tables.old given (byte_at image.old)) actor.0 handle index buffer len) given tables.old image.old result tables.new image.new }
     ensures shape { shape_of tables.new ≡ shape_of tables.old }
     ensures regions { regions_of image.new ≡ regions_of image.old }
     ensures vectors { All (λ m. AreWithin (regions_of image.new) m.vectors) (spm_of tables.new).messages }
+    ensures takes { tables.new.messages.takes ≡ tables.old.messages.takes }
     ensures names { KeepsNames system.now tables.old tables.new }
     ensures fits { ObjectsFit system.now (spm_of tables.old) → ObjectsFit system.now (spm_of tables.new) }
 {

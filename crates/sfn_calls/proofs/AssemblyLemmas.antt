@@ -20,23 +20,9 @@ use Rattle.sfn_calls.specs.Sections.{Section, sections}
 
 -- ---- the function of a section
 
-pub wrong-head : (s : System) (a : ℕ) (above : List SfnFunction) (x : Section) → None ≡ service_of_head s a above x.name → function_of s a above x ≡ Err x.line
-unfolding function_of
-wrong-head s a above x e = rw (← e) refl
-
-pub made-function : (s : System) (a : ℕ) (above : List SfnFunction) (x : Section) (v : ℕ) (xs : List SfnInstruction) → Some v ≡ service_of_head s a above x.name
-    → instructions_of (x.line + 1) x.lines ≡ Ok xs → function_of s a above x ≡ Ok (record { service = v; instructions = xs })
-unfolding function_of
-made-function s a above x v xs e made = rw (← e, made) refl
-
 fails-then : {A B : Type 0} (error : LineError) (r : Result A ℕ) (f : A → Result B ℕ) → Fails error r → Fails error (r >>= f)
 fails-then (error.Wrong line) r f h = ap (λ r. r >>= f) h
 fails-then error.Memory r f h = tt
-
-pub wrong-line : (s : System) (a : ℕ) (above : List SfnFunction) (x : Section) (v : ℕ) (e : LineError) → Some v ≡ service_of_head s a above x.name
-    → Fails e (instructions_of (x.line + 1) x.lines) → Fails e (function_of s a above x)
-unfolding function_of
-wrong-line s a above x v e some h = rw (← some) (fails-then e (instructions_of (x.line + 1) x.lines) (λ xs. Ok (record { service = v; instructions = xs })) h)
 
 -- ---- one section more
 

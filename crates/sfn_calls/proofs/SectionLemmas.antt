@@ -29,15 +29,6 @@ before-head : (l : Line) (ls : List Line) (n : Word) → head_name l ≡ Some n 
 unfolding before
 before-head l ls n e = before-head-by (head_name l) n (l ∷ before ls) e
 
-before-short-by : (o : Option Word) (l : Line) (ls : List Line) → length (before ls) ≤ length ls → length (option_map_or (λ name. []) o (l ∷ before ls)) ≤ length (l ∷ ls)
-before-short-by None l ls h = omega arith
-before-short-by (Some n) l ls h = omega arith
-
-pub before-short : (ls : List Line) → length (before ls) ≤ length ls
-unfolding before
-before-short [] = omega arith
-before-short (l ∷ ls) = before-short-by (head_name l) l ls (before-short ls)
-
 before-take-by : (o : Option Word) (l : Line) (ls : List Line) → before ls ≡ take (length (before ls)) ls
     → option_map_or (λ name. []) o (l ∷ before ls) ≡ take (length (option_map_or (λ name. []) o (l ∷ before ls))) (l ∷ ls)
 before-take-by None l ls h = ap (λ xs. l ∷ xs) h

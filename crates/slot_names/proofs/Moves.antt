@@ -37,13 +37,6 @@ relinks-same old new same = record {
 pub relinks-to : (old new changed : Places OpenConnection) → new ≡ changed → KeepsConnectionNames old changed → KeepsConnectionNames old new
 relinks-to old new changed same it = subst (KeepsConnectionNames old) (sym same) it
 
-pub relinks-trans : (old mid new : Places OpenConnection) → KeepsConnectionNames old mid → KeepsConnectionNames mid new → KeepsConnectionNames old new
-relinks-trans old mid new one two = record {
-  generations = two.generations ∙ one.generations;
-  takes = two.takes ∙ one.takes;
-  held = λ ts named. two.held ts (one.held ts named);
-}
-
 -- ---- an item changes in its slot
 
 module _ {T : Type 0} where
@@ -129,14 +122,6 @@ rewaits-same old new same = record {
 
 pub rewaits-to : (old new changed : Places QueuedMessage) → new ≡ changed → KeepsMessageNames old changed → KeepsMessageNames old new
 rewaits-to old new changed same it = subst (KeepsMessageNames old) (sym same) it
-
-pub rewaits-trans : (old mid new : Places QueuedMessage) → KeepsMessageNames old mid → KeepsMessageNames mid new → KeepsMessageNames old new
-rewaits-trans old mid new one two = record {
-  generations = two.generations ∙ one.generations;
-  takes = two.takes ∙ one.takes;
-  names = two.names ∙ one.names;
-  alike = λ h. two.alike h ∙ one.alike h;
-}
 
 names-put : (s : Slot) (m : QueuedMessage) (hs : List (Held QueuedMessage)) → name_list (map (item_put s m) hs) ≡ name_list hs
 names-put s m [] = refl

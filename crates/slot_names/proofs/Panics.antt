@@ -39,15 +39,6 @@ use Rattle.slot_names.proofs.Removals.{one-message}
 
 -- ---- the tables so far
 
--- at first nothing changed
-pub takes-none : (size : ℕ) (old : TablesView) → TakesOn size old (live_names old.messages) 0 old
-takes-none size old = λ k was. subst (λ (ts : List SlotName). NamesAre old (record k { messages = ts })) was.messages was
-
--- before the first take, messages and connections go
-pub takes-dropped : (size : ℕ) (old d new : TablesView) (kept : List SlotName) → TakesOn size old kept 0 d → KeepsConnectionNames d.connections new.connections → new.messages.generations ≡ d.messages.generations → new.messages.takes ≡ d.messages.takes
-    → TakesOn size old (live_names new.messages) 0 new
-takes-dropped size old d new kept so_far linked generations takes = λ k was. names-with d new (record k { messages = kept }) (live_names new.messages) (so_far k was) linked generations takes refl
-
 -- all at once, before the first take
 pub takes-first : (size : ℕ) (old new : TablesView) (q : Held QueuedMessage → Bool) → KeepsConnectionNames old.connections new.connections → new.messages ≡ record old.messages { held = filter q old.messages.held }
     → TakesOn size old (names_of q old.messages) 0 new
@@ -55,17 +46,12 @@ takes-first size old new q linked waiting = λ k was.
     names-with old new k (names_of q old.messages) was linked (ap (λ (p : Places QueuedMessage). p.generations) waiting) (ap (λ (p : Places QueuedMessage). p.takes) waiting)
     (ap live_names (sym waiting))
 
--- the message of a slot goes
-pub takes-without : (size : ℕ) (old d new : TablesView) (kept : List SlotName) (place : Slot) → TakesOn size old kept 0 d → KeepsConnectionNames d.connections new.connections → new.messages ≡ without d.messages place → TakesOn size old (live_names new.messages) 0 new
-takes-without size old d new kept place so_far linked waiting =
-    takes-dropped size old d new kept so_far linked (ap (λ (p : Places QueuedMessage). p.generations) waiting) (ap (λ (p : Places QueuedMessage). p.takes) waiting)
-
 -- connections go or change in their slots, and messages change in theirs
 pub takes-stay : (size : ℕ) (old d new : TablesView) (kept : List SlotName) (n : ℕ) → TakesOn size old kept n d → KeepsConnectionNames d.connections new.connections → KeepsMessageNames d.messages new.messages → TakesOn size old kept n new
 takes-stay size old d new kept n so_far linked waiting = λ k was. names-stay d new (with_messages size n (record k { messages = kept })) (so_far k was) linked waiting
 
-pub takes-relinked : (size : ℕ) (old d new : TablesView) (kept : List SlotName) (n : ℕ) → TakesOn size old kept n d → KeepsConnectionNames d.connections new.connections → new.messages ≡ d.messages → TakesOn size old kept n new
-takes-relinked size old d new kept n so_far linked waiting = takes-stay size old d new kept n so_far linked (rewaits-same d.messages new.messages waiting)
+pub takes-connections : (size : ℕ) (old d new : TablesView) (kept : List SlotName) (n : ℕ) → TakesOn size old kept n d → KeepsConnectionNames d.connections new.connections → new.messages ≡ d.messages → TakesOn size old kept n new
+takes-connections size old d new kept n so_far linked waiting = takes-stay size old d new kept n so_far linked (rewaits-same d.messages new.messages waiting)
 
 -- a message is taken in
 pub takes-more : (size : ℕ) (old d new : TablesView) (kept : List SlotName) (n : ℕ) (slot : Slot) (x : QueuedMessage) → TakesOn size old kept n d → length d.messages.generations ≡ size → free_slot d.messages ≡ Some slot

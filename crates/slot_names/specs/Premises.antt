@@ -1,4 +1,4 @@
--- What a call of an actor rests on: the manager knows it of its tables and its image behind each event of a run.
+-- What a call of an actor rests on: each asks its own part, and the manager knows all of it of its tables and its image behind each event of a run.
 -- Source: this manager's; that handles have generations up to 0xfffff is this profile's, and FF-M 1.0 leaves open how many objects a manager can make.
 use Rattle.std.specs.Prelude.{◌≡◌, ℕ, ◌+◌, ◌≤◌, List, All}
 use Rattle.ffm_model.specs.declared.scenario.Bytes.{Bytes}
@@ -16,13 +16,30 @@ pub record Premises (s : System) (d : TablesView) : Type 0 where
   -- their connections and messages fit it
   pub fits : ObjectsFit s (spm_of d)
 
--- what a call that reads or writes memory rests on
+-- an image has the regions of the system
+abbrev pub HasRegions : System → List Bytes → Type 0
+HasRegions s bytes = regions_of bytes ≡ ranges_of s.regions
+
+-- the vectors of each message lie in the regions of an image
+abbrev pub VectorsLie : TablesView → List Bytes → Type 0
+VectorsLie d bytes = All (λ m. AreWithin (regions_of bytes) m.vectors) (spm_of d).messages
+
+-- what a call that also reads or writes the image rests on
+pub record PremisesWithImage (s : System) (d : TablesView) (bytes : List Bytes) : Type 0 where
+  pub tables : Premises s d
+  pub regions : HasRegions s bytes
+
+-- what a call that moves bytes of a message's vectors rests on
+pub record TransferPremises (s : System) (d : TablesView) (bytes : List Bytes) : Type 0 where
+  pub made : MadeFor d s
+  pub regions : HasRegions s bytes
+  pub vectors : VectorsLie d bytes
+
+-- what all calls rest on together
 pub record PremisesWithMemory (s : System) (d : TablesView) (bytes : List Bytes) : Type 0 where
   pub tables : Premises s d
-  -- the image has the regions of the system
-  pub regions : regions_of bytes ≡ ranges_of s.regions
-  -- the vectors of each message lie in them
-  pub vectors : All (λ m. AreWithin (regions_of bytes) m.vectors) (spm_of d).messages
+  pub regions : HasRegions s bytes
+  pub vectors : VectorsLie d bytes
 
 -- ---- calls that make connections or messages
 

@@ -34,10 +34,6 @@ use Rattle.spm_tables.specs.TablesView.{TablesView, spm_of}
 use Rattle.spm_core.specs.Performed.{IsEffect, IsReturned, ShowsName}
 use Rattle.spm_core.proofs.Attempted.{shows-due}
 
-here-or-later : {X : Type 0} (P : X → Type 0) (b : Bool) (y x : X) (rest : Option X) → P y → (rest ≡ Some x → P x) → cond b (Some y) rest ≡ Some x → P x
-here-or-later P true y x rest here later h = let it : y ≡ x = cc in subst P it here
-here-or-later P false y x rest here later h = later h
-
 -- an accepted connection is its client's, from its own serial number on
 owned-accepted : (a n : ℕ) (c : OpenConnection) → accepted_as a n c ≡ true → (is_owned_from a n c ≡ true) × (c.serial ≡ n)
 owned-accepted a n c h =

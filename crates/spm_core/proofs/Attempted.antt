@@ -78,10 +78,6 @@ shows-due s a c old m o due given k are =
     let same : handle_eq (handle_shown o) (handle_shown o) ≡ true = int_eq-self (handle_shown o).0 in
     or_right (programmer_error s (state_with old given m) a c) _ (rw (due given k are) same)
 
--- none is due at a return that tells no handle
-pub shows-return : (s : System) (a : ℕ) (old : TablesView) (m : ByteMap) (o : Outcome) → ((k : NamesSoFar) → name_at_return k (phase_of (spm_of old) a) ≡ None) → ShowsName s a call.Resume old m o
-shows-return s a old m o none given k are = or_right (programmer_error s (state_with old given m) a call.Resume) _ (rw (none k) refl)
-
 pub shows-all : (s : System) (a : ℕ) (c : Call) (old : TablesView) (m : ByteMap) (r : Result Outcome Fault) → ((st : State) (k : NamesSoFar) → name_due s st a c k ≡ None) → IfOk r (ShowsName s a c old m)
 shows-all s a c old m (Ok o) none = shows-nothing s a c old m o none
 shows-all s a c old m (Err fault) none = tt
@@ -115,12 +111,6 @@ pub case-fault : (s : System) (st : State) (a : ℕ) (c : Call) (h : Handle) →
 case-fault s st a c h none =
     let go : (b : Bool) → (if b then call_case s st a c h else None) ≡ None = elim [ true ↦ none | false ↦ refl ] in
     go (has_call (kind_of s a) c)
-
--- and so it shows no name
-pub shows-refused : (s : System) (a : ℕ) (c : Call) (old : TablesView) (m : ByteMap) (o : Outcome) → ((given : List Handle) (h : Handle) → case_of s (state_with old given m) a c h ≡ None) → ShowsName s a c old m o
-shows-refused s a c old m o none given k are =
-    let wrong : programmer_error s (state_with old given m) a c ≡ true = ap is_none (none given _) in
-    rw wrong refl
 
 -- a PROGRAMMER ERROR that was found, and then refused
 pub does-after : (s : System) (a : ℕ) (c : Call) (old mid new : TablesView) (bytes after : List Bytes) (o : Outcome)

@@ -253,12 +253,6 @@ reach-next o history bytes after d new capacity a c x keeps called =
     subst (λ (s : Option State). IfSome s (λ z. (y : ℕ) → write_reach o.system z.spm a y ≡ false → byte_at after y ≡ byte_at bytes y)) (sym at.is)
     (λ y out. sym (ap (λ (m : ByteMap). m y) effect.memory) ∙ effect-outside o.system st four a c (handle_shown x) y out)
 
--- the byte of a refused event's memory is as it was
-pub reach-still : (o : Opening) (history : List Entry) (bytes : List Bytes) (a : ℕ) → IfSome (state_after o history) (λ st. (y : ℕ) → write_reach o.system st.spm a y ≡ false → byte_at bytes y ≡ byte_at bytes y)
-reach-still o history bytes a =
-    let go : (s : Option State) → IfSome s (λ st. (y : ℕ) → write_reach o.system st.spm a y ≡ false → byte_at bytes y ≡ byte_at bytes y) = elim [ None ↦ tt | Some st ↦ λ y out. refl ] in
-    go (state_after o history)
-
 -- the verdict is that of the tables
 pub verdict-kept : (o : Opening) (history : List Entry) (bytes : List Bytes) (d : TablesView) (capacity : ℕ) → Keeps o history bytes d capacity
     → verdict_of o.system (byte_at o.memory) o.limit history ≡ verdict_at o.system o.limit (length history) (spm_of d)
@@ -277,11 +271,6 @@ phase-kept o history bytes d capacity a shown keeps is =
 
 pub run-kept : (o : Opening) (history : List Entry) (bytes : List Bytes) (d : TablesView) (capacity : ℕ) → Keeps o history bytes d capacity → IsSome (after o.system (byte_at o.memory) history)
 run-kept o history bytes d capacity keeps = ap is_some (state-kept o history bytes d capacity keeps).is
-
-pub names-kept : (o : Opening) (history : List Entry) (bytes : List Bytes) (d : TablesView) (capacity : ℕ) → Keeps o history bytes d capacity → names o.system (byte_at o.memory) history ≡ true
-names-kept o history bytes d capacity keeps =
-    let go : (x : Option NamedState) → IsSomeAnd x (Holds d bytes) → is_some x ≡ true = elim [ None ↦ λ h. absurd h | Some w ↦ λ h. refl ] in
-    go (named_after o.system (byte_at o.memory) history) keeps.run
 
 abbrev pub managed : Opening → List Entry → List Bytes → Managed
 managed o history bytes = record { opening = o; history = history; bytes = bytes }

@@ -8,7 +8,7 @@ ghost use Rattle.ffm_model.specs.Groups.{group_of};
 ghost use Rattle.ffm_model.specs.State.{phase_of};
 ghost use Rattle.memory_image.specs.Pieces.{byte_at, regions_of, ranges_of};
 ghost use Rattle.slot_names.specs.Named.{KeepsNames};
-ghost use Rattle.slot_names.specs.Premises.{AreLeft, LeavesTakes, PremisesWithMemory};
+ghost use Rattle.slot_names.specs.Premises.{AreLeft, LeavesTakes, PremisesWithImage, PremisesWithMemory, TransferPremises};
 ghost use Rattle.spm_tables.specs.TablesView.{TablesView, spm_of, shape_of, MadeFor};
 ghost use Rattle.spm_core.specs.Performed.{Attempts, ShowsName};
 
@@ -31,7 +31,7 @@ pub(crate) fn client_call(
     call: Call,
 ) -> Result<Outcome, Fault>
     requires group { group_of call ≡ group.Client }
-    requires premises { PremisesWithMemory system.now tables.old image.now }
+    requires premises { PremisesWithImage system.now tables.old image.now }
     requires takes { LeavesTakes tables.old }
     requires running { phase_of (spm_of tables.old) actor.0 ≡ PhaseSeen.Running }
     ensures attempts { Attempts system.now actor.0 call tables.old image.now result tables.new image.now }
@@ -100,7 +100,7 @@ pub(crate) fn transfer(
     call: Call,
 ) -> Result<Outcome, Fault>
     requires group { group_of call ≡ group.Transfer }
-    requires premises { PremisesWithMemory system.now tables.old image.old }
+    requires premises { TransferPremises system.now tables.old image.old }
     ensures attempts { Attempts system.now actor.0 call tables.old image.old result tables.new image.new }
     ensures regions { regions_of image.new ≡ regions_of image.old }
     ensures shape { shape_of tables.new ≡ shape_of tables.old }

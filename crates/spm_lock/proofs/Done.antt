@@ -11,7 +11,6 @@ use Rattle.ffm_model.specs.declared.machine.Call.{Call}
 use Rattle.ffm_model.specs.declared.machine.Call.TheVariants as call
 use Rattle.ffm_model.specs.declared.machine.Handle.{Handle}
 use Rattle.ffm_model.specs.declared.machine.Answer.TheVariants as answer
-use Rattle.ffm_model.specs.declared.machine.Verdict.TheVariants.{Full}
 use Rattle.ffm_model.specs.declared.objects.ActorPhase.{ActorPhase}
 use Rattle.ffm_model.specs.declared.objects.ActorPhase.TheVariants as phase
 use Rattle.ffm_model.specs.Actors.{kind_of}
@@ -21,7 +20,7 @@ use Rattle.ffm_model.specs.State.{State, phase_of}
 use Rattle.ffm_model.specs.Signals.{enabled}
 use Rattle.ffm_model.specs.Step.{step, handle_shown}
 use Rattle.ffm_model.specs.Verdicts.{some_enabled}
-use Rattle.spm_core.specs.Manager.{Opening, IsMade, IsRefused, is_gone, is_actor_gone, is_resume, refusal_at, state_after}
+use Rattle.spm_core.specs.Manager.{Opening, IsMade, IsRefused, is_gone, is_actor_gone, refusal_at, state_after}
 use Rattle.spm_lock.specs.Passes.{has_verdict}
 
 -- ---- refusals
@@ -83,9 +82,3 @@ stopped s (Some st) (Some x) e a whose stop is made =
 
 pub stop_made : (o : Opening) (old new : List Entry) (a place : ℕ) (c : Call) (e : Entry) → IsMade o old a c place e new → is_stop c ≡ true → is_actor_gone o new a ≡ true
 stop_made o old new a place c e m stop = stopped o.system (state_after o old) (state_after o new) e a m.actor (ap is_stop m.called ∙ stop) m.stepped m.is_state
-
--- ---- a call that is no return
-
-pub not_resume : (c : Call) → (c ≡ call.Resume → ⊥) → is_resume c ≡ false
-not_resume call.Resume other = absurd (other refl)
-not_resume _ other = refl

@@ -6,7 +6,7 @@ use mathlib.Core.Option as maybe
 use native.Mathlib.Decide.{ℕ_discrete}
 use prog.Atomic.{either}
 use lib.ListN.{get_elem?}
-use Rattle.atomic_table.specs.Table.{State, Me, Step, step, Act, keeps, takes, gives, stepped, rest, Allows, Splits, Joins, Enters, opening, Final, Seen}
+use Rattle.atomic_table.specs.Table.{State, Me, step, Act, keeps, takes, gives, stepped, Allows, Splits, Joins, Enters, opening, Final, Seen}
 use Rattle.std.proofs.lemmas.Bool.Decides.{nat_tests}
 use Rattle.ffm_model.proofs.RecordLemmas.{entries_of-apart}
 use Rattle.atomic_table.proofs.Lists.{at_longer, at_set, set_again, set_here, set_else, at_snoc, one_turn}
@@ -45,11 +45,6 @@ pub staged_drawn : {S : Type 0} (drawn served : ℕ) (h : List Entry) (homes : L
 staged_drawn drawn served h homes rs Idle k = tt
 staged_drawn drawn served h homes rs (Waits t) k = let b = k.1 in (k.0, omega arith, k.2)
 staged_drawn drawn served h homes rs (Has t) k = let b = k.1 in (k.0, omega arith, k.2, k.3, k.4)
-
-pub holds_one : (st : Stage) → held_at st ≤ 1
-holds_one Idle = omega arith
-holds_one (Waits t) = omega arith
-holds_one (Has t) = omega arith
 
 -- who holds a ticket has a right
 pub held_le_weight : {S : Type 0} (x : Managed) (drawn served : ℕ) (h : List Entry) (homes : List (maybe.Option S)) (rs : List Right) (m : ℕ) (st : Stage) → Staged drawn served h homes rs st → held_at st ≤ length rs + m

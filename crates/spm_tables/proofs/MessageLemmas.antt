@@ -15,11 +15,12 @@ use Rattle.ffm_model.specs.State.{has_handle, handle_eq, is_undelivered, deliver
 use Rattle.object_pools.specs.declared.slot.Slot.{Slot}
 use Rattle.object_pools.specs.declared.slot.Held.{Held}
 use Rattle.object_pools.specs.Pool.{Places, IsKept, IsNamed, is_at, has_slot, item_at, item_put, with_item, without}
-use Rattle.object_pools.proofs.Counts.{bit, count-cons}
+use Rattle.list_laws.proofs.Counts.{bit, count-cons, count-found, map-none}
+use Rattle.list_laws.proofs.Tests.{find-passes, find-same}
 use Rattle.handle_table.specs.declared.handles.Family.TheVariants.{Message}
 use Rattle.handle_table.specs.Handles.{handle_at, IsNameable}
 use Rattle.handle_table.proofs.SlotLemmas.{both, has_own, one_slot, slot-is, held-of, nameable, nameable-at}
-use Rattle.handle_table.proofs.Twins.{find-passes, count-found, twin-put, twin-out, twin-find, find-all_fail}
+use Rattle.handle_table.proofs.Twins.{twin-put, twin-out, twin-find, find-all_fail}
 use Rattle.spm_tables.proofs.PoolLemmas.{item-put}
 use Rattle.spm_tables.specs.declared.item.QueuedMessage.{QueuedMessage}
 use Rattle.spm_tables.specs.declared.signals.OwnedSignal.{OwnedSignal}
@@ -62,15 +63,6 @@ count-narrow q p (x ∷ xs) narrow =
     let go : (b : Bool) → q x ≡ b → bit b ≤ bit (p x) =
     elim [ true ↦ λ e. omega (arith, ap bit (All-head (λ y. q y ≡ true → p y ≡ true) x xs narrow e)) | false ↦ λ e. omega arith ] in
     omega (arith, count-cons q x xs, count-cons p x xs, go (q x) refl)
-
-put-none : {X : Type 0} (p : X → Bool) (g : X → X) (xs : List X) → count_by p xs ≡ 0 → map (λ x. if p x then g x else x) xs ≡ xs
-put-none p g [] none = refl
-put-none {X = X} p g (x ∷ xs) none =
-    let split : bit (p x) + count_by p xs ≡ 0 = sym (count-cons p x xs) ∙ none in
-    let rest : map (λ y. if p y then g y else y) xs ≡ xs = put-none p g xs (omega arith) in
-    let go : (b : Bool) → bit b + count_by p xs ≡ 0 → cond b (g x) x ∷ map (λ y. if p y then g y else y) xs ≡ x ∷ xs =
-    elim [ true ↦ λ k. absurd (omega arith) | false ↦ λ k. ap (λ (ys : List X). x ∷ ys) rest ] in
-    go (p x) split
 
 -- ---- handles and slots
 
@@ -220,7 +212,7 @@ delivered-put v s m (x ∷ xs) h slot item f one =
     let was : x.item ≡ m = ap (λ (y : Held QueuedMessage). y.item) it ∙ item in
     let at : x.slot ≡ s = ap (λ (y : Held QueuedMessage). y.slot) it ∙ slot in
     ap (λ (b : Bool). held_message (cond b (record x { item = record m { delivered = true } }) x) ∷ map held_message (map (item_put s (record m { delivered = true })) xs)) here
-    ∙ ap (λ (ys : List (Held QueuedMessage)). message_of x.slot (record m { delivered = true }) ∷ map held_message ys) (put-none (has_slot s) (λ y. record y { item = record m { delivered = true } }) xs none)
+    ∙ ap (λ (ys : List (Held QueuedMessage)). message_of x.slot (record m { delivered = true }) ∷ map held_message ys) (map-none (has_slot s) (λ y. record y { item = record m { delivered = true } }) xs none)
     ∙ ap (λ (i : QueuedMessage). message_of x.slot (record i { delivered = true }) ∷ map held_message xs) (sym was)
     ∙ ap (λ (t : Slot). record (held_message x) { handle = Some (handle_at Message t) } ∷ map held_message xs) at in
     let go : (b : Bool) → waits_for v x ≡ b → cond b (Some x) (find (waits_for v) xs) ≡ Some h
@@ -288,13 +280,9 @@ owned-is s d p v made =
       seen None = refl
       seen (Some x) = refl
 
-same-find : {X : Type 0} (p q : X → Bool) → ((x : X) → p x ≡ q x) → (xs : List X) → find p xs ≡ find q xs
-same-find p q same [] = refl
-same-find p q same (x ∷ xs) = ap (λ (b : Bool). cond b (Some x) (find p xs)) (same x) ∙ ap (λ (o : Option _). cond (q x) (Some x) o) (same-find p q same xs)
-
 pub held-is : (s : System) (d : TablesView) (p : ℕ) (k : Handle) → MadeFor d s → find (held_by (is_signal_of d.services p) k) (map held_message d.messages.held) ≡ message_held s (spm_of d) p k
 held-is s d p k made =
-    same-find (held_by (is_signal_of d.services p) k) (held_by (is_service_of s p) k) (λ m. ap (λ (b : Bool). b && has_handle m.handle k) (owned-is s d p m.service made)) (map held_message d.messages.held)
+    find-same (held_by (is_signal_of d.services p) k) (held_by (is_service_of s p) k) (λ m. ap (λ (b : Bool). b && has_handle m.handle k) (owned-is s d p m.service made)) (map held_message d.messages.held)
 
 pub find-none : (d : TablesView) (s : System) (p : ℕ) (k : Handle) → IsKept 304 d.messages → Names None k → MadeFor d s → None ≡ message_held s (spm_of d) p k
 find-none d s p k kept names made = sym (none-by d.messages (is_signal_of d.services p) k kept names) ∙ held-is s d p k made

@@ -1,7 +1,7 @@
 -- A threaded queue after an index is put at its end or taken out.
 use Rattle.std.proofs.Common.{ℕ, ◌≡◌, ◌≤◌, ◌+◌, ◌==◌, Bool, true, false, cond, not, List, [], ◌∷◌, ◌++◌, arith, ◌∙◌, ap, sym, refl, subst, inl, inr}
 use Rattle.std.specs.Prelude.{Option, Some, None, filter, ◌⊎◌}
-use Rattle.object_pools.proofs.Counts.{bit, count-cons}
+use Rattle.list_laws.proofs.Counts.{bit, count-cons}
 use Rattle.object_pools.proofs.Orders.{times, same_bit, same_number}
 use Rattle.spm_tables.specs.Queues.{first_of, last_of, Threaded}
 

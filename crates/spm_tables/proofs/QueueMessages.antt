@@ -11,12 +11,12 @@ use Rattle.ffm_model.specs.declared.objects.Vectors.{Vectors}
 use Rattle.object_pools.specs.declared.slot.Slot.{Slot}
 use Rattle.object_pools.specs.declared.slot.Held.{Held}
 use Rattle.object_pools.specs.Pool.{Places, IsKept, IsNamed, is_at, has_slot, item_at, item_put, with_item, without, taken, free_slot}
-use Rattle.object_pools.proofs.Counts.{bit, count-cons, none-count}
+use Rattle.list_laws.proofs.Counts.{bit, both-le-right, count-cons, none-count}
 use Rattle.object_pools.proofs.Orders.{times, same_number, same_bit}
 use Rattle.object_pools.proofs.Pigeons.{found-free, index-below}
 use Rattle.handle_table.proofs.SlotLemmas.{both, held-of, named-at}
 use Rattle.handle_table.proofs.NameLemmas.{free-parts}
-use Rattle.handle_table.proofs.Twins.{find-passes}
+use Rattle.list_laws.proofs.Tests.{find-passes}
 use Rattle.spm_tables.specs.declared.item.QueuedMessage.{QueuedMessage}
 use Rattle.spm_tables.specs.declared.links.Link.{Link}
 use Rattle.spm_tables.specs.declared.links.Ends.{Ends}
@@ -36,13 +36,9 @@ places-cons t x xs i =
     elim [ true ↦ count-cons (λ k. k == i) x.slot.index (places t xs) | false ↦ omega arith ] in
     go (t x)
 
-and_le : (b c : Bool) → bit (b && c) ≤ bit c
-and_le true c = omega arith
-and_le false c = omega arith
-
 times-places : (t : Held QueuedMessage → Bool) (xs : List (Held QueuedMessage)) (i : ℕ) → times i (places t xs) ≤ count_by (is_at i) xs
 times-places t [] i = omega arith
-times-places t (x ∷ xs) i = omega (arith, places-cons t x xs i, count-cons (is_at i) x xs, and_le (t x) (x.slot.index == i), times-places t xs i)
+times-places t (x ∷ xs) i = omega (arith, places-cons t x xs i, count-cons (is_at i) x xs, both-le-right (t x) (x.slot.index == i), times-places t xs i)
 
 -- what stands in the queue is the item at that index
 at-place : (t : Held QueuedMessage → Bool) (xs : List (Held QueuedMessage)) (i : ℕ) → count_by (is_at i) xs ≤ 1 → 1 ≤ times i (places t xs) → (h : Held QueuedMessage) × (find (is_at i) xs ≡ Some h) × (t h ≡ true)

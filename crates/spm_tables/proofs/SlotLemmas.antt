@@ -10,7 +10,7 @@ use Rattle.object_pools.specs.Pool.{Places, IsKept, has_slot, item_at, item_put,
 use Rattle.handle_table.specs.Table.{connections, Rises, IsTable}
 use Rattle.handle_table.proofs.SlotLemmas.{has_own, one_slot, slot-is, held-of}
 use Rattle.handle_table.proofs.TableLemmas.{rises-bounds}
-use Rattle.handle_table.proofs.Twins.{find-passes}
+use Rattle.list_laws.proofs.Tests.{find-passes}
 use Rattle.spm_tables.specs.declared.item.MessageItem.{MessageItem}
 use Rattle.spm_tables.specs.declared.item.QueuedMessage.{QueuedMessage}
 use Rattle.spm_tables.specs.TablesView.{queued, queued_as, serial_at}

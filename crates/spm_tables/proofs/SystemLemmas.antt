@@ -1,5 +1,5 @@
 -- How many messages there may be.
-use Rattle.std.proofs.Common.{ℕ, zero, suc, ◌≡◌, ◌≤◌, ◌+◌, List, [], ◌∷◌, ◌++◌, length, arith, ◌∙◌, ap}
+use Rattle.std.proofs.Common.{ℕ, suc, ◌≡◌, ◌≤◌, ◌+◌, length, arith, ◌∙◌, ap}
 use Rattle.std.specs.Prelude.{count_by}
 use Rattle.std.specs.List.{range_with_len}
 use Rattle.std.proofs.lemmas.List.Sums.{count_by-le-length}
@@ -7,15 +7,10 @@ use Rattle.std.proofs.lemmas.List.FromFn.{length-range_with_len}
 use Rattle.ffm_model.specs.declared.system.System.{System}
 use Rattle.ffm_model.specs.Names.{calls_stateless}
 use Rattle.ffm_model.proofs.ActorLemmas.{few_partitions, few_clients}
-use Rattle.object_pools.proofs.Counts.{bit, count-push}
+use Rattle.list_laws.proofs.Counts.{bit, count-push}
+use Rattle.list_laws.proofs.Lists.{range_with_len-more}
 
 -- ---- partitions and clients that may use a stateless service
-
-range-more : (a n : ℕ) → range_with_len a (suc n) ≡ range_with_len a n ++ (a + n) ∷ []
-range-more a zero = ap (λ (x : ℕ). x ∷ []) (omega arith)
-range-more a (suc n) =
-    let same : a + 1 + n ≡ a + suc n = omega arith in
-    ap (λ (xs : List ℕ). a ∷ xs) (range-more (a + 1) n ∙ ap (λ (x : ℕ). range_with_len (a + 1) n ++ x ∷ []) same)
 
 -- one actor more
 pub callers_more : (s : System) (n : ℕ) → count_by (calls_stateless s) (range_with_len 0 (n + 1)) ≡ count_by (calls_stateless s) (range_with_len 0 n) + bit (calls_stateless s n)
@@ -25,7 +20,7 @@ callers_more s n =
     omega (
       arith,
       ap (λ k. count_by (calls_stateless s) (range_with_len 0 k)) next,
-      ap (count_by (calls_stateless s)) (range-more 0 n),
+      ap (count_by (calls_stateless s)) (range_with_len-more 0 n),
       count-push (calls_stateless s) (range_with_len 0 n) (0 + n),
       ap (λ k. bit (calls_stateless s k)) same,
     )

@@ -2,7 +2,7 @@
 
 ghost use Rattle.std.specs.Prelude.{◌≡◌, ◌<◌, ◌≤◌, length, IsSome, IfSome, IfOk, MatchOption, Some, find, false, true};
 ghost use Rattle.std.specs.Option.{option_map};
-ghost use Rattle.object_pools.specs.Pool.{empty, free_slot, taken, item_at, with_item, without, IsKept};
+ghost use Rattle.object_pools.specs.Pool.{most_takes, empty, free_slot, taken, item_at, with_item, without, IsKept};
 ghost use Rattle.spm_tables.specs.TablesView.{waits_for};
 ghost use Rattle.spm_tables.specs.Queues.{has_waiting, OthersWaitAsBefore, AllWaitAsBefore};
 
@@ -83,7 +83,7 @@ impl MessageQueues {
         requires service { message.service < self.old.services }
         requires undelivered { message.delivered ≡ false }
         requires room { length self.old.messages.held < length self.old.messages.generations }
-        requires few { self.old.messages.takes < 1048575 }
+        requires few { self.old.messages.takes < most_takes }
         ensures slot { free_slot self.old.messages ≡ Some result }
         ensures after { self.new ≡ record self.old { messages = taken self.old.messages result message } }
         ensures others { OthersWaitAsBefore message.service self.old.messages self.new.messages }

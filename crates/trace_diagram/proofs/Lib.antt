@@ -1,3 +1,12 @@
+mod Answered
+mod Everywhere
 mod Gathered
+mod Issues
 mod Known
+mod Once
+mod Owners
+mod Pairs
+mod Places
 mod Pushed
+mod Replies
+mod Waiting

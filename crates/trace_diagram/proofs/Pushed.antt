@@ -12,8 +12,3 @@ filter_map_more {X} {Y} f xs i d sent now more below so_far one =
     one ∙ ap (λ (ys : List Y). ys ++ cons_option (f (get_or xs i d)) []) so_far
     ∙ append_assoc sent (filter_map f (take i xs)) (cons_option (f (get_or xs i d)) [])
     ∙ ap (λ (ys : List Y). sent ++ ys) (sym (filter_map-append f (take i xs) (get_or xs i d ∷ [])) ∙ ap (λ (ys : List X). filter_map f ys) (sym (take_more xs i d below)))
-
--- an item that may be missing stands before the others
-pub option_first : {Y : Type 0} (o : Option Y) (ys : List Y) → ([] ++ cons_option o []) ++ ys ≡ cons_option o ys
-option_first None ys = refl
-option_first (Some y) ys = refl

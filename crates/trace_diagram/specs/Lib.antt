@@ -1,2 +1,4 @@
 pub mod Arrows
+pub mod Diagrams
 pub mod Gathering
+pub mod Pairs

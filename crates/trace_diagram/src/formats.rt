@@ -1,14 +1,15 @@
-//! The text of a diagram.
-ghost use Rattle.std.specs.Prelude.{◌≡◌, ◌<◌, ◌^◌, length};
-ghost use Rattle.memory_image.specs.Pieces.{ranges_of, regions_of};
+//! What a diagram shows, and its text.
+ghost use Rattle.std.specs.Prelude.{◌≡◌, ◌<◌, ◌^◌, IfOk, length};
+ghost use Rattle.memory_image.specs.Pieces.{byte_at, ranges_of, regions_of};
+ghost use Rattle.trace_diagram.specs.Diagrams.{IsDiagram};
 
-use crate::gathering::{Part, gather};
+use crate::gathering::{Part, PlacedArrow, gather};
 use crate::html::page;
 use crate::mermaid::mermaid;
-use ffm_model::{Memory, System, Trace};
-use machine_check::check;
+use ffm_model::{List, Memory, System, Trace};
+use machine_check::{Checked, check};
 use memory_image::Image;
-use std::alloc::Global;
+use std::alloc::{AllocError, Global};
 
 /// How a diagram is written.
 #[derive(Clone, Copy, Debug, PartialEq, Eq)]
@@ -19,11 +20,21 @@ pub enum Format {
     Html,
 }
 
-/// The sequence diagram of a trace's legal entries in a part, as a text in UTF-8. Its arrows are those
-/// of `gather`. At its end it says how the trace ended, or the place at which it is illegal.
+/// A sequence diagram of a part of a trace: what its text is written of, beside the system and the trace.
+#[derive(Drop)]
+pub struct SequenceDiagram {
+    pub part: Part,
+    pub format: Format,
+    /// The arrows of the trace's legal entries in the part, in their order.
+    pub arrows: List<PlacedArrow>,
+    /// How the whole trace is judged.
+    pub judged: Checked,
+}
+
+/// The diagram of a trace's legal entries in a part. Its arrows are those of `gather`.
 ///
-/// It needs memory for the text, besides what `gather` and then `machine_check::check` need. The memory
-/// has the system's regions, and the trace has fewer than 2^31 entries.
+/// It needs what `gather` and then `machine_check::check` need. The memory has the system's regions, and
+/// the trace has fewer than 2^31 entries.
 pub fn diagram(
     alloc: Global,
     system: &System,
@@ -32,16 +43,36 @@ pub fn diagram(
     trace: &Trace,
     part: Part,
     format: Format,
-) -> Result<Vec<u8>, Memory>
+) -> Result<SequenceDiagram, Memory>
     requires regions { regions_of memory.now ≡ ranges_of system.now.regions }
     requires few { length trace.now.entries < 2 ^ 31 }
+    ensures { IfOk result (IsDiagram system.now (byte_at memory.now) limit trace.now.entries trace.now.verdict part format) }
 {
     let entries = trace.entries.as_slice();
     let arrows = gather(alloc, system, memory, limit, entries, part)?;
     let judged = check(alloc, system, memory, limit, trace)?;
-    let text = match format {
-        Format::Mermaid => mermaid(alloc, system, trace, judged, arrows.as_slice())?,
-        Format::Html => page(alloc, system, trace, judged, part, arrows.as_slice())?,
-    };
-    Ok(text.into_bytes())
+    Ok(SequenceDiagram {
+        part,
+        format,
+        arrows,
+        judged,
+    })
+}
+
+impl SequenceDiagram {
+    /// The text of the diagram of a trace over this system, in UTF-8. At its end it says how the trace ended,
+    /// or the place at which it is illegal.
+    pub fn text(
+        &self,
+        alloc: Global,
+        system: &System,
+        trace: &Trace,
+    ) -> Result<Vec<u8>, AllocError> {
+        let arrows = self.arrows.as_slice();
+        let text = match self.format {
+            Format::Mermaid => mermaid(alloc, system, trace, self.judged, arrows)?,
+            Format::Html => page(alloc, system, trace, self.judged, self.part, arrows)?,
+        };
+        Ok(text.into_bytes())
+    }
 }

@@ -45,7 +45,3 @@ hexadecimal_printed n (a ∷ b ∷ ds) len zero_is x_is e =
     let eight : 8 ≡ length ds + 0 = omega (arith, len) in
     let digits : hexadecimal_digits 8 n ≡ ds = printed_from 8 0 0 n ds eight e ∙ rw (none_at_all 0) refl in
     rw (zero_is, x_is, digits) refl
-
-pub first_bytes : (n : ℕ) (w : List ℕ) → w ≡ hexadecimal_word n → (length w ≡ 10) × (get_or w 0 0 ≡ 48) × (get_or w 1 0 ≡ 120)
-unfolding hexadecimal_word hexadecimal_digits
-first_bytes n w e = rw e (refl, refl, refl)

@@ -16,7 +16,7 @@ use Rattle.ffm_model.specs.Verdicts.{Judgement, Legal, IllegalAt, judged, judged
 use Rattle.machine_calls.specs.Machine.{spm_of_objects, state_of}
 use Rattle.machine_check.specs.declared.judging.Checker.{Checker}
 use Rattle.machine_check.specs.Reaching.{IsLast, IsReached}
-use Rattle.trace_view.specs.Why.{BreaksRule, IsFinding, IsRule}
+use Rattle.trace_view.specs.Why.{BreaksRule, IsFinding, IsIllegal, IsRule, TellsOfCall}
 use Rattle.trace_view.specs.declared.reasons.Finding.TheVariants as finding
 use Rattle.trace_view.specs.declared.reasons.IllegalEntry.{IllegalEntry}
 
@@ -72,20 +72,19 @@ left_over s m limit es v r it =
 all_gone : (s : System) (limit : ℕ) (v : Verdict) (n : ℕ) (xs : List Entry) (st : State) → xs ≡ [] → judged_from s limit v n xs st ≡ (if option_map_or (verdict_eq v) (verdict_at s limit n st.spm) false then Legal else IllegalAt (n + 1))
 all_gone s limit v n xs st none = rw none refl
 
--- the entry behind those that were reached
-next_is_illegal : (s : System) (m : ByteMap) (limit : ℕ) (es : List Entry) (v : Verdict) (r : Checker) (e : Entry) (it : IsReached s m limit es r) → r.count < length es → drop r.count es ≡ e ∷ drop (r.count + 1) es
-    → take (r.count + 1) es ≡ take r.count es ++ e ∷ [] → judged s m limit es v ≡ IllegalAt (r.count + 1)
-next_is_illegal s m limit es v r e it below left more =
-    left_over s m limit es v r it ∙ ap (λ xs. judged_from s limit v r.count xs st) left ∙ which it.last where
-      st : State
-      st = state_of r.machine it.behind.handles
+-- the entry behind those that were reached is illegal
+next_is_illegal : (s : System) (m : ByteMap) (limit : ℕ) (es : List Entry) (r : Checker) (e : Entry) (it : IsReached s m limit es r) → r.count < length es
+    → take (r.count + 1) es ≡ take r.count es ++ e ∷ [] → IsIllegal s limit r.count (state_of r.machine it.behind.handles) e
+next_is_illegal s m limit es r e it below more = which it.last where
+  which : IsLast s m limit es r.count → IsIllegal s limit r.count (state_of r.machine it.behind.handles) e
+  which (inl all) = absurd (omega (arith, all, below))
+  which (inr (inl full)) = inl (omega (arith, full))
+  which (inr (inr none)) = inr (ap (option_and_then (λ x. step s x e)) (sym it.behind.state) ∙ sym (after-push s m (take r.count es) e) ∙ ap (after s m) (sym more) ∙ none)
 
-      which : IsLast s m limit es r.count → judged_from s limit v r.count (e ∷ drop (r.count + 1) es) st ≡ IllegalAt (r.count + 1)
-      which (inl all) = absurd (omega (arith, all, below))
-      which (inr (inl full)) = if_true (nat_le limit r.count) _ _ (at_limit limit r.count (omega (arith, full)))
-      which (inr (inr none)) =
-          let no_step : step s st e ≡ None = ap (option_and_then (λ x. step s x e)) (sym it.behind.state) ∙ sym (after-push s m (take r.count es) e) ∙ ap (after s m) (sym more) ∙ none in
-          if_same (nat_le limit r.count) _ _ (ap (λ o. option_map_or (λ z. judged_from s limit v (r.count + 1) (drop (r.count + 1) es) z) o (IllegalAt (r.count + 1))) no_step)
+-- an illegal entry decides
+illegal_decides : (s : System) (limit : ℕ) (v : Verdict) (n : ℕ) (e : Entry) (es : List Entry) (st : State) → IsIllegal s limit n st e → judged_from s limit v n (e ∷ es) st ≡ IllegalAt (n + 1)
+illegal_decides s limit v n e es st (inl full) = if_true (nat_le limit n) _ _ (at_limit limit n full)
+illegal_decides s limit v n e es st (inr none) = if_same (nat_le limit n) _ _ (ap (λ o. option_map_or (λ z. judged_from s limit v (n + 1) es z) o (IllegalAt (n + 1))) none)
 
 -- the parts of a list at a place
 parts_at : (es : List Entry) (k : ℕ) (e : Entry) → k < length es → e ≡ get_or es k e → (drop k es ≡ e ∷ drop (k + 1) es) × (take (k + 1) es ≡ take k es ++ e ∷ [])
@@ -96,13 +95,18 @@ pub wrong_entry : (s : System) (m : ByteMap) (limit : ℕ) (es : List Entry) (v 
     → IsFinding s m limit es v (finding.Entry i)
 wrong_entry s m limit es v r e i it below same breaks =
     let p = parts_at es r.count e below same in
+    let st : State = state_of r.machine it.behind.handles in
+    let illegal = next_is_illegal s m limit es r e it below p.1 in
     record {
       before = r.count;
       place = breaks.place;
-      first = next_is_illegal s m limit es v r e it below p.0 p.1 ∙ ap IllegalAt (sym breaks.place);
+      first = left_over s m limit es v r it ∙ ap (λ xs. judged_from s limit v r.count xs st) p.0
+          ∙ illegal_decides s limit v r.count e (drop (r.count + 1) es) st illegal ∙ ap IllegalAt (sym breaks.place);
       entry = slice_get-get_or es r.count e below ∙ ap (λ (y : Entry). Some y) (sym same ∙ sym breaks.entry);
       rule = subst (λ o. IsSomeAnd o (λ st. IsRule s limit r.count st i.entry i.rule)) (sym it.behind.state)
-          (subst (λ x. IsRule s limit r.count (state_of r.machine it.behind.handles) x i.rule) (sym breaks.entry) (breaks.rule it.behind.handles it.behind.knows));
+          (subst (λ x. IsRule s limit r.count st x i.rule) (sym breaks.entry) (breaks.rule it.behind.handles it.behind.knows illegal));
+      call = subst (λ o. IsSomeAnd o (λ st. TellsOfCall s st i.entry i)) (sym it.behind.state)
+          (subst (λ x. TellsOfCall s st x i) (sym breaks.entry) (breaks.call it.behind.handles it.behind.knows illegal));
     }
 
 none_left : (s : System) (m : ByteMap) (limit : ℕ) (es : List Entry) (v : Verdict) (r : Checker) → IsReached s m limit es r → length es ≤ r.count

@@ -8,14 +8,15 @@ use Rattle.ffm_model.specs.Memory.{ByteMap}
 use Rattle.ffm_model.specs.Step.{after}
 use Rattle.machine_check.specs.declared.judging.Checker.{Checker}
 use Rattle.machine_check.specs.Reaching.{IsBehind, IsLast, IsReached}
-use Rattle.trace_view.specs.Showing.{IsIllegalAt, IsStateBehind}
+use Rattle.trace_view.specs.Showing.{AreLastPlaces, IsIllegalAt, IsStateBehind}
 use Rattle.trace_view.specs.declared.behind.StateBehind.{StateBehind}
 
-pub place_reached : (s : System) (m : ByteMap) (limit : ℕ) (es : List Entry) (k : ℕ) (b : StateBehind) → k ≤ length es → IsReached s m limit (take k es) b.checker → b.checker.count ≡ k → b.total ≡ length es → IsStateBehind s m es k b
-place_reached s m limit es k b few r count total = record {
+pub place_reached : (s : System) (m : ByteMap) (limit : ℕ) (es : List Entry) (k : ℕ) (b : StateBehind) → k ≤ length es → IsReached s m limit (take k es) b.checker → b.checker.count ≡ k → b.total ≡ length es → AreLastPlaces s (take k es) b.last.items → IsStateBehind s m es k b
+place_reached s m limit es k b few r count total last = record {
   behind = subst (λ xs. IsBehind s m xs b.checker) (ap (λ n. take n (take k es)) count ∙ take-take k k es (omega arith)) r.behind;
   count = count;
   total = total;
+  last = last;
 }
 
 is_some : {X : Type 0} (o : Option X) (x : X) → o ≡ Some x → IsSome o

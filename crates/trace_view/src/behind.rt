@@ -1,7 +1,7 @@
 //! The state behind a part of a trace.
-ghost use Rattle.std.specs.Prelude.{◌≡◌, ◌<◌, ◌^◌, IfOk, length};
+ghost use Rattle.std.specs.Prelude.{◌≡◌, ◌<◌, ◌^◌, IfOk, length, slice_set};
 ghost use Rattle.memory_image.specs.Pieces.{byte_at, ranges_of, regions_of};
-ghost use Rattle.trace_view.specs.Showing.{IsPlace, IsLastLegal};
+ghost use Rattle.trace_view.specs.Showing.{AreLastPlaces, IsPlace, IsLastLegal};
 
 use ffm_model::{Entry, Memory, System, Trace};
 use machine_check::{Checker, reached};
@@ -29,7 +29,9 @@ pub enum Place {
     Illegal(u32),
 }
 
-fn put_last(last: &mut [u32], actor: u32, place: u32) {
+fn put_last(last: &mut Vec<u32>, actor: u32, place: u32)
+    ensures { last.new.items ≡ slice_set last.old.items actor place }
+{
     let at = actor as usize;
     if at < last.len() {
         last[at] = place;
@@ -37,13 +39,16 @@ fn put_last(last: &mut [u32], actor: u32, place: u32) {
 }
 
 // The place of each actor's last entry.
-fn last_entries(alloc: Global, system: &System, entries: &[Entry]) -> Result<Vec<u32>, Memory> {
+fn last_entries(alloc: Global, system: &System, entries: &[Entry]) -> Result<Vec<u32>, Memory>
+    requires few { length entries.now < 2 ^ 31 }
+    ensures { IfOk result (λ last. AreLastPlaces system.now entries.now last.items) }
+{
     let mut last = Vec::new(alloc);
     last.resize(system.actor_count() as usize, 0)?;
-    let mut place: u32 = 0;
+    let mut place = 0;
     for entry in entries {
-        place = place.saturating_add(1);
-        put_last(last.as_mut_slice(), entry.actor.0, place);
+        place += 1;
+        put_last(&mut last, entry.actor.0, place);
     }
     Ok(last)
 }

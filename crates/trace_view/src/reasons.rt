@@ -1,27 +1,28 @@
 //! Why a trace is illegal, and where.
-ghost use Rattle.std.specs.Prelude.{◌≡◌, ◌<◌, ◌^◌, IfOk, IfSome, false, length};
+ghost use Rattle.std.specs.Prelude.{◌≡◌, ◌<◌, ◌^◌, ◌&&◌, IfOk, MatchOption, false, true, length};
 ghost use Rattle.std.specs.Prelude as prelude;
 ghost use Rattle.std.specs.Option.{option_map_or};
 ghost use Rattle.ffm_model.specs.declared.machine.Handle.{Handle as HandleSeen};
 ghost use Rattle.ffm_model.specs.Signals.{may_resume};
+ghost use Rattle.ffm_model.specs.Step.{handle_shown, may_call, outcome_eq, returns_when_due};
 ghost use Rattle.ffm_model.specs.Verdicts.{verdict_eq};
 ghost use Rattle.machine_calls.specs.Machine.{state_of, IsMachineOf};
-ghost use Rattle.machine_check.specs.Performed.{Knows};
+ghost use Rattle.machine_check.specs.Performed.{Knows, gave_handle};
 ghost use Rattle.memory_image.specs.Pieces.{byte_at, ranges_of, regions_of};
-ghost use Rattle.trace_view.specs.Why.{BreaksRule, IsFinding, IsRule};
+ghost use Rattle.trace_view.specs.Why.{BreaksRule, IsFinding, IsIllegal, IsRule, is_refusal, refusal_shown, with_handle};
 
 use crate::state::put_phase;
 use call_conditions::{Condition, conditions};
 use ffm_model::{
-    ActorPhase, Call, Entry, Memory, Message, Outcome, PSA_ERROR_PROGRAMMER_ERROR, System, Trace,
-    Verdict,
+    ActorPhase, Call, Entry, Handle, Memory, Message, Outcome, PSA_ERROR_PROGRAMMER_ERROR, System,
+    Trace, Verdict,
 };
 use machine_calls::Machine;
 use machine_check::{Checker, reached};
 use memory_image::Image;
 use std::alloc::Global;
 
-/// The rule by which an entry is no step of the machine behind those before it.
+/// The rule by which an entry is illegal behind those before it: the first that it breaks, in this order.
 #[derive(Clone, Copy, Debug, PartialEq, Eq)]
 pub enum Rule {
     /// The run has as many entries as it may have.
@@ -35,9 +36,9 @@ pub enum Rule {
     NoReturnDue,
     /// All handles were given.
     NoHandleLeft,
-    /// A handle that isn't fresh. The answer with a fresh one.
+    /// The outcome is the answer, but for a handle that isn't fresh: the answer with a fresh one.
     StaleHandle(Outcome),
-    /// Another answer is due: this one. A handle in it may be any fresh one.
+    /// The machine answers otherwise: this, and nothing else but another fresh handle where the call gives one.
     OtherAnswer(Outcome),
 }
 
@@ -52,6 +53,8 @@ pub struct IllegalEntry {
     pub doing: Vec<u8>,
     /// When its call is a PROGRAMMER ERROR.
     pub conditions: Vec<Condition>,
+    /// Whether its call is one, where it is psa_call and another answer is due.
+    pub is_refused: Option<bool>,
 }
 
 /// How a trace is judged, and why.
@@ -77,7 +80,18 @@ fn returns(phase: ActorPhase) -> bool
     )
 }
 
-// The rule that an entry behind so many others breaks whatever it answers.
+// A call returns exactly where it is to return.
+fn returns_when_due(call: Call, phase: ActorPhase) -> bool
+    ensures { result ≡ returns_when_due call phase }
+{
+    match call {
+        Call::Resume => returns(phase),
+        _ => !returns(phase),
+    }
+}
+
+// The rule that an entry behind so many others breaks whatever it answers. None where its call may be made.
+#[tactic(auto, using(crate::proofs::Rules::no_such_actor, crate::proofs::Rules::not_enabled, crate::proofs::Rules::return_due, crate::proofs::Rules::no_return_due, crate::proofs::Rules::may_be_made))]
 fn broken_before(
     system: &System,
     machine: &Machine,
@@ -85,10 +99,9 @@ fn broken_before(
     count: u32,
     entry: &Entry,
 ) -> Option<Rule>
-    ensures { (given : prelude.List HandleSeen) → IfSome result (λ r. IsRule system.now limit count (state_of machine.now given) entry.now r) }
+    ensures { (given : prelude.List HandleSeen) → MatchOption result ((count < limit) × (may_call system.now (state_of machine.now given).spm entry.now.actor.0 entry.now.call ≡ true)) (λ r. IsRule system.now limit count (state_of machine.now given) entry.now r) }
 {
     let actor = entry.actor.0;
-    let is_return = matches!(entry.call, Call::Resume);
     if count >= limit {
         return Some(Rule::BeyondLimit);
     }
@@ -98,76 +111,98 @@ fn broken_before(
     if !machine.objects.is_enabled(system, actor) {
         return Some(Rule::NotEnabled);
     }
-    if returns(machine.objects.phase(actor)) {
-        if is_return {
-            None
-        } else {
-            Some(Rule::ReturnDue)
-        }
-    } else if is_return {
-        Some(Rule::NoReturnDue)
-    } else {
+    let phase = machine.objects.phase(actor);
+    if returns_when_due(entry.call, phase) {
         None
+    } else if returns(phase) {
+        Some(Rule::ReturnDue)
+    } else {
+        Some(Rule::NoReturnDue)
     }
 }
 
-// The same outcome with the handle of another, where both show one.
-fn with_handle_of(outcome: Outcome, other: Outcome) -> Outcome {
-    match (outcome, other) {
-        (Outcome::Value(_), Outcome::Value(handle)) => Outcome::Value(handle),
-        (Outcome::Got(message), Outcome::Got(shown)) => Outcome::Got(Message {
-            handle: shown.handle,
-            ..message
-        }),
+// The handle that an outcome shows, where it shows one.
+fn handle_shown(outcome: Outcome) -> Handle
+    ensures { result ≡ handle_shown outcome }
+{
+    match outcome {
+        Outcome::Value(value) => Handle(value),
+        Outcome::Got(message) => message.handle,
+        _ => Handle(0),
+    }
+}
+
+// The outcome with another handle, where it shows one.
+fn with_handle(handle: Handle, outcome: Outcome) -> Outcome
+    ensures { result ≡ with_handle handle outcome }
+{
+    match outcome {
+        Outcome::Value(_) => Outcome::Value(handle.0),
+        Outcome::Got(message) => Outcome::Got(Message { handle, ..message }),
         _ => outcome,
     }
 }
 
-// Whether an entry of an actor that does this gives a handle, and differs from the answer that is due in that alone.
-fn is_stale(phase: ActorPhase, entry: &Entry, due: Outcome) -> bool {
-    let gives = matches!(entry.call, Call::Get { .. }) || matches!(phase, ActorPhase::Connected(_));
-    gives && entry.outcome != due && with_handle_of(entry.outcome, due) == due
+// Whether a call with this answer gives a handle: `psa_get`, or the return of `psa_connect`.
+fn gave_handle(phase: ActorPhase, call: Call, answer: Outcome) -> bool
+    ensures { result ≡ gave_handle phase call answer }
+{
+    match call {
+        Call::Get { .. } => matches!(answer, Outcome::Got(_)),
+        Call::Resume => matches!(phase, ActorPhase::Connected(_)),
+        _ => false,
+    }
 }
 
-// The rule that an entry breaks, where it is no step.
+// Whether the outcome of an entry is the answer of an actor that does this, but for the handle that the call gives.
+fn is_answer_but_handle(phase: ActorPhase, entry: &Entry, answer: Outcome) -> bool
+    ensures { result ≡ (gave_handle phase entry.now.call answer && outcome_eq (with_handle (handle_shown entry.now.outcome) answer) entry.now.outcome) }
+{
+    gave_handle(phase, entry.call, answer)
+        && with_handle(handle_shown(entry.outcome), answer) == entry.outcome
+}
+
+// The rule that an illegal entry breaks.
+#[tactic(auto, using(crate::proofs::Rules::no_handle_left, crate::proofs::Rules::stale_handle, crate::proofs::Rules::other_answer))]
 fn broken_rule(system: &System, limit: u32, checker: Checker, entry: &Entry) -> Result<Rule, Memory>
     requires kept { IsMachineOf system.now checker.machine }
     requires few { checker.machine.objects.connections_made < 2 ^ 31 }
-    ensures { (handles : prelude.List HandleSeen) → Knows checker.given handles → IfOk result (λ r. IsRule system.now limit checker.count (state_of checker.machine handles) entry.now r) }
+    ensures { (handles : prelude.List HandleSeen) → Knows checker.given handles → IsIllegal system.now limit checker.count (state_of checker.machine handles) entry.now → IfOk result (λ r. IsRule system.now limit checker.count (state_of checker.machine handles) entry.now r) }
 {
     if let Some(rule) = broken_before(system, &checker.machine, limit, checker.count, entry) {
         return Ok(rule);
     }
     let phase = checker.machine.objects.phase(entry.actor.0);
     match checker.due(system, entry.actor, entry.call)? {
-        Some(outcome) => {
-            if is_stale(phase, entry, outcome) {
-                Ok(Rule::StaleHandle(outcome))
+        Some(answer) => {
+            if is_answer_but_handle(phase, entry, answer) {
+                Ok(Rule::StaleHandle(answer))
             } else {
-                Ok(Rule::OtherAnswer(outcome))
+                Ok(Rule::OtherAnswer(answer))
             }
         }
         None => Ok(Rule::NoHandleLeft),
     }
 }
 
-// Whether the answer that is due is the one of a PROGRAMMER ERROR, where a rule has one.
-fn is_refusal(rule: Rule) -> Option<bool> {
-    match rule {
-        Rule::OtherAnswer(Outcome::Panicked)
-        | Rule::OtherAnswer(Outcome::Value(PSA_ERROR_PROGRAMMER_ERROR)) => Some(true),
-        Rule::OtherAnswer(_) => Some(false),
-        _ => None,
+// Whether an answer to psa_call tells of a PROGRAMMER ERROR.
+fn is_refusal(answer: Outcome) -> bool
+    ensures { result ≡ is_refusal answer }
+{
+    match answer {
+        Outcome::Panicked => true,
+        Outcome::Value(value) => value == PSA_ERROR_PROGRAMMER_ERROR,
+        _ => false,
     }
 }
 
-// Marks a condition that wasn't looked at, where no other holds: then it holds exactly where the call is refused.
-fn settle(conditions: &mut [Condition], is_refused: bool) {
-    let is_known = conditions.iter().any(|c| matches!(c.holds, Some(true)));
-    for condition in conditions.iter_mut() {
-        if condition.holds.is_none() && !is_known {
-            condition.holds = Some(is_refused);
-        }
+// Whether psa_call is a PROGRAMMER ERROR, where a rule shows the answer that is due.
+fn refusal_shown(call: Call, rule: Rule) -> Option<bool>
+    ensures { result ≡ refusal_shown call rule }
+{
+    match (call, rule) {
+        (Call::Invoke { .. }, Rule::OtherAnswer(answer)) => Some(is_refusal(answer)),
+        _ => None,
     }
 }
 
@@ -187,17 +222,15 @@ fn illegal_entry(
     let place = checker.count + 1;
     let mut doing = Vec::new(alloc);
     put_phase(&mut doing, system, &checker.machine.objects, entry.actor.0)?;
-    let mut conditions = conditions(alloc, system, &checker.machine, entry.actor, entry.call)?;
+    let conditions = conditions(alloc, system, &checker.machine, entry.actor, entry.call)?;
     let rule = broken_rule(system, limit, checker, entry)?;
-    if let Some(is_refused) = is_refusal(rule) {
-        settle(conditions.as_mut_slice(), is_refused);
-    }
     Ok(IllegalEntry {
         place,
         entry: *entry,
         rule,
         doing,
         conditions,
+        is_refused: refusal_shown(entry.call, rule),
     })
 }
 

@@ -36,14 +36,18 @@ fn mark(holds: Option<bool>) -> &'static str {
     }
 }
 
+// Appends the conditions. One that wasn't looked at holds exactly where the call is refused, unless another one does.
 fn put_conditions(
     text: &mut Vec<u8>,
     call: Call,
     conditions: &[Condition],
+    is_refused: Option<bool>,
 ) -> Result<(), AllocError> {
     if conditions.is_empty() {
         return Ok(());
     }
+    let is_known = conditions.iter().any(|c| matches!(c.holds, Some(true)));
+    let otherwise = if is_known { None } else { is_refused };
     put_words(
         text,
         &[
@@ -55,7 +59,7 @@ fn put_conditions(
         put_words(
             text,
             &[
-                Word::Text(mark(condition.holds)),
+                Word::Text(mark(condition.holds.or(otherwise))),
                 Word::Text(condition.words),
                 Word::Text("\n"),
             ],
@@ -139,7 +143,12 @@ fn put_illegal(
                 outcome,
                 shows_handle(illegal.rule),
             )?;
-            put_conditions(text, illegal.entry.call, illegal.conditions.as_slice())
+            put_conditions(
+                text,
+                illegal.entry.call,
+                illegal.conditions.as_slice(),
+                illegal.is_refused,
+            )
         }
         None => Ok(()),
     }

@@ -1,5 +1,5 @@
 -- What is due of the files of a trace, out of what was read of them.
-use Rattle.std.proofs.Common.{◌≡◌, ◌≤◌, ◌∙◌, ℕ, length, refl, ap, sym, subst}
+use Rattle.std.proofs.Common.{◌≡◌, ◌≤◌, ◌∙◌, ℕ, List, [], append-nil, length, refl, ap, sym, subst}
 use Rattle.std.specs.Prelude.{Option, Some, None, IfSome, Result, Ok, Err}
 use Rattle.std.specs.List.{AllByRecursion}
 use Rattle.ffm_model.specs.declared.constants.TheConstants.{MAX_ENTRIES}
@@ -12,13 +12,14 @@ use Rattle.trace_print.specs.View.{parts}
 use Rattle.ffm_top.specs.Replays.{wrong_line}
 use Rattle.command_words.specs.declared.words.Inspection.{Inspection}
 use Rattle.command_words.specs.declared.words.Inspection.TheVariants.{Replay}
+use Rattle.outside_io.specs.Reads.{ReadBetween}
 use Rattle.work_orders.specs.declared.work.TraceWork.{TraceWork}
 use Rattle.work_orders.specs.View.{IsTraceWork}
 use Rattle.work_orders.specs.Work.{Work, judge_of}
 use Rattle.view_commands.specs.declared.files.Halt.{Halt}
 use Rattle.view_commands.specs.declared.files.Halt.TheVariants.{Refused, Files, Memory}
 use Rattle.view_commands.specs.declared.files.TraceFiles.{TraceFiles}
-use Rattle.view_commands.specs.Files.{IsRefusalBy, ReadsDue}
+use Rattle.view_commands.specs.Files.{HaveRead, IsRefusalBy, ReadsDue}
 
 -- a trace was read
 pub read_due : (f : TraceFiles) → IsTraceWork f.work → f.work.trace.items ≡ trace_text (counts_of f.work.system) f.trace.entries f.trace.verdict → AllByRecursion (EntryFits (counts_of f.work.system)) f.trace.entries → length f.trace.entries ≤ MAX_ENTRIES
@@ -41,8 +42,14 @@ refused_due (Some of) f r h gives is = subst (λ (g : Result Work Stop). ReadsDu
   by Memory is = tt
   by Files is = tt
 
--- what is due of the work that the files are to give
-pub due_of_work : (held : Option Contents) (f : Contents → Reading Work) (w : TraceWork) (r : Result TraceFiles Halt) → IfSome held (λ of. (f of).gives ≡ Ok (judge_of w.inspection w.system w.scenario w.trace.items)) → w.inspection ≡ Replay
-    → ReadsDue (Ok (judge_of Replay w.system w.scenario w.trace.items)) r → IfSome held (λ of. ReadsDue (f of).gives r)
-due_of_work None f w r gives how due = tt
-due_of_work (Some of) f w r gives how due = subst (λ (g : Result Work Stop). ReadsDue g r) (sym (gives ∙ ap (λ (i : Inspection). Ok (judge_of i w.system w.scenario w.trace.items)) how)) due
+-- ---- which files were read
+
+-- all of them
+pub all_read : (held : Option Contents) (f : Contents → Reading Work) (a b : Option (List (List ℕ))) (r : Result TraceFiles Halt) → IfSome held (λ of. ReadBetween a b (f of).names) → IfSome held (λ of. HaveRead a b r (f of).names)
+all_read None f a b r read = tt
+all_read (Some of) f a b r read = by r where
+  by : (r : Result TraceFiles Halt) → HaveRead a b r (f of).names
+  by (Ok x) = read
+  by (Err (Refused line)) = read
+  by (Err Files) = record { front = (f of).names; rest = []; whole = sym (append-nil (f of).names); read = read }
+  by (Err Memory) = record { front = (f of).names; rest = []; whole = sym (append-nil (f of).names); read = read }

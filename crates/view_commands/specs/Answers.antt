@@ -1,9 +1,10 @@
 -- Which text and which status the words and the files call for.
 -- Source: this simulator's.
-use Rattle.std.specs.Prelude.{◌≡◌, ◌⊎◌, ◌≤◌, ℕ, List, Option, Result, Ok}
+use Rattle.std.specs.Prelude.{◌≡◌, ◌⊎◌, ◌<◌, ◌≤◌, ℕ, List, [], length, Option, Result, Ok}
 use Rattle.command_words.specs.declared.words.Inspection.TheVariants.{Replay}
-use Rattle.ffm_model.specs.Reading.{Contents, Stop}
-use Rattle.outside_io.specs.Told.{Takes}
+use Rattle.ffm_model.specs.Reading.{Contents, FailedAmong, Stop}
+use Rattle.outside_io.specs.Reads.{FrontReadBetween, ReadBetween}
+use Rattle.outside_io.specs.Told.{Takes, TakesPart}
 use Rattle.work_orders.specs.Work.{Work, judge_of, work_of}
 use Rattle.view_commands.specs.Files.{AreTraceFiles, RefusalDue, order_of_files}
 use Rattle.view_commands.specs.Views.{IsView, status_of}
@@ -43,3 +44,29 @@ Due words of text status = IsTold words status ⊎ ((r : Request) × AsksFor wor
 -- a text that is due with this status was taken, all of it
 abbrev pub WritesDue : List (List ℕ) → Contents → Option (List ℕ) → Option (List ℕ) → ℕ → Type 0
 WritesDue words of before after status = (text : List ℕ) × Due words of text status × Takes before after text
+
+-- a proper prefix of a text that is due was taken, where it has a byte
+abbrev pub WritesPart : List (List ℕ) → Contents → Option (List ℕ) → Option (List ℕ) → Type 0
+WritesPart words of before after = (text : List ℕ) × (status : ℕ) × Due words of text status × (0 < length text → TakesPart before after text)
+
+-- ---- the files that are read
+
+-- those that a request asks for, each as often as it is
+abbrev pub files_of : Request → Contents → List (List ℕ)
+files_of r of = (work_of of (order_of_files r.names)).names
+
+-- the last failed name, where it is told, is one that the words ask for
+abbrev pub FailedAsked : List (List ℕ) → Contents → Option (Option (List ℕ)) → Type 0
+FailedAsked words of last = (r : Request) × AsksFor words r × FailedAmong (files_of r of) last
+
+-- the words ask for no file, and none was read
+abbrev pub ReadsNone : List (List ℕ) → Option (List (List ℕ)) → Option (List (List ℕ)) → Type 0
+ReadsNone words before after = (status : ℕ) × IsTold words status × ReadBetween before after []
+
+-- the files that the words ask for were read, in the order in which they are asked for, and no other
+abbrev pub ReadsAsked : List (List ℕ) → Contents → Option (List (List ℕ)) → Option (List (List ℕ)) → Type 0
+ReadsAsked words of before after = ReadsNone words before after ⊎ ((r : Request) × AsksFor words r × ReadBetween before after (files_of r of))
+
+-- of the files that the words ask for, those in front were read, up to where the reading ended, and no other
+abbrev pub ReadsAskedPart : List (List ℕ) → Contents → Option (List (List ℕ)) → Option (List (List ℕ)) → Type 0
+ReadsAskedPart words of before after = ReadBetween before after [] ⊎ ((r : Request) × AsksFor words r × FrontReadBetween before after (files_of r of))

@@ -1,12 +1,13 @@
 -- What the files of a trace say, and which line refuses them.
 -- Source: this simulator's; the refusals are those of `ffm replay`.
-use Rattle.std.specs.Prelude.{◌≡◌, ℕ, List, Result, Ok, Err}
+use Rattle.std.specs.Prelude.{◌≡◌, ℕ, List, Option, Result, Ok, Err}
 use Rattle.command_words.specs.declared.words.Inspection.TheVariants.{Replay}
 use Rattle.command_words.specs.Words.{Order, judge}
 use Rattle.ffm_model.specs.declared.place.Refusal.{Refusal}
 use Rattle.ffm_model.specs.Reading.{Stop, refused}
 use Rattle.ffm_top.specs.Lines.{refusal_line}
 use Rattle.ffm_top.specs.Replays.{IsTextOf, WrongDue}
+use Rattle.outside_io.specs.Reads.{FrontReadBetween, ReadBetween}
 use Rattle.work_orders.specs.View.{IsTraceWork}
 use Rattle.work_orders.specs.Work.{Work, judge_of}
 use Rattle.view_commands.specs.declared.files.Halt.{Halt}
@@ -41,3 +42,10 @@ ReadsDue due (Ok f) = (due ≡ Ok (judge_of Replay f.work.system f.work.scenario
 ReadsDue due (Err (halt.Refused line)) = RefusalDue due line.items
 ReadsDue due (Err halt.Files) = Unit {0}
 ReadsDue due (Err halt.Memory) = Unit {0}
+
+-- all of these files were read, in this order, where they were or one is refused; else those in front, up to where the reading ended
+abbrev pub HaveRead : Option (List (List ℕ)) → Option (List (List ℕ)) → Result TraceFiles Halt → List (List ℕ) → Type 0
+HaveRead before after (Ok f) names = ReadBetween before after names
+HaveRead before after (Err (halt.Refused line)) names = ReadBetween before after names
+HaveRead before after (Err halt.Files) names = FrontReadBetween before after names
+HaveRead before after (Err halt.Memory) names = FrontReadBetween before after names

@@ -1,3 +1,4 @@
 pub mod Answers
+pub mod Diagrams
 pub mod Files
 pub mod Views

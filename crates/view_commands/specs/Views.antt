@@ -3,6 +3,10 @@
 use Rattle.std.specs.Prelude.{◌≡◌, ◌<◌, ◌≤◌, ℕ, length, None, Some}
 use Rattle.ffm_model.specs.Memory.{ByteMap, opening_memory}
 use Rattle.trace_counts.specs.Counted.{IsCounted}
+use Rattle.trace_diagram.specs.Diagrams.{IsDiagram}
+use Rattle.trace_diagram.specs.declared.formats.Format.{Format}
+use Rattle.trace_diagram.specs.declared.formats.SequenceDiagram.{SequenceDiagram}
+use Rattle.trace_diagram.specs.declared.gathering.Part.{Part}
 use Rattle.trace_view.specs.Showing.{IsIllegalAt, IsLastLegal, IsStateBehind}
 use Rattle.trace_view.specs.Why.{IsFinding}
 use Rattle.trace_view.specs.declared.reasons.Finding.TheVariants as finding
@@ -11,10 +15,15 @@ use Rattle.view_commands.specs.declared.view.View.{View}
 use Rattle.view_commands.specs.declared.view.View.TheVariants as view
 use Rattle.view_words.specs.declared.words.Aspect.{Aspect}
 use Rattle.view_words.specs.declared.words.Aspect.TheVariants as aspect
+use Rattle.view_commands.specs.Diagrams.{format_of, part_asked, place_beyond}
 
 -- the memory that the trace begins with
 abbrev pub memory_of : TraceFiles → ByteMap
 memory_of f = opening_memory f.work.scenario.memory
+
+-- the diagram of a part of the files' trace
+abbrev pub IsDiagramOf : TraceFiles → Part → Format → SequenceDiagram → Type 0
+IsDiagramOf f part format drawn = IsDiagram f.work.system (memory_of f) f.work.scenario.limit f.trace.entries f.trace.verdict part format drawn
 
 -- what an aspect shows of the files of a trace
 abbrev pub IsView : TraceFiles → Aspect → View → Type 0
@@ -24,8 +33,8 @@ IsView f (aspect.State (Some k)) (view.NoPlace place total) = (place ≡ k) × (
 IsView f (aspect.State (Some k)) (view.NoState illegal place) = (place ≡ k) × ((illegal ≤ k) × IsIllegalAt f.work.system (memory_of f) f.work.scenario.limit f.trace.entries illegal)
 IsView f aspect.Why (view.Why found) = IsFinding f.work.system (memory_of f) f.work.scenario.limit f.trace.entries f.trace.verdict found
 IsView f aspect.Stats (view.Stats counts) = IsCounted f.work.system (memory_of f) f.work.scenario.limit f.trace.entries counts
-IsView f (aspect.Diagram from to format) (view.NoPlace place total) = (total ≡ length f.trace.entries) × (total < place)
-IsView f (aspect.Diagram from to format) (view.Diagram text) = Unit {0}
+IsView f (aspect.Diagram from to format) (view.NoPlace place total) = (total ≡ length f.trace.entries) × (place_beyond total from to ≡ Some place)
+IsView f (aspect.Diagram from to format) (view.Diagram drawn text) = (place_beyond (length f.trace.entries) from to ≡ None) × IsDiagramOf f (part_asked (length f.trace.entries) from to) (format_of format) drawn
 IsView _ _ _ = ⊥
 
 -- 0: it is shown, and a trace of which `why` tells is legal. 2: the trace has no such place. 6: the trace is illegal

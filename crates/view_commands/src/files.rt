@@ -1,9 +1,10 @@
 //! The files of a trace.
 ghost use Rattle.std.specs.Prelude.{◌≡◌, ◌≤◌, IfOk, IfSome, IsErrOf, Ok};
+ghost use Rattle.ffm_model.specs.Reading.{FailedAmong};
 ghost use Rattle.outside_io.specs.Count.{Rose};
 ghost use Rattle.ffm_top.specs.Lines.{refusal_line};
 ghost use Rattle.ffm_top.specs.Replays.{wrong_line};
-ghost use Rattle.view_commands.specs.Files.{AreTraceFiles, IsRefusalBy, ReadsDue, order_of_files};
+ghost use Rattle.view_commands.specs.Files.{AreTraceFiles, HaveRead, IsRefusalBy, ReadsDue, order_of_files};
 ghost use Rattle.work_orders.specs.View.{IsTraceWork};
 ghost use Rattle.work_orders.specs.Work.{judge_of, work_of};
 
@@ -108,6 +109,10 @@ pub fn read_files<F: Files>(
     ensures later { F.faults files.old ≤ F.faults files.new }
     ensures steady { (IsErrOf result Halt.Files → ⊥) → F.faults files.new ≡ F.faults files.old }
     ensures failed { IsErrOf result Halt.Files → Rose (F.faults files.old) (F.faults files.new) }
+    ensures asked { IsErrOf result Halt.Files → IfSome (F.held files.old) (λ of.
+        FailedAmong (work_of of (order_of_files names.entry)).names (F.last_failed files.new)) }
+    ensures reads { IfSome (F.held files.old) (λ of.
+        HaveRead (F.reads files.old) (F.reads files.new) result (work_of of (order_of_files names.entry)).names) }
 {
     let command = Command::Judge {
         inspection: Inspection::Replay,

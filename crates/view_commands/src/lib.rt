@@ -1,6 +1,7 @@
 //! The commands of `ffm_view`: the files that they read, their texts and statuses.
 #![tactic(auto)]
 
+mod diagrams;
 mod files;
 mod top;
 mod view;

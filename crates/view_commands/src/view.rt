@@ -5,6 +5,7 @@ ghost use Rattle.memory_image.specs.Pieces.{byte_at, ranges_of, regions_of};
 ghost use Rattle.view_commands.specs.Files.{AreTraceFiles};
 ghost use Rattle.view_commands.specs.Views.{IsView, memory_of, status_of};
 
+use crate::diagrams::{format_of, part_asked, place_beyond};
 use crate::files::TraceFiles;
 use ffm_model::{Memory, System};
 use itoa::Buffer;
@@ -12,7 +13,7 @@ use memory_image::Image;
 use scenario_runs::opening_image;
 use std::alloc::{AllocError, Global};
 use trace_counts::{TraceCounts, stats, stats_text};
-use trace_diagram::{Part, diagram};
+use trace_diagram::{SequenceDiagram, diagram};
 use trace_view::{
     Finding, Place, StateBehind, behind_last, behind_place, state_text, why, why_text,
 };
@@ -28,8 +29,8 @@ pub enum View {
     /// That no state is behind a place, since an entry up to it is illegal.
     NoState { illegal: u32, place: u32 },
     Why(Finding),
-    /// A diagram's text.
-    Diagram(Vec<u8>),
+    /// A diagram, and its text.
+    Diagram(SequenceDiagram, Vec<u8>),
     Stats(TraceCounts),
 }
 
@@ -84,13 +85,6 @@ fn counts_of(alloc: Global, files: &TraceFiles, image: &Image) -> Result<View, M
     Ok(View::Stats(stats(alloc, system, image, limit, &files.trace)?))
 }
 
-fn drawn_as(format: Format) -> trace_diagram::Format {
-    match format {
-        Format::Mermaid => trace_diagram::Format::Mermaid,
-        Format::Html => trace_diagram::Format::Html,
-    }
-}
-
 // The diagram between two places, or that the trace has not the second, or not the first.
 fn diagram_of(
     alloc: Global,
@@ -102,37 +96,27 @@ fn diagram_of(
 ) -> Result<View, Memory>
     requires files { AreTraceFiles files.now }
     requires regions { regions_of image.now ≡ ranges_of files.now.work.system.regions }
+    requires bytes { byte_at image.now ≡ memory_of files.now }
     ensures { IfOk result (IsView files.now (Aspect.Diagram from to format)) }
 {
     let total = files.trace.entries.len() as u32;
-    let part = Part {
-        from: from.unwrap_or(1),
-        to: to.unwrap_or(total),
-    };
-    if part.to > total {
-        return Ok(View::NoPlace {
-            place: part.to,
-            total,
-        });
+    if let Some(place) = place_beyond(total, from, to) {
+        return Ok(View::NoPlace { place, total });
     }
-    if part.from > total && from.is_some() {
-        return Ok(View::NoPlace {
-            place: part.from,
-            total,
-        });
-    }
+    let part = part_asked(total, from, to);
     let system = &files.work.system;
     let limit = files.work.scenario.limit;
-    let text = diagram(
+    let drawn = diagram(
         alloc,
         system,
         image,
         limit,
         &files.trace,
         part,
-        drawn_as(format),
+        format_of(format),
     )?;
-    Ok(View::Diagram(text))
+    let text = drawn.text(alloc, system, &files.trace)?;
+    Ok(View::Diagram(drawn, text))
 }
 
 /// What an aspect shows of a trace. Memory where no memory was found.
@@ -182,7 +166,7 @@ impl View {
             View::NoPlace { place, total } => no_place(alloc, place, total),
             View::NoState { illegal, place } => no_state(alloc, illegal, place),
             View::Why(finding) => why_text(alloc, system, &finding),
-            View::Diagram(text) => Ok(text),
+            View::Diagram(_, text) => Ok(text),
             View::Stats(counts) => stats_text(alloc, system, &counts),
         }
     }

@@ -9,5 +9,5 @@ pub drive-requires : goal.drive-requires
 drive-requires g c =
     let api : Alone = c.args.api.now in
     let fresh = IsFresh (λ (a : Alone) (l : Log). Unit {0}) (λ (l : Log). l.entries.items) api in
-    let one = c.in_ok-one.one in
-    All-same fresh c.of-workers.result (one ∷ []) (c.of-workers.ensures ∙ c.in_ok-vec.ensures.items) (All-cons fresh one [] (c.in_ok-one.ensures api) (All-nil fresh))
+    let one = c.worker-one.result in
+    All-same fresh c.of-workers.result (one ∷ []) (c.of-workers.ensures ∙ c.in_ok-vec.ensures.items) (All-cons fresh one [] (c.worker-one.ensures api) (All-nil fresh))

@@ -9,7 +9,7 @@ pub drive-requires : goal.drive-requires
 drive-requires g c =
     let api : Alone = record { over = false } in
     let fresh = IsFresh (λ (a : Alone) (l : Log). Unit {0}) (λ (l : Log). l.entries.items) api in
-    let first = c.in_ok-first.first in
-    let second = c.in_ok-second.second in
+    let first = c.worker-first.result in
+    let second = c.worker-second.result in
     All-same fresh c.of-workers.result (first ∷ second ∷ []) (c.of-workers.ensures ∙ c.in_ok-vec.ensures.items)
-    (All-cons fresh first (second ∷ []) (c.in_ok-first.ensures api) (All-cons fresh second [] (c.in_ok-second.ensures api) (All-nil fresh)))
+    (All-cons fresh first (second ∷ []) (c.worker-first.ensures api) (All-cons fresh second [] (c.worker-second.ensures api) (All-nil fresh)))

@@ -1,4 +1,4 @@
-use Rattle.std.proofs.Common.{◌≡◌, length, sym}
+use Rattle.std.proofs.Common.{◌≡◌, length}
 use Rattle.drive_tests.proofs.driven.worker.Goals as goal
 
 pub returns : goal.returns
@@ -8,8 +8,8 @@ returns g c = λ a.
     let many : length c.args.script ≡ c.len-contexts.result = cc in
     record {
       own_is = tt;
-      empty = rw c.new-worker.ensures.pass c.requires;
-      follows = rw (c.new-worker.ensures.runner, c.new-worker.ensures.script, c.in_ok-runner.ensures.role) (c.in_ok-runner.ensures.follows c.args.script many);
-      unfinished = c.new-worker.ensures.unfinished;
-      first = c.new-worker.ensures.first;
+      empty = rw c.new.ensures.pass c.requires;
+      follows = rw (c.new.ensures.runner, c.new.ensures.script, c.new-runner.ensures.role) (c.new-runner.ensures.follows c.args.script many);
+      unfinished = c.new.ensures.unfinished;
+      first = c.new.ensures.first;
     }

@@ -9,7 +9,7 @@ use Rattle.object_pools.specs.Pool.{Places, item_at, taken}
 use Rattle.spm_tables.specs.TablesView.{TablesView, fresh_message, held_message, queued}
 use Rattle.spm_tables.proofs.SlotLemmas.{queued-live}
 use Rattle.panic_state.specs.Losses.{disconnect_message}
-use Rattle.panic_state.proofs.Leaving.{messages_of, leaves-other, leaves-dead, dead-shorter, leaves-closing, closing-both, closing-length, room-left, takes-left, service-known, left-linked, left-messages, left-names, left-takes}
+use Rattle.panic_state.proofs.Leaving.{messages_of, leaves-other, leaves-dead, dead-shorter, leaves-closing, closing-both, closing-length, room-left, takes-left, service-known, left-connections, left-messages, left-names, left-takes}
 use Rattle.panic_state.proofs.client.leave_services.Goals as goal
 
 pub loop-place-preserved-then-held-partition : goal.loop-place-preserved-then-held-partition
@@ -66,7 +66,7 @@ loop-place-preserved c =
 
 pub returns-clause-connections : goal.returns-clause-connections
 returns-clause-connections c =
-    left-linked c.args.partition.0 c.loop-place.place c.args.tables.now c.loop-place.tables c.loop-place.invariant
+    left-connections c.args.partition.0 c.loop-place.place c.args.tables.now c.loop-place.tables c.loop-place.invariant
     (omega (arith, c.live.ensures, c.loop-place-test.false, ap (λ (q : Places OpenConnection). length q.held) c.connections.ensures))
 
 pub returns-clause-messages : goal.returns-clause-messages

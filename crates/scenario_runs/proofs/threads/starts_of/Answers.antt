@@ -14,8 +14,8 @@ unwrap-script-requires c =
     let ok = c.loop-a.left.rest.ok.0 in
     c.next.ensures.variant.1 (omega (arith, some, ok))
 
-pub new-requires-clause-single : goal.new-requires-clause-single
-new-requires-clause-single c = λ other.
+pub new-runner-requires-clause-single : goal.new-runner-requires-clause-single
+new-runner-requires-clause-single c = λ other.
     let i = c.loop-a.invariant in
     let script = c.unwrap-script.result in
     let later = c.next.new.self.rest.items in
@@ -33,10 +33,10 @@ loop-a-preserved c =
     let is : i.0 ++ script ∷ later ≡ c.args.scripts = ap (λ t. i.0 ++ t) (sym left_is) ∙ i.2 in
     let here : get_or c.args.scripts c.loop-a.a [] ≡ script = script_here i.0 later c.args.scripts script c.loop-a.a is i.3 in
     let long : length script ≡ c.len.result = sym (c.len.ensures ∙ ap length c.script.view_is) in
-    let begun : Start = record { runner = c.in_ok-runner.runner; script = script } in
-    let role = c.in_ok-runner.ensures.role in
+    let begun : Start = record { runner = c.new-runner.result; script = script } in
+    let role = c.new-runner.ensures.role in
     let place : c.loop-a.a ≡ 0 + length i.0 = omega (arith, i.3) in
-    let start = subst (λ (r : Role). Follows r script [] c.in_ok-runner.runner) (sym role) (c.in_ok-runner.ensures.follows script long) in (
+    let start = subst (λ (r : Role). Follows r script [] c.new-runner.result) (sym role) (c.new-runner.ensures.follows script long) in (
       i.0 ++ script ∷ [],
       rw c.in_ok-push.ensures.items (starts_more c.args.system.now 0 i.0 c.loop-a.starts.items script begun i.1 refl (role ∙ ap (role_at c.args.system.now) place) start),
       append_assoc i.0 (script ∷ []) later ∙ is,

@@ -29,7 +29,7 @@ returns-clause-answer c =
     λ given.
     read-due c.args.system.now c.args.tables.now c.set_vectors.new.tables given c.args.image.now c.read-count.new.image c.args.actor.0 c.args.index c.args.buffer c.args.len c.read-count.result
     c.args.handle c.in-Some.slot c.queued.result c.read-count.new.vectors
-    (message-is c.args.tables.now c.in-Some.slot c.queued.result _ c.queued.ensures (c.in-Some.ensures.request c.args.system.now c.requires.premises.tables.made)) (sym c.if-not-valid_buffer.ensures)
+    (message-is c.args.tables.now c.in-Some.slot c.queued.result _ c.queued.ensures (c.in-Some.ensures.request c.args.system.now c.requires.premises.made)) (sym c.if-not-valid_buffer.ensures)
     c.read-count.ensures.number c.read-count.ensures.vectors c.read-count.ensures.bytes changed
 
 pub returns-in_default-clause-names : goal.returns-in_default-clause-names

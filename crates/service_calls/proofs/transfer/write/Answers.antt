@@ -29,7 +29,7 @@ returns-clause-answer c =
     λ given.
     write-due c.args.system.now c.args.tables.now c.set_vectors.new.tables given c.args.image.now c.write.new.image c.args.actor.0 c.args.index c.args.buffer c.args.len
     c.args.handle c.in-Some.slot c.queued.result c.write.new.vectors
-    (message-is c.args.tables.now c.in-Some.slot c.queued.result _ c.queued.ensures (c.in-Some.ensures.request c.args.system.now c.requires.premises.tables.made)) (sym c.if-not-valid_buffer.ensures)
+    (message-is c.args.tables.now c.in-Some.slot c.queued.result _ c.queued.ensures (c.in-Some.ensures.request c.args.system.now c.requires.premises.made)) (sym c.if-not-valid_buffer.ensures)
     (sym c.in_ok-write.ensures.exact) c.in_ok-write.ensures.vectors c.in_ok-write.ensures.bytes changed
 
 pub returns-in_default-clause-names : goal.returns-in_default-clause-names

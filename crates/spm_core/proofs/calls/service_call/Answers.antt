@@ -7,6 +7,9 @@ use Rattle.spm_tables.specs.Answers.{state_with}
 use Rattle.spm_core.proofs.Attempted.{attempts-effect, attempts-err, shows-due}
 use Rattle.spm_core.proofs.calls.service_call.Goals as goal
 
+pub get-requires : goal.get-requires
+get-requires c = record { premises = record { tables = c.requires.premises.tables; regions = c.requires.premises.regions } }
+
 pub set_rhandle-requires : goal.set_rhandle-requires
 set_rhandle-requires c = record { premises = (c.args.system.now, c.requires.premises.tables) }
 

@@ -7,9 +7,9 @@ use Rattle.partition_sim.specs.ActorPlans.Role.{holds, takes_turns}
 use Rattle.partition_sim.specs.Standing.{Follows}
 use Rattle.partition_sim.proofs.runner.Runner.new.Goals as goal
 
-pub returns-in_ok-runner-in-Partition-clause-role : goal.returns-in_ok-runner-in-Partition-clause-role
-returns-in_ok-runner-in-Partition-clause-role c =
-    ap holds (c.in_ok-runner-in-Partition.ensures []).holder_is ∙ ap (λ (k : ActorKind). role_of_kind k (holder_of c.args.system.now c.args.actor.0)) (sym (sym c.actor_kind.ensures ∙ c.in-Partition.is))
+pub returns-in-Partition-clause-role : goal.returns-in-Partition-clause-role
+returns-in-Partition-clause-role c =
+    ap holds (c.new.ensures []).holder_is ∙ ap (λ (k : ActorKind). role_of_kind k (holder_of c.args.system.now c.args.actor.0)) (sym (sym c.actor_kind.ensures ∙ c.in-Partition.is))
 
 pub returns-in-Client : goal.returns-in-Client
 returns-in-Client c =

@@ -1,0 +1,3 @@
+mod Lost
+mod Midway
+mod TablesMidway

@@ -1,0 +1,41 @@
+-- Each call that waits for an answer, and each reply, has its arrow.
+use Rattle.std.proofs.Common.{ℕ, ◌≡◌, [], ◌∷◌, ◌∙◌, ap, refl}
+use Rattle.std.specs.Prelude.{ℤ, Option, Some, None, if◌then◌else◌}
+use Rattle.std.specs.List.{cons_option}
+use Rattle.std.specs.Option.{option_map, option_map_or}
+use Rattle.ffm_model.specs.declared.system.System.{System}
+use Rattle.ffm_model.specs.declared.machine.Call.{Call}
+use Rattle.ffm_model.specs.declared.machine.Call.TheVariants as call
+use Rattle.ffm_model.specs.declared.machine.Outcome.TheVariants as outcome
+use Rattle.ffm_model.specs.State.{SpmState}
+use Rattle.counting_law.proofs.Resume.{times}
+use Rattle.counting_law.proofs.Runs.{run-balanced}
+use Rattle.trace_diagram.specs.declared.arrows.Arrow.{Arrow}
+use Rattle.trace_diagram.specs.declared.arrows.Meaning.TheVariants as meaning
+use Rattle.trace_diagram.specs.Arrows.{arrow, arrow_of_call, is_return, panic_arrows, panicking, panicking_by, reply_arrow}
+use Rattle.trace_diagram.specs.Pairs.{Asks, EachCallHasArrow, EachReplyHasArrow}
+use Rattle.trace_diagram.proofs.Owners.{asks-owned}
+use Rattle.trace_diagram.proofs.Pairs.{asks-arrow}
+use Rattle.trace_diagram.proofs.Replies.{step-replies}
+
+blocked-stays : (s : System) (b : SpmState) (a : ℕ) (d : Call) (service : ℕ) (kind : ℤ) → Asks s b a d service kind → panicking_by s b a d outcome.Blocked ≡ None
+blocked-stays s b a (call.Connect sid version) service kind asks = refl
+blocked-stays s b a (call.Invoke h k iv il ov ol) service kind asks = refl
+blocked-stays s b a (call.Close h) service kind asks = refl
+blocked-stays s b a d service kind asks = absurd asks
+
+pub each-call-has-arrow : EachCallHasArrow
+each-call-has-arrow s m es st new e service kind run is blocked asks =
+    let b : SpmState = st.spm in
+    let owned = asks-owned s (times st.handles_given) b e.actor.0 e.call service kind (run-balanced s m es st run) asks in
+    let x : Arrow = arrow e.actor.0 owned.0 (meaning.Message service kind) in
+    let first = asks-arrow s b e service kind owned.0 asks blocked owned.1 in
+    let none : panicking s b e ≡ None = ap (panicking_by s b e.actor.0 e.call) blocked ∙ blocked-stays s b e.actor.0 e.call service kind asks in
+    (owned.0, (owned.1, ap (λ (o : Option Arrow). cons_option o (option_map_or (panic_arrows s b) (panicking s b e) [])) first ∙ ap (λ (o : Option ℕ). x ∷ option_map_or (panic_arrows s b) o []) none))
+
+pub each-reply-has-arrow : EachReplyHasArrow
+each-reply-has-arrow s m es st new e h status run is reply done =
+    let b : SpmState = st.spm in
+    let a : ℕ = e.actor.0 in
+    let r = step-replies s st new e h status is reply done in
+    (r.message, (r.held, ap (λ (d : Call). if is_return d then Some (arrow a a (meaning.Wake e.outcome)) else arrow_of_call s b a d e.outcome) reply ∙ ap (arrow_of_call s b a (call.Reply h status)) done ∙ ap (option_map (reply_arrow a status.0)) r.held))

@@ -1,0 +1,26 @@
+//! What the arrows of a trace say of its calls, in plain words.
+//!
+//! The functions here do nothing. Their contracts are laws of the machine of `ffm_model` and of the
+//! definition of the arrows: they hold for every system, every opening memory, every limit, every trace and
+//! every part.
+ghost use Rattle.trace_diagram.specs.Pairs.{EachAnswerPairs, EachCallHasArrow, EachIsAnsweredOnce, EachReplyHasArrow};
+
+/// An arrow that names a place is a reply to the call at that place, or its client's release. That call is
+/// Blocked, and its client's last entry before the arrow's. The call is for a message of the kind that the
+/// arrow answers, to the same service, and its own arrow goes the other way, from the client to the
+/// partition that answers.
+pub fn answers_pair_with_calls()
+    ensures { EachAnswerPairs }
+{}
+
+/// No call is answered twice: one arrow at most names its place.
+pub fn calls_are_answered_once()
+    ensures { EachIsAnsweredOnce }
+{}
+
+/// Each call that is Blocked until its message is answered has one arrow, which goes to the partition of the
+/// message's service. Each reply has its arrow, which goes to the client of its message.
+pub fn calls_and_replies_have_arrows()
+    ensures calls { EachCallHasArrow }
+    ensures replies { EachReplyHasArrow }
+{}

@@ -1,0 +1,152 @@
+"""The figures that the pages state of this repository, and what they have to be: for check_evidence.py.
+
+All paths begin at the top of the repository."""
+
+import json
+import pathlib
+import re
+
+from example_files import FIRMWARE, FIRST, GUIDED, examples
+
+CRATES = pathlib.Path("crates")
+NAMES = {path.parent.name for path in CRATES.glob("*/src")}
+README = pathlib.Path("README.md")
+PAGES = [README, *sorted(pathlib.Path("docs").glob("*.md")), pathlib.Path("examples/README.md")]
+MACHINE = CRATES / "ffm_model" / "src" / "machine.rt"
+BASE = {"ffm_model", "list_laws"}
+WORDS = """no one two three four five six seven eight nine ten eleven twelve thirteen fourteen fifteen sixteen seventeen
+eighteen nineteen twenty""".split()
+
+
+def lines_of(path):
+    return len(path.read_text().splitlines())
+
+
+def edits():
+    """How many wrong bodies the gate tries."""
+    return len(list(CRATES.glob("*/must-fail/*.edit")))
+
+
+def further_edits():
+    """How many stand beside the gate."""
+    return len(list(pathlib.Path("wrong_bodies").glob("*/*.edit")))
+
+
+def tests_of(crate):
+    return sum(path.read_text().count("#[test]") for path in (CRATES / crate / "src").rglob("*.rt"))
+
+
+def named_behind(crate):
+    """The crates that crates.txt names behind a crate."""
+    return re.search(rf"^{crate}:(.*)$", pathlib.Path("crates.txt").read_text(), re.M)[1].split()
+
+
+def stands_on(crate):
+    """Those of them that are this repository's."""
+    return [name for name in named_behind(crate) if name in NAMES]
+
+
+def with_those_below(crate):
+    found, left = set(), [crate]
+    while left:
+        name = left.pop()
+        if name not in found:
+            found.add(name)
+            left += stands_on(name)
+    return found
+
+
+def ported_crates(crate):
+    """The kit's crates on which a crate stands, itself or by those below."""
+    return {name for below in with_those_below(crate) for name in named_behind(below)} - NAMES
+
+
+def crates_of_tests():
+    """The crates with tests on which no other stands, without the programs."""
+    served = {name for crate in NAMES for name in stands_on(crate)}
+    return [crate for crate in NAMES - served if tests_of(crate) and not (CRATES / crate / "src" / "main.rt").exists()]
+
+
+def served_by(crate):
+    return sum(crate in stands_on(other) for other in NAMES)
+
+
+def calls():
+    """How many variants the machine's calls have."""
+    body = re.search(r"pub enum Call \{\n(.*?)^\}", MACHINE.read_text(), re.M | re.S)[1]
+    return len(re.findall(r"^    [A-Z]\w*", body, re.M))
+
+
+def small_examples():
+    """How many examples have no row of their own in the README, but for the main one."""
+    rows = set(re.findall(r"^\| \[(\w+)\]", README.read_text(), re.M))
+    return len(set(examples()) - rows - {"first"})
+
+
+def partitions_of(name):
+    return len(json.loads((examples()[name].folder / "system.json").read_text())["manifests"])
+
+
+def told_in_the_tutorial():
+    """How many examples the tutorial's commands name."""
+    return len(set(re.findall(r"^ffm \w+ (\w+)/system", pathlib.Path("docs/tutorial.md").read_text(), re.M)))
+
+
+def lines_of_audit(name):
+    """How many lines of changes the audit beside an example has."""
+    return lines_of(examples()[name].folder / "audit.txt") - 1
+
+
+def statuses():
+    """The statuses with which the commands of the stored runs end."""
+    texts = [(crate / "stdout").read_text() for crate in (GUIDED, FIRMWARE)]
+    found = sorted({0, *(int(status) for text in texts for status in re.findall(r"^status (\d)$", text, re.M))})
+    return [f"{', '.join(map(str, found[:-1]))} and {found[-1]}"]
+
+
+# The forms in which pages state figures, with what is counted for each {}.
+FIGURES = [
+    ("({} of {}; the others stand in wrong_bodies/", lambda: [edits(), edits() + further_edits()]),
+    ("{} crates, {} wrong bodies in the gate and {} beside it, {} tests",
+     lambda: [len(NAMES), edits(), further_edits(), sum(map(tests_of, NAMES))]),
+    ("with the figures below N is {}", lambda: [len(NAMES) + edits()]),
+    ("{} crates have tests alone", lambda: [len(crates_of_tests())]),
+    ("`sample_systems` serves {} of them, and `sample_texts` {}.", lambda: [served_by("sample_systems"), served_by("sample_texts")]),
+    ("manifest_compile and the {} below it", lambda: [len(set(stands_on("manifest_compile")) - BASE)]),
+    ("the statements of {} ported crates", lambda: [len(ported_crates("ffm"))]),
+    ("all {} calls", lambda: [calls()]),
+    ("any of the {} calls", lambda: [calls()]),
+    ("[{} small ones]", lambda: [small_examples()]),
+    ("| {} of the guided examples, step by step", lambda: [told_in_the_tutorial()]),
+    ("leads through {} of the", lambda: [told_in_the_tutorial()]),
+    ("writes {} such lines", lambda: [lines_of_audit("audited_meter")]),
+    ("has {} lines of changes", lambda: [lines_of_audit("audited_meter")]),
+    ("The first {} lines are the trace", lambda: [lines_of(FIRST / "stdout")]),
+    ("the {} lines of the trace are the last", lambda: [lines_of(FIRST / "stdout")]),
+    ("| {} partitions: a secret goes through", lambda: [partitions_of("storage_stack")]),
+    ("| {} partitions whose manifests are files of their own", lambda: [partitions_of("firmware")]),
+    ("| {} partitions that each break one rule", lambda: [partitions_of("hostile_clients") - 1]),
+    ("| {} partitions and an audit", lambda: [partitions_of("audited_meter")]),
+    ("with the statuses {}.", statuses),
+]
+
+
+def is_number(told, counted):
+    """Whether a page tells a number, in digits or as a word."""
+    in_words = [WORDS[counted]] if isinstance(counted, int) and counted < len(WORDS) else []
+    return told.lower() in [str(counted), *in_words]
+
+
+def figures():
+    """Each text of a page that has one of the forms, with the page, the figures that it states, and those counted."""
+    for form, count in FIGURES:
+        pattern = re.escape(form).replace(r"\{\}", r"(\d(?:, \d)+ and \d|\w+)")
+        for page in PAGES:
+            for stated in re.finditer(pattern, page.read_text()):
+                yield page, stated[0], stated.groups(), count()
+
+
+def wrong_figures():
+    for page, text, stated, counted in figures():
+        if not all(map(is_number, stated, counted)):
+            yield f"{page}: {text}: counted {', '.join(map(str, counted))}"
