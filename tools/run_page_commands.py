@@ -7,7 +7,8 @@ Run at the top of the repository. Takes README.md, docs/*.md and the README.md o
 named. The blocks of commands of a page are run in their order on a copy of the repository: the first at its top, and
 each further one in the folder in which the one before it ended. Where the commands say ffm, the FILE of --program is
 run, and where they say ffm_view that of --view, the proved programs; with no FILE it is tools/try_ffm.sh or
-tools/try_ffm_view.sh, which takes a minute or two at each call. The gate, proofs and git are not run, and told.
+tools/try_ffm_view.sh, which takes a minute or two at each call. The gate, what needs its libraries, and git are not
+run, and told.
 
 What the page shows is looked for in what its commands wrote, and in the texts that stand beside the examples they
 name. Compared are:
@@ -39,7 +40,7 @@ COMMAND = re.compile(
     r"|(?:python3|rt|git|jq|sed|awk|grep|diff|\(?cd|export) |tools/|\.ci/run|set -eu"
 )
 VIEW = re.compile(r"^ffm_view ", re.M)
-NOT_RUN = re.compile(r"\.ci/run|\brt (run|check|ci|version)\b|\bgit ")
+NOT_RUN = re.compile(r"\.ci/run|tools/list_axioms|\brt (ci|version)\b|\bgit ")
 ENTRY = r"(?:p\d+|n\d+|dev) [a-z_]+\b[^`]*"
 VERDICT = r"(?:quiet|stalled|full|legal|illegal|clean|restart) \d+"
 CHANGE = r"\d+ 0x[0-9a-f]{8} \d+ (?:-|0x[0-9a-f]{8})"

@@ -1,5 +1,5 @@
 //! When a call is a PROGRAMMER ERROR.
-ghost use Rattle.std.specs.Prelude.{◌≡◌, ◌<◌, IfOk, List, map};
+ghost use Rattle.std.specs.Prelude.{◌≡◌, ◌<◌, ◌≤◌, IfOk, List, [], map};
 ghost use Rattle.ffm_model.specs.declared.machine.Handle.{Handle as HandleSeen};
 ghost use Rattle.ffm_model.specs.Actors.{actor_count};
 ghost use Rattle.machine_calls.specs.Machine.{IsMachineOf, spm_of_objects, state_of};
@@ -40,6 +40,7 @@ pub fn conditions(
         map told conditions.items ≡ conditions_of system.now (spm_of_objects machine.now.objects) actor.0 call) }
     ensures say { actor.0 < actor_count system.now → (given : List HandleSeen) → IfOk result (λ conditions.
         SayWhen system.now (state_of machine.now given) actor.0 call (map told conditions.items)) }
+    ensures none { actor_count system.now ≤ actor.0 → IfOk result (λ conditions. conditions.items ≡ []) }
 {
     if actor.0 >= system.actor_count() {
         return Ok(Vec::new(alloc));

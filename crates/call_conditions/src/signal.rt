@@ -1,6 +1,5 @@
 //! The conditions of the calls on doorbells and interrupts.
 ghost use Rattle.std.specs.Prelude.{◌≡◌, ◌&&◌, ◌==◌, IfOk, false, get_or, map, position};
-ghost use Rattle.std.specs.Option.{option_map_or};
 ghost use Rattle.call_conditions.specs.Conditions.{asserted_condition, clear_conditions, enable_conditions, first_level_condition, notify_conditions, number_condition, second_level_condition, signal_conditions, source_numbered, told};
 ghost use Rattle.ffm_model.specs.SignalCalls.{has_flih, source_of_signal};
 ghost use Rattle.ffm_model.specs.State.{flags_at};

@@ -22,7 +22,6 @@ use Rattle.ffm_model.specs.declared.objects.OpenConnection.{OpenConnection}
 use Rattle.ffm_model.specs.declared.objects.PendingMessage.{PendingMessage}
 use Rattle.ffm_model.specs.declared.objects.ActorPhase.{ActorPhase}
 use Rattle.ffm_model.specs.declared.objects.ActorPhase.TheVariants.{Running, Blocked, Waiting, Ready, Connected, Ended, Panicked}
-use Rattle.ffm_model.specs.Accesses.{interrupted}
 use Rattle.ffm_model.specs.Actors.{is_stateless, permits, service_at, stateless_at, stateless_index}
 use Rattle.ffm_model.specs.Memory.{vectors_of, valid_buffer}
 use Rattle.ffm_model.specs.State.{SpmState, State, handle_eq, phase_of, with_phase, in_use, connection_held, message_held, fresh, is_undelivered, delivered, with_vectors, with_rhandle, with_connection_handle}
@@ -30,7 +29,7 @@ use Rattle.ffm_model.specs.Signals.{enabled, can_go_on, may_resume, signals_of, 
 use Rattle.ffm_model.specs.Panic.{panic_effect}
 use Rattle.ffm_model.specs.ClientCalls.{Move, Effect, move, in_state, psa_connect, psa_call, psa_close, connect_to, connect_issued, connection_called, service_called, call_on, call_to, close_on, is_service_panicked, refuses_requests, is_busy, returned, takes_version}
 use Rattle.ffm_model.specs.ServiceCalls.{psa_wait, psa_get, psa_reply, psa_skip, psa_read, psa_write, psa_set_rhandle, request_held, message_size, get_of, reply_of, replied, owes_panic, skip_of, read_of, write_of, rest_of, output_at, service_of_signal, is_connect_status}
-use Rattle.ffm_model.specs.SignalCalls.{source_of_signal}
+use Rattle.ffm_model.specs.SignalCalls.{source_of_signal, interrupted}
 use Rattle.ffm_model.specs.Calls.{call_case}
 use Rattle.ffm_model.specs.Step.{may_call, returns_when_due, gives_handle}
 use Rattle.counting_law.specs.Objects.{allowed}

@@ -1,6 +1,6 @@
 //! Diagrams as pages of HTML.
 
-use crate::worked::{SYSTEM, TRACE, WHOLE, drawn};
+use crate::worked::{PANICKING, SYSTEM, TRACE, WHOLE, drawn};
 use sample_systems::system_of;
 use std::test::Fail;
 use trace_diagram::{Format, Part};
@@ -13,9 +13,9 @@ const PIECES: [&str; 14] = [
     ">device<small>dev</small></div>\n",
     "<text id=\"e2\" x=\"44\" y=\"32\">2</text><text class=\"ends\" x=\"52\" y=\"32\">n1&#8594;p1</text>\n",
     "<text id=\"e3\" x=\"44\" y=\"56\">3</text><text class=\"ends\" x=\"52\" y=\"56\">p1</text>\n",
-    "<g class=\"message\"><title>2: n1 connect 0x00000040 1 -&gt; blocked</title><rect y=\"12\" width=\"884\" height=\"24\"/><path class=\"line\" d=\"M440 28H90\"/><path class=\"head\" d=\"M90 28l8-4v8z\"/><text class=\"left\" x=\"433\" y=\"23\">connect KEYS</text></g>\n",
+    "<g class=\"message\"><title>2: n1 connect 0x00000040 1 -&gt; blocked</title><rect y=\"12\" width=\"884\" height=\"24\"/><text class=\"left\" x=\"433\" y=\"23\">connect KEYS</text><path class=\"line\" d=\"M440 28H90\"/><path class=\"head\" d=\"M90 28l8-4v8z\"/></g>\n",
     "<g class=\"wake\"><title>3: p1 resume -&gt; signals 0x00000010</title>",
-    "<g class=\"reply\"><title>5: p1 reply 1536 0 -&gt; done\nanswers 2: n1 connect 0x00000040 1 -&gt; blocked</title><rect y=\"60\" width=\"884\" height=\"24\"/><path class=\"line\" d=\"M88 76H438\"/>",
+    "<g class=\"reply\"><title>5: p1 reply 1536 0 -&gt; done\nanswers 2: n1 connect 0x00000040 1 -&gt; blocked</title><rect y=\"60\" width=\"884\" height=\"24\"/><text x=\"95\" y=\"71\">connect KEYS: 0</text><path class=\"line\" d=\"M88 76H438\"/>",
     "<g class=\"notify\"><title>15: p1 notify 2 -&gt; done</title>",
     "<g class=\"interrupt\"><title>16: dev raise 0 -&gt; done</title>",
     "<g class=\"panic reply\"><title>18: p1 panic -&gt; panicked\nanswers 17: n1 connect 0x00000040 1 -&gt; blocked</title>",
@@ -50,5 +50,20 @@ fn part_of_a_page(rt: HostRuntime) -> Result<(), Fail> {
     // The rows of one entry show its place once.
     assert_eq!(rt; page.matches("<text id=\"e").count(), 2);
     assert_eq!(rt; page.matches("<div class=\"lane\"").count(), 2);
+    Ok(())
+}
+
+// An arrow to the left with little room has its label at its head, and none that the page cuts off.
+#[test]
+fn label_without_room(rt: HostRuntime) -> Result<(), Fail> {
+    let alloc = rt.alloc();
+    let text = SYSTEM.replace(alloc, "FLASH", "FLASH_OF_THE_WHOLE_DEVICE")?;
+    let system = system_of(alloc, text.as_str())?;
+    let part = Part { from: 2, to: 5 };
+    let page = String::from_utf8(drawn(alloc, &system, PANICKING, part, Format::Html)?)?;
+    let answer =
+        "<text x=\"102\" y=\"71\">connect FLASH_OF_THE_WHOLE_DEVICE: 0</text><path class=\"line\" d=\"M264 76H90\"/>";
+    assert!(rt; page.contains(answer));
+    assert_eq!(rt; page.matches("class=\"left\"").count(), 0);
     Ok(())
 }

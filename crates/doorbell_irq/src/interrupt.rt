@@ -3,9 +3,8 @@
 ghost use Rattle.std.specs.Prelude.{◌≡◌, ℕ, All, List, ◌≤◌, ◌<◌, ◌==◌, ◌&&◌, true, false, length, position, slice_set, Some, if◌then◌else◌};
 ghost use Rattle.ffm_model.specs.declared.machine.Outcome.TheVariants as outcome;
 ghost use Rattle.ffm_model.specs.declared.system.System.{System as SystemSeen};
-ghost use Rattle.ffm_model.specs.Accesses.{fire, interrupted, raise};
 ghost use Rattle.ffm_model.specs.ClientCalls.{move};
-ghost use Rattle.ffm_model.specs.SignalCalls.{forwarded, has_flih, psa_eoi, psa_irq_disable, psa_irq_enable, psa_reset_signal, source_of_signal, with_forwarded};
+ghost use Rattle.ffm_model.specs.SignalCalls.{forwarded, has_flih, psa_eoi, psa_irq_disable, psa_irq_enable, psa_reset_signal, source_of_signal, with_forwarded, fire, interrupted, raise};
 ghost use Rattle.counting_law.specs.Objects.{ObjectsFit};
 ghost use Rattle.message_vectors.specs.Vectors.{AreWithin};
 ghost use Rattle.slot_names.specs.Named.{KeepsNames};

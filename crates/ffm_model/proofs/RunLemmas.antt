@@ -47,7 +47,8 @@ actor-from s st (x ∷ xs) zero e h at =
     subst (λ (y : Entry). nat_lt y.actor.0 (actor_count s) ≡ true) e_is (step-on s st x xs h)
 actor-from s st (x ∷ xs) (suc i) e h at = actor-from s (step_on s st x) xs i e h at
 
-device-test : (xs : List Source) → device_count xs ≡ (if has_device xs then 1 else 0)
+-- whether a system has a device, as a number
+pub device-test : (xs : List Source) → device_count xs ≡ (if has_device xs then 1 else 0)
 device-test [] = refl
 device-test (x ∷ xs) = refl
 

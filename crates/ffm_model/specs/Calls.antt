@@ -17,8 +17,8 @@ use Rattle.ffm_model.specs.State.{State, phase_of, with_phase}
 use Rattle.ffm_model.specs.Panic.{panic_effect}
 use Rattle.ffm_model.specs.ClientCalls.{Effect, effect, in_state, version_number, psa_connect, psa_call, psa_close, returned}
 use Rattle.ffm_model.specs.ServiceCalls.{psa_wait, psa_get, psa_set_rhandle, psa_read, psa_skip, psa_write, psa_reply}
-use Rattle.ffm_model.specs.SignalCalls.{psa_notify, psa_clear, psa_eoi, psa_irq_enable, psa_irq_disable, psa_reset_signal}
-use Rattle.ffm_model.specs.Accesses.{load, store, raise, fire}
+use Rattle.ffm_model.specs.SignalCalls.{psa_notify, psa_clear, psa_eoi, psa_irq_enable, psa_irq_disable, psa_reset_signal, raise, fire}
+use Rattle.ffm_model.specs.Accesses.{load, store}
 
 abbrev pub client_has : Call → Bool
 client_has call.FrameworkVersion = true

@@ -95,17 +95,32 @@ rest_of v = v.len - v.moved
 abbrev pub moved_by : Span → ℕ → Span
 moved_by v n = record v { moved = v.moved + n }
 
+abbrev pub input_of : Vectors → ℕ → Span
+input_of vectors index = get_or vectors.input index no_span
+
+abbrev pub output_of : Vectors → ℕ → Span
+output_of vectors index = get_or vectors.output index no_span
+
+-- n more bytes of an input vector were moved
+abbrev pub with_input_moved : Vectors → ℕ → ℕ → Vectors
+with_input_moved vectors index n = record vectors { input = slice_set vectors.input index (moved_by (input_of vectors index) n) }
+
+-- n more bytes of an output vector were moved
+abbrev pub with_output_moved : Vectors → ℕ → ℕ → Vectors
+with_output_moved vectors index n = record vectors { output = slice_set vectors.output index (moved_by (output_of vectors index) n) }
+
+-- the same of a message's vectors
 abbrev pub input_at : PendingMessage → ℕ → Span
-input_at m index = get_or m.vectors.input index no_span
+input_at m index = input_of m.vectors index
 
 abbrev pub output_at : PendingMessage → ℕ → Span
-output_at m index = get_or m.vectors.output index no_span
+output_at m index = output_of m.vectors index
 
 abbrev pub input_moved : PendingMessage → ℕ → ℕ → Vectors
-input_moved m index n = record m.vectors { input = slice_set m.vectors.input index (moved_by (input_at m index) n) }
+input_moved m index n = with_input_moved m.vectors index n
 
 abbrev pub output_moved : PendingMessage → ℕ → ℕ → Vectors
-output_moved m index n = record m.vectors { output = slice_set m.vectors.output index (moved_by (output_at m index) n) }
+output_moved m index n = with_output_moved m.vectors index n
 
 abbrev pub skip_of : SpmState → Handle → ℕ → ℕ → PendingMessage → Move
 skip_of b h index len m =

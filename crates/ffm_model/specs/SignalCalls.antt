@@ -1,6 +1,6 @@
--- The calls on doorbells and interrupts: what each answers and leaves, or nothing where the call is a PROGRAMMER ERROR.
--- Source: FF-M 1.0, `psa/service.h`, psa_notify, psa_clear and psa_eoi; FF-M 1.1, psa_irq_enable, psa_irq_disable and psa_reset_signal, in this project's profile.
-use Rattle.std.specs.Prelude.{ℕ, ℤ, pos, negsuc, ◌-◌, ◌==◌, int_le, Bool, true, false, not, ◌&&◌, ◌||◌, if◌then◌else◌, length, Some, None, Option, position, get_or, slice_get, slice_set}
+-- The calls on doorbells and interrupts, and the interrupts that the device raises: what each answers and leaves, or nothing where the call is a PROGRAMMER ERROR.
+-- Source: FF-M 1.0, `psa/service.h`, psa_notify, psa_clear and psa_eoi; FF-M 1.1, psa_irq_enable, psa_irq_disable, psa_reset_signal and first-level handlers, in this project's profile.
+use Rattle.std.specs.Prelude.{ℕ, ℤ, pos, negsuc, ◌-◌, ◌==◌, int_le, nat_lt, nat_le, Bool, true, false, not, ◌&&◌, ◌||◌, if◌then◌else◌, length, Some, None, Option, position, get_or, slice_get, slice_set}
 use Rattle.std.specs.Option.{option_map, option_map_or}
 use Rattle.ffm_model.specs.declared.machine.Outcome.TheVariants.{Number, Done}
 use Rattle.ffm_model.specs.declared.objects.SourceFlags.{SourceFlags}
@@ -71,3 +71,20 @@ psa_irq_enable s b a signal = option_map (λ i. move Done (with_forwarded s b i 
 abbrev pub psa_irq_disable : System → SpmState → ℕ → ℕ → Option Move
 psa_irq_disable s b a signal =
     option_map (λ i. move (Number (if (flags_at b i).enabled then 1 else 0)) (with_flags b i (record (flags_at b i) { enabled = false }))) (source_of_signal s a signal)
+
+-- ---- interrupts, which the simulator adds to the two headers
+
+-- an interrupt of the source
+abbrev pub interrupted : System → SpmState → ℕ → SpmState
+interrupted s b source = with_forwarded s b source (record (flags_at b source) { pending = true })
+
+-- an interrupt of a source with SLIH
+abbrev pub raise : System → SpmState → ℕ → Option Move
+raise s b source = if nat_lt source (length s.sources) && not (has_flih s source) then Some (move Done (interrupted s b source)) else None
+
+-- an interrupt of a source with FLIH, whose handler answers 1 where the partition is to be told
+abbrev pub fire : System → SpmState → ℕ → ℕ → Option Move
+fire s b source result =
+    if nat_lt source (length s.sources) && (has_flih s source && nat_le result 1)
+    then Some (move Done (if result == 1 then interrupted s b source else b))
+    else None

@@ -24,8 +24,8 @@ use Rattle.ffm_model.specs.Memory.{ByteMap, valid_buffer, may_write, store_numbe
 use Rattle.ffm_model.specs.State.{State, SpmState, phase_of, message_held, is_undelivered}
 use Rattle.ffm_model.specs.ClientCalls.{Move, Effect, effect, in_state, psa_connect, psa_call, psa_close, returned}
 use Rattle.ffm_model.specs.ServiceCalls.{psa_wait, psa_get, psa_set_rhandle, psa_skip, psa_read, psa_write, psa_reply, request_held, service_of_signal, message_size, message_words, shown_message, sizes_of, get_of, read_of, write_of, reply_of, rest_of, input_at, output_at, outputs_given, is_connect_status}
-use Rattle.ffm_model.specs.SignalCalls.{psa_notify, psa_clear, psa_eoi, psa_irq_enable, psa_irq_disable, psa_reset_signal}
-use Rattle.ffm_model.specs.Accesses.{raise, fire, store, is_access_size}
+use Rattle.ffm_model.specs.SignalCalls.{psa_notify, psa_clear, psa_eoi, psa_irq_enable, psa_irq_disable, psa_reset_signal, raise, fire}
+use Rattle.ffm_model.specs.Accesses.{store, is_access_size}
 use Rattle.ffm_model.specs.Calls.{call_case, error_effect, effect_of}
 use Rattle.ffm_model.specs.Step.{step}
 use Rattle.ffm_model.specs.Reach.{length_word_has, write_reach}

@@ -23,8 +23,8 @@ use Rattle.ffm_model.specs.Memory.{ByteMap, valid_buffer, may_read, may_write, l
 use Rattle.ffm_model.specs.State.{State, SpmState, phase_of, connection_held, message_held, is_undelivered, fresh}
 use Rattle.ffm_model.specs.ClientCalls.{Move, Effect, effect, in_state, psa_connect, psa_call, psa_close, connection_called, service_called, call_to, call_on, refuses_requests, returned}
 use Rattle.ffm_model.specs.ServiceCalls.{psa_wait, psa_get, psa_set_rhandle, psa_skip, psa_read, psa_write, psa_reply, request_held, service_of_signal, message_size, message_words, shown_message, get_of, read_of, write_of, reply_of, rest_of, input_at, output_at, outputs_given, is_connect_status}
-use Rattle.ffm_model.specs.SignalCalls.{psa_notify, psa_clear, psa_eoi, psa_irq_enable, psa_irq_disable, psa_reset_signal}
-use Rattle.ffm_model.specs.Accesses.{raise, fire, load, store, is_access_size}
+use Rattle.ffm_model.specs.SignalCalls.{psa_notify, psa_clear, psa_eoi, psa_irq_enable, psa_irq_disable, psa_reset_signal, raise, fire}
+use Rattle.ffm_model.specs.Accesses.{load, store, is_access_size}
 use Rattle.ffm_model.specs.Calls.{has_call, call_case, case_of, error_effect, effect_or_error, effect_of}
 use Rattle.ffm_model.specs.Step.{step, may_call, gives_handle, handle_allowed, handle_shown, outcome_eq}
 use Rattle.ffm_model.specs.Reach.{read_reach, AgreeWithin, TellsNothing, StepsAlike}

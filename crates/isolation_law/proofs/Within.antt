@@ -30,19 +30,18 @@ use Rattle.ffm_model.specs.declared.objects.OpenConnection.{OpenConnection}
 use Rattle.ffm_model.specs.declared.objects.PendingMessage.{PendingMessage}
 use Rattle.ffm_model.specs.declared.objects.Span.{Span}
 use Rattle.ffm_model.specs.declared.objects.Vectors.{Vectors}
-use Rattle.ffm_model.specs.Accesses.{interrupted}
 use Rattle.ffm_model.specs.Actors.{is_stateless, permits, service_at, stateless_at, stateless_index, budget_of, is_service_of, kind_of, is_partition}
 use Rattle.ffm_model.specs.Memory.{ByteMap, valid_buffer, no_span, spans_at, vectors_read, vectors_of, no_vectors}
 use Rattle.ffm_model.specs.State.{State, SpmState, phase_of, has_handle, with_rhandle, in_use, connection_held, message_held, is_undelivered, delivered, vectors_put, with_vectors, with_message, with_request, with_phase, with_connection_phase, without_connection, without_message}
 use Rattle.ffm_model.specs.Signals.{is_blocked, signals_of, assigned_to, has_signal_of}
 use Rattle.ffm_model.specs.Panic.{is_dead, without_service, disconnection, panic_effect}
 use Rattle.ffm_model.specs.ClientCalls.{Move, Effect, move, in_state, psa_connect, psa_call, psa_close, connection_called, service_called, call_to, connect_to, connect_issued, call_on, close_on, is_service_panicked, refuses_requests, is_busy, takes_version, returned}
-use Rattle.ffm_model.specs.ServiceCalls.{psa_wait, psa_get, psa_set_rhandle, psa_skip, psa_read, psa_write, psa_reply, request_held, service_of_signal, message_size, get_of, skip_of, read_of, write_of, reply_of, rest_of, input_at, output_at, input_moved, connect_answered, close_answered, request_failed, request_answered, answered, with_request_phase, replied, owes_panic, reply_to}
-use Rattle.ffm_model.specs.SignalCalls.{source_of_signal}
+use Rattle.ffm_model.specs.ServiceCalls.{psa_wait, psa_get, psa_set_rhandle, psa_skip, psa_read, psa_write, psa_reply, request_held, service_of_signal, message_size, get_of, skip_of, read_of, write_of, reply_of, rest_of, input_at, output_at, input_moved, connect_answered, close_answered, request_failed, request_answered, answered, with_request_phase, replied, owes_panic, reply_to, input_of, output_of, with_input_moved, with_output_moved}
+use Rattle.ffm_model.specs.SignalCalls.{source_of_signal, interrupted}
 use Rattle.ffm_model.specs.Calls.{call_case, error_effect, effect_of}
 use Rattle.ffm_model.specs.Step.{step, after}
 use Rattle.memory_image.specs.Pieces.{is_inside, ranges_of}
-use Rattle.message_vectors.specs.Vectors.{AreWithin, input_of, output_of, with_input_moved, with_output_moved}
+use Rattle.message_vectors.specs.Vectors.{AreWithin}
 use Rattle.message_vectors.proofs.Moved.{read_within, input_within, output_within}
 use Rattle.isolation_law.specs.Vectors.{AreFour, HaveFour, LieWithin}
 use Rattle.isolation_law.proofs.Effects.{effect-has}

@@ -1,6 +1,6 @@
 -- Counts of what passes a test, through the updates of a list.
 use Rattle.std.proofs.Common.{ℕ, zero, suc, ◌≡◌, ◌≤◌, ◌+◌, Bool, true, false, cond, not, ◌||◌, ◌&&◌, List, [], ◌∷◌, ◌++◌, map, filter, arith, ◌∙◌, ap, sym, refl}
-use Rattle.std.specs.Prelude.{count_by, find, Some, None, slice_get, if◌then◌else◌}
+use Rattle.std.specs.Prelude.{count_by, find, Some, slice_get, if◌then◌else◌}
 use Rattle.std.specs.List.{list_any}
 use Rattle.std.proofs.lemmas.List.Sums.{sum_by-cons, sum_by_push}
 use Rattle.list_laws.proofs.Tests.{find-passes}
@@ -21,14 +21,6 @@ bit-le false = omega arith
 pub count-ext : {X : Type 0} (p q : X → Bool) → ((x : X) → p x ≡ q x) → (xs : List X) → count_by p xs ≡ count_by q xs
 count-ext p q same [] = refl
 count-ext p q same (x ∷ xs) = omega (arith, count-cons p x xs, count-cons q x xs, ap bit (same x), count-ext p q same xs)
-
--- what passes is found
-pub count-none : {X : Type 0} (p : X → Bool) (xs : List X) → find p xs ≡ None → count_by p xs ≡ 0
-count-none p [] h = refl
-count-none p (x ∷ xs) h =
-    let found : (b : Bool) → cond b (Some x) (find p xs) ≡ None → bit b + count_by p xs ≡ 0 =
-    elim [ true ↦ λ e. cc | false ↦ λ e. let rest : count_by p xs ≡ 0 = count-none p xs e in omega arith ] in
-    count-cons p x xs ∙ found (p x) h
 
 pub any-count : {X : Type 0} (p : X → Bool) (xs : List X) → list_any p xs ≡ true → 1 ≤ count_by p xs
 any-count p [] h = cc

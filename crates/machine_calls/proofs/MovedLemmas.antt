@@ -1,15 +1,10 @@
 -- Vectors that fit, and their bytes, through each move.
-use Rattle.std.proofs.Common.{ℕ, ◌≡◌, ◌<◌, ◌≤◌, ◌+◌, ◌*◌, true, List, ◌∷◌, length, get_or, set, drop, arith, ◌∙◌, ap, sym, add-one, drop-cons}
-use Rattle.std.specs.Prelude.{All}
-use Rattle.std.proofs.lemmas.List.Elements.{All-set}
+use Rattle.std.proofs.Common.{ℕ, ◌≡◌, ◌<◌, ◌≤◌, ◌+◌, ◌*◌, true, List, ◌∷◌, length, get_or, drop, arith, ◌∙◌, ap, sym, add-one, drop-cons}
 use Rattle.ffm_model.specs.declared.objects.Span.{Span}
 use Rattle.ffm_model.specs.declared.objects.Vectors.{Vectors}
 use Rattle.ffm_model.specs.Memory.{ByteMap, no_span, lengths_written, store_number}
-use Rattle.ffm_model.specs.ServiceCalls.{moved_by}
 use Rattle.memory_image.specs.Pieces.{is_inside}
 use Rattle.memory_image.proofs.Stored.{part_inside}
-use Rattle.machine_calls.specs.Machine.{SpanFits, VectorsFit}
-use Rattle.machine_calls.specs.Moved.{input_of, output_of, with_input_moved, with_output_moved}
 
 -- one more length is written
 pub lengths_step : (m n all : ByteMap) (at k : ℕ) (v : Span) (vs : List Span) → k < length vs → v ≡ get_or vs k no_span → n ≡ store_number m (at + 8 * k + 4) 4 v.moved

@@ -1,4 +1,3 @@
 pub mod Machine
-pub mod Moved
 pub mod Signals
 pub mod Leaving

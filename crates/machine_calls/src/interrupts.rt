@@ -1,7 +1,6 @@
 //! Doorbells and interrupts.
 ghost use Rattle.std.specs.Prelude.{◌≡◌, Ok, false, get_or, slice_set};
-ghost use Rattle.ffm_model.specs.Accesses.{fire, raise};
-ghost use Rattle.ffm_model.specs.SignalCalls.{forwarded, has_flih, psa_notify, psa_clear, psa_eoi, psa_irq_enable, psa_irq_disable, psa_reset_signal, source_of_signal, with_doorbell, with_flags};
+ghost use Rattle.ffm_model.specs.SignalCalls.{forwarded, has_flih, psa_notify, psa_clear, psa_eoi, psa_irq_enable, psa_irq_disable, psa_reset_signal, source_of_signal, with_doorbell, with_flags, fire, raise};
 ghost use Rattle.ffm_model.specs.State.{flags_at};
 ghost use Rattle.machine_calls.specs.Machine.{spm_of_objects, Moves};
 

@@ -2,10 +2,9 @@
 ghost use Rattle.std.specs.Prelude.{◌≡◌, ℕ, ◌+◌, ◌*◌, ◌<◌, ◌≤◌, length, min, nat_le, take, true, if◌then◌else◌};
 ghost use Rattle.std.specs.Prelude as prelude;
 ghost use Rattle.ffm_model.specs.Memory.{copy_bytes, lengths_written};
-ghost use Rattle.ffm_model.specs.ServiceCalls.{rest_of};
+ghost use Rattle.ffm_model.specs.ServiceCalls.{rest_of, input_of, output_of, with_input_moved, with_output_moved};
 ghost use Rattle.memory_image.specs.Pieces.{byte_at, regions_of, is_inside};
 ghost use Rattle.machine_calls.specs.Machine.{VectorsFit};
-ghost use Rattle.machine_calls.specs.Moved.{input_of, output_of, with_input_moved, with_output_moved};
 
 use ffm_model::{PSA_MAX_IOVEC, Span, Vectors};
 use memory_image::Image;

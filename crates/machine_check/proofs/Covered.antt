@@ -26,13 +26,13 @@ use Rattle.ffm_model.specs.declared.objects.ActorPhase.TheVariants.{Ended, Ready
 use Rattle.ffm_model.specs.declared.objects.PendingMessage.{PendingMessage}
 use Rattle.ffm_model.specs.declared.objects.Span.{Span}
 use Rattle.ffm_model.specs.declared.objects.Vectors.{Vectors}
-use Rattle.ffm_model.specs.Accesses.{raise, fire, store, is_access_size}
+use Rattle.ffm_model.specs.Accesses.{store, is_access_size}
 use Rattle.ffm_model.specs.Actors.{kind_of}
 use Rattle.ffm_model.specs.Calls.{call_case, effect_of, effect_or_error, error_effect, has_call, refusal_of}
 use Rattle.ffm_model.specs.ClientCalls.{Move, Effect, effect, in_state, psa_connect, psa_call, psa_close, returned, version_number}
 use Rattle.ffm_model.specs.Memory.{ByteMap, bytes_at, copy_bytes, lengths_written, load_number, low_bytes, may_read, may_write, no_span, store_number, valid_buffer, words_stored, write_bytes}
 use Rattle.ffm_model.specs.ServiceCalls.{psa_wait, psa_get, psa_set_rhandle, psa_skip, psa_read, psa_write, psa_reply, request_held, service_of_signal, message_size, message_words, shown_message, get_of, read_of, write_of, reply_of, rest_of, input_at, output_at, outputs_given, is_connect_status}
-use Rattle.ffm_model.specs.SignalCalls.{psa_notify, psa_clear, psa_eoi, psa_irq_enable, psa_irq_disable, psa_reset_signal}
+use Rattle.ffm_model.specs.SignalCalls.{psa_notify, psa_clear, psa_eoi, psa_irq_enable, psa_irq_disable, psa_reset_signal, raise, fire}
 use Rattle.ffm_model.specs.State.{State, SpmState, phase_of, message_held, is_undelivered, with_phase}
 use Rattle.ffm_model.specs.Step.{step, may_call, handle_allowed, handle_shown, message_eq, outcome_eq}
 use Rattle.machine_calls.specs.Machine.{SpanFits, VectorsFit}

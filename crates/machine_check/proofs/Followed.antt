@@ -23,7 +23,7 @@ use Rattle.machine_check.proofs.Judged.{either, first, second}
 
 -- ---- entry by entry
 
-is_some : {X : Type 0} (o : Option X) (x : X) → o ≡ Some x → IsSome o
+pub is_some : {X : Type 0} (o : Option X) (x : X) → o ≡ Some x → IsSome o
 is_some o x e = rw e refl
 
 -- before the first entry

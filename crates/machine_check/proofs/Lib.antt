@@ -3,8 +3,8 @@ mod Allowed
 mod Steps
 mod Performed
 mod Due
-mod Judged
-mod Followed
+pub mod Judged
+pub mod Followed
 mod Covered
 mod OwnRam
 mod Compared

@@ -23,7 +23,6 @@ use Rattle.ffm_model.specs.declared.objects.PendingMessage.{PendingMessage}
 use Rattle.ffm_model.specs.declared.objects.ActorPhase.{ActorPhase}
 use Rattle.ffm_model.specs.declared.objects.ActorPhase.TheVariants.{Running, Blocked, Waiting, Ready, Connected}
 use Rattle.ffm_model.specs.declared.objects.ConnPhase.TheVariants.{Busy, Closing}
-use Rattle.ffm_model.specs.Accesses.{interrupted}
 use Rattle.ffm_model.specs.Actors.{is_stateless, permits, service_at, stateless_at, stateless_index, budget_of, kind_of}
 use Rattle.ffm_model.specs.Memory.{ByteMap, no_span, no_vectors, spans_at, valid_buffer, vectors_of, vectors_read}
 use Rattle.ffm_model.specs.State.{SpmState, State, phase_of, with_phase, connection_held, in_use, message_held, is_undelivered, delivered, with_message, with_request, with_vectors, with_rhandle, with_connection_phase, without_connection}
@@ -31,7 +30,7 @@ use Rattle.ffm_model.specs.Signals.{signals_of, assigned_to, has_signal_of}
 use Rattle.ffm_model.specs.Panic.{is_dead, panic_effect}
 use Rattle.ffm_model.specs.ClientCalls.{Move, Effect, move, in_state, psa_connect, psa_call, psa_close, connection_called, service_called, call_to, connect_to, connect_issued, call_on, close_on, is_service_panicked, refuses_requests, is_busy, takes_version, returned}
 use Rattle.ffm_model.specs.ServiceCalls.{psa_wait, psa_get, psa_set_rhandle, psa_skip, psa_read, psa_write, psa_reply, request_held, service_of_signal, message_size, get_of, skip_of, read_of, write_of, reply_of, rest_of, output_at, is_connect_status, replied, owes_panic}
-use Rattle.ffm_model.specs.SignalCalls.{source_of_signal}
+use Rattle.ffm_model.specs.SignalCalls.{source_of_signal, interrupted}
 use Rattle.ffm_model.specs.Calls.{has_call, call_case, error_effect, effect_or_error, effect_of}
 use Rattle.ffm_model.specs.Step.{may_call}
 use Rattle.counting_law.proofs.Reply.{settled}

@@ -11,9 +11,8 @@ use Rattle.ffm_model.specs.declared.objects.Vectors.{Vectors}
 use Rattle.ffm_model.specs.ClientCalls.{Effect, effect, move}
 use Rattle.ffm_model.specs.Memory.{copy_bytes, valid_buffer}
 use Rattle.ffm_model.specs.State.{SpmState, with_vectors}
-use Rattle.ffm_model.specs.ServiceCalls.{psa_read, psa_skip, psa_write, request_held, rest_of, skip_of, read_of, write_of, output_at}
+use Rattle.ffm_model.specs.ServiceCalls.{psa_read, psa_skip, psa_write, request_held, rest_of, skip_of, read_of, write_of, output_at, input_of, output_of, with_input_moved, with_output_moved}
 use Rattle.memory_image.specs.Pieces.{byte_at}
-use Rattle.message_vectors.specs.Vectors.{input_of, output_of, with_input_moved, with_output_moved}
 use Rattle.object_pools.specs.declared.slot.Slot.{Slot}
 use Rattle.handle_table.specs.declared.handles.Family.TheVariants.{Message}
 use Rattle.handle_table.specs.Handles.{handle_at}

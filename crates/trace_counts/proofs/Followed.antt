@@ -1,7 +1,7 @@
 -- Entries followed, one further.
-use Rattle.std.proofs.Common.{arith, ℕ, ◌≡◌, ◌<◌, ◌≤◌, ◌+◌, inl, inr, ⊎_elim, Bool, true, false, List, [], ◌∷◌, ◌++◌, length, take, ap, refl, sym, ◌∙◌}
+use Rattle.std.proofs.Common.{arith, ℕ, ◌≡◌, ◌<◌, ◌≤◌, ◌+◌, inl, inr, ⊎_elim, Bool, true, false, List, [], ◌∷◌, ◌++◌, length, take, ap, sym, ◌∙◌}
 use Rattle.std.proofs.lemmas.List.{length-take-le, take_all}
-use Rattle.std.specs.Prelude.{Option, None, Some, Ok, IsSome, option_and_then}
+use Rattle.std.specs.Prelude.{None, Some, Ok, option_and_then}
 use Rattle.ffm_model.specs.declared.system.System.{System}
 use Rattle.ffm_model.specs.declared.machine.Entry.{Entry}
 use Rattle.ffm_model.specs.declared.machine.Handle.{Handle}
@@ -12,6 +12,7 @@ use Rattle.machine_calls.specs.Machine.{state_of}
 use Rattle.machine_check.specs.declared.judging.Checker.{Checker}
 use Rattle.machine_check.specs.Checking.{Accepts, IsAccepted, Starts}
 use Rattle.machine_check.specs.Reaching.{IsBehind}
+use Rattle.machine_check.proofs.Followed.{is_some}
 use Rattle.trace_counts.specs.declared.counts.TraceCounts.{TraceCounts}
 use Rattle.trace_counts.specs.Counted.{IsCounted}
 
@@ -48,9 +49,6 @@ further s m limit es k e c new b below more it =
       kept = it.kept;
       made = it.made;
     }
-
-is_some : {X : Type 0} (o : Option X) (x : X) → o ≡ Some x → IsSome o
-is_some o x e = rw e refl
 
 -- the next entry was not accepted
 pub stopped : (s : System) (m : ByteMap) (limit : ℕ) (es : List Entry) (k : ℕ) (e : Entry) (c new : Checker) (b : IsBehind s m (take k es) c) (ok : Bool) (t : TraceCounts)

@@ -10,12 +10,21 @@ use Rattle.ffm_model.specs.Actors.{actor_count}
 use Rattle.ffm_model.specs.Memory.{ByteMap}
 use Rattle.ffm_model.specs.State.{State}
 use Rattle.ffm_model.specs.Step.{step}
-use Rattle.machine_calls.specs.Machine.{spm_of_objects, state_of}
+use Rattle.machine_calls.specs.Machine.{IsMachineOf, spm_of_objects, state_of}
 use Rattle.machine_check.specs.declared.judging.Checker.{Checker}
 use Rattle.machine_check.specs.Checking.{Accepts, IsAccepted, Starts}
+use Rattle.machine_check.specs.Performed.{Knows}
 use Rattle.trace_diagram.specs.declared.gathering.Part.{Part}
 use Rattle.trace_diagram.specs.declared.gathering.PlacedArrow.{PlacedArrow}
-use Rattle.trace_diagram.specs.Gathering.{arrows_at, arrows_from, arrows_in, GathersTo}
+use Rattle.trace_diagram.specs.Gathering.{arrows_at, arrows_from, arrows_in}
+
+-- the arrows of the trace are those gathered and those of the entries left, behind the state that is kept
+pub record GathersTo (s : System) (m : ByteMap) (limit : ℕ) (part : Part) (es : List Entry) (c : Checker) (last : List ℕ) (so_far : List PlacedArrow) (left : List Entry) : Type 0 where
+  pub all : List Handle
+  pub knows : Knows c.given all
+  pub kept : IsMachineOf s c.machine
+  pub made : c.machine.objects.connections_made ≤ c.count
+  pub arrows : arrows_in s m limit part es ≡ so_far ++ arrows_from s limit part c.count last left (state_of c.machine all)
 
 -- before the first entry
 pub gather_begins : (s : System) (m : ByteMap) (limit : ℕ) (part : Part) (es : List Entry) (c : Checker) (last : List ℕ) (so_far : List PlacedArrow) → Starts s m c → last ≡ replicate (actor_count s) 0 → so_far ≡ []
@@ -49,10 +58,6 @@ below_limit limit n h = grind (arith, nat_tests)
 
 at_limit : (limit n : ℕ) → limit ≤ n → nat_le limit n ≡ true
 at_limit limit n h = grind (arith, nat_tests)
-
-pub was_accepted : (s : System) (limit : ℕ) (c new : Checker) (all : List Handle) (e : Entry) (b : Bool) → Accepts s limit c all e (Ok b) new → b ≡ true → IsAccepted s limit c all e new
-was_accepted s limit c new all e true accepts is = accepts
-was_accepted s limit c new all e false accepts is = absurd (cc)
 
 -- an entry was accepted, its arrows were added and its place was noted
 pub next_gathered : (s : System) (m : ByteMap) (limit : ℕ) (part : Part) (es : List Entry) (c new : Checker) (last noted : List ℕ) (so_far found more : List PlacedArrow) (e : Entry) (left : List Entry)

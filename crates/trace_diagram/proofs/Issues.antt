@@ -1,6 +1,6 @@
 -- A call that is Blocked and waits for an answer sends the message that it asks for.
 use Rattle.std.proofs.lemmas.Bool.{and_parts, eqb-true}
-use Rattle.std.proofs.Common.{ℕ, ◌≡◌, Bool, true, false, not, ◌&&◌, ◌||◌, List, [], ◌∷◌, ◌++◌, ◌∙◌, ap, sym, refl, subst}
+use Rattle.std.proofs.Common.{ℕ, ◌≡◌, Bool, true, false, not, ◌&&◌, ◌||◌, List, [], ◌∷◌, ◌++◌, ◌∙◌, ap, sym, refl, subst, ◌⊎◌, inl, inr}
 use Rattle.std.specs.Prelude.{ℤ, pos, int_lt, bit_and, nat_lt, nat_le, ◌==◌, Option, Some, None, option_and_then, if◌then◌else◌, find}
 use Rattle.std.specs.Option.{option_map, option_map_or}
 use Rattle.std.specs.Ordering.{int_eq}
@@ -26,7 +26,7 @@ use Rattle.ffm_model.specs.Actors.{is_stateless, kind_of, permits, service_at, s
 use Rattle.ffm_model.specs.Memory.{no_vectors, vectors_of, valid_buffer}
 use Rattle.ffm_model.specs.Records.{is_blocked_outcome}
 use Rattle.ffm_model.specs.State.{SpmState, State, connection_held, has_handle, with_rhandle, is_undelivered, phase_of, with_connection_phase, with_message, with_phase, with_request, without_connection}
-use Rattle.ffm_model.specs.Signals.{assigned_to, enabled, may_resume, has_signal_of, signals_of}
+use Rattle.ffm_model.specs.Signals.{assigned_to, can_go_on, enabled, may_resume, has_signal_of, signals_of}
 use Rattle.ffm_model.specs.Panic.{is_dead}
 use Rattle.ffm_model.specs.ClientCalls.{Move, Effect, move, in_state, connect_to, connect_issued, connection_called, service_called, call_on, call_to, close_on, is_service_panicked, refuses_requests, is_busy, returned, takes_version, version_number}
 use Rattle.ffm_model.specs.ServiceCalls.{get_of, message_size, output_at, read_of, reply_of, reply_to, request_held, rest_of, service_of_signal, skip_of, write_of}
@@ -39,16 +39,24 @@ use Rattle.counting_law.proofs.Parts.{is_there, phase_same}
 use Rattle.trace_diagram.specs.Arrows.{service_of_handle}
 use Rattle.trace_diagram.specs.Pairs.{Asks}
 
--- the message that an actor's call asks for goes last
+-- the calls that ask for a message
+abbrev pub is_for_message : Call → Bool
+is_for_message (call.Connect sid version) = true
+is_for_message (call.Invoke h kind in_vec in_len out_vec out_len) = true
+is_for_message (call.Close h) = true
+is_for_message _ = false
+
+-- the message that an actor's call asks for goes last, and the actor is Blocked
 pub record IsIssued (s : System) (b : SpmState) (a : ℕ) (d : Call) (new : SpmState) : Type 0 where
   pub message : PendingMessage
   pub added : new.messages ≡ b.messages ++ message ∷ []
   pub client : message.client.0 ≡ a
   pub asks : Asks s b a d message.service message.kind
+  pub phase : phase_of new a ≡ Blocked
 
--- where the outcome and the phase say that the actor waits for an answer
+-- where the outcome is Blocked, and the phase or the call says that the actor waits for an answer
 abbrev pub Issues : System → SpmState → ℕ → Call → Outcome → SpmState → List Handle → Type 0
-Issues s b a d o new given = is_blocked_outcome o ≡ true → phase_of new a ≡ Blocked → IsIssued s b a d new
+Issues s b a d o new given = (phase_of b a ≡ Ended → ⊥) → is_blocked_outcome o ≡ true → (phase_of new a ≡ Blocked) ⊎ (is_for_message d ≡ true) → IsIssued s b a d new
 
 abbrev IfEffect : System → State → ℕ → Call → Option Effect → Type 0
 IfEffect s st a d o = IfThere o (Says (Issues s st.spm a d))
@@ -59,7 +67,7 @@ IfMove s st a d o = IfMoved (Issues s st.spm a d) st.handles_given o
 -- ---- calls that are not Blocked
 
 ends : (s : System) (b : SpmState) (a : ℕ) (d : Call) (o : Outcome) (new : SpmState) (given : List Handle) → is_blocked_outcome o ≡ false → Issues s b a d o new given
-ends s b a d o new given plain blocked phase = let bad : false ≡ true = sym plain ∙ blocked in cc
+ends s b a d o new given plain there blocked why = let bad : false ≡ true = sym plain ∙ blocked in cc
 
 moved : (s : System) (st : State) (a : ℕ) (d : Call) (o : Option Move) → IfMove s st a d o → IfEffect s st a d (option_map (in_state st) o)
 moved s st a d None h = tt
@@ -91,11 +99,14 @@ map-effect s st a d f plain (Some x) = ends s st.spm a d (f x).outcome (f x).sta
 
 -- ---- psa_connect
 
+set-phase : (b : SpmState) (a : ℕ) (p : ActorPhase) → (phase_of b a ≡ Ended → ⊥) → phase_of (with_phase b a p) a ≡ p
+set-phase b a p there = phase_same b.phases a p (is_there b.phases a there)
+
 connected-by : (s : System) (st : State) (a service : ℕ) (sid : Sid) (version : ℕ) (gone full : Bool) → service_at s sid ≡ Some service
     → (let m : Move = if gone then move (outcome.Value PSA_ERROR_CONNECTION_REFUSED) st.spm else (if full then move (outcome.Value PSA_ERROR_CONNECTION_BUSY) st.spm else move outcome.Blocked (connect_issued st.spm a service)) in Issues s st.spm a (call.Connect sid version) m.outcome m.spm st.handles_given)
 connected-by s st a service sid version true full at = ends s st.spm a (call.Connect sid version) (outcome.Value PSA_ERROR_CONNECTION_REFUSED) st.spm st.handles_given refl
 connected-by s st a service sid version false true at = ends s st.spm a (call.Connect sid version) (outcome.Value PSA_ERROR_CONNECTION_BUSY) st.spm st.handles_given refl
-connected-by s st a service sid version false false at = λ blocked phase. record { message = _; added = refl; client = refl; asks = (at, refl) }
+connected-by s st a service sid version false false at = λ there blocked why. record { message = _; added = refl; client = refl; asks = (at, refl); phase = set-phase st.spm a Blocked there }
 
 connect-by : (s : System) (st : State) (a : ℕ) (sid : Sid) (version service : ℕ) (x : Bool) → service_at s sid ≡ Some service → IfMove s st a (call.Connect sid version) (if x then Some (connect_to s st.spm a service) else None)
 connect-by s st a sid version service true at = connected-by s st a service sid version (is_service_panicked s st.spm service) _ at
@@ -111,17 +122,17 @@ connects s st a sid version (Some i) at = connect-by s st a sid version i (permi
 called-by : (s : System) (st : State) (a : ℕ) (d : Call) (c : OpenConnection) (kind : ℤ) (v : Vectors) (dead : Bool) → Asks s st.spm a d c.service kind
     → (let m : Move = if dead then move (outcome.Value PSA_ERROR_COMMUNICATION_FAILURE) st.spm else move outcome.Blocked (with_phase (with_message (with_connection_phase st.spm c.serial Busy) c kind v) a Blocked) in (c.client.0 ≡ a) → Issues s st.spm a d m.outcome m.spm st.handles_given)
 called-by s st a d c kind v true asks own = ends s st.spm a d (outcome.Value PSA_ERROR_COMMUNICATION_FAILURE) st.spm st.handles_given refl
-called-by s st a d c kind v false asks own = λ blocked phase. record { message = _; added = refl; client = own; asks = asks }
+called-by s st a d c kind v false asks own = λ there blocked why. record { message = _; added = refl; client = own; asks = asks; phase = set-phase st.spm a Blocked there }
 
 asked-by : (s : System) (st : State) (a : ℕ) (d : Call) (service : ℕ) (kind : ℤ) (v : Vectors) (gone : Bool) → Asks s st.spm a d service kind
     → (let m : Move = if gone then move (outcome.Value PSA_ERROR_COMMUNICATION_FAILURE) st.spm else move outcome.Blocked (with_phase (with_request st.spm a service kind v) a Blocked) in Issues s st.spm a d m.outcome m.spm st.handles_given)
 asked-by s st a d service kind v true asks = ends s st.spm a d (outcome.Value PSA_ERROR_COMMUNICATION_FAILURE) st.spm st.handles_given refl
-asked-by s st a d service kind v false asks = λ blocked phase. record { message = _; added = refl; client = refl; asks = asks }
+asked-by s st a d service kind v false asks = λ there blocked why. record { message = _; added = refl; client = refl; asks = asks; phase = set-phase st.spm a Blocked there }
 
 closed-by : (s : System) (st : State) (a : ℕ) (d : Call) (c : OpenConnection) (dead : Bool) → Asks s st.spm a d c.service PSA_IPC_DISCONNECT
     → (let m : Move = if dead then move outcome.Done (without_connection st.spm c.serial) else move outcome.Blocked (with_phase (with_message (with_connection_phase st.spm c.serial Closing) c PSA_IPC_DISCONNECT no_vectors) a Blocked) in (c.client.0 ≡ a) → Issues s st.spm a d m.outcome m.spm st.handles_given)
 closed-by s st a d c true asks own = ends s st.spm a d outcome.Done (without_connection st.spm c.serial) st.handles_given refl
-closed-by s st a d c false asks own = λ blocked phase. record { message = _; added = refl; client = own; asks = asks }
+closed-by s st a d c false asks own = λ there blocked why. record { message = _; added = refl; client = own; asks = asks; phase = set-phase st.spm a Blocked there }
 
 -- who holds a connection is its client
 pub found-passes : {X : Type 0} (q : X → Bool) (xs : List X) (x : X) → find q xs ≡ Some x → q x ≡ true
@@ -187,13 +198,15 @@ closes s st a h false = close-held s st a h (connection_held st.spm a h) refl
 
 -- ---- psa_wait: its phase is another
 
-set-phase : (b : SpmState) (a : ℕ) (p : ActorPhase) → (phase_of b a ≡ Ended → ⊥) → phase_of (with_phase b a p) a ≡ p
-set-phase b a p there = phase_same b.phases a p (is_there b.phases a there)
+-- an actor in this phase does not wait for an answer
+neither : (p : ActorPhase) (P : Type 0) → (p ≡ Blocked → ⊥) → (p ≡ Blocked) ⊎ (false ≡ true) → P
+neither p P other (inl e) = absurd (other e)
+neither p P other (inr e) = cc
 
 wait-by : (s : System) (st : State) (a mask timeout : ℕ) (now : Bool) → phase_of st.spm a ≡ Running
     → (let m : Move = if now then move (outcome.Signals (bit_and (signals_of s st.spm a) mask)) st.spm else move outcome.Blocked (with_phase st.spm a (Waiting mask)) in Issues s st.spm a (call.Wait mask timeout) m.outcome m.spm st.handles_given)
 wait-by s st a mask timeout true running = ends s st.spm a (call.Wait mask timeout) (outcome.Signals (bit_and (signals_of s st.spm a) mask)) st.spm st.handles_given refl
-wait-by s st a mask timeout false running = λ blocked phase. let set : phase_of (with_phase st.spm a (Waiting mask)) a ≡ Waiting mask = set-phase st.spm a (Waiting mask) (λ e. cc) in cc
+wait-by s st a mask timeout false running = λ there blocked why. let set : phase_of (with_phase st.spm a (Waiting mask)) a ≡ Waiting mask = set-phase st.spm a (Waiting mask) there in neither _ _ (λ (e : phase_of (with_phase st.spm a (Waiting mask)) a ≡ Blocked). cc) why
 
 waits : (s : System) (st : State) (a mask timeout : ℕ) (x : Bool) → phase_of st.spm a ≡ Running
     → IfMove s st a (call.Wait mask timeout) (if x then Some (if nat_lt timeout PSA_BLOCK then move (outcome.Signals (bit_and (signals_of s st.spm a) mask)) st.spm else move outcome.Blocked (with_phase st.spm a (Waiting mask))) else None)
@@ -219,7 +232,7 @@ replies s st a h status o = map-effect s st a (call.Reply h status) (reply_of s 
 -- ---- the return of a call
 
 returns : (s : System) (st : State) (a : ℕ) (h : Handle) (p : ActorPhase) → phase_of st.spm a ≡ p → may_resume p ≡ true → Says (Issues s st.spm a call.Resume) (returned s st a p h)
-returns s st a h (Ready o) e due = λ blocked phase. let set : phase_of (with_phase st.spm a Running) a ≡ Running = set-phase st.spm a Running (λ x. cc) in cc
+returns s st a h (Ready o) e due = λ there blocked why. let set : phase_of (with_phase st.spm a Running) a ≡ Running = set-phase st.spm a Running there in neither _ _ (λ (x : phase_of (with_phase st.spm a Running) a ≡ Blocked). cc) why
 returns s st a h (Connected n) e due = ends s st.spm a call.Resume (outcome.Value h.0) (returned s st a (Connected n) h).state.spm (returned s st a (Connected n) h).state.handles_given refl
 returns s st a h (Waiting mask) e due = ends s st.spm a call.Resume (outcome.Signals (bit_and (signals_of s st.spm a) mask)) (returned s st a (Waiting mask) h).state.spm st.handles_given refl
 returns s st a h Running e due = cc
@@ -281,11 +294,16 @@ blocked-due outcome.Blocked p e k = refl
 blocked-due o outcome.Blocked e k = e
 blocked-due o p e k = cc
 
+-- an actor that may call has not ended
+goes-on : (p : ActorPhase) (word : ℕ) → can_go_on p word ≡ true → p ≡ Ended → ⊥
+goes-on p word able ended = let bad : false ≡ true = sym (ap (λ (q : ActorPhase). can_go_on q word) ended) ∙ able in cc
+
 -- in each step
-pub step-issues : (s : System) (st new : State) (e : Entry) → step s st e ≡ Some new → phase_of new.spm e.actor.0 ≡ Blocked → e.outcome ≡ outcome.Blocked → IsIssued s st.spm e.actor.0 e.call new.spm
-step-issues s st new e is phase blocked =
+pub step-issues : (s : System) (st new : State) (e : Entry) → step s st e ≡ Some new → (phase_of new.spm e.actor.0 ≡ Blocked) ⊎ (is_for_message e.call ≡ true) → e.outcome ≡ outcome.Blocked → IsIssued s st.spm e.actor.0 e.call new.spm
+step-issues s st new e is why blocked =
     let it : Stepped s st new e = step-is s st new e is in
     let due : Effect = effect_of s st e.actor.0 e.call (handle_shown e.outcome) in
     let own : Says (Issues s st.spm e.actor.0 e.call) due = effect-by s st e.actor.0 e.call (handle_shown e.outcome) (has_call (kind_of s e.actor.0) e.call) it.may in
-    let same : is_blocked_outcome due.outcome ≡ true = blocked-due due.outcome e.outcome it.outcome (ap is_blocked_outcome blocked) in
-    subst (λ (x : State). IsIssued s st.spm e.actor.0 e.call x.spm) it.state (own same (ap (λ (x : State). phase_of x.spm e.actor.0) it.state ∙ phase))
+    let made : Issues s st.spm e.actor.0 e.call due.outcome new.spm new.handles_given = subst (λ (x : State). Issues s st.spm e.actor.0 e.call due.outcome x.spm x.handles_given) it.state own in
+    let able : can_go_on (phase_of st.spm e.actor.0) (signals_of s st.spm e.actor.0) ≡ true = (and_parts _ _ (and_parts _ _ it.may).1).0 in
+    made (goes-on _ _ able) (blocked-due due.outcome e.outcome it.outcome (ap is_blocked_outcome blocked)) why

@@ -1,8 +1,8 @@
 mod Answered
 mod Everywhere
+mod Freed
 mod Gathered
 mod Issues
-mod Known
 mod Once
 mod Owners
 mod Pairs

@@ -44,7 +44,7 @@ use Rattle.counting_law.proofs.Parts.{flipped, is_itself, is_there, off_from, ru
 use Rattle.counting_law.proofs.Reply.{settled, settled-keeps}
 use Rattle.counting_law.proofs.Resume.{times}
 use Rattle.counting_law.proofs.Returns.{open-phase, turned-sound}
-use Rattle.counting_law.proofs.Runs.{opening-balanced, step-keeps}
+use Rattle.counting_law.proofs.Runs.{opening-balanced, run-has, step-keeps}
 use Rattle.counting_law.proofs.Steps.{Stepped, step-is, step-kind}
 use Rattle.counting_law.proofs.Turns.{Turned, Turns, goes_with, is_sound, kinds-turn, panicked-self}
 use Rattle.trace_diagram.specs.Pairs.{Asks, IsWaiting}
@@ -278,6 +278,14 @@ blocked-is : (o p : Outcome) → outcome_eq o p ≡ true → is_blocked_outcome 
 blocked-is outcome.Blocked outcome.Blocked e k = refl
 blocked-is o p e k = cc
 
+-- who is Blocked behind its entry was answered Blocked
+pub was-due : (s : System) (st new : State) (e : Entry) → Balanced s (times st.handles_given) st.spm → is_sound (phase_of st.spm e.actor.0) ≡ true → step s st e ≡ Some new → phase_of new.spm e.actor.0 ≡ Blocked → e.outcome ≡ outcome.Blocked
+was-due s st new e balanced sound is phase =
+    let a : ℕ = e.actor.0 in
+    let it = step-kind s st new e (λ o spm given. Turns a st.spm spm o) (kinds-turn s st.spm st.handles_given a e.call balanced sound) is in
+    let turns : Turns a st.spm new.spm it.0 = it.2 in
+    blocked-is it.0 e.outcome it.1 (turns.own ∙ ap (goes_with it.0) phase)
+
 both : {X : Type 0} (P Q R : X → Type 0) → ((x : X) → P x → Q x → R x) → (xs : List X) → AllByRecursion P xs → AllByRecursion Q xs → AllByRecursion R xs
 both P Q R joins [] h k = tt
 both P Q R joins (x ∷ xs) h k = (joins x h.0 k.0, both P Q R joins xs h.1 k.1)
@@ -329,8 +337,8 @@ step-kept s m past last st new e k is =
     let mine : (p : ActorPhase) → phase_of new.spm a ≡ p → AllByRecursion (OwnHas S a new.spm) new.spm.messages =
     elim [
       | Blocked ↦ λ phase.
-          let blocked : e.outcome ≡ outcome.Blocked = blocked-is it.0 e.outcome it.1 (turns.own ∙ ap (goes_with it.0) phase) in
-          own-issued S s st new e k.balanced is (step-issues s st new e is phase blocked) (λ x own asks. asked x own asks blocked)
+          let blocked : e.outcome ≡ outcome.Blocked = was-due s st new e k.balanced (k.sound a) is phase in
+          own-issued S s st new e k.balanced is (step-issues s st new e is (inl phase) blocked) (λ x own asks. asked x own asks blocked)
       | Running ↦ λ phase. own-none S a new.spm new.spm.messages (λ z. cc)
       | Waiting mask ↦ λ phase. own-none S a new.spm new.spm.messages (λ z. cc)
       | Ready o ↦ λ phase. own-none S a new.spm new.spm.messages (λ z. cc)
@@ -352,3 +360,9 @@ step-kept s m past last st new e k is =
           (later s m past e (get_or last x.client.0 0) x.client.0 x.service x.kind (flipped x.client.0 a z) (other z phase (was-blocked _ _ (turns.others x.client.0 z) phase)))))
           new.spm.messages others (mine (phase_of new.spm a) refl);
     }
+
+-- each run keeps it
+pub run-kept : (s : System) (m : ByteMap) (es : List Entry) (st : State) → after s m es ≡ Some st → (last : List ℕ) × Kept s m es last st
+run-kept s m es st run =
+    run-has s m (λ xs x. (last : List ℕ) × Kept s m xs last x) (replicate (actor_count s) 0, opening-kept s m)
+    (λ xs x new e k is. (slice_set k.0 e.actor.0 (length xs + 1), step-kept s m xs k.0 x new e k.1 is)) es st run

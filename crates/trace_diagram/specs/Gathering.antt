@@ -1,18 +1,14 @@
 -- The arrows of a part of a trace, and which call each answer belongs to.
 -- Source: this simulator's; the legal entries are those of `judged` of the model. FF-M 1.0: a client is blocked from its call to the answer, so its last entry is the call that is answered.
-use Rattle.std.specs.Prelude.{ℕ, ◌+◌, ◌≡◌, ◌≤◌, nat_le, Bool, true, false, ◌&&◌, if◌then◌else◌, List, [], ◌∷◌, ◌++◌, map, replicate, get_or, slice_set, Option, Some, None}
+use Rattle.std.specs.Prelude.{ℕ, ◌+◌, nat_le, Bool, true, false, ◌&&◌, if◌then◌else◌, List, [], ◌∷◌, ◌++◌, map, replicate, get_or, slice_set, Option, Some, None}
 use Rattle.std.specs.Option.{option_map_or}
 use Rattle.ffm_model.specs.declared.system.System.{System}
 use Rattle.ffm_model.specs.declared.machine.Entry.{Entry}
-use Rattle.ffm_model.specs.declared.machine.Handle.{Handle}
 use Rattle.ffm_model.specs.Actors.{actor_count}
 use Rattle.ffm_model.specs.Memory.{ByteMap}
 use Rattle.ffm_model.specs.Signals.{is_blocked}
 use Rattle.ffm_model.specs.State.{SpmState, State, opening, phase_of}
 use Rattle.ffm_model.specs.Step.{step}
-use Rattle.machine_calls.specs.Machine.{state_of, IsMachineOf}
-use Rattle.machine_check.specs.declared.judging.Checker.{Checker}
-use Rattle.machine_check.specs.Performed.{Knows}
 use Rattle.trace_diagram.specs.declared.arrows.Arrow.{Arrow}
 use Rattle.trace_diagram.specs.declared.arrows.Meaning.{Meaning}
 use Rattle.trace_diagram.specs.declared.arrows.Meaning.TheVariants as meaning
@@ -56,13 +52,3 @@ arrows_from s limit part n last (e ∷ es) st =
 -- those of a trace from its opening on, where no actor has an entry
 abbrev pub arrows_in : System → ByteMap → ℕ → Part → List Entry → List PlacedArrow
 arrows_in s m limit part es = arrows_from s limit part 0 (replicate (actor_count s) 0) es (opening s m)
-
--- ---- a trace as far as its arrows were gathered; this serves the proof, and no public contract cites it
-
--- the arrows of the trace are those gathered and those of the entries left, behind the state that is kept
-pub record GathersTo (s : System) (m : ByteMap) (limit : ℕ) (part : Part) (es : List Entry) (c : Checker) (last : List ℕ) (so_far : List PlacedArrow) (left : List Entry) : Type 0 where
-  pub all : List Handle
-  pub knows : Knows c.given all
-  pub kept : IsMachineOf s c.machine
-  pub made : c.machine.objects.connections_made ≤ c.count
-  pub arrows : arrows_in s m limit part es ≡ so_far ++ arrows_from s limit part c.count last left (state_of c.machine all)

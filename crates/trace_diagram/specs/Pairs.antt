@@ -1,7 +1,7 @@
 -- Which call an arrow answers, in plain words.
 -- Source: FF-M 1.0: psa_connect, psa_call and psa_close block their caller until the message is answered, by psa_reply; that the panic of its service's partition answers it too is this profile's choice.
 use Rattle.std.specs.Prelude.{ℕ, ℤ, ◌≡◌, ◌≤◌, ◌+◌, ◌==◌, Bool, false, count_by, List, [], ◌∷◌, ◌++◌, length, Option, Some, None}
-use Rattle.std.specs.List.{AllByRecursion}
+use Rattle.std.specs.List.{AllByRecursion, Contains}
 use Rattle.std.specs.Option.{option_map, option_map_or}
 use Rattle.ffm_model.specs.declared.constants.TheConstants.{PSA_IPC_CONNECT, PSA_IPC_DISCONNECT}
 use Rattle.ffm_model.specs.declared.system.System.{System}
@@ -12,16 +12,18 @@ use Rattle.ffm_model.specs.declared.objects.PendingMessage.{PendingMessage}
 use Rattle.ffm_model.specs.declared.machine.Call.{Call}
 use Rattle.ffm_model.specs.declared.machine.Call.TheVariants as call
 use Rattle.ffm_model.specs.declared.machine.Outcome.TheVariants as outcome
+use Rattle.ffm_model.specs.declared.objects.ActorPhase.TheVariants as phase
 use Rattle.ffm_model.specs.Actors.{owner_of, service_at}
 use Rattle.ffm_model.specs.Memory.{ByteMap}
 use Rattle.ffm_model.specs.Records.{entries_of}
-use Rattle.ffm_model.specs.State.{SpmState, State, connection_held, message_held}
+use Rattle.ffm_model.specs.Signals.{is_blocked}
+use Rattle.ffm_model.specs.State.{SpmState, State, connection_held, message_held, phase_of}
 use Rattle.ffm_model.specs.Step.{after, step}
 use Rattle.trace_diagram.specs.declared.arrows.Meaning.{Meaning}
 use Rattle.trace_diagram.specs.declared.arrows.Meaning.TheVariants as meaning
 use Rattle.trace_diagram.specs.declared.gathering.Part.{Part}
 use Rattle.trace_diagram.specs.declared.gathering.PlacedArrow.{PlacedArrow}
-use Rattle.trace_diagram.specs.Arrows.{arrow, arrow_of, arrows_of, reply_arrow, service_of_handle}
+use Rattle.trace_diagram.specs.Arrows.{arrow, arrow_of, arrows_of, panicking, reply_arrow, service_of_handle}
 use Rattle.trace_diagram.specs.Gathering.{arrows_in}
 
 -- ---- the call
@@ -86,14 +88,40 @@ answers_call_at place x = option_map_or (λ k. k == place) x.answers false
 abbrev pub EachIsAnsweredOnce : Type 0
 EachIsAnsweredOnce = (s : System) (m : ByteMap) (limit : ℕ) (part : Part) (es : List Entry) (place : ℕ) → 1 ≤ place → count_by (answers_call_at place) (arrows_in s m limit part es) ≤ 1
 
--- ---- each call and each reply has its arrow
+-- ---- each call, each reply and each client that a panic frees has its arrow
 
--- in each step of a run, a call that is Blocked and is for a message has one arrow, from its client to the partition of the service
+-- the call of an entry is for a message to a service, and the entry has one arrow, from the client to the service's partition, with that message
+pub record SendsMessage (s : System) (b : SpmState) (e : Entry) : Type 0 where
+  pub service : ℕ
+  pub kind : ℤ
+  pub asks : Asks s b e.actor.0 e.call service kind
+  pub partition : ℕ
+  pub owner : owner_of s service ≡ Some partition
+  pub sends : arrows_of s b e ≡ arrow e.actor.0 partition (meaning.Message service kind) ∷ []
+
+-- in each step of a run behind which the entry's actor is Blocked; psa_wait leaves its actor Waiting
 abbrev pub EachCallHasArrow : Type 0
-EachCallHasArrow = (s : System) (m : ByteMap) (es : List Entry) (st new : State) (e : Entry) (service : ℕ) (kind : ℤ) → after s m es ≡ Some st → step s st e ≡ Some new → e.outcome ≡ outcome.Blocked → Asks s st.spm e.actor.0 e.call service kind
-    → (partition : ℕ) × ((owner_of s service ≡ Some partition) × (arrows_of s st.spm e ≡ arrow e.actor.0 partition (meaning.Message service kind) ∷ []))
+EachCallHasArrow = (s : System) (m : ByteMap) (es : List Entry) (st new : State) (e : Entry) → after s m es ≡ Some st → step s st e ≡ Some new → phase_of new.spm e.actor.0 ≡ phase.Blocked → SendsMessage s st.spm e
 
--- and a reply that is Done has its arrow first, from the partition to the client of the message that has the handle
+-- and a call for a message that answers Blocked leaves its actor Blocked
+abbrev pub EachCallBlocks : Type 0
+EachCallBlocks = (s : System) (m : ByteMap) (es : List Entry) (st new : State) (e : Entry) (service : ℕ) (kind : ℤ) → after s m es ≡ Some st → step s st e ≡ Some new → e.outcome ≡ outcome.Blocked → Asks s st.spm e.actor.0 e.call service kind
+    → phase_of new.spm e.actor.0 ≡ phase.Blocked
+
+-- a reply that is Done has its arrow first, from the partition to the client of the message that has the handle
 abbrev pub EachReplyHasArrow : Type 0
 EachReplyHasArrow = (s : System) (m : ByteMap) (es : List Entry) (st new : State) (e : Entry) (h : Handle) (status : Status) → after s m es ≡ Some st → step s st e ≡ Some new → e.call ≡ call.Reply h status → e.outcome ≡ outcome.Done
     → (message : PendingMessage) × ((message_held s st.spm e.actor.0 h ≡ Some message) × (arrow_of s st.spm e ≡ Some (reply_arrow e.actor.0 status.0 message)))
+
+-- an actor waits in a call for a message of a kind to a service, and one of the entry's arrows goes to it from the partition and frees it of that message
+pub record IsReleased (s : System) (m : ByteMap) (es : List Entry) (b : SpmState) (e : Entry) (partition actor : ℕ) : Type 0 where
+  pub place : ℕ
+  pub service : ℕ
+  pub kind : ℤ
+  pub waits : IsWaiting s m es place actor service kind
+  pub released : Contains (arrows_of s b e) (arrow partition actor (meaning.Release service kind))
+
+-- in each step of a run in which a partition panics, each other actor that is Blocked before it and not behind it; a partition that panics for a reply is answered by that reply
+abbrev pub EachFreedHasArrow : Type 0
+EachFreedHasArrow = (s : System) (m : ByteMap) (es : List Entry) (st new : State) (e : Entry) (partition actor : ℕ) → after s m es ≡ Some st → step s st e ≡ Some new → panicking s st.spm e ≡ Some partition → (actor == partition) ≡ false
+    → phase_of st.spm actor ≡ phase.Blocked → is_blocked (phase_of new.spm actor) ≡ false → IsReleased s m es st.spm e partition actor

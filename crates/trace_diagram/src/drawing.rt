@@ -24,6 +24,9 @@ const RIGHT_MARGIN: u64 = 180;
 // Arrows that are longer, in pixels, have their label at both ends.
 const LONG_SPAN: u64 = 480;
 
+// How wide a letter of a label is, in pixels, at most.
+const LETTER_WIDTH: u64 = 8;
+
 // More lanes than these are narrow.
 const FEW_LANES: usize = 12;
 
@@ -82,7 +85,7 @@ pub fn push_lines(out: &mut String, lanes: usize, rows: usize) -> Result<(), All
 }
 
 // The trace's line of the entry at a place.
-#[tactic(auto, using(crate::proofs::Known::known_actor))]
+#[tactic(auto, using(trace_words::proofs::Actors::known))]
 fn push_line(
     out: &mut String,
     system: &System,
@@ -132,30 +135,39 @@ fn push_label(
     out.push_str("</text>")
 }
 
+// How wide a label is, in pixels, at most.
+fn label_width(text: &str) -> u64 {
+    (text.len() as u64).saturating_mul(LETTER_WIDTH)
+}
+
+fn push_line_to(out: &mut String, from: u64, end: u64, y: u64) -> Result<(), AllocError> {
+    let barb = if from < end { "-8" } else { "8" };
+    write!(out, "<path class=\"line\" d=\"M{from} {y}H{end}\"/>")?;
+    write!(out, "<path class=\"head\" d=\"M{end} {y}l{barb}-4v8z\"/>")
+}
+
 // An arrow to the right, with its label behind its actor, and before its head too where it is long.
 fn push_right(out: &mut String, from: u64, to: u64, y: u64, text: &str) -> Result<(), AllocError> {
-    let end = to.saturating_sub(2);
     let label_y = y.saturating_sub(5);
-    write!(out, "<path class=\"line\" d=\"M{from} {y}H{end}\"/>")?;
-    write!(out, "<path class=\"head\" d=\"M{end} {y}l-8-4v8z\"/>")?;
     push_label(out, false, from.saturating_add(7), label_y, text)?;
     if to.saturating_sub(from) > LONG_SPAN {
         push_label(out, true, to.saturating_sub(14), label_y, text)?;
     }
-    Ok(())
+    push_line_to(out, from, to.saturating_sub(2), y)
 }
 
-// The same to the left.
+// The same to the left. Where there is no room for the label behind its actor it is at its head alone.
 fn push_left(out: &mut String, from: u64, to: u64, y: u64, text: &str) -> Result<(), AllocError> {
-    let end = to.saturating_add(2);
     let label_y = y.saturating_sub(5);
-    write!(out, "<path class=\"line\" d=\"M{from} {y}H{end}\"/>")?;
-    write!(out, "<path class=\"head\" d=\"M{end} {y}l8-4v8z\"/>")?;
-    push_label(out, true, from.saturating_sub(7), label_y, text)?;
-    if from.saturating_sub(to) > LONG_SPAN {
+    let right = from.saturating_sub(7);
+    let has_room = label_width(text) <= right;
+    if has_room {
+        push_label(out, true, right, label_y, text)?;
+    }
+    if !has_room || from.saturating_sub(to) > LONG_SPAN {
         push_label(out, false, to.saturating_add(14), label_y, text)?;
     }
-    Ok(())
+    push_line_to(out, from, to.saturating_add(2), y)
 }
 
 // A mark at a lane, and its label.

@@ -6,10 +6,11 @@ use crate::drawing::{
 use crate::escapes::push_html;
 use crate::gathering::{Part, PlacedArrow};
 use crate::labels::push_end;
-use crate::lanes::{Lanes, actor_name, push_word};
+use crate::lanes::{Lanes, push_word};
 use ffm_model::{ActorId, System, Trace};
 use machine_check::Checked;
 use std::alloc::{AllocError, Global};
+use trace_words::actor_name;
 
 const HEAD: &str = r##"<!DOCTYPE html>
 <html lang="en">
@@ -93,7 +94,7 @@ fn push_lane(
     actor: ActorId,
 ) -> Result<(), AllocError> {
     write!(out, "<div class=\"lane\" style=\"width:{width}px\">")?;
-    push_name(out, actor_name(system, actor))?;
+    push_name(out, actor_name(system, actor.0))?;
     out.push_str("<small>")?;
     push_word(out, system, actor)?;
     out.push_str("</small></div>\n")

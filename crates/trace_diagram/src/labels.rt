@@ -8,13 +8,7 @@ use ffm_model::{
 };
 use machine_check::Checked;
 use std::alloc::{AllocError, Global};
-
-fn service_name(system: &System, service: u32) -> &str {
-    match system.services.as_slice().get(service as usize) {
-        Some(service) => service.name.as_str(),
-        None => "",
-    }
-}
+use trace_words::service_name;
 
 fn signal_name(system: &System, source: u32) -> &str {
     match system.sources.as_slice().get(source as usize) {

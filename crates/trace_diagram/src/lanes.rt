@@ -1,4 +1,4 @@
-//! The actors that take part in a diagram, and their names.
+//! The actors that take part in a diagram, and their words in a trace.
 
 use crate::gathering::PlacedArrow;
 use ffm_model::{ActorId, System};
@@ -37,49 +37,17 @@ impl Lanes {
     }
 }
 
-/// What an actor is, with its number from 1 among those of its kind.
-#[derive(Clone, Copy, Debug)]
-pub enum Seat {
-    Partition(usize),
-    Client(usize),
-    Device,
-}
-
-/// What an actor is.
-pub fn seat_of(system: &System, actor: ActorId) -> Seat {
-    let place = actor.0 as usize;
-    let partitions = system.partitions.len();
-    if place < partitions {
-        return Seat::Partition(place);
-    }
-    let place = place - partitions;
-    if place < system.clients.len() {
-        Seat::Client(place)
-    } else {
-        Seat::Device
-    }
-}
-
-/// An actor's name. The device's is `device`.
-pub fn actor_name(system: &System, actor: ActorId) -> &str {
-    match seat_of(system, actor) {
-        Seat::Partition(place) => match system.partitions.as_slice().get(place) {
-            Some(partition) => partition.name.as_str(),
-            None => "",
-        },
-        Seat::Client(place) => match system.clients.as_slice().get(place) {
-            Some(client) => client.as_str(),
-            None => "",
-        },
-        Seat::Device => "device",
-    }
-}
-
 /// Appends an actor's word in a trace: `p1`, `n1` or `dev`.
 pub fn push_word(out: &mut String, system: &System, actor: ActorId) -> Result<(), AllocError> {
-    match seat_of(system, actor) {
-        Seat::Partition(place) => write!(out, "p{}", place.saturating_add(1)),
-        Seat::Client(place) => write!(out, "n{}", place.saturating_add(1)),
-        Seat::Device => out.push_str("dev"),
+    let counts = system.counts();
+    let place = actor.0;
+    if place < counts.partitions {
+        return write!(out, "p{}", place.saturating_add(1));
+    }
+    let place = place - counts.partitions;
+    if place < counts.clients {
+        write!(out, "n{}", place.saturating_add(1))
+    } else {
+        out.push_str("dev")
     }
 }

@@ -19,4 +19,7 @@ mod mermaid;
 pub use arrows::{Arrow, Meaning, arrow_of, arrows_of};
 pub use formats::{Format, SequenceDiagram, diagram};
 pub use gathering::{Part, PlacedArrow, gather};
-pub use laws::{answers_pair_with_calls, calls_and_replies_have_arrows, calls_are_answered_once};
+pub use laws::{
+    answers_pair_with_calls, calls_and_replies_have_arrows, calls_are_answered_once,
+    freed_clients_have_arrows,
+};

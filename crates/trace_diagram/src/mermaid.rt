@@ -4,10 +4,11 @@ use crate::arrows::Meaning;
 use crate::escapes::push_mermaid;
 use crate::gathering::{PlacedArrow, entry_at};
 use crate::labels::{label, push_end};
-use crate::lanes::{Lanes, actor_name, push_word};
+use crate::lanes::{Lanes, push_word};
 use ffm_model::{ActorId, Entry, System, Trace};
 use machine_check::Checked;
 use std::alloc::{AllocError, Global};
+use trace_words::actor_name;
 
 // The line that brings in an actor, under its word in the trace.
 fn push_participant(out: &mut String, system: &System, actor: ActorId) -> Result<(), AllocError> {
@@ -16,7 +17,7 @@ fn push_participant(out: &mut String, system: &System, actor: ActorId) -> Result
     out.push_str(" as ")?;
     push_word(out, system, actor)?;
     out.push(' ')?;
-    push_mermaid(out, actor_name(system, actor))?;
+    push_mermaid(out, actor_name(system, actor.0))?;
     out.push('\n')
 }
 

@@ -19,6 +19,7 @@ use Rattle.ffm_model.specs.ClientCalls.{Move, Effect, in_state, psa_call, connec
 use Rattle.ffm_model.specs.ServiceCalls.{psa_get}
 use Rattle.ffm_model.specs.State.{State, fresh, handle_eq}
 use Rattle.ffm_model.specs.Step.{step, step_on, handle_allowed, handle_shown, outcome_eq}
+use Rattle.ffm_model.proofs.RunLemmas.{none-stays, some-is}
 
 abbrev pub is_message : Outcome → Bool
 is_message (outcome.Got m) = true
@@ -226,18 +227,10 @@ step_gives s st e h =
 
 -- ---- in a run
 
-none-stays : (s : System) (es : List Entry) → fold (step_on s) None es ≡ None
-none-stays s [] = refl
-none-stays s (e ∷ es) = none-stays s es
-
-is_there : {X : Type 0} (o : Option X) → (o ≡ None → ⊥) → IsSome o
-is_there (Some x) h = refl
-is_there None h = absurd (h refl)
-
 first_gives : (s : System) (st : Option State) (e : Entry) (es : List Entry) → IsSome (fold (step_on s) (step_on s st e) es) → gives_rightly e.call e.outcome ≡ true
 first_gives s None e es h = absurd (let n : fold (step_on s) None es ≡ None = none-stays s es in cc)
 first_gives s (Some x) e es h =
-    step_gives s x e (is_there (step s x e) (λ q. let n : fold (step_on s) (step s x e) es ≡ None = ap (λ o. fold (step_on s) o es) q ∙ none-stays s es in cc))
+    step_gives s x e (some-is (step s x e) (λ q. let n : fold (step_on s) (step s x e) es ≡ None = ap (λ o. fold (step_on s) o es) q ∙ none-stays s es in cc))
 
 -- each entry of a run
 pub each_gives : (s : System) (st : Option State) (es : List Entry) → IsSome (fold (step_on s) st es) → AllByRecursion (λ e. gives_rightly e.call e.outcome ≡ true) es

@@ -1,12 +1,11 @@
 -- The places of the actors' last entries, entry by entry.
 use Rattle.std.proofs.Common.{arith, ℕ, zero, suc, ◌≡◌, ◌<◌, ◌+◌, ◌-◌, List, [], ◌∷◌, ◌++◌, length, drop, take, get_or, refl, ap, sym, subst, ◌∙◌, ⊎_elim}
 use Rattle.std.proofs.lemmas.Bool.{cases_eq}
-use Rattle.std.proofs.lemmas.List.{drop-append-le, drop_all, get_or-replicate, get_or-set_other, get_or-set_same, length-append, length-replicate, length-set, length-take-le, take_more}
+use Rattle.std.proofs.lemmas.List.{drop-append-le, drop_all, get_or-set_other, get_or-set_same, length-append, length-set, length-take-le, take_more}
 use Rattle.std.proofs.lemmas.List.Elements.{All-append}
-use Rattle.std.specs.Prelude.{All, Some, IsSomeAnd, replicate, slice_get, slice_set}
+use Rattle.std.specs.Prelude.{All, Some, IsSomeAnd, slice_get, slice_set}
 use Rattle.ffm_model.specs.declared.system.System.{System}
 use Rattle.ffm_model.specs.declared.machine.Entry.{Entry}
-use Rattle.ffm_model.specs.Actors.{actor_count}
 use Rattle.trace_view.specs.Showing.{AreLastPlaces, IsLastPlace}
 
 all_none : (P : Entry → Type 0) → All P []

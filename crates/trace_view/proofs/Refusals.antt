@@ -76,7 +76,7 @@ exactly s st a h kind in_vec in_len out_vec out_len Device x none = refl
 
 shown_by : (s : System) (limit n : ℕ) (st : State) (e : Entry) (c : Call) (r : Rule) → e.call ≡ c → IsRule s limit n st e r → IfSome (refusal_shown c r) (λ refused. refused ≡ programmer_error s st e.actor.0 c)
 shown_by s limit n st e (call.Invoke h kind in_vec in_len out_vec out_len) (rule.OtherAnswer answer) same breaks =
-    let fit = fits_from s st (record { actor = record { 0 = e.actor.0 }; call = e.call; outcome = answer }) breaks.1.1.is_answer.is_step in
+    let fit = fits_from s st (record { actor = record { 0 = e.actor.0 }; call = e.call; outcome = answer }) breaks.1.1.0.is_answer.is_step in
     ap is_refusal fit.outcome ∙ ap (λ c. is_refusal (effect_of s st e.actor.0 c (handle_shown answer)).outcome) same
     ∙ exactly s st e.actor.0 h kind in_vec in_len out_vec out_len (kind_of s e.actor.0) (psa_call s st e.actor.0 h kind in_vec in_len out_vec out_len) (by_index s st e.actor.0 h kind in_vec in_len out_vec out_len (stateless_index h))
 shown_by s limit n st e c r same breaks = tt

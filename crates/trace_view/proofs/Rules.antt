@@ -13,7 +13,7 @@ use Rattle.ffm_model.specs.Step.{step, may_call, handle_shown, outcome_eq, retur
 use Rattle.ffm_model.proofs.StepLemmas.{outcome_eq-self}
 use Rattle.machine_check.specs.Performed.{gave_handle}
 use Rattle.machine_check.specs.Reaching.{IsDue}
-use Rattle.trace_view.specs.Why.{IsIllegal, IsRule, IsStepWith, gives, with_handle}
+use Rattle.trace_view.specs.Why.{IsIllegal, IsOther, IsRule, IsStepWith, gives, with_handle}
 use Rattle.trace_view.specs.declared.reasons.Rule.TheVariants as rule
 use Rattle.trace_view.proofs.Answers.{gives_by, no_handle, same_outcome, the_answer}
 
@@ -91,17 +91,22 @@ unlike : (s : System) (st : State) (e : Entry) (o : Outcome) (g : Bool) → step
 unlike s st e o true none due test same = let equal : outcome_eq (with_handle (handle_shown e.outcome) o) e.outcome ≡ true = ap (λ x. outcome_eq x e.outcome) (sym same) ∙ outcome_eq-self e.outcome in absurd cc
 unlike s st e o false none due test same = some_or_none s st e o none same due
 
+is_other : (s : System) (st : State) (e : Entry) (o : Outcome) → step s st e ≡ None → may_call s st.spm e.actor.0 e.call ≡ true → IsDue s st e.actor.0 e.call (Some o)
+    → (gave_handle (phase_of st.spm e.actor.0) e.call o && outcome_eq (with_handle (handle_shown e.outcome) o) e.outcome) ≡ false → IsOther s st e o
+is_other s st e o none may due test = record {
+  may = may;
+  is_answer = the_answer s st e o due;
+  unlike = unlike s st e o (gives s st e) none due (ap (λ g. g && outcome_eq (with_handle (handle_shown e.outcome) o) e.outcome) (gives_by s st e o due) ∙ test);
+}
+
+pub other_handle : (s : System) (limit n : ℕ) (st : State) (e : Entry) (o : Outcome) → n < limit → may_call s st.spm e.actor.0 e.call ≡ true → IsIllegal s limit n st e → IsDue s st e.actor.0 e.call (Some o)
+    → (gave_handle (phase_of st.spm e.actor.0) e.call o && outcome_eq (with_handle (handle_shown e.outcome) o) e.outcome) ≡ false → gave_handle (phase_of st.spm e.actor.0) e.call o ≡ true → IsRule s limit n st e (rule.OtherHandle o)
+other_handle s limit n st e o below may illegal due test gave =
+    let none = no_step s limit n st e below illegal in
+    (below, (none, (is_other s st e o none may due test, gives_by s st e o due ∙ gave)))
+
 pub other_answer : (s : System) (limit n : ℕ) (st : State) (e : Entry) (o : Outcome) → n < limit → may_call s st.spm e.actor.0 e.call ≡ true → IsIllegal s limit n st e → IsDue s st e.actor.0 e.call (Some o)
-    → (gave_handle (phase_of st.spm e.actor.0) e.call o && outcome_eq (with_handle (handle_shown e.outcome) o) e.outcome) ≡ false → IsRule s limit n st e (rule.OtherAnswer o)
-other_answer s limit n st e o below may illegal due test =
-    let none = no_step s limit n st e below illegal in (
-      below,
-      (
-        none,
-        record {
-          may = may;
-          is_answer = the_answer s st e o due;
-          unlike = unlike s st e o (gives s st e) none due (ap (λ g. g && outcome_eq (with_handle (handle_shown e.outcome) o) e.outcome) (gives_by s st e o due) ∙ test);
-        },
-      ),
-    )
+    → (gave_handle (phase_of st.spm e.actor.0) e.call o && outcome_eq (with_handle (handle_shown e.outcome) o) e.outcome) ≡ false → gave_handle (phase_of st.spm e.actor.0) e.call o ≡ false → IsRule s limit n st e (rule.OtherAnswer o)
+other_answer s limit n st e o below may illegal due test gave =
+    let none = no_step s limit n st e below illegal in
+    (below, (none, (is_other s st e o none may due test, gives_by s st e o due ∙ gave)))

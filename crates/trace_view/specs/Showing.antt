@@ -22,8 +22,9 @@ pub record AreLastPlaces (s : System) (es : List Entry) (places : List ℕ) : Ty
   pub actors : length places ≡ actor_count s
   pub each : (a : ℕ) → a < actor_count s → IsLastPlace es a (get_or places a 0)
 
--- the state behind the first k of these entries
-pub record IsStateBehind (s : System) (m : ByteMap) (es : List Entry) (k : ℕ) (b : StateBehind) : Type 0 where
+-- the state behind the first k of these entries, which are within the limit
+pub record IsStateBehind (s : System) (m : ByteMap) (limit : ℕ) (es : List Entry) (k : ℕ) (b : StateBehind) : Type 0 where
+  pub within : k ≤ limit
   pub behind : IsBehind s m (take k es) b.checker
   pub count : b.checker.count ≡ k
   pub total : b.total ≡ length es
@@ -38,11 +39,11 @@ pub record IsIllegalAt (s : System) (m : ByteMap) (limit : ℕ) (es : List Entry
   pub run : IsSome (after s m (take before es))
   pub illegal : (limit ≡ before) ⊎ (after s m (take n es) ≡ None)
 
--- what is behind place k: a state, or none, since there are fewer entries or one up to it is illegal
+-- what is behind place k: a state; or none, where there are fewer entries, or as many and one up to it is illegal
 abbrev pub IsPlace : System → ByteMap → ℕ → List Entry → ℕ → Place → Type 0
-IsPlace s m limit es k (place.State b) = IsStateBehind s m es k b
+IsPlace s m limit es k (place.State b) = IsStateBehind s m limit es k b
 IsPlace s m limit es k place.Beyond = length es < k
-IsPlace s m limit es k (place.Illegal n) = (n ≤ k) × IsIllegalAt s m limit es n
+IsPlace s m limit es k (place.Illegal n) = (k ≤ length es) × ((n ≤ k) × IsIllegalAt s m limit es n)
 
 -- the state behind all entries, or behind those before the first illegal one
 pub record IsLastLegal (s : System) (m : ByteMap) (limit : ℕ) (es : List Entry) (b : StateBehind) : Type 0 where

@@ -1,8 +1,8 @@
 -- Why a trace is illegal.
 -- Source: this simulator's; `judged` and `step` of the model.
-use Rattle.std.specs.Prelude.{ℕ, ◌+◌, ◌≡◌, ◌<◌, ◌≤◌, ◌⊎◌, Bool, false, true, not, ◌&&◌, if◌then◌else◌, List, length, map, take, slice_get, Option, None, Some, IfSome, IsSome, IsSomeAnd}
+use Rattle.std.specs.Prelude.{ℕ, ◌+◌, ◌≡◌, ◌<◌, ◌≤◌, ◌⊎◌, Bool, false, true, not, ◌&&◌, if◌then◌else◌, List, [], length, map, take, slice_get, Option, None, Some, IfSome, IsSome, IsSomeAnd}
 use Rattle.std.specs.Ordering.{int_eq}
-use Rattle.call_conditions.specs.Conditions.{SayWhen, told}
+use Rattle.call_conditions.specs.Conditions.{SayWhen, conditions_of, told}
 use Rattle.ffm_model.specs.declared.constants.TheConstants.{PSA_ERROR_PROGRAMMER_ERROR}
 use Rattle.ffm_model.specs.declared.machine.Call.{Call}
 use Rattle.ffm_model.specs.declared.machine.Call.TheVariants as call
@@ -90,7 +90,8 @@ Breaks s st e rule.ReturnDue = CanAct s st e × ((returns_when_due e.call (phase
 Breaks s st e rule.NoReturnDue = CanAct s st e × ((returns_when_due e.call (phase_of st.spm e.actor.0) ≡ false) × (may_resume (phase_of st.spm e.actor.0) ≡ false))
 Breaks s st e rule.NoHandleLeft = HasNoHandle s st e
 Breaks s st e (rule.StaleHandle answer) = IsStale s st e answer
-Breaks s st e (rule.OtherAnswer answer) = IsOther s st e answer
+Breaks s st e (rule.OtherHandle answer) = IsOther s st e answer × (gives s st e ≡ true)
+Breaks s st e (rule.OtherAnswer answer) = IsOther s st e answer × (gives s st e ≡ false)
 
 -- the rule by which an entry behind n others that led to a state is illegal: it exceeds the limit, or it is no step
 abbrev pub IsRule : System → ℕ → ℕ → State → Entry → Rule → Type 0
@@ -114,8 +115,11 @@ abbrev pub refusal_shown : Call → Rule → Option Bool
 refusal_shown (call.Invoke h kind in_vec in_len out_vec out_len) (rule.OtherAnswer answer) = Some (is_refusal answer)
 refusal_shown _ _ = None
 
--- what is told of the call of an entry behind a state: which of its conditions hold, and, where it is told, whether it is a PROGRAMMER ERROR
+-- what is told of the call of an entry behind a state: its conditions, which mean what they say, and whether it is a PROGRAMMER ERROR, where the rule shows that
 pub record TellsOfCall (s : System) (st : State) (e : Entry) (i : IllegalEntry) : Type 0 where
+  pub table : e.actor.0 < actor_count s → map told i.conditions.items ≡ conditions_of s st.spm e.actor.0 e.call
+  pub none : actor_count s ≤ e.actor.0 → i.conditions.items ≡ []
+  pub shown : i.is_refused ≡ refusal_shown e.call i.rule
   pub conditions : e.actor.0 < actor_count s → SayWhen s st e.actor.0 e.call (map told i.conditions.items)
   pub refused : IfSome i.is_refused (λ refused. refused ≡ programmer_error s st e.actor.0 e.call)
 

@@ -38,7 +38,9 @@ pub enum Rule {
     NoHandleLeft,
     /// The outcome is the answer, but for a handle that isn't fresh: the answer with a fresh one.
     StaleHandle(Outcome),
-    /// The machine answers otherwise: this, and nothing else but another fresh handle where the call gives one.
+    /// The machine gives a handle: this answer, with this handle or any other fresh one, and nothing else.
+    OtherHandle(Outcome),
+    /// The machine answers otherwise: this, and nothing else.
     OtherAnswer(Outcome),
 }
 
@@ -51,7 +53,7 @@ pub struct IllegalEntry {
     pub rule: Rule,
     /// What its actor does before it.
     pub doing: Vec<u8>,
-    /// When its call is a PROGRAMMER ERROR.
+    /// When its call is a PROGRAMMER ERROR; none where the system has no such actor.
     pub conditions: Vec<Condition>,
     /// Whether its call is one, where it is psa_call and another answer is due.
     pub is_refused: Option<bool>,
@@ -163,7 +165,7 @@ fn is_answer_but_handle(phase: ActorPhase, entry: &Entry, answer: Outcome) -> bo
 }
 
 // The rule that an illegal entry breaks.
-#[tactic(auto, using(crate::proofs::Rules::no_handle_left, crate::proofs::Rules::stale_handle, crate::proofs::Rules::other_answer))]
+#[tactic(auto, using(crate::proofs::Rules::no_handle_left, crate::proofs::Rules::stale_handle, crate::proofs::Rules::other_handle, crate::proofs::Rules::other_answer))]
 fn broken_rule(system: &System, limit: u32, checker: Checker, entry: &Entry) -> Result<Rule, Memory>
     requires kept { IsMachineOf system.now checker.machine }
     requires few { checker.machine.objects.connections_made < 2 ^ 31 }
@@ -177,6 +179,8 @@ fn broken_rule(system: &System, limit: u32, checker: Checker, entry: &Entry) -> 
         Some(answer) => {
             if is_answer_but_handle(phase, entry, answer) {
                 Ok(Rule::StaleHandle(answer))
+            } else if gave_handle(phase, entry.call, answer) {
+                Ok(Rule::OtherHandle(answer))
             } else {
                 Ok(Rule::OtherAnswer(answer))
             }

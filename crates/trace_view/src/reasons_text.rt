@@ -16,14 +16,16 @@ fn rule_words(rule: Rule) -> &'static str {
         Rule::NoHandleLeft => "no handle is left to be given",
         Rule::StaleHandle(_) =>
             "the handle isn't fresh: it is from 1 to 0x3fffffff, and no event gave it before",
-        Rule::OtherAnswer(_) => "another answer is due",
+        Rule::OtherHandle(_) | Rule::OtherAnswer(_) => "another answer is due",
     }
 }
 
 // The answer that is due, where the call may be made.
 fn answer_due(rule: Rule) -> Option<Outcome> {
     match rule {
-        Rule::StaleHandle(outcome) | Rule::OtherAnswer(outcome) => Some(outcome),
+        Rule::StaleHandle(outcome) | Rule::OtherHandle(outcome) | Rule::OtherAnswer(outcome) => {
+            Some(outcome)
+        }
         _ => None,
     }
 }
@@ -90,10 +92,7 @@ fn put_actor_line(
 
 // Whether the answer that is due shows a handle, which may be any fresh one.
 fn shows_handle(rule: Rule) -> bool {
-    matches!(
-        rule,
-        Rule::StaleHandle(_) | Rule::OtherAnswer(Outcome::Got(_))
-    )
+    matches!(rule, Rule::StaleHandle(_) | Rule::OtherHandle(_))
 }
 
 fn put_due(

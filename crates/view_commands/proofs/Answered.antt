@@ -19,7 +19,7 @@ use Rattle.view_words.specs.declared.words.Request.{Request}
 use Rattle.view_words.specs.Requests.{AsksFor, IsTold, told_status}
 
 -- the aspect is shown of the files that were read
-pub shown_due : (held : Option Contents) (f : Contents → Reading Work) (files : TraceFiles) (a : Aspect) (text : List ℕ) (status : ℕ) → IfSome held (λ of. ReadsDue (f of).gives (Ok files)) → Shows files a status
+pub shown_due : (held : Option Contents) (f : Contents → Reading Work) (files : TraceFiles) (a : Aspect) (text : List ℕ) (status : ℕ) → IfSome held (λ of. ReadsDue (f of).gives (Ok files)) → Shows files a text status
     → IfSome held (λ of. ViewDue (f of).gives a text status)
 shown_due None f files a text status read shows = tt
 shown_due (Some of) f files a text status read shows = inr (record { files = files; work = read.0; are = read.1; shows = shows })

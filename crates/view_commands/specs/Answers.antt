@@ -7,7 +7,7 @@ use Rattle.outside_io.specs.Reads.{FrontReadBetween, ReadBetween}
 use Rattle.outside_io.specs.Told.{Takes, TakesPart}
 use Rattle.work_orders.specs.Work.{Work, judge_of, work_of}
 use Rattle.view_commands.specs.Files.{AreTraceFiles, RefusalDue, order_of_files}
-use Rattle.view_commands.specs.Views.{IsView, status_of}
+use Rattle.view_commands.specs.Views.{IsView, IsViewText, status_of}
 use Rattle.view_words.specs.Requests.{AsksFor, IsTold}
 use Rattle.view_commands.specs.declared.files.TraceFiles.{TraceFiles}
 use Rattle.view_commands.specs.declared.view.View.{View}
@@ -22,20 +22,20 @@ IsStatus status = (status ≤ 2) ⊎ ((6 ≤ status) × (status ≤ 9))
 abbrev pub IsShownStatus : ℕ → Type 0
 IsShownStatus status = (status ≤ 2) ⊎ (status ≡ 6)
 
--- the aspect of the files' trace, with its status
-abbrev pub Shows : TraceFiles → Aspect → ℕ → Type 0
-Shows files a status = (v : View) × IsView files a v × (status ≡ status_of v)
+-- the aspect of the files' trace, with its text and its status
+abbrev pub Shows : TraceFiles → Aspect → List ℕ → ℕ → Type 0
+Shows files a text status = (v : View) × IsView files a v × IsViewText v text × (status ≡ status_of v)
 
 -- the aspect is shown of the trace that the files are to give
-pub record IsShown (due : Result Work Stop) (a : Aspect) (status : ℕ) : Type 0 where
+pub record IsShown (due : Result Work Stop) (a : Aspect) (text : List ℕ) (status : ℕ) : Type 0 where
   pub files : TraceFiles
   pub work : due ≡ Ok (judge_of Replay files.work.system files.work.scenario files.work.trace.items)
   pub are : AreTraceFiles files
-  pub shows : Shows files a status
+  pub shows : Shows files a text status
 
 -- a file is refused, or the aspect is shown
 abbrev pub ViewDue : Result Work Stop → Aspect → List ℕ → ℕ → Type 0
-ViewDue due a text status = (RefusalDue due text × (status ≡ 1)) ⊎ IsShown due a status
+ViewDue due a text status = (RefusalDue due text × (status ≡ 1)) ⊎ IsShown due a text status
 
 -- the words are no command or ask for help or the version, or what they ask for is shown
 abbrev pub Due : List (List ℕ) → Contents → List ℕ → ℕ → Type 0

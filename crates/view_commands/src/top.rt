@@ -69,7 +69,7 @@ fn told(alloc: Global, error: &Error) -> Result<Answer, Stopped>
 // What an aspect shows of the files of a trace.
 fn shown(alloc: Global, files: &TraceFiles, aspect: Aspect) -> Result<Answer, Memory>
     requires { AreTraceFiles files.now }
-    ensures { IfOk result (λ answer. Shows files.now aspect answer.status) }
+    ensures { IfOk result (λ answer. Shows files.now aspect answer.text.items answer.status) }
 {
     let view = view_of(alloc, files, aspect)?;
     let status = view.status();
@@ -166,7 +166,7 @@ pub fn ffm_view<F: Files, S: Sink>(
     // A status below 7 comes with a text, written whole: for words that `clap` doesn't take, or that ask for help or
     // the version, with the status of its answer; for files that are refused with ffm's own line; and else there is
     // what is shown: the state behind the place, or how the trace is judged and why, or counts of its legal entries,
-    // or a diagram.
+    // or a diagram; or the line that the trace has no such place, or that no state is behind it.
     ensures due { result < 7 → IfSome (F.held files.old) (λ of.
         WritesDue (map string_bytes words.now) of (S.taken out.old) (S.taken out.new) result) }
     ensures handed_on { result < 7 → S.is_handed_on out.new }

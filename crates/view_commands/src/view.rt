@@ -1,14 +1,13 @@
 //! What is shown of a trace.
-ghost use Rattle.std.specs.Prelude.{◌≡◌, IfOk, length};
+ghost use Rattle.std.specs.Prelude.{◌≡◌, IfOk, length, string_bytes};
 ghost use Rattle.ffm_model.specs.Memory.{opening_memory};
 ghost use Rattle.memory_image.specs.Pieces.{byte_at, ranges_of, regions_of};
 ghost use Rattle.view_commands.specs.Files.{AreTraceFiles};
-ghost use Rattle.view_commands.specs.Views.{IsView, memory_of, status_of};
+ghost use Rattle.view_commands.specs.Views.{IsView, IsViewText, memory_of, no_place_line, no_state_line, status_of};
 
 use crate::diagrams::{format_of, part_asked, place_beyond};
 use crate::files::TraceFiles;
 use ffm_model::{Memory, System};
-use itoa::Buffer;
 use memory_image::Image;
 use scenario_runs::opening_image;
 use std::alloc::{AllocError, Global};
@@ -134,37 +133,29 @@ pub fn view_of(alloc: Global, files: &TraceFiles, aspect: Aspect) -> Result<View
     }
 }
 
-// A line of words and numbers.
-fn line(alloc: Global, pieces: &[(&str, u32)], end: &str) -> Result<Vec<u8>, AllocError> {
-    let mut text = Vec::new(alloc);
-    for (words, number) in pieces {
-        text.extend_from_slice(words.as_bytes())?;
-        text.extend_from_slice(Buffer::new().format(*number).as_bytes())?;
-    }
-    text.extend_from_slice(end.as_bytes())?;
-    Ok(text)
+fn no_place(alloc: Global, place: u32, total: u32) -> Result<String, AllocError>
+    ensures { IfOk result (λ line. string_bytes line ≡ no_place_line place total) }
+{
+    format!(in alloc; "no entry {place}: the trace has {total}\n")
 }
 
-fn no_place(alloc: Global, place: u32, total: u32) -> Result<Vec<u8>, AllocError> {
-    let pieces = [("no entry ", place), (": the trace has ", total)];
-    line(alloc, &pieces, "\n")
-}
-
-fn no_state(alloc: Global, illegal: u32, place: u32) -> Result<Vec<u8>, AllocError> {
-    let pieces = [
-        ("entry ", illegal),
-        (" is illegal: no state behind entry ", place),
-    ];
-    line(alloc, &pieces, "; ffm_view why tells more\n")
+fn no_state(alloc: Global, illegal: u32, place: u32) -> Result<String, AllocError>
+    ensures { IfOk result (λ line. string_bytes line ≡ no_state_line illegal place) }
+{
+    format!(in alloc;
+        "entry {illegal} is illegal: no state behind entry {place}; ffm_view why tells more\n"
+    )
 }
 
 impl View {
     /// The text of what is shown of a trace over this system.
-    pub fn into_text(self, alloc: Global, system: &System) -> Result<Vec<u8>, AllocError> {
+    pub fn into_text(self, alloc: Global, system: &System) -> Result<Vec<u8>, AllocError>
+        ensures { IfOk result (λ text. IsViewText self text.items) }
+    {
         match self {
             View::State(behind) => state_text(alloc, system, &behind),
-            View::NoPlace { place, total } => no_place(alloc, place, total),
-            View::NoState { illegal, place } => no_state(alloc, illegal, place),
+            View::NoPlace { place, total } => Ok(no_place(alloc, place, total)?.into_bytes()),
+            View::NoState { illegal, place } => Ok(no_state(alloc, illegal, place)?.into_bytes()),
             View::Why(finding) => why_text(alloc, system, &finding),
             View::Diagram(_, text) => Ok(text),
             View::Stats(counts) => stats_text(alloc, system, &counts),

@@ -4,6 +4,10 @@
 #![tactic(auto)]
 
 #[cfg(test)]
+mod diagrams;
+#[cfg(test)]
 mod outside;
 #[cfg(test)]
 mod texts;
+#[cfg(test)]
+mod usage;

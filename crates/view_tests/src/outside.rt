@@ -1,4 +1,4 @@
-//! Words that are no command, refused files, failing reads and puts.
+//! The statuses of words, refused files, failing reads and puts.
 
 use crate::texts::{files_of, words_of, written};
 use ffm_model::List;
@@ -6,30 +6,16 @@ use outside_io::MemorySink;
 use std::alloc::Global;
 use std::test::Fail;
 use view_commands::ffm_view;
-use view_words::VERSION;
 
 /// A trace that is legal where the client and the partitions end.
 const ENDED: &str =
     "p1 stop end -> done\np2 stop end -> done\nn1 stop end -> done\ndev stop end -> done\nquiet 4\n";
 
 /// Lists of words, and the status that comes of each.
-const LISTS: [(&[&str], u8); 22] = [
-    (&[], 2),
-    (&["ffm_view"], 2),
-    (&["ffm_view", "show"], 2),
+const LISTS: [(&[&str], u8); 12] = [
     (&["ffm_view", "why"], 2),
-    (&["ffm_view", "why", "system", "scenario"], 2),
-    (&["ffm_view", "why", "system", "scenario", "trace", "1"], 2),
     (
         &["ffm_view", "why", "--all", "system", "scenario", "trace"],
-        2,
-    ),
-    (
-        &["ffm_view", "state", "system", "scenario", "trace", "x"],
-        2,
-    ),
-    (
-        &["ffm_view", "state", "system", "scenario", "trace", "-1"],
         2,
     ),
     (
@@ -53,19 +39,7 @@ const LISTS: [(&[&str], u8); 22] = [
     ),
     (
         &[
-            "ffm_view", "diagram", "--from", "0", "system", "scenario", "trace",
-        ],
-        2,
-    ),
-    (
-        &[
             "ffm_view", "diagram", "--to", "5", "system", "scenario", "trace",
-        ],
-        2,
-    ),
-    (
-        &[
-            "ffm_view", "diagram", "--format", "text", "system", "scenario", "trace",
         ],
         2,
     ),
@@ -79,7 +53,6 @@ const LISTS: [(&[&str], u8); 22] = [
     (&["ffm_view", "stats", "nothing", "scenario", "trace"], 7),
     (&["ffm_view", "stats", "system", "nothing", "trace"], 7),
     (&["ffm_view", "stats", "system", "scenario", "nothing"], 7),
-    (&["ffm_view", "--help"], 0),
     (&["ffm_view", "state", "--help"], 0),
 ];
 
@@ -90,17 +63,6 @@ fn lists_of_words(rt: HostRuntime) -> Result<(), Fail> {
         assert_eq!(rt; status, wanted, "{words:?}");
         assert_eq!(rt; text.is_empty(), wanted == 7, "{words:?}");
     }
-    Ok(())
-}
-
-#[test]
-fn version(rt: HostRuntime) -> Result<(), Fail> {
-    let (status, text) = written(rt.alloc(), &["ffm_view", "--version"], "{}", ENDED)?;
-    assert_eq!(rt; status, 0);
-    assert_eq!(rt;
-        text.as_slice(),
-        format!(in rt.alloc(); "ffm_view {VERSION}\n")?.as_bytes()
-    );
     Ok(())
 }
 

@@ -22,6 +22,19 @@ const CIRCLE: &str =
 const NOT_TAKEN: &str =
     "p1 stop end -> done\np2 stop end -> done\ndev stop end -> done\nn1 connect 0x00000040 1 -> blocked\nstalled 4\n";
 
+/// The partition with the service waits for the other one's doorbell or an interrupt, that one for a message of the
+/// client, and the client for the first one. No device is left that could raise the interrupt.
+const LONG_CIRCLE: &str =
+    "p1 wait 0x00000028 0x80000000 -> blocked\np2 wait 0x00000010 0x80000000 -> blocked\nn1 connect 0x00000040 1 -> blocked\ndev stop end -> done\nstalled 4\n";
+
+/// A partition waits for an interrupt that it disabled, and for a doorbell that nobody is left to ring.
+const NOT_GIVEN: &str =
+    "p2 stop end -> done\np1 irq_disable 0x00000020 -> number 1\np1 wait 0x00000028 0x80000000 -> blocked\ndev raise 0 -> done\ndev stop end -> done\nn1 connect 0x00000040 1 -> blocked\nstalled 6\n";
+
+/// A partition waits for an interrupt that it disabled and for a message, and the message came.
+const CAME: &str =
+    "p1 irq_disable 0x00000020 -> number 1\np1 wait 0x00000030 0x80000000 -> blocked\ndev raise 0 -> done\nn1 connect 0x00000040 1 -> blocked\nfull 4\n";
+
 /// A command with what may stand behind its files, a trace, and what comes of them.
 struct Shown {
     command: &'static str,
@@ -32,7 +45,7 @@ struct Shown {
     text: &'static str,
 }
 
-static SHOWN: [Shown; 8] = [
+static SHOWN: [Shown; 11] = [
     Shown {
         command: "state",
         place: "",
@@ -74,6 +87,27 @@ static SHOWN: [Shown; 8] = [
         trace: NOT_TAKEN,
         status: 0,
         text: "state behind entry 4 of 4\nactors, each with the place of its last entry\n  CRYPTO  p1      1  has ended\n  LOG     p2      2  has ended\n  NS      n1      4  blocked in psa_connect at HASH of CRYPTO\n  device  dev     3  has ended\nconnections\n  NS     -> HASH    opening  no handle yet\nmessages, oldest first, with the bytes moved of each vector\n  NS     -> HASH    psa_connect queued\nno doorbell asserted\ninterrupts\n  TICK_SIGNAL of CRYPTO  enabled\nstalled: no actor can go on\n  NS      blocked in psa_connect at HASH of CRYPTO; CRYPTO has to take the message and has ended\nno circle: they wait for actors that are gone or for signals that nobody gives\n",
+    },
+    Shown {
+        command: "state",
+        place: "",
+        trace: LONG_CIRCLE,
+        status: 0,
+        text: "state behind entry 4 of 4\nactors, each with the place of its last entry\n  CRYPTO  p1      1  waits for TICK_SIGNAL, DOORBELL\n  LOG     p2      2  waits for LOG\n  NS      n1      3  blocked in psa_connect at HASH of CRYPTO\n  device  dev     4  has ended\nconnections\n  NS     -> HASH    opening  no handle yet\nmessages, oldest first, with the bytes moved of each vector\n  NS     -> HASH    psa_connect queued\nno doorbell asserted\ninterrupts\n  TICK_SIGNAL of CRYPTO  enabled\nstalled: no actor can go on\n  CRYPTO  waits for TICK_SIGNAL from nobody, or DOORBELL from LOG\n  LOG     waits for LOG from NS\n  NS      blocked in psa_connect at HASH of CRYPTO; CRYPTO has to take the message and waits itself\ncircle: CRYPTO -> LOG -> NS -> CRYPTO\n",
+    },
+    Shown {
+        command: "state",
+        place: "",
+        trace: NOT_GIVEN,
+        status: 0,
+        text: "state behind entry 6 of 6\nactors, each with the place of its last entry\n  CRYPTO  p1      3  waits for TICK_SIGNAL, DOORBELL\n  LOG     p2      1  has ended\n  NS      n1      6  blocked in psa_connect at HASH of CRYPTO\n  device  dev     5  has ended\nconnections\n  NS     -> HASH    opening  no handle yet\nmessages, oldest first, with the bytes moved of each vector\n  NS     -> HASH    psa_connect queued\nno doorbell asserted\ninterrupts\n  TICK_SIGNAL of CRYPTO  disabled, pending\nstalled: no actor can go on\n  CRYPTO  waits for TICK_SIGNAL from nobody while it is disabled, or DOORBELL from nobody\n  NS      blocked in psa_connect at HASH of CRYPTO; CRYPTO has to take the message and waits itself\nno circle: they wait for actors that are gone or for signals that nobody gives\n",
+    },
+    Shown {
+        command: "state",
+        place: "",
+        trace: CAME,
+        status: 0,
+        text: "state behind entry 4 of 4\nactors, each with the place of its last entry\n  CRYPTO  p1      2  waits for HASH, TICK_SIGNAL; asserted: HASH\n  LOG     p2      -  runs\n  NS      n1      4  blocked in psa_connect at HASH of CRYPTO\n  device  dev     3  runs\nconnections\n  NS     -> HASH    opening  no handle yet\nmessages, oldest first, with the bytes moved of each vector\n  NS     -> HASH    psa_connect queued\nno doorbell asserted\ninterrupts\n  TICK_SIGNAL of CRYPTO  disabled, pending\n",
     },
     Shown {
         command: "why",
@@ -118,7 +152,7 @@ pub(crate) fn written(
 ) -> Result<(u8, Vec<u8>), Fail> {
     let words = words_of(alloc, words)?;
     let mut files = files_of(alloc, scenario, trace)?;
-    let mut sink = MemorySink::new(alloc, 4096, 256, List::of(Vec::new(alloc)))?;
+    let mut sink = MemorySink::new(alloc, 16384, 256, List::of(Vec::new(alloc)))?;
     let status = ffm_view(alloc, words.as_slice(), &mut files, &mut sink);
     Ok((status, sink.bytes().to_vec(alloc)?))
 }
@@ -143,7 +177,7 @@ fn shown_traces(rt: HostRuntime) -> Result<(), Fail> {
 }
 
 /// Illegal traces, and why each is.
-const REASONS: [(&str, &str); 12] = [
+const REASONS: [(&str, &str); 19] = [
     (
         "n1 call 1024 -1 0x00000000 0 0x00000000 0 -> blocked\nquiet 1\n",
         "illegal 1\nentry   n1 call 1024 -1 0x00000000 0 0x00000000 0 -> blocked\nactor   NS (n1), before: runs\nrule    another answer is due\ndue     n1 call 1024 -1 0x00000000 0 0x00000000 0 -> value -129\npsa_call is a PROGRAMMER ERROR where one of these holds ([x]: holds here)\n  [x] neither a handle of the caller nor a stateless handle of the caller\n  [ ] the connection is Busy or Error\n  [x] the kind is negative\n  [?] a rule of the vectors is broken\n",
@@ -191,6 +225,41 @@ const REASONS: [(&str, &str); 12] = [
     (
         "n1 connect 0x00000040 1 -> blocked\np1 get 0x00000010 0x30000000 -> message -1 1536 -1 0x00000000 0 0 0 0 0 0 0 0\np1 reply 1536 0 -> done\nn1 resume -> value 1536\nquiet 4\n",
         "illegal 4\nentry   n1 resume -> value 1536\nactor   NS (n1), before: connected to HASH of CRYPTO, returns with a handle\nrule    the handle isn't fresh: it is from 1 to 0x3fffffff, and no event gave it before\ndue     n1 resume -> value 1\n        with this handle or any other fresh one\n",
+    ),
+    // The return of psa_connect gives a handle.
+    (
+        "n1 connect 0x00000040 1 -> blocked\np1 get 0x00000010 0x30000000 -> message -1 1536 -1 0x00000000 0 0 0 0 0 0 0 0\np1 reply 1536 0 -> done\nn1 resume -> done\nquiet 4\n",
+        "illegal 4\nentry   n1 resume -> done\nactor   NS (n1), before: connected to HASH of CRYPTO, returns with a handle\nrule    another answer is due\ndue     n1 resume -> value 1\n        with this handle or any other fresh one\n",
+    ),
+    // A refused connection's return is still to come.
+    (
+        "n1 connect 0x00000040 1 -> blocked\np1 get 0x00000010 0x30000000 -> message -1 1536 -1 0x00000000 0 0 0 0 0 0 0 0\np1 reply 1536 -130 -> done\nn1 stop end -> done\nquiet 4\n",
+        "illegal 4\nentry   n1 stop end -> done\nactor   NS (n1), before: returns with value -130\nrule    the actor has to return from a call first, by resume\n",
+    ),
+    // A vector of one byte at address 0, which is none of the client's.
+    (
+        "n1 connect 0x00000040 1 -> blocked\np1 get 0x00000010 0x30000000 -> message -1 1536 -1 0x00000000 0 0 0 0 0 0 0 0\np1 reply 1536 0 -> done\nn1 resume -> value 1024\nn1 store 0x20000004 4 0x00000001 -> done\nn1 call 1024 0 0x20000000 1 0x00000000 0 -> blocked\nquiet 6\n",
+        "illegal 6\nentry   n1 call 1024 0 0x20000000 1 0x00000000 0 -> blocked\nactor   NS (n1), before: runs\nrule    another answer is due\ndue     n1 call 1024 0 0x20000000 1 0x00000000 0 -> value -129\npsa_call is a PROGRAMMER ERROR where one of these holds ([x]: holds here)\n  [ ] neither a handle of the caller nor a stateless handle of the caller\n  [ ] the connection is Busy or Error\n  [ ] the kind is negative\n  [x] a rule of the vectors is broken\n",
+    ),
+    // Five vectors.
+    (
+        "n1 connect 0x00000040 1 -> blocked\np1 get 0x00000010 0x30000000 -> message -1 1536 -1 0x00000000 0 0 0 0 0 0 0 0\np1 reply 1536 0 -> done\nn1 resume -> value 1024\nn1 call 1024 0 0x20000000 3 0x20000018 2 -> blocked\nquiet 5\n",
+        "illegal 5\nentry   n1 call 1024 0 0x20000000 3 0x20000018 2 -> blocked\nactor   NS (n1), before: runs\nrule    another answer is due\ndue     n1 call 1024 0 0x20000000 3 0x20000018 2 -> value -129\npsa_call is a PROGRAMMER ERROR where one of these holds ([x]: holds here)\n  [ ] neither a handle of the caller nor a stateless handle of the caller\n  [ ] the connection is Busy or Error\n  [ ] the kind is negative\n  [x] a rule of the vectors is broken\n",
+    ),
+    // A request with which nothing is wrong.
+    (
+        "n1 connect 0x00000040 1 -> blocked\np1 get 0x00000010 0x30000000 -> message -1 1536 -1 0x00000000 0 0 0 0 0 0 0 0\np1 reply 1536 0 -> done\nn1 resume -> value 1024\nn1 call 1024 0 0x00000000 0 0x00000000 0 -> value -129\nquiet 5\n",
+        "illegal 5\nentry   n1 call 1024 0 0x00000000 0 0x00000000 0 -> value -129\nactor   NS (n1), before: runs\nrule    another answer is due\ndue     n1 call 1024 0 0x00000000 0 0x00000000 0 -> blocked\npsa_call is a PROGRAMMER ERROR where one of these holds ([x]: holds here)\n  [ ] neither a handle of the caller nor a stateless handle of the caller\n  [ ] the connection is Busy or Error\n  [ ] the kind is negative\n  [ ] a rule of the vectors is broken\n",
+    ),
+    // The client's ID is -1.
+    (
+        "n1 connect 0x00000040 1 -> blocked\np1 get 0x00000010 0x30000000 -> message -1 1536 -2 0x00000000 0 0 0 0 0 0 0 0\nquiet 2\n",
+        "illegal 2\nentry   p1 get 0x00000010 0x30000000 -> message -1 1536 -2 0x00000000 0 0 0 0 0 0 0 0\nactor   CRYPTO (p1), before: runs\nrule    another answer is due\ndue     p1 get 0x00000010 0x30000000 -> message -1 1 -1 0x00000000 0 0 0 0 0 0 0 0\n        with this handle or any other fresh one\npsa_get is a PROGRAMMER ERROR where one of these holds ([x]: holds here)\n  [ ] the word isn't the signal of one of the caller's services\n  [ ] no message waits for that service\n  [ ] the 48 bytes at msg are no valid buffer\n",
+    ),
+    // Nobody is blocked.
+    (
+        "p1 stop end -> done\np2 stop end -> done\nn1 stop end -> done\ndev stop end -> done\nstalled 4\n",
+        "illegal 5\nverdict stalled\ndue     quiet\n",
     ),
 ];
 

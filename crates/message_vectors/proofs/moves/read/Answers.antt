@@ -1,7 +1,7 @@
 use Rattle.std.proofs.Common.{arith, rules, ap, ◌∙◌}
 use Rattle.ffm_model.specs.Memory.{no_span}
 use Rattle.memory_image.proofs.Stored.{part_inside}
-use Rattle.message_vectors.specs.Vectors.{input_of}
+use Rattle.ffm_model.specs.ServiceCalls.{input_of}
 use Rattle.message_vectors.proofs.Moved.{rest_inside}
 use Rattle.message_vectors.proofs.Reached.{copy_bytes-outside, range-part}
 use Rattle.message_vectors.proofs.moves.read.Goals as goal

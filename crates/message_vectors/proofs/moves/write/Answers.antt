@@ -1,9 +1,8 @@
 use Rattle.std.proofs.Common.{◌≡◌, arith, rules, ap, ◌∙◌, sym, true}
 use Rattle.std.specs.Prelude.{nat_le}
 use Rattle.std.proofs.lemmas.Bool.Decides.{nat_tests}
-use Rattle.ffm_model.specs.ServiceCalls.{rest_of}
+use Rattle.ffm_model.specs.ServiceCalls.{rest_of, output_of}
 use Rattle.ffm_model.specs.Memory.{no_span}
-use Rattle.message_vectors.specs.Vectors.{output_of}
 use Rattle.message_vectors.proofs.Moved.{rest_inside}
 use Rattle.message_vectors.proofs.Reached.{copy_bytes-outside, rest-outside}
 use Rattle.message_vectors.proofs.moves.write.Goals as goal

@@ -1,8 +1,8 @@
 use Rattle.std.proofs.Common.{◌+◌, drop, arith, subst}
 use Rattle.std.proofs.lemmas.List.{drop_all, drop_more}
 use Rattle.memory_image.specs.Pieces.{byte_at}
-use Rattle.trace_diagram.specs.Gathering.{GathersTo}
-use Rattle.trace_diagram.proofs.Gathered.{all_gathered, gather_begins, next_gathered, none_left, was_accepted}
+use Rattle.trace_diagram.proofs.Gathered.{GathersTo, all_gathered, gather_begins, next_gathered, none_left}
+use Rattle.machine_check.proofs.Judged.{was_accepted}
 use Rattle.trace_diagram.proofs.gathering.gather.Goals as goal
 
 pub loop-entry-init : goal.loop-entry-init

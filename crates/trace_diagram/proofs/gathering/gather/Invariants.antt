@@ -1,6 +1,6 @@
 use Rattle.std.proofs.Common.{◌≤◌, drop}
 use Rattle.memory_image.specs.Pieces.{byte_at}
-use Rattle.trace_diagram.specs.Gathering.{GathersTo}
+use Rattle.trace_diagram.proofs.Gathered.{GathersTo}
 use Rattle.trace_diagram.proofs.gathering.gather.Given as goal
 
 abbrev pub invariant-loop-entry : goal.invariant-loop-entry

@@ -15,6 +15,9 @@ returns c =
       entry = refl;
       rule = c.in_ok-rule.ensures;
       call = λ handles knows illegal. record {
+        table = λ there. c.in_ok-conditions.ensures.table there;
+        none = λ absent. c.in_ok-conditions.ensures.none absent;
+        shown = c.refusal_shown.ensures;
         conditions = λ there. c.in_ok-conditions.ensures.say there handles;
         refused = subst (λ o. IfSome o (λ refused. refused ≡ programmer_error s (state_of r.machine handles) e.actor.0 e.call)) (sym c.refusal_shown.ensures)
             (refusal_told s c.args.limit r.count (state_of r.machine handles) e c.in_ok-rule.rule (c.in_ok-rule.ensures handles knows illegal));

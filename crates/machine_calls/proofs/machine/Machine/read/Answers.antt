@@ -3,7 +3,7 @@ use Rattle.ffm_model.specs.Memory.{no_span}
 use Rattle.memory_image.specs.Pieces.{ranges_of}
 use Rattle.memory_image.proofs.Stored.{part_inside}
 use Rattle.memory_image.proofs.Systems.{buffer_inside}
-use Rattle.machine_calls.specs.Moved.{input_of}
+use Rattle.ffm_model.specs.ServiceCalls.{input_of}
 use Rattle.machine_calls.proofs.MessageLemmas.{kept_vectors, request_fits}
 use Rattle.machine_calls.proofs.machine.Machine.read.Goals as goal
 

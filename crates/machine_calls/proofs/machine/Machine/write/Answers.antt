@@ -2,12 +2,11 @@ use Rattle.std.proofs.Common.{◌<◌, ◌≤◌, length, arith, rules, sym}
 use Rattle.ffm_model.specs.Memory.{no_span}
 use Rattle.memory_image.specs.Pieces.{ranges_of}
 use Rattle.memory_image.proofs.Systems.{buffer_inside}
-use Rattle.machine_calls.specs.Moved.{output_of}
 use Rattle.machine_calls.proofs.MessageLemmas.{kept_vectors, request_fits}
 use Rattle.std.specs.Prelude.{nat_le}
 use Rattle.std.proofs.Common.{◌≡◌, true}
 use Rattle.std.proofs.lemmas.Bool.Decides.{nat_tests}
-use Rattle.ffm_model.specs.ServiceCalls.{rest_of}
+use Rattle.ffm_model.specs.ServiceCalls.{rest_of, output_of}
 use Rattle.machine_calls.proofs.machine.Machine.write.Goals as goal
 
 pub advance-requires-clause-moved : goal.advance-requires-clause-moved

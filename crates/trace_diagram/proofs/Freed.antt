@@ -1,0 +1,258 @@
+-- Each client that a panic frees has its arrow.
+use Rattle.std.proofs.Common.{ℕ, ◌≡◌, ◌≤◌, ◌+◌, ◌==◌, Bool, true, false, ◌&&◌, List, [], ◌∷◌, get_or, arith, ◌∙◌, ap, sym, refl, subst}
+use Rattle.std.specs.Prelude.{ℤ, pos, count_by, is_none, not, Option, Some, None, if◌then◌else◌}
+use Rattle.std.specs.List.{AllByRecursion, Contains, cons_option, filter_map}
+use Rattle.std.specs.Option.{option_and_then, option_map_or}
+use Rattle.std.proofs.lemmas.Bool.{and_from, and_parts, eqb-true}
+use Rattle.std.proofs.lemmas.List.Elements.{Contains-append_right, Contains-get_or}
+use Rattle.list_laws.proofs.Counts.{bit, count-cons, count-ext, count-filter-le}
+use Rattle.ffm_model.specs.declared.constants.TheConstants.{PSA_ERROR_COMMUNICATION_FAILURE}
+use Rattle.ffm_model.specs.declared.system.System.{System}
+use Rattle.ffm_model.specs.declared.machine.Handle.{Handle}
+use Rattle.ffm_model.specs.declared.machine.Status.{Status}
+use Rattle.ffm_model.specs.declared.machine.Entry.{Entry}
+use Rattle.ffm_model.specs.declared.machine.Call.{Call}
+use Rattle.ffm_model.specs.declared.machine.Call.TheVariants as call
+use Rattle.ffm_model.specs.declared.machine.Outcome.{Outcome}
+use Rattle.ffm_model.specs.declared.machine.Outcome.TheVariants as outcome
+use Rattle.ffm_model.specs.declared.objects.PendingMessage.{PendingMessage}
+use Rattle.ffm_model.specs.declared.objects.ConnPhase.TheVariants.{Busy, Closing}
+use Rattle.ffm_model.specs.declared.objects.ActorPhase.TheVariants.{Blocked, Panicked}
+use Rattle.ffm_model.specs.declared.constants.TheConstants.{PSA_IPC_DISCONNECT}
+use Rattle.ffm_model.specs.Actors.{is_service_of}
+use Rattle.ffm_model.specs.Memory.{no_vectors}
+use Rattle.ffm_model.specs.Signals.{is_blocked}
+use Rattle.ffm_model.specs.Panic.{is_dead, panic_effect}
+use Rattle.ffm_model.specs.ClientCalls.{is_service_panicked, move}
+use Rattle.ffm_model.specs.ServiceCalls.{owes_panic, replied}
+use Rattle.ffm_model.specs.State.{SpmState, State, has_handle, message_held, phase_of, with_connection_phase, with_message, with_phase, with_request, without_connection}
+use Rattle.ffm_model.specs.Step.{outcome_eq, step}
+use Rattle.counting_law.specs.Objects.{Mark, connection_marked, is_awaited, message_marked}
+use Rattle.counting_law.specs.Pending.{is_panicked_outcome}
+use Rattle.counting_law.proofs.Balance.{Balanced}
+use Rattle.counting_law.proofs.Events.{EachKind}
+use Rattle.counting_law.proofs.Owed.{owed-settled}
+use Rattle.counting_law.proofs.Panic.{lost_by, lost_call, lost_of, phase_after}
+use Rattle.counting_law.proofs.Parts.{is_plain, phase_other}
+use Rattle.counting_law.proofs.Reply.{settled, settled-keeps}
+use Rattle.counting_law.proofs.Resume.{times}
+use Rattle.counting_law.proofs.Steps.{step-kind}
+use Rattle.counting_law.proofs.Turns.{is_sound, settled-cases}
+use Rattle.trace_diagram.specs.declared.arrows.Arrow.{Arrow}
+use Rattle.trace_diagram.specs.declared.arrows.Meaning.TheVariants as meaning
+use Rattle.trace_diagram.specs.Arrows.{arrow, arrow_of, panic_arrows, panicking, panicking_by, release_arrow}
+use Rattle.trace_diagram.specs.Pairs.{EachFreedHasArrow, IsWaiting}
+use Rattle.trace_diagram.proofs.Everywhere.{each-weaken}
+use Rattle.trace_diagram.proofs.Replies.{IsReplied, step-replies}
+use Rattle.trace_diagram.proofs.Waiting.{Kept, run-kept, settled-messages}
+
+-- ---- an actor that loses its answer has a message to a service of the partition
+
+abbrev is_lost : System → ℕ → ℕ → PendingMessage → Bool
+is_lost s p a m = is_service_of s p m.service && (m.client.0 == a)
+
+two-le : {X : Type 0} (p q r : X → Bool) → ((x : X) → bit (p x) + bit (q x) ≤ bit (r x)) → (xs : List X) → count_by p xs + count_by q xs ≤ count_by r xs
+two-le p q r le [] = omega arith
+two-le p q r le (x ∷ xs) = omega (arith, count-cons p x xs, count-cons q x xs, count-cons r x xs, le x, two-le p q r le xs)
+
+-- a message has a connection or none
+lost-once : (o : Option ℕ) (v x : Bool) → bit (option_map_or (λ n. v && x) o false) + bit ((is_none o && v) && x) ≤ bit (v && x)
+lost-once None true x = omega arith
+lost-once None false x = omega arith
+lost-once (Some n) v x = omega arith
+
+turned : (w v x : Bool) → (w && (v && x)) ≡ (v && (x && w))
+turned true true true = refl
+turned true true false = refl
+turned true false x = refl
+turned false true true = refl
+turned false true false = refl
+turned false false x = refl
+
+loses-message : (s : System) (limit : Handle → ℕ) (b : SpmState) (p a : ℕ) → Balanced s limit b → lost_by s b p a ≤ count_by (is_lost s p a) b.messages
+loses-message s limit b p a h =
+    let t : Mark = λ n y v ph. is_service_of s p v && (y == a) in
+    omega (
+      arith,
+      two-le (message_marked t) (lost_call s p a) (is_lost s p a) (λ m. lost-once m.connection (is_service_of s p m.service) (m.client.0 == a)) b.messages,
+      h.paired t,
+      count-ext (connection_marked t) (lost_of s p a) (λ c. turned (is_awaited c.phase) (is_service_of s p c.service) (c.client.0 == a)) b.connections,
+    )
+
+-- one that is Blocked before a panic and not behind it
+freed-loses : (s : System) (limit : Handle → ℕ) (b : SpmState) (p a : ℕ) → Balanced s limit b → (a == p) ≡ false → phase_of b a ≡ Blocked → is_blocked (phase_of (panic_effect s b p) a) ≡ false → 1 ≤ count_by (is_lost s p a) b.messages
+freed-loses s limit b p a h apart blocked freed =
+    phase_after s limit b p a (1 ≤ count_by (is_lost s p a) b.messages) h apart
+    (λ z now. let bad : true ≡ false = sym (ap is_blocked (now ∙ blocked)) ∙ freed in cc)
+    (λ o was one now plain. omega (arith, one, loses-message s limit b p a h))
+    (λ gone now. let bad : Blocked ≡ Panicked = sym blocked ∙ gone in cc)
+
+-- ---- the arrow of that message
+
+contains-first : {X : Type 0} (o : Option X) (xs : List X) (x : X) → o ≡ Some x → Contains (cons_option o xs) x
+contains-first o xs x is = subst (λ (q : Option _). Contains (cons_option q xs) x) (sym is) (Contains-get_or (x ∷ xs) 0 x (omega arith))
+
+contains-behind : {X : Type 0} (o : Option X) (xs : List X) (x : X) → Contains xs x → Contains (cons_option o xs) x
+contains-behind None xs x h = h
+contains-behind (Some y) xs x h = Contains-append_right (y ∷ []) xs x h
+
+-- W holds of the service and the kind of a message that the arrows free the actor of
+record Frees (W : ℕ → ℤ → Type 0) (xs : List Arrow) (p a : ℕ) : Type 0 where
+  service : ℕ
+  kind : ℤ
+  waits : W service kind
+  at : Contains xs (arrow p a (meaning.Release service kind))
+
+frees-later : (W : ℕ → ℤ → Type 0) (o : Option Arrow) (xs : List Arrow) (p a : ℕ) → Frees W xs p a → Frees W (cons_option o xs) p a
+frees-later W o xs p a f = record { service = f.service; kind = f.kind; waits = f.waits; at = contains-behind o xs _ f.at }
+
+releases : (s : System) (b : SpmState) (p a : ℕ) (m : PendingMessage) → phase_of b a ≡ Blocked → is_lost s p a m ≡ true → release_arrow s b p m ≡ Some (arrow p a (meaning.Release m.service m.kind))
+releases s b p a m blocked lost =
+    let own : m.client.0 ≡ a = eqb-true m.client.0 a (and_parts _ _ lost).1 in
+    let frees : (is_service_of s p m.service && is_blocked (phase_of b m.client.0)) ≡ true = and_from _ _ (and_parts _ _ lost).0 (ap is_blocked (ap (phase_of b) own ∙ blocked)) in
+    ap (λ (x : Bool). if x then Some (arrow p m.client.0 (meaning.Release m.service m.kind)) else None) frees ∙ ap (λ (c : ℕ). Some (arrow p c (meaning.Release m.service m.kind))) own
+
+frees : (s : System) (b : SpmState) (p a : ℕ) (W : ℕ → ℤ → Type 0) → phase_of b a ≡ Blocked → (ms : List PendingMessage) → AllByRecursion (λ (m : PendingMessage). m.client.0 ≡ a → W m.service m.kind) ms → 1 ≤ count_by (is_lost s p a) ms
+    → Frees W (filter_map (release_arrow s b p) ms) p a
+frees s b p a W blocked [] all some = absurd (omega (arith, some))
+frees s b p a W blocked (m ∷ ms) all some =
+    let rest : List Arrow = filter_map (release_arrow s b p) ms in
+    let go : (x : Bool) → is_lost s p a m ≡ x → 1 ≤ bit x + count_by (is_lost s p a) ms → Frees W (cons_option (release_arrow s b p m) rest) p a =
+    elim [
+      | true ↦ λ lost n. record {
+        service = m.service;
+        kind = m.kind;
+        waits = all.0 (eqb-true m.client.0 a (and_parts (is_service_of s p m.service) (m.client.0 == a) lost).1);
+        at = contains-first (release_arrow s b p m) rest _ (releases s b p a m blocked lost);
+      }
+      | false ↦ λ lost n. frees-later W (release_arrow s b p m) rest p a (frees s b p a W blocked ms all.1 (omega (arith, n)))
+    ] in
+    go (is_lost s p a m) refl (omega (arith, some, count-cons (is_lost s p a) m ms))
+
+-- ---- an actor that panics at its own call
+
+plain-stays : (o : Outcome) → is_plain o ≡ true → is_panicked_outcome o ≡ false
+plain-stays (outcome.Value z) e = refl
+plain-stays (outcome.Number n) e = refl
+plain-stays (outcome.Signals n) e = refl
+plain-stays (outcome.Got m) e = refl
+plain-stays outcome.Blocked e = refl
+plain-stays outcome.Done e = refl
+plain-stays outcome.Panicked e = cc
+
+-- the state behind an outcome Panicked
+abbrev Panics : System → SpmState → ℕ → Outcome → SpmState → Type 0
+Panics s b a o new = is_panicked_outcome o ≡ true → new ≡ panic_effect s b a
+
+stays : (s : System) (b : SpmState) (a : ℕ) (o : Outcome) (new : SpmState) → is_panicked_outcome o ≡ false → Panics s b a o new
+stays s b a o new plain gone = let bad : false ≡ true = sym plain ∙ gone in cc
+
+either-stays : (s : System) (b : SpmState) (a : ℕ) (dead : Bool) (o : Outcome) (x y : SpmState) → is_panicked_outcome o ≡ false → (let m = if dead then move o x else move outcome.Blocked y in Panics s b a m.outcome m.spm)
+either-stays s b a true o x y plain = stays s b a o x plain
+either-stays s b a false o x y plain = stays s b a outcome.Blocked y refl
+
+kinds-panic : (s : System) (b : SpmState) (given : List Handle) (a : ℕ) (d : Call) → is_sound (phase_of b a) ≡ true → EachKind s b given a d (λ o new all. Panics s b a o new)
+kinds-panic s b given a d sound = record {
+  beside = λ running o doorbells sources plain. stays s b a o _ (plain-stays o plain);
+  waits = λ running mask. stays s b a outcome.Blocked _ refl;
+  ends = λ running. stays s b a outcome.Done _ refl;
+  wakes = λ mask n e. stays s b a (outcome.Signals n) _ refl;
+  returns = λ o e. stays s b a o _ (plain-stays o (sym (ap is_sound e) ∙ sound));
+  joins = λ is n k e new. stays s b a (outcome.Value k.0) _ refl;
+  connects = λ running v free. stays s b a outcome.Blocked _ refl;
+  calls = λ running k c n v held takes. either-stays s b a (is_dead c.phase) (outcome.Value PSA_ERROR_COMMUNICATION_FAILURE) b (with_phase (with_message (with_connection_phase b c.serial Busy) c (pos n) v) a Blocked) refl;
+  asks = λ running v n vs stateless may. either-stays s b a (is_service_panicked s b v) (outcome.Value PSA_ERROR_COMMUNICATION_FAILURE) b (with_phase (with_request b a v (pos n) vs) a Blocked) refl;
+  closes = λ running k c held. either-stays s b a (is_dead c.phase) outcome.Done (without_connection b c.serial) (with_phase (with_message (with_connection_phase b c.serial Closing) c PSA_IPC_DISCONNECT no_vectors) a Blocked) refl;
+  gets = λ running signal msg v is has first at k shown tells new. stays s b a (outcome.Got shown) _ refl;
+  moves = λ running o k v plain. stays s b a o _ (plain-stays o plain);
+  marks = λ running n r. stays s b a outcome.Done _ refl;
+  replies = λ running k status m held. stays s b a outcome.Done _ refl;
+  owes = λ running k status m n held kind. stays s b a outcome.Done _ refl;
+  panics = λ running gone. refl;
+}
+
+panicked-due : (o p : Outcome) → outcome_eq o p ≡ true → is_panicked_outcome p ≡ true → is_panicked_outcome o ≡ true
+panicked-due outcome.Panicked p e k = refl
+panicked-due o outcome.Panicked e k = e
+panicked-due o p e k = cc
+
+own-panic : (s : System) (st new : State) (e : Entry) → is_sound (phase_of st.spm e.actor.0) ≡ true → step s st e ≡ Some new → e.outcome ≡ outcome.Panicked → new.spm ≡ panic_effect s st.spm e.actor.0
+own-panic s st new e sound is gone =
+    let it = step-kind s st new e (λ o spm given. Panics s st.spm e.actor.0 o spm) (kinds-panic s st.spm st.handles_given e.actor.0 e.call sound) is in
+    it.2 (panicked-due it.0 e.outcome it.1 (ap is_panicked_outcome gone))
+
+-- ---- a client that panics for a reply
+
+-- a reply touches the phase of its client alone
+told-elsewhere : (s : System) (limit : Handle → ℕ) (b : SpmState) (p : ℕ) (h : Handle) (status : ℤ) (m : PendingMessage) → Balanced s limit b → message_held s b p h ≡ Some m → (x : ℕ) → (x == m.client.0) ≡ false
+    → phase_of (settled b h status m) x ≡ phase_of b x
+told-elsewhere s limit b p h status m balanced found x e =
+    settled-cases s limit b p h status m balanced found (λ new. phase_of new x ≡ phase_of b x)
+    (λ n ph q blocked told. phase_other b.phases m.client.0 x q e) (λ n q blocked told. phase_other b.phases m.client.0 x q e) (λ n. refl) (λ q blocked told. phase_other b.phases m.client.0 x q e)
+
+owed-state : (s : System) (b : SpmState) (h : Handle) (status : ℤ) (m : PendingMessage) (new : SpmState) → new ≡ (if owes_panic s m status then panic_effect s (replied s b h status m) m.client.0 else replied s b h status m) → owes_panic s m status ≡ true
+    → new ≡ panic_effect s (settled b h status m) m.client.0
+owed-state s b h status m new is owes =
+    is ∙ ap (λ (x : Bool). if x then panic_effect s (replied s b h status m) m.client.0 else replied s b h status m) owes ∙ owed-settled s b h status m owes
+
+reply-frees : (s : System) (limit : Handle → ℕ) (b : SpmState) (a : ℕ) (h : Handle) (status : ℤ) (m : PendingMessage) (x : ℕ) → Balanced s limit b → message_held s b a h ≡ Some m → (x == m.client.0) ≡ false → phase_of b x ≡ Blocked
+    → is_blocked (phase_of (panic_effect s (settled b h status m) m.client.0) x) ≡ false → 1 ≤ count_by (is_lost s m.client.0 x) b.messages
+reply-frees s limit b a h status m x balanced held apart blocked freed =
+    let told : SpmState = settled b h status m in
+    let some : 1 ≤ count_by (is_lost s m.client.0 x) told.messages = freed-loses s limit told m.client.0 x (settled-keeps s limit b a h status m balanced held) apart (told-elsewhere s limit b a h status m balanced held x apart ∙ blocked) freed in
+    omega (arith, some, ap (count_by (is_lost s m.client.0 x)) (settled-messages b h status m), count-filter-le (is_lost s m.client.0 x) (λ (y : PendingMessage). not (has_handle y.handle h)) b.messages)
+
+-- ---- each panic is one of the two
+
+owed-by : (s : System) (p : ℕ) (status : ℤ) (m : PendingMessage) (P : Type 0) (x : Bool) → owes_panic s m status ≡ x → (if x then Some m.client.0 else None) ≡ Some p → (owes_panic s m status ≡ true → m.client.0 ≡ p → P) → P
+owed-by s p status m P true owes e f = f owes (let it : m.client.0 ≡ p = cc in it)
+owed-by s p status m P false owes e f = cc
+
+held-by : (s : System) (p : ℕ) (status : ℤ) (P : Type 0) (o : Option PendingMessage) → option_and_then (λ (m : PendingMessage). if owes_panic s m status then Some m.client.0 else None) o ≡ Some p
+    → ((m : PendingMessage) → o ≡ Some m → owes_panic s m status ≡ true → m.client.0 ≡ p → P) → P
+held-by s p status P None e f = cc
+held-by s p status P (Some m) e f = owed-by s p status m P (owes_panic s m status) refl e (λ owes own. f m refl owes own)
+
+panic-cases : (s : System) (b : SpmState) (a : ℕ) (d : Call) (o : Outcome) (p : ℕ) (P : Type 0) → panicking_by s b a d o ≡ Some p → (o ≡ outcome.Panicked → a ≡ p → P)
+    → ((h : Handle) (status : Status) (m : PendingMessage) → d ≡ call.Reply h status → o ≡ outcome.Done → message_held s b a h ≡ Some m → owes_panic s m status.0 ≡ true → m.client.0 ≡ p → P) → P
+panic-cases s b a d outcome.Panicked p P e own owed = own refl (let it : a ≡ p = cc in it)
+panic-cases s b a (call.Reply h status) outcome.Done p P e own owed = held-by s p status.0 P (message_held s b a h) e (λ m held owes at. owed h status m refl refl held owes at)
+panic-cases s b a d o p P e own owed = cc
+
+-- the one held is the one answered
+same-message : (s : System) (b : SpmState) (a : ℕ) (h : Handle) (status : ℤ) (m : PendingMessage) (new : SpmState) → message_held s b a h ≡ Some m → IsReplied s b a h status new
+    → new ≡ (if owes_panic s m status then panic_effect s (replied s b h status m) m.client.0 else replied s b h status m)
+same-message s b a h status m new held r =
+    let same : r.message ≡ m = cc in
+    subst (λ (x : PendingMessage). new ≡ (if owes_panic s x status then panic_effect s (replied s b h status x) x.client.0 else replied s b h status x)) same r.spm
+
+step-frees : (s : System) (st new : State) (e : Entry) (p x : ℕ) → Balanced s (times st.handles_given) st.spm → is_sound (phase_of st.spm e.actor.0) ≡ true → step s st e ≡ Some new → panicking s st.spm e ≡ Some p → (x == p) ≡ false → phase_of st.spm x ≡ Blocked
+    → is_blocked (phase_of new.spm x) ≡ false → 1 ≤ count_by (is_lost s p x) st.spm.messages
+step-frees s st new e p x balanced sound is panics apart blocked freed =
+    let b : SpmState = st.spm in
+    let a : ℕ = e.actor.0 in
+    let limit : Handle → ℕ = times st.handles_given in
+    panic-cases s b a e.call e.outcome p (1 ≤ count_by (is_lost s p x) b.messages) panics
+    (λ gone own.
+    let state : new.spm ≡ panic_effect s b p = own-panic s st new e sound is gone ∙ ap (panic_effect s b) own in
+    freed-loses s limit b p x balanced apart blocked (ap (λ (y : SpmState). is_blocked (phase_of y x)) (sym state) ∙ freed))
+    (λ h status m reply done held owes own.
+    let state : new.spm ≡ panic_effect s (settled b h status.0 m) m.client.0 = owed-state s b h status.0 m new.spm (same-message s b a h status.0 m new.spm held (step-replies s st new e h status is reply done)) owes in
+    subst (λ (y : ℕ). 1 ≤ count_by (is_lost s y x) b.messages) own
+    (reply-frees s limit b a h status.0 m x balanced held (ap (λ (y : ℕ). x == y) own ∙ apart) blocked (ap (λ (y : SpmState). is_blocked (phase_of y x)) (sym state) ∙ freed)))
+
+pub each-freed-has-arrow : EachFreedHasArrow
+each-freed-has-arrow s m es st new e p x run is panics apart blocked freed =
+    let b : SpmState = st.spm in
+    let places : List ℕ = (run-kept s m es st run).0 in
+    let kept : Kept s m es places st = (run-kept s m es st run).1 in
+    let W : ℕ → ℤ → Type 0 = λ service kind. IsWaiting s m es (get_or places x 0) x service kind in
+    let some : 1 ≤ count_by (is_lost s p x) b.messages = step-frees s st new e p x kept.balanced (kept.sound e.actor.0) is panics apart blocked freed in
+    let all : AllByRecursion (λ (y : PendingMessage). y.client.0 ≡ x → W y.service y.kind) b.messages =
+    each-weaken (λ (y : PendingMessage). phase_of b y.client.0 ≡ Blocked → IsWaiting s m es (get_or places y.client.0 0) y.client.0 y.service y.kind) (λ (y : PendingMessage). y.client.0 ≡ x → W y.service y.kind)
+    (λ y waits own. subst (λ (c : ℕ). IsWaiting s m es (get_or places c 0) c y.service y.kind) own (waits (ap (phase_of b) own ∙ blocked))) b.messages kept.waiting in
+    let found : Frees W (filter_map (release_arrow s b p) b.messages) p x = frees s b p x W blocked b.messages all some in
+    let shown : Frees W (panic_arrows s b p) p x = frees-later W (Some (arrow p p meaning.Panic)) (filter_map (release_arrow s b p) b.messages) p x found in
+    let whole : Frees W (option_map_or (panic_arrows s b) (panicking s b e) []) p x = subst (λ (o : Option ℕ). Frees W (option_map_or (panic_arrows s b) o []) p x) (sym panics) shown in
+    let last : Frees W (cons_option (arrow_of s b e) (option_map_or (panic_arrows s b) (panicking s b e) [])) p x = frees-later W (arrow_of s b e) (option_map_or (panic_arrows s b) (panicking s b e) []) p x whole in
+    record { place = get_or places x 0; service = last.service; kind = last.kind; waits = last.waits; released = last.at }
