@@ -55,7 +55,7 @@ def main():
         words += ["-L", f"dependency={links}", "-L", f"dependency={kit}/rlibs"]
         words += ["--antt-project", str(kit / "rattle" / "logic" / "antt-project.json")]
         words += ["--logic-built", str(kit / "logic_built"), "--links", f"{crate}="]
-        checked = subprocess.run(words, capture_output=True, text=True)
+        checked = subprocess.run(words, stdout=subprocess.PIPE, stderr=subprocess.STDOUT, text=True)
     is_listed = False
     for line in checked.stdout.splitlines():
         is_listed = line.startswith("axioms ") or (is_listed and line.startswith(" "))

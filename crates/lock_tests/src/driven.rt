@@ -1,17 +1,18 @@
 //! All actors of a system, driven by one thread over one shared manager.
 ghost use Rattle.std.specs.Prelude.{◌≡◌, IfOk, length};
 ghost use Rattle.std.specs.List.{All};
+ghost use Rattle.spm_lock.specs.Passes.{ArePasses, AreNew};
 ghost use Rattle.lock_tests.specs.Workers.{IsUnstarted, passes_in};
 
-use crate::setup::{judged, manager};
+use crate::setup::{assert_ended, assert_legal, manager, shared_manager};
 use ffm_model::{ActorId, ActorKind, Lines, List, Name, OpenGate, Script, System, Verdict};
-use machine_check::Checked;
 use partition_sim::{Runner, Worker, drive};
 use script_asm::assemble;
 use spm_core::Spm;
 use spm_lock::{Pass, Shared};
 use std::alloc::{AllocError, Global};
 use std::process::Abort;
+use std::sync::Wait;
 use std::test::Fail;
 
 // Serves two messages, each answered with 0.
@@ -108,23 +109,53 @@ fn entry_count(spm: &Spm, actor: ActorId) -> u32 {
     count
 }
 
+// A worker for each pass, with the scripts of the system's actors.
+fn unstarted_workers(
+    rt: &impl Abort,
+    alloc: Global,
+    passes: List<Pass>,
+) -> Result<List<Worker<Pass>>, Fail>
+    ensures passes { IfOk result (λ ws. passes_in ws ≡ passes) }
+    ensures unstarted { IfOk result (λ ws. All IsUnstarted ws) }
+{
+    let opening = manager(alloc, 30)?;
+    workers_of(rt, alloc, opening.system(), passes)
+}
+
+// Drives all actors to their ends, and gives their passes back.
+fn drive_to_the_end<R: Wait + Abort>(
+    rt: &R,
+    alloc: Global,
+    shared: &Shared,
+    passes: List<Pass>,
+) -> Result<List<Pass>, Fail>
+    requires passes { ArePasses shared.now passes }
+    requires fresh { AreNew passes }
+    ensures { IfOk result (λ ps. ArePasses shared.now ps) }
+{
+    let mut workers = unstarted_workers(rt, alloc, passes)?;
+    drive(rt, shared, &mut workers, &OpenGate);
+    let passes = passes_of(alloc, workers)?;
+    Ok(passes)
+}
+
+fn run_of_all<R: Wait + Abort>(rt: &R, alloc: Global) -> Result<Spm, Fail> {
+    let (shared, passes) = shared_manager(alloc, 30)?;
+    let passes = drive_to_the_end(rt, alloc, &shared, passes)?;
+    Ok(shared.finish(passes))
+}
+
+fn assert_counts(rt: &impl Abort, spm: &Spm) {
+    for (actor, count) in [(ActorId(0), 9), (ActorId(1), 5), (ActorId(2), 2)] {
+        assert_eq!(rt; entry_count(spm, actor), count);
+    }
+}
+
 #[test]
 fn all_actors_in_one_drive(rt: HostRuntime) -> Result<(), Fail> {
     let alloc = rt.alloc();
-    let (shared, passes) = Shared::new(alloc, manager(alloc, 30)?)?;
-    let opening = manager(alloc, 30)?;
-    let mut workers = workers_of(&rt, alloc, opening.system(), passes)?;
-    drive(&rt, &shared, &mut workers, &OpenGate);
-    let passes = passes_of(alloc, workers)?;
-    let spm = shared.finish(passes);
-    assert_eq!(rt; spm.verdict(), Some(Verdict::Quiet));
-    assert_eq!(rt; spm.length(), 16);
-    for (actor, count) in [(ActorId(0), 9), (ActorId(1), 5), (ActorId(2), 2)] {
-        assert_eq!(rt; entry_count(&spm, actor), count);
-    }
-    assert_eq!(rt;
-        judged(&rt, alloc, &spm, 30, Verdict::Quiet)?,
-        Checked::Legal
-    );
-    Ok(())
+    let spm = run_of_all(&rt, alloc)?;
+    assert_ended(&rt, &spm, 16, Verdict::Quiet);
+    assert_counts(&rt, &spm);
+    assert_legal(&rt, alloc, &spm, 30, Verdict::Quiet)
 }

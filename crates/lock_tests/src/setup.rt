@@ -1,7 +1,7 @@
 //! A partition with a service and two clients of it, and the judge's word on what they did.
-ghost use Rattle.std.specs.Prelude.{◌≡◌, ◌≤◌, [], IfOk, IfSome};
+ghost use Rattle.std.specs.Prelude.{◌≡◌, ◌≤◌, ◌<◌, [], IfOk, IfSome, length};
 ghost use Rattle.ffm_model.specs.declared.constants.TheConstants.{MAX_ENTRIES};
-ghost use Rattle.spm_lock.specs.Passes.{ArePasses};
+ghost use Rattle.spm_lock.specs.Passes.{ArePasses, AreNew};
 ghost use Rattle.lock_tests.specs.Threes.{AreThree};
 
 use ffm_model::{List, Trace, Verdict};
@@ -33,7 +33,7 @@ pub fn manager(alloc: Global, limit: u32) -> Result<Spm, Fail>
 }
 
 // The passes of the partition and of the two clients, where there are no others.
-pub fn taken_apart(shared: &Shared, passes: List<Pass>) -> Option<(Pass, Pass, Pass)>
+fn taken_apart(shared: &Shared, passes: List<Pass>) -> Option<(Pass, Pass, Pass)>
     requires { ArePasses shared.now passes }
     ensures { IfSome result (λ r. AreThree shared.now r.0 r.1 r.2) }
 {
@@ -46,6 +46,29 @@ pub fn taken_apart(shared: &Shared, passes: List<Pass>) -> Option<(Pass, Pass, P
     }
     let _ = shared;
     Some((first, second, third))
+}
+
+// A manager of runs up to a limit, shared, and its passes.
+pub fn shared_manager(alloc: Global, limit: u32) -> Result<(Shared, List<Pass>), Fail>
+    requires positive { 1 ≤ limit }
+    requires limited { limit ≤ MAX_ENTRIES }
+    ensures passes { IfOk result (λ r. ArePasses r.0 r.1) }
+    ensures fresh { IfOk result (λ r. AreNew r.1) }
+{
+    let spm = manager(alloc, limit)?;
+    Ok(Shared::new(alloc, spm)?)
+}
+
+pub fn shared_by_three(alloc: Global, limit: u32) -> Result<(Shared, (Pass, Pass, Pass)), Fail>
+    requires positive { 1 ≤ limit }
+    requires limited { limit ≤ MAX_ENTRIES }
+    ensures { IfOk result (λ r. AreThree r.0 r.1.0 r.1.1 r.1.2) }
+{
+    let (shared, passes) = shared_manager(alloc, limit)?;
+    match taken_apart(&shared, passes) {
+        Some(three) => Ok((shared, three)),
+        None => Err(Fail::from("three passes are wanted")),
+    }
 }
 
 pub fn put_together(
@@ -66,26 +89,47 @@ pub fn put_together(
     Ok(List::of(passes))
 }
 
-// The judge's word on a run up to a limit, with its verdict.
-pub fn judged(
-    rt: &impl Abort,
-    alloc: Global,
-    spm: &Spm,
-    limit: u32,
-    verdict: Verdict,
-) -> Result<Checked, Fail>
-    requires positive { 1 ≤ limit }
-    requires limited { limit ≤ MAX_ENTRIES }
+// What a manager recorded, with its run's verdict.
+fn trace_of(rt: &impl Abort, alloc: Global, spm: &Spm, verdict: Verdict) -> Result<Trace, Fail>
+    ensures { IfOk result (λ t. length t.entries < 100) }
 {
     let mut entries = Vec::new(alloc);
     for place in 1..=spm.length() {
         entries.push(spm.entry(place))?;
     }
     assert!(rt; entries.len() < 100);
-    let trace = Trace {
+    Ok(Trace {
         entries: List::of(entries),
         verdict,
-    };
+    })
+}
+
+// The judge's word on a trace of a run up to a limit.
+fn judged(alloc: Global, limit: u32, trace: &Trace) -> Result<Checked, Fail>
+    requires positive { 1 ≤ limit }
+    requires limited { limit ≤ MAX_ENTRIES }
+    requires short { length trace.now.entries < 100 }
+{
     let opening = manager(alloc, limit)?;
-    Ok(check(alloc, opening.system(), opening.image(), limit, &trace)?)
+    Ok(check(alloc, opening.system(), opening.image(), limit, trace)?)
+}
+
+pub fn assert_legal(
+    rt: &impl Abort,
+    alloc: Global,
+    spm: &Spm,
+    limit: u32,
+    verdict: Verdict,
+) -> Result<(), Fail>
+    requires positive { 1 ≤ limit }
+    requires limited { limit ≤ MAX_ENTRIES }
+{
+    let trace = trace_of(rt, alloc, spm, verdict)?;
+    assert_eq!(rt; judged(alloc, limit, &trace)?, Checked::Legal);
+    Ok(())
+}
+
+pub fn assert_ended(rt: &impl Abort, spm: &Spm, length: u32, verdict: Verdict) {
+    assert_eq!(rt; spm.length(), length);
+    assert_eq!(rt; spm.verdict(), Some(verdict));
 }

@@ -1,12 +1,11 @@
 //! What the actors are answered, by threads of their own and by one.
 ghost use Rattle.std.specs.Prelude.{◌≡◌, false};
 ghost use Rattle.ffm_model.specs.Records.{ends_blocked, outcomes_of};
-ghost use Rattle.spm_lock.specs.Passes.{IsOwn};
-ghost use Rattle.lock_tests.specs.Threes.{IsPassOf};
+ghost use Rattle.spm_lock.specs.Passes.{IsOwn, record_of};
+ghost use Rattle.lock_tests.specs.Threes.{IsPassOf, AreThree};
 
-use crate::setup::{judged, manager, put_together, taken_apart};
+use crate::setup::{assert_ended, assert_legal, put_together, shared_by_three};
 use ffm_model::{ActorId, Answer, Api, Call, Outcome, Sid, Verdict};
-use machine_check::Checked;
 use spm_core::Spm;
 use spm_lock::{Pass, Shared};
 use std::alloc::Global;
@@ -59,10 +58,7 @@ fn run_of_two<R: Threads + Wait + Sync>(
     rt: &R,
     alloc: Global,
 ) -> Result<(Spm, Answers, Answers), Fail> {
-    let (shared, passes) = Shared::new(alloc, manager(alloc, 6)?)?;
-    let Some((vault, a, b)) = taken_apart(&shared, passes) else {
-        return Err(Fail::from("three passes are wanted"));
-    };
+    let (shared, (vault, a, b)) = shared_by_three(alloc, 6)?;
     let (left, right) = both(rt, &shared, a, b);
     let (a, first) = left;
     let (b, second) = right;
@@ -70,25 +66,30 @@ fn run_of_two<R: Threads + Wait + Sync>(
     Ok((shared.finish(passes), first, second))
 }
 
+fn assert_made(rt: &impl Abort, spm: &Spm, actor: ActorId, answer: Option<Answer>) {
+    let Some(Answer::Made { place, entry }) = answer else {
+        panic!(rt; "a call was not made")
+    };
+    assert!(rt; 0 < place && place <= spm.length());
+    assert_eq!(rt; spm.entry(place), entry);
+    assert_eq!(rt; entry.actor, actor);
+    assert_eq!(rt; entry.outcome, Outcome::Number(1));
+}
+
+fn assert_all_made(rt: &impl Abort, spm: &Spm, actor: ActorId, answers: Answers) {
+    for answer in answers {
+        assert_made(rt, spm, actor, answer);
+    }
+}
+
 #[test]
 fn two_threads_make_three_calls_each(rt: HostRuntime) -> Result<(), Fail> {
     let alloc = rt.alloc();
     let (spm, first, second) = run_of_two(&rt, alloc)?;
-    assert_eq!(rt; spm.length(), 6);
-    assert_eq!(rt; spm.verdict(), Some(Verdict::Full));
-    for (actor, answers) in [(ActorId(1), first), (ActorId(2), second)] {
-        for answer in answers {
-            let Some(Answer::Made { place, entry }) = answer else {
-                panic!(rt; "a call was not made")
-            };
-            assert!(rt; 0 < place && place <= spm.length());
-            assert_eq!(rt; spm.entry(place), entry);
-            assert_eq!(rt; entry.actor, actor);
-            assert_eq!(rt; entry.outcome, Outcome::Number(1));
-        }
-    }
-    assert_eq!(rt; judged(&rt, alloc, &spm, 6, Verdict::Full)?, Checked::Legal);
-    Ok(())
+    assert_ended(&rt, &spm, 6, Verdict::Full);
+    assert_all_made(&rt, &spm, ActorId(1), first);
+    assert_all_made(&rt, &spm, ActorId(2), second);
+    assert_legal(&rt, alloc, &spm, 6, Verdict::Full)
 }
 
 // Asks for a call of any shared manager.
@@ -102,34 +103,87 @@ fn ask<A: Api, R: Wait + Abort>(rt: &R, api: &A, pass: &mut A::Pass, call: Call)
     api.issue(rt, pass, call)
 }
 
-#[test]
-fn one_thread_is_answered_as_by_the_manager(rt: HostRuntime) -> Result<(), Fail> {
-    let alloc = rt.alloc();
-    let (shared, passes) = Shared::new(alloc, manager(alloc, 20)?)?;
-    let Some((mut vault, mut client, mut other)) = taken_apart(&shared, passes) else {
-        return Err(Fail::from("three passes are wanted"));
-    };
+const STOP: Call = Call::Stop { spent: false };
+
+fn assert_idle(rt: &impl Abort, vault: &Pass, client: &Pass, other: &Pass)
+    ensures vault { ends_blocked (outcomes_of (record_of vault.now)) ≡ false }
+    ensures client { ends_blocked (outcomes_of (record_of client.now)) ≡ false }
+    ensures other { ends_blocked (outcomes_of (record_of other.now)) ≡ false }
+{
     assert!(rt; !vault.pending() && !client.pending() && !other.pending());
+}
+
+fn connect_first<R: Wait + Abort>(rt: &R, shared: &Shared, client: &mut Pass)
+    requires own { IsOwn shared.now client.old }
+    requires idle { ends_blocked (outcomes_of (record_of client.old)) ≡ false }
+    ensures { IsPassOf shared.now client.old.actor client.new }
+{
     let connect = Call::Connect {
         sid: Sid(0x40),
         version: 1,
     };
-    let stop = Call::Stop { spent: false };
-    let blocked = ask(&rt, &shared, &mut client, connect);
+    let blocked = ask(rt, shared, client, connect);
     assert!(rt; matches!(blocked, Answer::Made { place: 1, .. }));
+}
+
+// Waits on in the call that the pass is blocked in, with this answer.
+fn resume<R: Wait + Abort>(rt: &R, shared: &Shared, client: &mut Pass, answer: Answer)
+    requires { IsOwn shared.now client.old }
+    ensures { IsPassOf shared.now client.old.actor client.new }
+{
     assert!(rt; client.pending());
-    assert_eq!(rt; shared.resume(&rt, &mut client), Answer::NotYet);
-    let stopped = ask(&rt, &shared, &mut vault, stop);
-    assert!(rt; matches!(stopped, Answer::Made { place: 2, .. }));
+    assert_eq!(rt; shared.resume(rt, client), answer);
+}
+
+// Stops, as the run's entry at this place.
+fn stop_at<R: Wait + Abort>(rt: &R, shared: &Shared, pass: &mut Pass, place: u32)
+    requires own { IsOwn shared.now pass.old }
+    requires idle { ends_blocked (outcomes_of (record_of pass.old)) ≡ false }
+    ensures { IsPassOf shared.now pass.old.actor pass.new }
+{
+    let stopped = ask(rt, shared, pass, STOP);
+    assert!(rt; matches!(stopped, Answer::Made { place: made, .. } if made == place));
+}
+
+// Stops again where the actor has stopped before.
+fn stop_when_gone<R: Wait + Abort>(rt: &R, shared: &Shared, vault: &mut Pass)
+    requires { IsOwn shared.now vault.old }
+    ensures { IsPassOf shared.now vault.old.actor vault.new }
+{
     assert!(rt; !vault.pending());
-    assert_eq!(rt; ask(&rt, &shared, &mut vault, stop), Answer::Gone);
-    let stopped = ask(&rt, &shared, &mut other, stop);
-    assert!(rt; matches!(stopped, Answer::Made { place: 3, .. }));
-    assert!(rt; client.pending());
-    assert_eq!(rt; shared.resume(&rt, &mut client), Answer::Over);
+    assert_eq!(rt; ask(rt, shared, vault, STOP), Answer::Gone);
+}
+
+// The client waits for the partition, which stops.
+fn wait_for_a_stopped_partition<R: Wait + Abort>(
+    rt: &R,
+    shared: &Shared,
+    vault: &mut Pass,
+    client: &mut Pass,
+    other: &mut Pass,
+)
+    requires { AreThree shared.now vault.old client.old other.old }
+    ensures { AreThree shared.now vault.new client.new other.new }
+{
+    assert_idle(rt, vault, client, other);
+    connect_first(rt, shared, client);
+    resume(rt, shared, client, Answer::NotYet);
+    stop_at(rt, shared, vault, 2);
+    stop_when_gone(rt, shared, vault);
+    stop_at(rt, shared, other, 3);
+    resume(rt, shared, client, Answer::Over);
+}
+
+fn run_of_one<R: Wait + Abort>(rt: &R, alloc: Global) -> Result<Spm, Fail> {
+    let (shared, (mut vault, mut client, mut other)) = shared_by_three(alloc, 20)?;
+    wait_for_a_stopped_partition(rt, &shared, &mut vault, &mut client, &mut other);
     let passes = put_together(alloc, &shared, vault, client, other)?;
-    let spm = shared.finish(passes);
-    assert_eq!(rt; spm.length(), 3);
-    assert_eq!(rt; spm.verdict(), Some(Verdict::Stalled));
+    Ok(shared.finish(passes))
+}
+
+#[test]
+fn one_thread_is_answered_as_by_the_manager(rt: HostRuntime) -> Result<(), Fail> {
+    let spm = run_of_one(&rt, rt.alloc())?;
+    assert_ended(&rt, &spm, 3, Verdict::Stalled);
     Ok(())
 }
