@@ -1,18 +1,22 @@
 #!/usr/bin/env python3
 """Holds the schemas against all examples, and against wrong files.
 
-    python3 tools/check_schemas.py [FILE ..]
+    python3 tools/check_schemas.py [FILE | --system FILE | --scenario FILE | --manifest FILE] ..
 
-Run at the top of the repository, with the Python package `jsonschema`. Each example has to be accepted. Each
-name of an attribute in it is then misspelt in its turn, each value that the schemas restrict is replaced by a
-wrong one, and each such file has to be refused.
+It needs the Python package `jsonschema`. Without files each example has to be accepted, and taken for what it is.
+Each name of an attribute in it is then misspelt in its turn, each value that the schemas restrict is replaced by
+a wrong one, and each such file has to be refused.
 
-With files, these alone are looked at: a file with `scripts`, `schedule`, `interrupts`, `memory`, `restarts`
-or `event_limit` is taken for a scenario, one with `manifests` or `isolation_level` for a system, any other
-one for a manifest. What is wrong is printed with its place. The status is 1 where something is wrong."""
+With files, from any folder, these alone are looked at, and the manifests that a system file names: as ffm does, from
+the folder one stands in, or else beside the system file. A FILE without a word before it is taken for the kind whose
+attributes it has most of, misspelt ones too. What is wrong is printed with the kind of the file and the place. The
+status is 1 where something is wrong."""
 
+import argparse
 import copy
+import difflib
 import json
+import os
 import pathlib
 import sys
 
@@ -21,9 +25,8 @@ import referencing
 
 from example_files import examples
 
-SCHEMAS = pathlib.Path("schemas")
-SCENARIO_NAMES = {"event_limit", "scripts", "schedule", "interrupts", "memory", "restarts"}
-SYSTEM_NAMES = {"isolation_level", "manifests"}
+TOP = pathlib.Path(__file__).resolve().parents[1]
+KINDS = ("system", "scenario", "manifest")
 
 MANIFEST = {
     "psa_framework_version": 1.0, "name": "P", "type": "PSA-ROT", "priority": "LOW", "entry_point": "p_main",
@@ -163,7 +166,7 @@ REQUIRED = {
 
 
 def validators():
-    trees = {name: json.loads((SCHEMAS / f"{name}.schema.json").read_text()) for name in ("system", "manifest", "scenario")}
+    trees = {name: json.loads((TOP / "schemas" / f"{name}.schema.json").read_text()) for name in KINDS}
     resources = [(f"{name}.schema.json", referencing.Resource.from_contents(tree)) for name, tree in trees.items()]
     registry = referencing.Registry().with_resources(resources)
     for tree in trees.values():
@@ -171,11 +174,17 @@ def validators():
     return {name: jsonschema.Draft202012Validator(tree, registry=registry) for name, tree in trees.items()}
 
 
-def kind_of(tree):
+def likeness(name, known):
+    """How much a name is one of these: 1 where it is one, 0 where it is like none."""
+    ratios = [difflib.SequenceMatcher(None, name.lower(), other).ratio() for other in known]
+    return 1.0 if name in known else max((ratio for ratio in ratios if ratio > 0.75), default=0.0)
+
+
+def kind_of(checks, tree):
+    """The kind with most of the names; that of a file with no name of any kind is a manifest."""
     names = set(tree) if isinstance(tree, dict) else set()
-    if names & SCENARIO_NAMES:
-        return "scenario"
-    return "system" if names & SYSTEM_NAMES else "manifest"
+    known = {kind: set(checks[kind].schema["properties"]) for kind in ("manifest", "system", "scenario")}
+    return max(known, key=lambda kind: sum(likeness(name, known[kind]) for name in names))
 
 
 def inner(error):
@@ -271,31 +280,61 @@ def check_examples(checks):
     wrong, right = [], 0
     for path in files_of_examples():
         tree = json.loads(path.read_text())
-        kind = kind_of(tree)
+        kind = path.stem if path.stem in KINDS else "manifest"
         wrong += [f"{path}: {problem}" for problem in problems(checks[kind], tree)]
-        for place, other in misspelt(tree):
-            if checks[kind].is_valid(other):
+        for place, other in [((), tree), *misspelt(tree)]:
+            if place and checks[kind].is_valid(other):
                 wrong.append(f"{path}: accepted with the name {place}")
-            right += 1
+            if len(place) < 2 and kind_of(checks, other) != kind:
+                wrong.append(f"{path}: taken for a {kind_of(checks, other)} with the name {place}")
+            right += len(place) > 0
     return wrong, right
 
 
-def problems_of_file(checks, path):
+def named_manifests(tree, system):
+    """The files of manifests that a system file names: where ffm looks for them, or else beside it."""
+    named = tree.get("manifests") if isinstance(tree, dict) else None
+    for name in named if isinstance(named, list) else []:
+        if isinstance(name, str):
+            beside = system.parent / name
+            yield beside if beside.is_file() and not pathlib.Path(name).is_file() else pathlib.Path(name)
+
+
+def checked(checks, path, kind=None):
+    """How many files were looked at, and what is wrong in them."""
     try:
-        tree = json.loads(pathlib.Path(path).read_text())
+        tree = json.loads(path.read_text())
+    except OSError as error:
+        return 1, [f"{path}: {error.strerror}"]
     except ValueError as error:
-        return [f"no JSON: {error}"]
-    return problems(checks[kind_of(tree)], tree)
+        return 1, [f"{path}: no JSON: {error}"]
+    kind = kind or kind_of(checks, tree)
+    count, wrong = 1, [f"{path}, a {kind}: {problem}" for problem in problems(checks[kind], tree)]
+    for manifest in named_manifests(tree, path) if kind == "system" else ():
+        more, problems_there = checked(checks, manifest, "manifest")
+        count, wrong = count + more, wrong + problems_there
+    return count, wrong
+
+
+def asked():
+    """The files of the words, each with its kind where that is told."""
+    parser = argparse.ArgumentParser(description=__doc__.splitlines()[0])
+    files = {"dest": "files", "metavar": "FILE", "default": []}
+    for kind in KINDS:
+        parser.add_argument(f"--{kind}", action="append", type=lambda word, kind=kind: (pathlib.Path(word), kind), **files)
+    parser.add_argument("plain", nargs="*", metavar="FILE", type=lambda word: (pathlib.Path(word), None))
+    arguments = parser.parse_intermixed_args()
+    return arguments.files + arguments.plain
 
 
 def main():
-    checks = validators()
-    if sys.argv[1:]:
-        wrong = []
-        for path in sys.argv[1:]:
-            wrong += [f"{path}: {problem}" for problem in problems_of_file(checks, path)]
-        print("\n".join(wrong) if wrong else f"accepted {len(sys.argv) - 1}")
+    checks, files = validators(), asked()
+    if files:
+        results = [checked(checks, path, kind) for path, kind in files]
+        wrong = [line for _, lines in results for line in lines]
+        print("\n".join(wrong) if wrong else f"accepted {sum(count for count, _ in results)}")
         sys.exit(1 if wrong else 0)
+    os.chdir(TOP)
     wrong = [f"{what}: {problem}" for kind, what, tree in right_files() for problem in problems(checks[kind], tree)]
     more, right = check_examples(checks)
     wrong += more

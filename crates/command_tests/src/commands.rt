@@ -1,10 +1,15 @@
 //! What no clause says: that the statuses come with ample memory, and that the texts are the ones wanted.
 
-use ffm_model::{List, OpenGate};
-use ffm_top::{asks_threads, ffm, ffm_alone};
-use outside_io::{Failed, MemoryFiles, MemorySink, Sink};
+use crate::told::{
+    RUN, Worked, assert_tells, assert_told, files_of, status_of, told_alone, told_over,
+};
+use ffm_model::List;
+use outside_io::{Failed, MemoryFiles, Sink};
 use std::alloc::Global;
+use std::process::Abort;
+use std::sync::Wait;
 use std::test::Fail;
+use std::thread::Threads;
 
 const ONE_CLIENT: &str =
     r#"{"isolation_level":3,"manifests":[{"psa_framework_version":1.0,"name":"VAULT","type":"APPLICATION-ROT","priority":"NORMAL","entry_point":"vault_main","stack_size":"0x400","services":[{"name":"VAULT","sid":"0x40","non_secure_clients":true},{"name":"ADMIN","sid":"0x41","non_secure_clients":false,"version":2}]}],"clients":["NS"]}"#;
@@ -29,15 +34,7 @@ const DISABLED: &str =
 const CLOCK: &str =
     r#"{"isolation_level":3,"manifests":[{"psa_framework_version":1.1,"name":"CLOCK","type":"PSA-ROT","priority":"NORMAL","entry_point":"main","stack_size":"0x400","services":[{"name":"CLOCK","sid":"0x50","non_secure_clients":true,"connection_based":false}]}],"clients":["NS"]}"#;
 
-/// A system file and a scenario file, and what comes of them.
-struct Worked {
-    system: &'static str,
-    scenario: &'static str,
-    status: u8,
-    text: &'static str,
-}
-
-static WORKED: [Worked; 21] = [
+static WORKED: [Worked<'static>; 21] = [
     Worked {
         system: ONE_CLIENT,
         scenario: ASKING,
@@ -166,34 +163,10 @@ static WORKED: [Worked; 21] = [
     },
 ];
 
-/// The words of a command line.
-pub(crate) fn words_of(alloc: Global, words: &[&str]) -> Result<Vec<String>, Fail> {
-    let mut list = Vec::new(alloc);
-    for word in words {
-        list.push(String::from_str(alloc, word)?)?;
-    }
-    Ok(list)
-}
-
-/// The two files, and one that is a byte longer than may be.
-pub(crate) fn files_of(alloc: Global, system: &str, scenario: &str) -> Result<MemoryFiles, Fail> {
-    let mut files = MemoryFiles::new(alloc);
-    files.add(alloc, "system", system.as_bytes())?;
-    files.add(alloc, "scenario", scenario.as_bytes())?;
-    let long = vec![in alloc; b' '; 1_048_577]?;
-    files.add(alloc, "long", &long)?;
-    Ok(files)
-}
-
 #[test]
 fn worked_files(rt: HostRuntime) -> Result<(), Fail> {
-    let words = words_of(rt.alloc(), &["ffm", "run", "system", "scenario"])?;
     for worked in &WORKED {
-        let mut files = files_of(rt.alloc(), worked.system, worked.scenario)?;
-        let mut sink = MemorySink::new(rt.alloc(), 4096, 7, List::of(Vec::new(rt.alloc())))?;
-        let status = ffm(&rt, rt.alloc(), &words, &mut files, &mut sink, &OpenGate);
-        assert_eq!(rt; status, worked.status, "{}", worked.text);
-        assert_eq!(rt; sink.bytes(), worked.text.as_bytes());
+        assert_tells(&rt, rt.alloc(), RUN, worked)?;
     }
     Ok(())
 }
@@ -209,8 +182,6 @@ struct Outside {
 
 const USAGE: &str =
     "usage: ffm compile SYSTEM | ffm run [--threads] SYSTEM SCENARIO | ffm replay SYSTEM SCENARIO TRACE | ffm audit SYSTEM SCENARIO TRACE | ffm make N\n";
-
-const RUN: &[&str] = &["ffm", "run", "system", "scenario"];
 
 const REPLAY: &[&str] = &["ffm", "replay", "system", "scenario", "trace"];
 
@@ -283,14 +254,17 @@ static OUTSIDE: [Outside; 9] = [
 #[test]
 fn faults_and_words(rt: HostRuntime) -> Result<(), Fail> {
     for case in &OUTSIDE {
-        let words = words_of(rt.alloc(), case.words)?;
         let mut files = files_of(rt.alloc(), ONE_CLIENT, ASKING)?;
         files.fail_at(List::of(vec![in rt.alloc(); case.failing_read]?));
-        let failing = List::of(vec![in rt.alloc(); case.failing_put]?);
-        let mut sink = MemorySink::new(rt.alloc(), 4096, 256, failing)?;
-        let status = ffm(&rt, rt.alloc(), &words, &mut files, &mut sink, &OpenGate);
-        assert_eq!(rt; status, case.status, "{}", case.text);
-        assert_eq!(rt; sink.bytes(), case.text.as_bytes());
+        let found = told_over(
+            &rt,
+            rt.alloc(),
+            case.words,
+            &mut files,
+            256,
+            case.failing_put,
+        )?;
+        assert_told(&rt, &found, case.status, case.text, case.text);
     }
     Ok(())
 }
@@ -341,39 +315,45 @@ const LISTS: [(&[&str], u8); 39] = [
     (&["ffm", "replay", "system", "scenario", "cut"], 1),
 ];
 
+// The two files with a trace of the run, and a part of one.
+fn files_with_traces(alloc: Global) -> Result<MemoryFiles, Fail> {
+    let mut files = files_of(alloc, ONE_CLIENT, ASKING)?;
+    files.add(alloc, "trace", ASKED.as_bytes())?;
+    files.add(alloc, "cut", b"p1 stop end -> done\nquiet 2\n")?;
+    Ok(files)
+}
+
+// The status that comes of a list of words.
+fn status_of_list<R: Threads + Wait + Sync>(
+    rt: &R,
+    alloc: Global,
+    list: &[&str],
+) -> Result<u8, Fail> {
+    let mut files = files_with_traces(alloc)?;
+    Ok(told_over(rt, alloc, list, &mut files, 256, 0)?.status)
+}
+
 #[test]
 fn lists_of_words(rt: HostRuntime) -> Result<(), Fail> {
-    let alloc = rt.alloc();
     for (list, wanted) in LISTS {
-        let words = words_of(alloc, list)?;
-        let mut files = files_of(alloc, ONE_CLIENT, ASKING)?;
-        files.add(alloc, "trace", ASKED.as_bytes())?;
-        files.add(alloc, "cut", b"p1 stop end -> done\nquiet 2\n")?;
-        let mut sink = MemorySink::new(alloc, 4096, 256, List::of(Vec::new(alloc)))?;
-        let status = ffm(&rt, alloc, &words, &mut files, &mut sink, &OpenGate);
-        assert_eq!(rt; status, wanted, "{list:?}");
+        assert_eq!(rt; status_of_list(&rt, rt.alloc(), list)?, wanted, "{list:?}");
     }
     Ok(())
 }
 
-/// The text of the words over the two files and a trace file.
-fn text_of(
-    rt: &HostRuntime,
+// Fails unless this text comes of the words over the two files and a trace file.
+fn assert_text(
+    rt: &impl Abort,
+    alloc: Global,
     words: &[&str],
-    system: &str,
-    scenario: &str,
-    trace: &str,
-) -> Result<Vec<u8>, Fail> {
-    let alloc = rt.alloc();
-    let words = words_of(alloc, words)?;
+    (system, scenario, trace): (&str, &str, &str),
+    text: &str,
+) -> Result<(), Fail> {
     let mut files = files_of(alloc, system, scenario)?;
     files.add(alloc, "trace", trace.as_bytes())?;
-    let mut sink = MemorySink::new(alloc, 4096, 256, List::of(Vec::new(alloc)))?;
-    if asks_threads(&words) {
-        return Err(Fail::from("a run with threads"));
-    }
-    ffm_alone(alloc, &words, &mut files, &mut sink);
-    Ok(sink.bytes().to_vec(alloc)?)
+    let found = told_alone(alloc, words, &mut files, 4096, 256)?;
+    assert_eq!(rt; found.text.as_slice(), text.as_bytes(), "{text}");
+    Ok(())
 }
 
 #[test]
@@ -383,22 +363,23 @@ fn generated_runs(rt: HostRuntime) -> Result<(), Fail> {
         ("17", "make 17 entries 2400 bytes 2176 quiet\n"),
         ("2000", "make 2000 entries 256224 bytes 256000 quiet\n"),
     ] {
-        let written = text_of(&rt, &["ffm", "make", rounds], ONE_CLIENT, ASKING, "")?;
-        assert_eq!(rt; written.as_slice(), text.as_bytes());
+        let words = ["ffm", "make", rounds];
+        assert_text(&rt, rt.alloc(), &words, (ONE_CLIENT, ASKING, ""), text)?;
     }
     Ok(())
 }
 
 #[test]
 fn judged_traces(rt: HostRuntime) -> Result<(), Fail> {
-    for (system, scenario, trace, text) in [
-        (ONE_CLIENT, ASKING, ASKED, "legal 6\n"),
-        (TIMER, DISABLING, DISABLED, "legal 8\n"),
-    ] {
-        let written = text_of(&rt, REPLAY, system, scenario, trace)?;
-        assert_eq!(rt; written.as_slice(), text.as_bytes());
-    }
-    Ok(())
+    let alloc = rt.alloc();
+    assert_text(&rt, alloc, REPLAY, (ONE_CLIENT, ASKING, ASKED), "legal 6\n")?;
+    assert_text(
+        &rt,
+        alloc,
+        REPLAY,
+        (TIMER, DISABLING, DISABLED),
+        "legal 8\n",
+    )
 }
 
 #[test]
@@ -429,8 +410,7 @@ fn refused_traces(rt: HostRuntime) -> Result<(), Fail> {
             "refused 19 ScriptSyntax scenario /scripts/0/lines/0\n",
         ),
     ] {
-        let written = text_of(&rt, REPLAY, ONE_CLIENT, scenario, trace)?;
-        assert_eq!(rt; written.as_slice(), text.as_bytes());
+        assert_text(&rt, rt.alloc(), REPLAY, (ONE_CLIENT, scenario, trace), text)?;
     }
     Ok(())
 }
@@ -462,10 +442,8 @@ impl Sink for Lost {
 
 #[test]
 fn lost_output(rt: HostRuntime) -> Result<(), Fail> {
-    let words = words_of(rt.alloc(), RUN)?;
     let mut files = files_of(rt.alloc(), ONE_CLIENT, ASKING)?;
     let mut sink = Lost { faults: 0 };
-    let status = ffm(&rt, rt.alloc(), &words, &mut files, &mut sink, &OpenGate);
-    assert_eq!(rt; status, 8);
+    assert_eq!(rt; status_of(&rt, rt.alloc(), RUN, &mut files, &mut sink)?, 8);
     Ok(())
 }

@@ -1,9 +1,9 @@
 //! The compiler at work: refusals with their places, and listings.
 
-use ffm_model::List;
-use ffm_top::{asks_threads, ffm_alone};
-use outside_io::{MemoryFiles, MemorySink};
+use crate::told::{Told, assert_told, told_alone};
+use outside_io::MemoryFiles;
 use std::alloc::Global;
+use std::process::Abort;
 use std::test::Fail;
 
 // The refusal of each system file, and the file.
@@ -53,34 +53,25 @@ admitted 4 partitions 4 services 8 connections
 const COMPILE: [&str; 3] = ["ffm", "compile", "system"];
 
 // The status and the text of compiling a system file.
-fn compiled(rt: &HostRuntime, system: &str) -> Result<(u8, Vec<u8>), Fail> {
-    let mut words = Vec::new(rt.alloc());
-    for word in COMPILE {
-        words.push(String::from_str(rt.alloc(), word)?)?;
-    }
-    let mut files = MemoryFiles::new(rt.alloc());
-    files.add(rt.alloc(), "system", system.as_bytes())?;
-    let mut sink = MemorySink::new(rt.alloc(), 8192, 64, List::of(Vec::new(rt.alloc())))?;
-    if asks_threads(&words) {
-        return Err(Fail::from("a run with threads"));
-    }
-    let status = ffm_alone(rt.alloc(), &words, &mut files, &mut sink);
-    Ok((status, sink.bytes().to_vec(rt.alloc())?))
+fn compiled(alloc: Global, system: &str) -> Result<Told, Fail> {
+    let mut files = MemoryFiles::new(alloc);
+    files.add(alloc, "system", system.as_bytes())?;
+    told_alone(alloc, &COMPILE, &mut files, 8192, 64)
 }
 
-// Whether this very line refuses the file.
-fn is_refused(rt: &HostRuntime, line: &str, system: &str) -> Result<bool, Fail> {
-    let (status, text) = compiled(rt, system)?;
-    let ends = text.last() == Some(&b'\n');
-    let front = text.split_last().map(|(_end, front)| front);
-    Ok(status == 1 && ends && front == Some(line.as_bytes()))
+// Fails unless this very line refuses the file.
+fn assert_refused(rt: &impl Abort, alloc: Global, line: &str, system: &str) -> Result<(), Fail> {
+    let found = compiled(alloc, system)?;
+    let text = format!(in alloc; "{line}\n")?;
+    assert_told(rt, &found, 1, &text, line);
+    Ok(())
 }
 
 #[test]
 fn broken_rules(rt: HostRuntime) -> Result<(), Fail> {
     for row in REFUSED.lines() {
         let (line, system) = row.split_once('|').ok_or("a row has two parts")?;
-        assert!(rt; is_refused(&rt, line, system)?, "{line}");
+        assert_refused(&rt, rt.alloc(), line, system)?;
     }
     Ok(())
 }
@@ -114,35 +105,43 @@ fn services(alloc: Global, count: u32, rest: &str) -> Result<String, Fail> {
     Ok(text)
 }
 
-#[test]
-fn limits(rt: HostRuntime) -> Result<(), Fail> {
-    let alloc = rt.alloc();
-    let many = partitions(alloc, 33)?;
-    assert!(rt; is_refused(&rt, "refused 14 TooManyPartitions system /manifests", &many)?);
-    assert_eq!(rt; compiled(&rt, &partitions(alloc, 32)?)?.0, 0);
-    let (status, text) = compiled(&rt, &services(alloc, 28, "]}]}")?)?;
-    assert_eq!(rt; status, 0);
-    let listed = str::from_utf8(&text).map_err(|_| "the listing is ASCII")?;
+// Fails unless a system of 28 services is compiled, whose last one has the last signal.
+fn assert_last_signal(rt: &impl Abort, alloc: Global) -> Result<(), Fail> {
+    let found = compiled(alloc, &services(alloc, 28, "]}]}")?)?;
+    assert_eq!(rt; found.status, 0);
+    let listed = str::from_utf8(&found.text).map_err(|_| "the listing is ASCII")?;
     assert!(rt;
         listed.contains(
             "service S27 sid 0x0000001b version 1 STRICT nonsecure no signal 0x80000000\n"
         )
     );
-    let signals = services(alloc, 28, r#"],"irqs":[{"source":1,"signal":"A"}]}]}"#)?;
-    assert!(rt;
-        is_refused(
-            &rt,
-            "refused 11 TooManySignals system /manifests/0",
-            &signals
-        )?
-    );
     Ok(())
 }
 
 #[test]
+fn limits(rt: HostRuntime) -> Result<(), Fail> {
+    let alloc = rt.alloc();
+    let many = partitions(alloc, 33)?;
+    assert_refused(
+        &rt,
+        alloc,
+        "refused 14 TooManyPartitions system /manifests",
+        &many,
+    )?;
+    assert_eq!(rt; compiled(alloc, &partitions(alloc, 32)?)?.status, 0);
+    assert_last_signal(&rt, alloc)?;
+    let signals = services(alloc, 28, r#"],"irqs":[{"source":1,"signal":"A"}]}]}"#)?;
+    assert_refused(
+        &rt,
+        alloc,
+        "refused 11 TooManySignals system /manifests/0",
+        &signals,
+    )
+}
+
+#[test]
 fn vendor_system(rt: HostRuntime) -> Result<(), Fail> {
-    let (status, text) = compiled(&rt, VENDOR)?;
-    assert_eq!(rt; status, 0);
-    assert_eq!(rt; text.as_slice(), LISTED.as_bytes());
+    let found = compiled(rt.alloc(), VENDOR)?;
+    assert_told(&rt, &found, 0, LISTED, "the vendor's system");
     Ok(())
 }

@@ -1,9 +1,6 @@
 //! Services as functions: runs whose texts are the ones wanted, and the lines that are refused.
 
-use crate::commands::{files_of, words_of};
-use ffm_model::{List, OpenGate};
-use ffm_top::ffm;
-use outside_io::MemorySink;
+use crate::told::{RUN, Worked, assert_tells};
 use std::test::Fail;
 
 // Two services as functions, the second stateless with the handle 0x40000001, a service of another
@@ -12,44 +9,44 @@ const SUMS: &str =
     r#"{"isolation_level":3,"manifests":[{"psa_framework_version":1.1,"name":"SUMS","type":"PSA-ROT","priority":"NORMAL","model":"SFN","stack_size":"0x400","services":[{"name":"FIVE","sid":"0x60","non_secure_clients":true},{"name":"ADDER","sid":"0x61","non_secure_clients":true,"connection_based":false}]},{"psa_framework_version":1.1,"name":"OTHER","type":"PSA-ROT","priority":"NORMAL","entry_point":"main","stack_size":0,"services":[{"name":"FOREIGN","sid":"0x62","non_secure_clients":true}]}],"clients":["NS"]}"#;
 
 /// The lines of the functions and of the client, each a JSON list, the status and the text.
-struct Worked {
+struct Row {
     functions: &'static str,
     client: &'static str,
     status: u8,
     text: &'static str,
 }
 
-static WORKED: [Worked; 5] = [
+static ROWS: [Row; 5] = [
     // A request to a stateless service: it reads a number and answers its successor.
-    Worked {
+    Row {
         functions: r#"["sfn ADDER","read r2 0 0x30000100 4","load 0x30000100 4","add r0 1","return r0"]"#,
         client: r#"["call 0x40000001 0 0x20000000 1 0 0"]"#,
         status: 0,
         text: "p1 wait 0x00000030 0x80000000 -> blocked\np2 stop end -> done\nn1 call 1073741825 0 0x20000000 1 0x00000000 0 -> blocked\np1 resume -> signals 0x00000020\np1 get 0x00000020 0x30000000 -> message 0 1536 -1 0x00000000 4 0 0 0 0 0 0 0\np1 read 1536 0 0x30000100 4 -> number 4\np1 load 0x30000100 4 -> number 41\np1 reply 1536 42 -> done\nn1 resume -> value 42\np1 wait 0x00000030 0x80000000 -> blocked\nn1 stop end -> done\nquiet 11\n",
     },
     // A status that no connection can be answered with.
-    Worked {
+    Row {
         functions: r#"["sfn FIVE","return 5"]"#,
         client: r#"["connect 0x60 1"]"#,
         status: 0,
         text: "p1 wait 0x00000030 0x80000000 -> blocked\np2 stop end -> done\nn1 connect 0x00000060 1 -> blocked\np1 resume -> signals 0x00000010\np1 get 0x00000010 0x30000000 -> message -1 1536 -1 0x00000000 0 0 0 0 0 0 0 0\np1 reply 1536 5 -> panicked\nn1 resume -> value -130\nn1 stop end -> done\nquiet 8\n",
     },
     // A service without a function, and a function that runs past its last line, answer 0.
-    Worked {
+    Row {
         functions: r#"["sfn FIVE","set r1 1"]"#,
         client: r#"["call 0x40000001 0 0 0 0 0","connect 0x60 1","close r0"]"#,
         status: 0,
         text: "p1 wait 0x00000030 0x80000000 -> blocked\np2 stop end -> done\nn1 call 1073741825 0 0x00000000 0 0x00000000 0 -> blocked\np1 resume -> signals 0x00000020\np1 get 0x00000020 0x30000000 -> message 0 1536 -1 0x00000000 0 0 0 0 0 0 0 0\np1 reply 1536 0 -> done\nn1 resume -> value 0\np1 wait 0x00000030 0x80000000 -> blocked\nn1 connect 0x00000060 1 -> blocked\np1 resume -> signals 0x00000010\np1 get 0x00000010 0x30000000 -> message -1 2560 -1 0x00000000 0 0 0 0 0 0 0 0\np1 reply 2560 0 -> done\nn1 resume -> value 1024\np1 wait 0x00000030 0x80000000 -> blocked\nn1 close 1024 -> blocked\np1 resume -> signals 0x00000010\np1 get 0x00000010 0x30000000 -> message -2 3584 -1 0x00000000 0 0 0 0 0 0 0 0\np1 reply 3584 0 -> done\nn1 resume -> done\np1 wait 0x00000030 0x80000000 -> blocked\nn1 stop end -> done\nquiet 21\n",
     },
     // Labels belong to their function, registers stay from round to round, and a blank line passes.
-    Worked {
+    Row {
         functions: r##"["# Sums","","sfn ADDER","add r7 2","jlt r7 3 out","return r7","out:","return 1","sfn FIVE","jmp out","out:","return 0"]"##,
         client: r#"["call 0x40000001 0 0 0 0 0","call 0x40000001 0 0 0 0 0"]"#,
         status: 0,
         text: "p1 wait 0x00000030 0x80000000 -> blocked\np2 stop end -> done\nn1 call 1073741825 0 0x00000000 0 0x00000000 0 -> blocked\np1 resume -> signals 0x00000020\np1 get 0x00000020 0x30000000 -> message 0 1536 -1 0x00000000 0 0 0 0 0 0 0 0\np1 reply 1536 1 -> done\nn1 resume -> value 1\np1 wait 0x00000030 0x80000000 -> blocked\nn1 call 1073741825 0 0x00000000 0 0x00000000 0 -> blocked\np1 resume -> signals 0x00000020\np1 get 0x00000020 0x30000000 -> message 0 2560 -1 0x00000000 0 0 0 0 0 0 0 0\np1 reply 2560 4 -> done\nn1 resume -> value 4\np1 wait 0x00000030 0x80000000 -> blocked\nn1 stop end -> done\nquiet 15\n",
     },
     // A function that never calls.
-    Worked {
+    Row {
         functions: r#"["sfn ADDER","again:","jmp again"]"#,
         client: r#"["call 0x40000001 0 0 0 0 0"]"#,
         status: 4,
@@ -89,43 +86,38 @@ static WRONG: [(&str, u32); 26] = [
 
 #[test]
 fn worked_functions(rt: HostRuntime) -> Result<(), Fail> {
-    let alloc = rt.alloc();
-    let words = words_of(alloc, &["ffm", "run", "system", "scenario"])?;
-    for worked in &WORKED {
-        let scenario = format!(in alloc;
+    for row in &ROWS {
+        let scenario = format!(in rt.alloc();
             r#"{{"scripts":[{{"actor":"SUMS","lines":{}}},{{"actor":"NS","lines":{}}}],"memory":[{{"address":"0x20000000","bytes":"2000002004000000"}},{{"address":"0x20000020","bytes":"29000000"}}]}}"#,
-            worked.functions, worked.client
+            row.functions, row.client
         )?;
-        let mut files = files_of(alloc, SUMS, &scenario)?;
-        let mut sink = MemorySink::new(alloc, 4096, 7, List::of(Vec::new(alloc)))?;
-        let status = ffm(&rt, alloc, &words, &mut files, &mut sink, &OpenGate);
-        assert_eq!(rt;
-            sink.bytes(),
-            worked.text.as_bytes(),
-            "{}",
-            worked.functions
-        );
-        assert_eq!(rt; status, worked.status);
+        let worked = Worked {
+            system: SUMS,
+            scenario: &scenario,
+            status: row.status,
+            text: row.text,
+        };
+        assert_tells(&rt, rt.alloc(), RUN, &worked)?;
     }
     Ok(())
 }
 
 #[test]
 fn wrong_lines_of_functions(rt: HostRuntime) -> Result<(), Fail> {
-    let alloc = rt.alloc();
-    let words = words_of(alloc, &["ffm", "run", "system", "scenario"])?;
     for (lines, wrong) in &WRONG {
-        let scenario = format!(in alloc;
+        let scenario = format!(in rt.alloc();
             r#"{{"scripts":[{{"actor":"SUMS","lines":[{lines}]}}]}}"#
         )?;
-        let mut files = files_of(alloc, SUMS, &scenario)?;
-        let mut sink = MemorySink::new(alloc, 4096, 7, List::of(Vec::new(alloc)))?;
-        let status = ffm(&rt, alloc, &words, &mut files, &mut sink, &OpenGate);
-        let text = format!(in alloc;
+        let text = format!(in rt.alloc();
             "refused 19 ScriptSyntax scenario /scripts/0/lines/{wrong}\n"
         )?;
-        assert_eq!(rt; sink.bytes(), text.as_bytes(), "{}", lines);
-        assert_eq!(rt; status, 1);
+        let worked = Worked {
+            system: SUMS,
+            scenario: &scenario,
+            status: 1,
+            text: &text,
+        };
+        assert_tells(&rt, rt.alloc(), RUN, &worked)?;
     }
     Ok(())
 }

@@ -11,3 +11,5 @@ mod compile;
 mod functions;
 #[cfg(test)]
 mod restarts;
+#[cfg(test)]
+mod told;

@@ -1,9 +1,6 @@
 //! Resets after a panic: the texts and statuses of all runs together, and where restarts are refused.
 
-use crate::commands::{files_of, words_of};
-use ffm_model::{List, OpenGate};
-use ffm_top::ffm;
-use outside_io::MemorySink;
+use crate::told::{RUN, Worked, assert_tells};
 use std::test::Fail;
 
 // A partition with a flash of its own and a service, and a client.
@@ -59,14 +56,14 @@ static RESTARTED: [Restarted; 6] = [
 
 #[test]
 fn restarted_runs(rt: HostRuntime) -> Result<(), Fail> {
-    let alloc = rt.alloc();
-    let words = words_of(alloc, &["ffm", "run", "system", "scenario"])?;
     for restarted in &RESTARTED {
-        let mut files = files_of(alloc, LOGGER, restarted.scenario)?;
-        let mut sink = MemorySink::new(alloc, 4096, 7, List::of(Vec::new(alloc)))?;
-        let status = ffm(&rt, alloc, &words, &mut files, &mut sink, &OpenGate);
-        assert_eq!(rt; sink.bytes(), restarted.text.as_bytes());
-        assert_eq!(rt; status, restarted.status, "{}", restarted.scenario);
+        let worked = Worked {
+            system: LOGGER,
+            scenario: restarted.scenario,
+            status: restarted.status,
+            text: restarted.text,
+        };
+        assert_tells(&rt, rt.alloc(), RUN, &worked)?;
     }
     Ok(())
 }
@@ -77,26 +74,29 @@ const SINGLE: [&[&str]; 2] = [
     &["ffm", "replay", "system", "scenario", "nothing"],
 ];
 
+/// Scenarios, and the line that refuses each of them for one run.
+const REFUSED: [(&str, &str); 2] = [
+    (
+        r#"{"restarts":1}"#,
+        "refused 4 BadValue scenario /restarts\n",
+    ),
+    (
+        r#"{"scripts":[{"actor":"NS","lines":["wrong"]}],"restarts":2}"#,
+        "refused 19 ScriptSyntax scenario /scripts/0/lines/0\n",
+    ),
+];
+
 #[test]
 fn refused_restarts(rt: HostRuntime) -> Result<(), Fail> {
-    let alloc = rt.alloc();
     for list in SINGLE {
-        for (scenario, text) in [
-            (
-                r#"{"restarts":1}"#,
-                "refused 4 BadValue scenario /restarts\n",
-            ),
-            (
-                r#"{"scripts":[{"actor":"NS","lines":["wrong"]}],"restarts":2}"#,
-                "refused 19 ScriptSyntax scenario /scripts/0/lines/0\n",
-            ),
-        ] {
-            let words = words_of(alloc, list)?;
-            let mut files = files_of(alloc, LOGGER, scenario)?;
-            let mut sink = MemorySink::new(alloc, 4096, 256, List::of(Vec::new(alloc)))?;
-            let status = ffm(&rt, alloc, &words, &mut files, &mut sink, &OpenGate);
-            assert_eq!(rt; sink.bytes(), text.as_bytes());
-            assert_eq!(rt; status, 1, "{list:?}");
+        for (scenario, text) in REFUSED {
+            let worked = Worked {
+                system: LOGGER,
+                scenario,
+                status: 1,
+                text,
+            };
+            assert_tells(&rt, rt.alloc(), list, &worked)?;
         }
     }
     Ok(())

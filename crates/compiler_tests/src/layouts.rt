@@ -10,15 +10,18 @@ use ffm_model::{
 };
 use region_map::{LayoutError, lay_out};
 use std::alloc::Global;
+use std::mem;
 use std::str::SplitWhitespace;
 use std::test::Fail;
 
 // By line, with hexadecimal numbers: a region of the system file with its name, base and size; an MMIO
 // item that names one and is writable, or a read-only one with a base and a size; a manifest of the
 // items above it, with its type, stack size and heap size; and a level and a size of non-secure RAM,
-// with what comes of all of these. Of a region that is the base, the size and the class.
+// with what comes of all of these. Of a region that is the base, the size and the class. A blank line
+// ends a layout.
 const LAYOUTS: &str = "\
 given 1 10000 = 20000000+10000.ns
+
 region FLASH 40000000 1000
 manifest psa 2000 100
 named FLASH
@@ -26,41 +29,51 @@ manifest psa 680 0
 manifest application 800 0
 manifest psa 700 0
 given 2 10000 = 30000000+2100.ram1 30002100+680.ram1 30002780+800.ram2 30002f80+700.ram1 20000000+10000.ns 40000000+1000.mmio1rw
+
 manifest psa 1 0
 manifest application 20 1
 given 3 1 = 30000000+20.ram1 30000020+40.ram2 20000000+20.ns
+
 manifest psa 400 0
 manifest application 400 0
 given 1 0 = 30000000+400.ram1 30000400+400.ram1 20000000+0.ns
+
 named FLASH
 manifest application 400 0
 given 3 10000 = unknown 0 0
+
 range 300003ff 1
 manifest application 400 0
 given 3 10000 = overlap 0 0
+
 range 300003ff 1
 manifest application 0 0
 given 3 10000 = 30000000+0.ram1 20000000+10000.ns 300003ff+1.mmio0r
+
 range 2ffffff0 10
 range 30000400 1
 range 2000ffff 2
 manifest application 400 0
 given 3 10000 = overlap 0 2
+
 range 2ffffff0 10
 range 30000400 1
 range 20010000 2
 range ffffffff 1
 manifest application 400 0
 given 3 10000 = 30000000+400.ram1 20000000+10000.ns 2ffffff0+10.mmio0r 30000400+1.mmio0r 20010000+2.mmio0r ffffffff+1.mmio0r
+
 manifest application 400 0
 range 30000400 1
 manifest application 1 0
 given 3 10000 = overlap 1 0
+
 region FLASH 40000000 10
 region FLASH 50000000 20
 named FLASH
 manifest application 0 0
 given 3 0 = 30000000+0.ram1 20000000+0.ns 40000000+10.mmio0rw
+
 region FLASH 40000000 10
 named FLASH
 manifest application 0 0
@@ -69,38 +82,48 @@ range 3fffffff 1
 range 40000008 1
 manifest application 0 0
 given 3 0 = overlap 1 2
+
 range 40000000 10
 range 40000000 10
 named NOPE
 manifest application 0 0
 given 3 0 = unknown 0 2
+
 named NOPE
 range 40000000 10
 range 40000000 10
 manifest application 0 0
 given 3 0 = unknown 0 0
+
 manifest application 100000 0
 given 3 100000 = 30000000+100000.ram1 20000000+100000.ns
+
 manifest application 100001 0
 given 3 10000 = large 0
+
 range 40000000 100001
 manifest application 0 0
 manifest application 100000 1
 given 3 100001 = large 0 0
+
 range 40000000 100000
 manifest application ffffffff ffffffff
 manifest application 0 0
 given 3 100001 = overlap 0 0
+
 manifest application ffffffff ffffffff
 range 2fff0000 10000
 manifest application 0 0
 given 3 100001 = large 0
+
 range 40000000 100000
 range 50000000 100001
 manifest application ffffe0 20
 given 3 100001 = large 0
+
 manifest application 0 0
 given 3 100001 = large
+
 manifest application 100000 0
 manifest application 100000 0
 manifest application 100000 0
@@ -118,6 +141,7 @@ range 45000000 100000
 range 46000000 100000
 manifest application 0 0
 given 1 100001 = large
+
 manifest application 100000 0
 manifest application 100000 0
 manifest application 100000 0
@@ -318,29 +342,54 @@ fn shown(alloc: Global, parts: &Parts) -> Result<String, Fail> {
     }
 }
 
-#[test]
-fn worked_layouts(rt: HostRuntime) -> Result<(), Fail> {
-    let alloc = rt.alloc();
+// The regions of the system file that a layout's lines tell.
+fn regions_of(alloc: Global, lines: &str) -> Result<Vec<RegionItem>, Fail>
+    ensures { IfOk result (λ regions. AllByRecursion IsRegion regions.items) }
+{
     let mut regions = Vec::new(alloc);
+    for line in lines.lines() {
+        let mut words = line.split_whitespace();
+        if words.next() == Some("region") {
+            add_region(alloc, &mut regions, &mut words)?;
+        }
+    }
+    Ok(regions)
+}
+
+// The manifests that a layout's lines tell, each with the items above it.
+fn manifests_of(alloc: Global, lines: &str) -> Result<Vec<Manifest>, Fail>
+    ensures { IfOk result (λ manifests. AllByRecursion IsManifest manifests.items) }
+{
     let mut items = Vec::new(alloc);
     let mut manifests = Vec::new(alloc);
-    for line in LAYOUTS.lines() {
+    for line in lines.lines() {
         let mut words = line.split_whitespace();
         let head = words.next().unwrap_or("");
-        if head == "region" {
-            add_region(alloc, &mut regions, &mut words)?;
-        } else if head == "manifest" {
-            add_manifest(alloc, &mut manifests, items, &mut words)?;
-            items = Vec::new(alloc);
-        } else if head == "given" {
-            let whole = parts(alloc, regions, manifests, &mut words)?;
-            regions = Vec::new(alloc);
-            manifests = Vec::new(alloc);
-            let (_, wanted) = line.split_once(" = ").ok_or("an answer is missing")?;
-            assert_eq!(rt; shown(alloc, &whole)?.as_str(), wanted, "{line}");
-        } else {
+        if head == "manifest" {
+            let above = mem::replace(&mut items, Vec::new(alloc));
+            add_manifest(alloc, &mut manifests, above, &mut words)?;
+        } else if head != "region" {
             add_item(alloc, &mut items, head, &mut words)?;
         }
+    }
+    Ok(manifests)
+}
+
+// What comes of a layout's lines, with these words behind them.
+fn laid_out(alloc: Global, lines: &str, given: &str) -> Result<String, Fail> {
+    let regions = regions_of(alloc, lines)?;
+    let manifests = manifests_of(alloc, lines)?;
+    let parts = parts(alloc, regions, manifests, &mut given.split_whitespace())?;
+    shown(alloc, &parts)
+}
+
+#[test]
+fn worked_layouts(rt: HostRuntime) -> Result<(), Fail> {
+    for layout in LAYOUTS.split("\n\n") {
+        let (front, wanted) = layout.split_once(" = ").ok_or("an answer is missing")?;
+        let (lines, given) = front.split_once("given ").ok_or("no parts are given")?;
+        let found = laid_out(rt.alloc(), lines, given)?;
+        assert_eq!(rt; found.as_str(), wanted, "{layout}");
     }
     Ok(())
 }

@@ -117,8 +117,8 @@ fn report_of(alloc: Global, work: &TraceWork, trace: &Trace) -> Result<Report, M
     }
 }
 
-// The refusal of a trace's line, counted from 1.
-fn wrong_line(alloc: Global, line: u32) -> Result<Refusal, AllocError>
+/// The refusal of a trace's line, counted from 1. Its place is that number. The only error is want of memory.
+pub fn wrong_line(alloc: Global, line: u32) -> Result<Refusal, AllocError>
     ensures { IfOk result (λ refusal. refusal ≡ wrong_line line) }
 {
     let mut steps = Vec::new(alloc);

@@ -10,6 +10,7 @@ mod run;
 mod steady;
 mod top;
 
+pub use judge::wrong_line;
 pub use lines::refusal_line;
 pub use steady::ffm_steady;
 pub use top::{asks_threads, ffm, ffm_alone};

@@ -1,18 +1,13 @@
--- A run is written as a whole, and every other byte alone.
-use Rattle.std.proofs.Common.{◌≡◌, ℕ, Bool, true, false, List, [], ◌∷◌, ◌++◌, length, drop, refl, sym, ap, ◌∙◌, append_assoc, one-add}
+-- What is passed as it is, and what is written with marks.
+use Rattle.std.proofs.Common.{◌≡◌, ◌<◌, ◌≤◌, ◌+◌, ℕ, Bool, true, false, List, [], ◌∷◌, ◌++◌, length, take, drop, get_or, arith, min, refl, sym, ap, ◌∙◌, append_assoc, add-zero, one-add}
 use Rattle.std.specs.List.{prefix_len, take_while}
-use Rattle.std.proofs.lemmas.List.{append-nil, nil_from_length}
-use Rattle.ffm_model.specs.Quote.{outside, in_run, is_run_byte, is_marked, marks, after_other, quoted}
-use Rattle.manifest_json.specs.declared.quote.Mode.{Mode}
-use Rattle.manifest_json.specs.declared.quote.Mode.TheVariants.{Outside, InString, BehindBackslash}
-use Rattle.manifest_json.specs.Modes.{where_is, starts_run, after_other_byte}
+use Rattle.std.proofs.lemmas.Bool.Decides.{nat_tests}
+use Rattle.std.proofs.lemmas.List.{append-nil, drop-drop, get_or-drop, length-append, length-drop, length-take-le, nil_from_length, take-append-drop, take_at}
+use Rattle.std.proofs.lemmas.List.Sums.{prefix_len-le-length}
+use Rattle.ffm_model.specs.Quote.{Where, outside, in_run, in_string, is_fraction_byte, is_run_byte, is_marked, marks, after_other, quoted, quote}
+use Rattle.manifest_json.specs.Leads.{Leads, is_text_byte, is_other_byte}
 
--- a byte that begins no run
-pub other_byte : (m : Mode) (b : ℕ) (bs : List ℕ) → starts_run m b ≡ false → quoted (where_is m) (b ∷ bs) ≡ b ∷ quoted (after_other_byte (where_is m) b) bs
-unfolding quoted
-other_byte Outside b bs no_run = rw no_run refl
-other_byte InString b bs no_run = refl
-other_byte BehindBackslash b bs no_run = refl
+-- ---- runs
 
 -- the front of a list that is run bytes, and what follows it
 abbrev run : List ℕ → List ℕ
@@ -53,35 +48,124 @@ abbrev with_marks : List ℕ → List ℕ
 with_marks r = marks (is_marked r) ++ r ++ marks (is_marked r)
 
 -- a run with its marks, and what follows it
-pub whole_run : (m : Mode) (b : ℕ) (bs : List ℕ) → starts_run m b ≡ true → quoted (where_is m) (b ∷ bs) ≡ with_marks (run (b ∷ bs)) ++ quoted (where_is m) (behind (b ∷ bs))
+whole_run : (b : ℕ) (bs : List ℕ) → is_run_byte b ≡ true → quote (b ∷ bs) ≡ with_marks (run (b ∷ bs)) ++ quote (behind (b ∷ bs))
 unfolding quoted
-whole_run Outside b bs is =
+whole_run b bs is =
     let marked : Bool = is_marked (b ∷ run bs) in
     let first : quoted outside (b ∷ bs) ≡ marks marked ++ b ∷ quoted (in_run marked) bs = rw is refl in
     let later : quoted outside (b ∷ bs) ≡ marks marked ++ b ∷ (run bs ++ (marks marked ++ quoted outside (behind bs))) = first ∙ ap (λ x. marks marked ++ b ∷ x) (in_run_is marked bs) in
     rw (run_from b bs is, behind_from b bs is) (later ∙ simp append_assoc)
-whole_run InString b bs is = absurd cc
-whole_run BehindBackslash b bs is = absurd cc
 
--- ---- the loop's steps: what was written, and what is still written, is all
+-- the run at the front, if there is one, with its marks, and what follows it
+first_run : (bytes : List ℕ) → (0 < length bytes → is_run_byte (get_or bytes 0 0) ≡ true) → quote bytes ≡ with_marks (run bytes) ++ quote (behind bytes)
+unfolding is_marked quoted
+first_run [] starts = refl
+first_run (b ∷ bs) starts = whole_run b bs (starts (omega arith))
 
-pub run_step : (m : Mode) (b : ℕ) (rest after out all : List ℕ) → rest ≡ b ∷ after → starts_run m b ≡ true → out ++ quoted (where_is m) rest ≡ all
-    → (out ++ with_marks (run rest)) ++ quoted (where_is m) (behind rest) ≡ all
-run_step m b rest after out all is starts so_far =
-    let one : quoted (where_is m) rest ≡ with_marks (run rest) ++ quoted (where_is m) (behind rest) = rw is (whole_run m b after starts) in
-    append_assoc out (with_marks (run rest)) (quoted (where_is m) (behind rest)) ∙ ap (λ x. out ++ x) (sym one) ∙ so_far
+unmarked : (r : List ℕ) → is_marked r ≡ false → with_marks r ≡ r
+unmarked r none = rw none (append-nil r)
 
-pub byte_step : (m next : Mode) (b : ℕ) (rest after out all : List ℕ) → rest ≡ b ∷ after → starts_run m b ≡ false → where_is next ≡ after_other_byte (where_is m) b → out ++ quoted (where_is m) rest ≡ all
-    → (out ++ b ∷ []) ++ quoted (where_is next) after ≡ all
-byte_step m next b rest after out all is none next_is so_far =
-    let one : quoted (where_is m) rest ≡ b ∷ quoted (where_is next) after = rw (is, next_is) (other_byte m b after none) in
-    append_assoc out (b ∷ []) (quoted (where_is next) after) ∙ ap (λ x. out ++ x) (sym one) ∙ so_far
+-- ---- what is passed
 
-nothing_more : (m : Mode) → quoted (where_is m) [] ≡ []
+pub leads_on : (w v u : Where) (a n : ℕ) (bytes : List ℕ) → Leads w a v bytes → Leads v n u (drop a bytes) → Leads w (a + n) u bytes
+leads_on w v u a n bytes first later = (fits, first.1 ∙ ap (λ t. take a bytes ++ t) later.1 ∙ sym (append_assoc (take a bytes) (take n (drop a bytes)) (quoted u (drop n (drop a bytes)))) ∙ pieces) where
+  front : List ℕ
+  front = take a bytes ++ take n (drop a bytes)
+
+  long : length front ≡ a + n
+  long = length-append (take a bytes) (take n (drop a bytes)) ∙ ap (λ k. k + length (take n (drop a bytes))) (length-take-le a bytes first.0) ∙ ap (λ k. a + k) (length-take-le n (drop a bytes) later.0)
+
+  fits : a + n ≤ length bytes
+  fits = let rest = length-drop a bytes in let l = later.0 in let f = first.0 in omega arith
+
+  whole : bytes ≡ front ++ drop n (drop a bytes)
+  whole = sym (append_assoc (take a bytes) (take n (drop a bytes)) (drop n (drop a bytes)) ∙ ap (λ t. take a bytes ++ t) (take-append-drop n (drop a bytes)) ∙ take-append-drop a bytes)
+
+  taken : take (a + n) bytes ≡ front
+  taken = ap (take (a + n)) whole ∙ take_at front (drop n (drop a bytes)) (a + n) long
+
+  pieces : front ++ quoted u (drop n (drop a bytes)) ≡ take (a + n) bytes ++ quoted u (drop (a + n) bytes)
+  pieces = ap (λ t. t ++ quoted u (drop n (drop a bytes))) (sym taken) ∙ ap (λ t. take (a + n) bytes ++ quoted u t) (drop-drop n a bytes)
+
+pub leads_same : (w v : Where) (n : ℕ) (bytes others : List ℕ) → bytes ≡ others → Leads w n v bytes → Leads w n v others
+leads_same w v n bytes others same leads = rw (sym same) leads
+
+-- a longest front of bytes each of which stays, and leads back to where it stood
+stays_at : (w : Where) (p : ℕ → Bool) → ((b : ℕ) (bs : List ℕ) → p b ≡ true → quoted w (b ∷ bs) ≡ b ∷ quoted w bs)
+    → (b : ℕ) (bs : List ℕ) (t : Bool) → p b ≡ t → quoted w bs ≡ take_while p bs ++ quoted w (drop (prefix_len p bs) bs)
+    → quoted w (b ∷ bs) ≡ take_while p (b ∷ bs) ++ quoted w (drop (prefix_len p (b ∷ bs)) (b ∷ bs))
+stays_at w p stays b bs true is later = rw (is, one-add) (stays b bs is ∙ ap (λ t. b ∷ t) later)
+stays_at w p stays b bs false is later = rw is refl
+
+stay : (w : Where) (p : ℕ → Bool) → ((b : ℕ) (bs : List ℕ) → p b ≡ true → quoted w (b ∷ bs) ≡ b ∷ quoted w bs)
+    → (bs : List ℕ) → quoted w bs ≡ take_while p bs ++ quoted w (drop (prefix_len p bs) bs)
+stay w p stays [] = refl
+stay w p stays (b ∷ bs) = stays_at w p stays b bs (p b) refl (stay w p stays bs)
+
+text_stays : (b : ℕ) (bs : List ℕ) → is_text_byte b ≡ true → quoted in_string (b ∷ bs) ≡ b ∷ quoted in_string bs
 unfolding quoted
-nothing_more Outside = refl
-nothing_more InString = refl
-nothing_more BehindBackslash = refl
+text_stays b bs is = grind (arith, nat_tests)
 
-pub all_written : (m : Mode) (rest out all : List ℕ) → length rest ≡ 0 → out ++ quoted (where_is m) rest ≡ all → out ≡ all
-all_written m rest out all none so_far = sym (append-nil out) ∙ ap (λ x. out ++ x) (sym (ap (quoted (where_is m)) (nil_from_length rest none) ∙ nothing_more m)) ∙ so_far
+other_stays : (b : ℕ) (bs : List ℕ) → is_other_byte b ≡ true → quoted outside (b ∷ bs) ≡ b ∷ quoted outside bs
+unfolding quoted
+other_stays b bs is = grind (arith, nat_tests)
+
+pub text_leads : (bytes : List ℕ) → Leads in_string (prefix_len is_text_byte bytes) in_string bytes
+text_leads bytes = (prefix_len-le-length is_text_byte bytes, stay in_string is_text_byte text_stays bytes)
+
+pub other_leads : (bytes : List ℕ) → Leads outside (prefix_len is_other_byte bytes) outside bytes
+other_leads bytes = (prefix_len-le-length is_other_byte bytes, stay outside is_other_byte other_stays bytes)
+
+pub string_begins : (bytes : List ℕ) → 0 < length bytes → get_or bytes 0 0 ≡ 34 → Leads outside 1 in_string bytes
+unfolding quoted is_run_byte is_fraction_byte
+string_begins [] some is = absurd (omega arith)
+string_begins (b ∷ bs) some is = (omega arith, rw is refl)
+
+pub string_ends : (bytes : List ℕ) → 0 < length bytes → get_or bytes 0 0 ≡ 34 → Leads in_string 1 outside bytes
+unfolding quoted
+string_ends [] some is = absurd (omega arith)
+string_ends (b ∷ bs) some is = (omega arith, rw is refl)
+
+-- a backslash and the byte behind it, if there is one
+pub escape_leads : (bytes : List ℕ) → 0 < length bytes → get_or bytes 0 0 ≡ 92 → Leads in_string (min (length bytes) 2) in_string bytes
+unfolding quoted
+escape_leads [] some is = absurd (omega arith)
+escape_leads (b ∷ []) some is = let one : min (length (b ∷ [])) 2 ≡ 1 = omega arith in rw one (omega arith, rw is refl)
+escape_leads (b ∷ c ∷ bs) some is = let two : min (length (b ∷ c ∷ bs)) 2 ≡ 2 = omega arith in rw two (omega arith, rw is refl)
+
+-- a string that no mark ends
+pub string_runs_out : (at : ℕ) (bytes : List ℕ) → length bytes ≤ at → Leads in_string at in_string bytes → Leads in_string at outside bytes
+unfolding quoted
+string_runs_out at bytes past so_far =
+    let empty : drop at bytes ≡ [] = nil_from_length (drop at bytes) (let long = length-drop at bytes in omega arith) in
+    (so_far.0, so_far.1 ∙ ap (λ t. take at bytes ++ quoted in_string t) empty ∙ sym (ap (λ t. take at bytes ++ quoted outside t) empty))
+
+pub run_leads : (bytes : List ℕ) → is_marked (run bytes) ≡ false → (0 < length bytes → is_run_byte (get_or bytes 0 0) ≡ true) → Leads outside (prefix_len is_run_byte bytes) outside bytes
+run_leads bytes none starts = (prefix_len-le-length is_run_byte bytes, first_run bytes starts ∙ ap (λ t. t ++ quote (behind bytes)) (unmarked (run bytes) none))
+
+pub run_length : (bytes : List ℕ) → length (run bytes) ≡ prefix_len is_run_byte bytes
+run_length bytes = length-take-le (prefix_len is_run_byte bytes) bytes (prefix_len-le-length is_run_byte bytes)
+
+-- a front that has one byte is not empty
+pub some_front : (p : ℕ → Bool) (bytes : List ℕ) → 0 < length bytes → p (get_or bytes 0 0) ≡ true → 0 < prefix_len p bytes
+some_front p [] some is = absurd (omega arith)
+some_front p (b ∷ bs) some is = rw (is, one-add) (omega arith)
+
+-- ---- the steps of writing
+
+pub piece_step : (n : ℕ) (rest out all : List ℕ) → Leads outside n outside rest → (n < length rest → is_run_byte (get_or rest n 0) ≡ true)
+    → out ++ quote rest ≡ all → ((out ++ take n rest) ++ with_marks (run (drop n rest))) ++ quote (behind (drop n rest)) ≡ all
+piece_step n rest out all plain starts so_far =
+    let begins : 0 < length (drop n rest) → is_run_byte (get_or (drop n rest) 0 0) ≡ true = λ some. let long = length-drop n rest in rw (get_or-drop n rest 0 0, add-zero n) (starts (omega arith)) in
+    append_assoc (out ++ take n rest) (with_marks (run (drop n rest))) (quote (behind (drop n rest)))
+    ∙ ap (λ t. (out ++ take n rest) ++ t) (sym (first_run (drop n rest) begins))
+    ∙ append_assoc out (take n rest) (quote (drop n rest))
+    ∙ ap (λ t. out ++ t) (sym plain.1)
+    ∙ so_far
+
+nothing_more : quote [] ≡ []
+unfolding quoted
+nothing_more = refl
+
+pub all_written : (rest out all : List ℕ) → length rest ≡ 0 → out ++ quote rest ≡ all → out ≡ all
+all_written rest out all none so_far = sym (append-nil out) ∙ ap (λ x. out ++ x) (sym (ap quote (nil_from_length rest none) ∙ nothing_more)) ∙ so_far

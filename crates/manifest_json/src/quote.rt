@@ -1,21 +1,14 @@
 //! Decimals between quotation marks.
-ghost use Rattle.std.specs.Prelude.{◌≡◌, ◌++◌, drop, take_while, IfOk, OnOk};
+ghost use Rattle.std.specs.Prelude.{◌≡◌, ◌<◌, ◌≤◌, ◌++◌, drop, length, slice_index, take_while, true, IfOk, OnOk};
 ghost use Rattle.std.specs.List.{list_any, prefix_len};
-ghost use Rattle.ffm_model.specs.Quote.{is_fraction_byte, is_run_byte, is_marked, marks, quote};
+ghost use Rattle.ffm_model.specs.Quote.{is_fraction_byte, is_run_byte, is_marked, marks, outside, in_string, quote};
+ghost use Rattle.manifest_json.specs.Leads.{Leads, is_text_byte, is_other_byte};
 
 use ffm_model::Memory;
 use std::alloc::{AllocError, Global};
 
 /// The most bytes of a number that stays as it is.
 const LONGEST_NUMBER: usize = 19;
-
-/// Where a byte stands that is in no run.
-#[derive(Clone, Copy)]
-enum Mode {
-    Outside,
-    InString,
-    BehindBackslash,
-}
 
 #[tactic(auto, unfolding(ffm_model::specs::Quote::is_fraction_byte))]
 fn is_fraction_byte(b: u8) -> bool
@@ -29,6 +22,18 @@ fn is_run_byte(b: u8) -> bool
     ensures { result ≡ is_run_byte b }
 {
     b.is_ascii_digit() || b == b'+' || b == b'-' || is_fraction_byte(b)
+}
+
+fn is_text_byte(b: u8) -> bool
+    ensures { result ≡ is_text_byte b }
+{
+    b != b'"' && b != b'\\'
+}
+
+fn is_other_byte(b: u8) -> bool
+    ensures { result ≡ is_other_byte b }
+{
+    b != b'"' && !is_run_byte(b)
 }
 
 fn has_fraction_byte(run: &[u8]) -> bool
@@ -78,6 +83,64 @@ fn split_run(bytes: &[u8]) -> (&[u8], &[u8])
     bytes.split_at(run_len(bytes))
 }
 
+/// How many bytes at the front of a string's text are neither its closing mark nor a backslash.
+fn text_len(bytes: &[u8]) -> usize
+    ensures front { result ≡ prefix_len is_text_byte bytes.now }
+    ensures bound { result ≤ length bytes.now }
+{
+    bytes.iter().take_while(|b| is_text_byte(**b)).count()
+}
+
+/// How many bytes a string has behind its opening mark, with its closing one: all where it has none.
+fn string_len(bytes: &[u8]) -> usize
+    ensures { Leads in_string result outside bytes.now }
+{
+    let mut at = 0;
+    while at < bytes.len() {
+        let rest = &bytes[at..];
+        if rest[0] == b'"' {
+            return at + 1;
+        }
+        if rest[0] == b'\\' {
+            at += rest.len().min(2);
+        } else {
+            at += text_len(rest);
+        }
+    }
+    at
+}
+
+/// How many bytes at the front are in no run and in no string.
+fn other_len(bytes: &[u8]) -> usize
+    ensures front { result ≡ prefix_len is_other_byte bytes.now }
+    ensures bound { result ≤ length bytes.now }
+{
+    bytes.iter().take_while(|b| is_other_byte(**b)).count()
+}
+
+/// How many bytes stand before the first decimal: all where there is none.
+fn plain_len(bytes: &[u8]) -> usize
+    ensures plain { Leads outside result outside bytes.now }
+    ensures run { result < length bytes.now → is_run_byte (slice_index bytes.now result) ≡ true }
+{
+    let mut at = 0;
+    while at < bytes.len() {
+        let rest = &bytes[at..];
+        if rest[0] == b'"' {
+            at += 1 + string_len(&rest[1..]);
+        } else if is_run_byte(rest[0]) {
+            let (run, _) = split_run(rest);
+            if is_marked(run) {
+                return at;
+            }
+            at += run.len();
+        } else {
+            at += other_len(rest);
+        }
+    }
+    at
+}
+
 /// The bytes of a JSON file with each decimal outside strings put between quotation marks, so
 /// that `1.0` and `"1.0"` read alike.
 ///
@@ -87,46 +150,14 @@ fn split_run(bytes: &[u8]) -> (&[u8], &[u8])
 pub fn quote_decimals(alloc: Global, bytes: &[u8]) -> Result<Vec<u8>, Memory>
     ensures { IfOk result (λ v. v.items ≡ quote bytes.now) }
 {
-    let mut out = Vec::new(alloc);
-    let mut mode = Mode::Outside;
+    let mut out = Vec::with_capacity(alloc, bytes.len())?;
     let mut rest = bytes;
-    while let Some((b, after)) = rest.split_first() {
-        if mode.starts_run(*b) {
-            let (run, behind) = split_run(rest);
-            put_run(&mut out, run)?;
-            rest = behind;
-        } else {
-            out.push(*b)?;
-            mode = mode.after(*b);
-            rest = after;
-        }
+    while !rest.is_empty() {
+        let (plain, decimal) = rest.split_at(plain_len(rest));
+        out.extend_from_slice(plain)?;
+        let (run, behind) = split_run(decimal);
+        put_run(&mut out, run)?;
+        rest = behind;
     }
     Ok(out)
-}
-
-impl Mode {
-    ghost use Rattle.manifest_json.specs.Modes.{where_is, starts_run, after_other_byte};
-
-    /// Whether a run begins with such a byte here.
-    fn starts_run(self, b: u8) -> bool
-        ensures { result ≡ starts_run self b }
-    {
-        match self {
-            Mode::Outside => is_run_byte(b),
-            Mode::InString | Mode::BehindBackslash => false,
-        }
-    }
-
-    /// Where the byte behind such a byte stands, which is in no run.
-    fn after(self, b: u8) -> Mode
-        ensures { where_is result ≡ after_other_byte (where_is self) b }
-    {
-        match self {
-            Mode::Outside if b == b'"' => Mode::InString,
-            Mode::Outside => Mode::Outside,
-            Mode::InString if b == b'"' => Mode::Outside,
-            Mode::InString if b == b'\\' => Mode::BehindBackslash,
-            Mode::InString | Mode::BehindBackslash => Mode::InString,
-        }
-    }
 }

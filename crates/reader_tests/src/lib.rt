@@ -7,6 +7,8 @@
 #[cfg(test)]
 mod manifests;
 #[cfg(test)]
+mod paths;
+#[cfg(test)]
 mod read_traces;
 #[cfg(test)]
 mod scripts;

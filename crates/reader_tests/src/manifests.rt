@@ -1,49 +1,60 @@
 //! Worked manifests and files: what no clause says is that these answers are the ones wanted.
 
+use crate::paths::path_of;
 use ffm_model::{
-    BAD_VALUE, JSON, List, MISSING_ATTRIBUTE, Manifest, PathStep, Place, Policy, ReadError,
-    Refusal, Root, WRONG_TYPE,
+    IrqItem, JSON, List, Manifest, Place, Policy, ReadError, Refusal, Root, ServiceItem,
 };
 use manifest_json::{quote_decimals, read_manifest, read_tree};
 use std::alloc::{AllocError, Global};
+use std::process::Abort;
 use std::test::Fail;
 
-/// The attributes of a manifest that is read, in another order than the reader's.
-static USUAL: [(&str, &str); 11] = [
-    ("irqs", r#"[{"source":5,"signal":"TICK"}]"#),
-    ("name", r#""VAULT""#),
-    ("psa_framework_version", r#""1.0""#),
-    ("type", r#""PSA-ROT""#),
-    ("priority", r#""NORMAL""#),
-    ("entry_point", r#""main""#),
-    ("stack_size", r#""0x400""#),
-    ("heap_size", "64"),
-    (
-        "services",
-        r#"[{"name":"V","sid":"0x40","non_secure_clients":true}]"#,
-    ),
-    (
-        "mmio_regions",
-        r#"[{"base":"0x40000000","size":16,"permission":"READ-WRITE"}]"#,
-    ),
-    ("dependencies", r#"["LOG","LOG"]"#),
-];
+/// By line: an attribute of a manifest that is read, and its value. They stand in another order than
+/// the reader's.
+const USUAL: &str = r#"irqs|[{"source":5,"signal":"TICK"}]
+name|"VAULT"
+psa_framework_version|"1.0"
+type|"PSA-ROT"
+priority|"NORMAL"
+entry_point|"main"
+stack_size|"0x400"
+heap_size|64
+services|[{"name":"V","sid":"0x40","non_secure_clients":true}]
+mmio_regions|[{"base":"0x40000000","size":16,"permission":"READ-WRITE"}]
+dependencies|["LOG","LOG"]
+"#;
 
-/// The usual manifest with one attribute's value written otherwise, or left out where it is empty.
-fn text_with(alloc: Global, key: &str, value: &str) -> Result<String, AllocError> {
-    let mut text = String::from_str(alloc, "{\"unknown\":[null,{\"x\":-7}]")?;
-    for (name, usual) in &USUAL {
-        let value = if *name == key { value } else { *usual };
-        if !value.is_empty() {
-            write!(text, ",\"{name}\":{value}")?;
-        }
+/// Puts an attribute behind others, where its value isn't empty.
+fn put_attribute(text: &mut String, name: &str, value: &str) -> Result<(), AllocError> {
+    if !value.is_empty() {
+        write!(text, ",\"{name}\":{value}")?;
     }
+    Ok(())
+}
+
+/// The usual value of an attribute, or the other one where it is the key's.
+fn chosen<'a>(name: &str, usual: &'a str, key: &str, value: &'a str) -> &'a str {
+    if name == key { value } else { usual }
+}
+
+/// The usual attributes, with one's value written otherwise, or left out where it is empty.
+fn put_usual(text: &mut String, key: &str, value: &str) -> Result<(), Fail> {
+    for line in USUAL.lines() {
+        let (name, usual) = line.split_once("|").ok_or("a line without a value")?;
+        put_attribute(text, name, chosen(name, usual, key, value))?;
+    }
+    Ok(())
+}
+
+/// The usual manifest, with one attribute's value written otherwise.
+fn text_with(alloc: Global, key: &str, value: &str) -> Result<String, Fail> {
+    let mut text = String::from_str(alloc, "{\"unknown\":[null,{\"x\":-7}]")?;
+    put_usual(&mut text, key, value)?;
     text.push_str("}")?;
     Ok(text)
 }
 
-fn manifest_with(alloc: Global, key: &str, value: &str) -> Result<Manifest, ReadError> {
-    let text = text_with(alloc, key, value)?;
+fn manifest_of(alloc: Global, text: &str) -> Result<Manifest, ReadError> {
     let place = Place {
         root: Root::System,
         steps: List::of(Vec::new(alloc)),
@@ -52,312 +63,159 @@ fn manifest_with(alloc: Global, key: &str, value: &str) -> Result<Manifest, Read
     read_manifest(alloc, &tree, 7)
 }
 
-/// The code and the place of a refusal, as a path; 0 and no path where there is none.
-fn refusal_of(alloc: Global, key: &str, value: &str) -> Result<(u8, String), Fail> {
-    match manifest_with(alloc, key, value) {
-        Ok(_) => Ok((0, String::new(alloc))),
-        Err(ReadError::Refused(refusal)) => Ok((refusal.code, shown(alloc, &refusal)?)),
-        Err(ReadError::Memory) => Err(Fail::from("no memory")),
+/// A refusal's code and its place below the manifest.
+fn shown_refusal(alloc: Global, refusal: &Refusal) -> Result<String, Fail> {
+    let path = path_of(alloc, refusal)?;
+    let below = path.strip_prefix("/manifests/7").ok_or("another manifest")?;
+    Ok(format!(in alloc; "{} {below}", refusal.code)?)
+}
+
+fn shown_error(alloc: Global, error: &ReadError) -> Result<String, Fail> {
+    match error {
+        ReadError::Refused(refusal) => shown_refusal(alloc, refusal),
+        ReadError::Memory => Err(Fail::from("no memory")),
     }
 }
 
-/// The place of a refusal, as a path.
-fn shown(alloc: Global, refusal: &Refusal) -> Result<String, AllocError> {
-    let mut path = String::new(alloc);
-    for step in refusal.place.steps.as_slice() {
-        match step {
-            PathStep::Key(key) => write!(path, "/{}", key.text())?,
-            PathStep::Index(i) => write!(path, "/{i}")?,
-        }
+/// What comes of the usual manifest with one attribute's value written otherwise: `ok`, or the
+/// refusal.
+fn answer_with(alloc: Global, key: &str, value: &str) -> Result<String, Fail> {
+    let text = text_with(alloc, key, value)?;
+    match manifest_of(alloc, text.as_str()) {
+        Ok(_) => Ok(String::from_str(alloc, "ok")?),
+        Err(error) => shown_error(alloc, &error),
     }
-    Ok(path)
 }
 
-/// An attribute, the value that is written for it, the code, and the place below the manifest.
-static ROWS: [(&str, &str, u8, &str); 82] = [
-    ("", "", 0, ""),
-    (
-        "psa_framework_version",
-        "",
-        MISSING_ATTRIBUTE,
-        "/psa_framework_version",
-    ),
-    ("name", "", MISSING_ATTRIBUTE, "/name"),
-    ("type", "", MISSING_ATTRIBUTE, "/type"),
-    ("priority", "", MISSING_ATTRIBUTE, "/priority"),
-    ("entry_point", "", MISSING_ATTRIBUTE, "/entry_point"),
-    ("stack_size", "", MISSING_ATTRIBUTE, "/stack_size"),
-    ("heap_size", "", 0, ""),
-    ("mmio_regions", "", 0, ""),
-    ("services", "", 0, ""),
-    ("dependencies", "", 0, ""),
-    ("irqs", "", 0, ""),
-    (
-        "psa_framework_version",
-        "1",
-        WRONG_TYPE,
-        "/psa_framework_version",
-    ),
-    ("name", "null", WRONG_TYPE, "/name"),
-    ("type", "7", WRONG_TYPE, "/type"),
-    ("priority", r#"["LOW"]"#, WRONG_TYPE, "/priority"),
-    ("entry_point", "{}", WRONG_TYPE, "/entry_point"),
-    ("stack_size", "-5", WRONG_TYPE, "/stack_size"),
-    ("heap_size", "true", WRONG_TYPE, "/heap_size"),
-    ("mmio_regions", r#""x""#, WRONG_TYPE, "/mmio_regions"),
-    ("services", "{}", WRONG_TYPE, "/services"),
-    ("dependencies", r#""A""#, WRONG_TYPE, "/dependencies"),
-    ("irqs", "null", WRONG_TYPE, "/irqs"),
-    ("psa_framework_version", "1.0", 0, ""),
-    (
-        "psa_framework_version",
-        "1.",
-        BAD_VALUE,
-        "/psa_framework_version",
-    ),
-    (
-        "psa_framework_version",
-        "1.0.0",
-        BAD_VALUE,
-        "/psa_framework_version",
-    ),
-    ("name", r#""""#, BAD_VALUE, "/name"),
-    ("name", r#""device""#, BAD_VALUE, "/name"),
-    ("name", r#""1A""#, BAD_VALUE, "/name"),
-    ("name", r#""a b""#, BAD_VALUE, "/name"),
-    (
-        "name",
-        r#""NNNNNNNNNNNNNNNNNNNNNNNNNNNNNNNNNNNNNNNNNNNNNNNNNNNNNNNNNNNNNNNN""#,
-        0,
-        "",
-    ),
-    (
-        "name",
-        r#""NNNNNNNNNNNNNNNNNNNNNNNNNNNNNNNNNNNNNNNNNNNNNNNNNNNNNNNNNNNNNNNNN""#,
-        BAD_VALUE,
-        "/name",
-    ),
-    ("name", "-0", BAD_VALUE, "/name"),
-    ("entry_point", r#""_""#, 0, ""),
-    ("type", r#""psa-rot""#, BAD_VALUE, "/type"),
-    ("priority", r#""LOWEST""#, BAD_VALUE, "/priority"),
-    ("type", r#""APPLICATION-ROT""#, 0, ""),
-    ("stack_size", "4294967295", 0, ""),
-    ("stack_size", "4294967296", BAD_VALUE, "/stack_size"),
-    ("stack_size", r#""0xFFffffff""#, 0, ""),
-    ("stack_size", r#""0x100000000""#, BAD_VALUE, "/stack_size"),
-    ("stack_size", r#""0x""#, BAD_VALUE, "/stack_size"),
-    ("stack_size", r#""0X10""#, BAD_VALUE, "/stack_size"),
-    ("stack_size", r#""0x1g""#, BAD_VALUE, "/stack_size"),
-    ("stack_size", r#""16""#, BAD_VALUE, "/stack_size"),
-    ("stack_size", "1e3", BAD_VALUE, "/stack_size"),
-    ("stack_size", "-0", BAD_VALUE, "/stack_size"),
-    (
-        "stack_size",
-        "10000000000000000000",
-        BAD_VALUE,
-        "/stack_size",
-    ),
-    ("stack_size", "-1", WRONG_TYPE, "/stack_size"),
-    ("name", r#"5,"name":"VAULT""#, 0, ""),
-    ("name", r#""VAULT","name":5"#, WRONG_TYPE, "/name"),
-    ("name", r#""VAULT","colour":-7"#, 0, ""),
-    (
-        "mmio_regions",
-        r#"[{"name":"R","permission":"READ-ONLY"}]"#,
-        0,
-        "",
-    ),
-    (
-        "mmio_regions",
-        r#"[{"name":"R"},7]"#,
-        MISSING_ATTRIBUTE,
-        "/mmio_regions/0/permission",
-    ),
-    (
-        "mmio_regions",
-        r#"[{"name":"R","permission":"READ-ONLY"},7]"#,
-        WRONG_TYPE,
-        "/mmio_regions/1",
-    ),
-    (
-        "mmio_regions",
-        r#"[{"base":0,"permission":"READ-ONLY"}]"#,
-        MISSING_ATTRIBUTE,
-        "/mmio_regions/0/size",
-    ),
-    (
-        "mmio_regions",
-        r#"[{"size":0,"permission":"WRITE"}]"#,
-        MISSING_ATTRIBUTE,
-        "/mmio_regions/0/base",
-    ),
-    (
-        "mmio_regions",
-        r#"[{"base":0,"size":0,"permission":"WRITE"}]"#,
-        BAD_VALUE,
-        "/mmio_regions/0/size",
-    ),
-    (
-        "mmio_regions",
-        r#"[{"base":"0xffffffff","size":1,"permission":"READ-ONLY"}]"#,
-        0,
-        "",
-    ),
-    (
-        "mmio_regions",
-        r#"[{"base":"0xffffffff","size":2,"permission":"READ-ONLY"}]"#,
-        BAD_VALUE,
-        "/mmio_regions/0/size",
-    ),
-    (
-        "mmio_regions",
-        r#"[{"name":3,"base":0,"size":16,"permission":"READ-ONLY"}]"#,
-        WRONG_TYPE,
-        "/mmio_regions/0/name",
-    ),
-    (
-        "mmio_regions",
-        r#"[{"base":0,"size":16,"permission":"WRITE"}]"#,
-        BAD_VALUE,
-        "/mmio_regions/0/permission",
-    ),
-    (
-        "services",
-        r#"[{"sid":"40"}]"#,
-        MISSING_ATTRIBUTE,
-        "/services/0/name",
-    ),
-    (
-        "services",
-        r#"[{"name":"V","sid":"40","non_secure_clients":true}]"#,
-        BAD_VALUE,
-        "/services/0/sid",
-    ),
-    (
-        "services",
-        r#"[{"name":"V","sid":true,"non_secure_clients":true}]"#,
-        WRONG_TYPE,
-        "/services/0/sid",
-    ),
-    (
-        "services",
-        r#"[{"name":"V","non_secure_clients":true}]"#,
-        MISSING_ATTRIBUTE,
-        "/services/0/sid",
-    ),
-    (
-        "services",
-        r#"[{"name":"V","sid":1}]"#,
-        MISSING_ATTRIBUTE,
-        "/services/0/non_secure_clients",
-    ),
-    (
-        "services",
-        r#"[{"name":"V","sid":1,"non_secure_clients":"true"}]"#,
-        WRONG_TYPE,
-        "/services/0/non_secure_clients",
-    ),
-    (
-        "services",
-        r#"[{"name":"V","sid":1,"non_secure_clients":true,"version":0}]"#,
-        BAD_VALUE,
-        "/services/0/version",
-    ),
-    (
-        "services",
-        r#"[{"name":"V","sid":1,"non_secure_clients":true,"version":null}]"#,
-        WRONG_TYPE,
-        "/services/0/version",
-    ),
-    (
-        "services",
-        r#"[{"name":"V","sid":1,"non_secure_clients":true,"version_policy":"LOOSE"}]"#,
-        BAD_VALUE,
-        "/services/0/version_policy",
-    ),
-    (
-        "services",
-        r#"[{"name":"V","sid":1,"non_secure_clients":true},{"name":"","sid":2,"non_secure_clients":true}]"#,
-        BAD_VALUE,
-        "/services/1/name",
-    ),
-    ("dependencies", r#"["A",5]"#, WRONG_TYPE, "/dependencies/1"),
-    (
-        "dependencies",
-        r#"["device"]"#,
-        BAD_VALUE,
-        "/dependencies/0",
-    ),
-    (
-        "irqs",
-        r#"[{"signal":"T"}]"#,
-        MISSING_ATTRIBUTE,
-        "/irqs/0/source",
-    ),
-    (
-        "irqs",
-        r#"[{"source":5}]"#,
-        MISSING_ATTRIBUTE,
-        "/irqs/0/signal",
-    ),
-    (
-        "irqs",
-        r#"[{"source":"5","signal":"T"}]"#,
-        BAD_VALUE,
-        "/irqs/0/source",
-    ),
-    ("irqs", r#"[{"source":"UART","signal":"T"}]"#, 0, ""),
-    ("irqs", r#"[{"source":4294967295,"signal":"T"}]"#, 0, ""),
-    (
-        "irqs",
-        r#"[{"source":4294967296,"signal":"T"}]"#,
-        BAD_VALUE,
-        "/irqs/0/source",
-    ),
-    (
-        "irqs",
-        r#"[{"source":-5,"signal":"T"}]"#,
-        WRONG_TYPE,
-        "/irqs/0/source",
-    ),
-    (
-        "irqs",
-        r#"[{"source":5,"signal":6}]"#,
-        WRONG_TYPE,
-        "/irqs/0/signal",
-    ),
-];
+/// By line: what comes of a manifest, an attribute, and the value that is written for it.
+const VALUES: &str = r#"ok||
+2 /psa_framework_version|psa_framework_version|
+2 /name|name|
+2 /type|type|
+2 /priority|priority|
+2 /entry_point|entry_point|
+2 /stack_size|stack_size|
+ok|heap_size|
+ok|mmio_regions|
+ok|services|
+ok|dependencies|
+ok|irqs|
+3 /psa_framework_version|psa_framework_version|1
+3 /name|name|null
+3 /type|type|7
+3 /priority|priority|["LOW"]
+3 /entry_point|entry_point|{}
+3 /stack_size|stack_size|-5
+3 /heap_size|heap_size|true
+3 /mmio_regions|mmio_regions|"x"
+3 /services|services|{}
+3 /dependencies|dependencies|"A"
+3 /irqs|irqs|null
+ok|psa_framework_version|1.0
+4 /psa_framework_version|psa_framework_version|1.
+4 /psa_framework_version|psa_framework_version|1.0.0
+4 /name|name|""
+4 /name|name|"device"
+4 /name|name|"1A"
+4 /name|name|"a b"
+ok|name|"NNNNNNNNNNNNNNNNNNNNNNNNNNNNNNNNNNNNNNNNNNNNNNNNNNNNNNNNNNNNNNNN"
+4 /name|name|"NNNNNNNNNNNNNNNNNNNNNNNNNNNNNNNNNNNNNNNNNNNNNNNNNNNNNNNNNNNNNNNNN"
+4 /name|name|-0
+ok|entry_point|"_"
+4 /type|type|"psa-rot"
+4 /priority|priority|"LOWEST"
+ok|type|"APPLICATION-ROT"
+ok|stack_size|4294967295
+4 /stack_size|stack_size|4294967296
+ok|stack_size|"0xFFffffff"
+4 /stack_size|stack_size|"0x100000000"
+4 /stack_size|stack_size|"0x"
+4 /stack_size|stack_size|"0X10"
+4 /stack_size|stack_size|"0x1g"
+4 /stack_size|stack_size|"16"
+4 /stack_size|stack_size|1e3
+4 /stack_size|stack_size|-0
+4 /stack_size|stack_size|10000000000000000000
+3 /stack_size|stack_size|-1
+ok|name|5,"name":"VAULT"
+3 /name|name|"VAULT","name":5
+ok|name|"VAULT","colour":-7
+ok|mmio_regions|[{"name":"R","permission":"READ-ONLY"}]
+2 /mmio_regions/0/permission|mmio_regions|[{"name":"R"},7]
+3 /mmio_regions/1|mmio_regions|[{"name":"R","permission":"READ-ONLY"},7]
+2 /mmio_regions/0/size|mmio_regions|[{"base":0,"permission":"READ-ONLY"}]
+2 /mmio_regions/0/base|mmio_regions|[{"size":0,"permission":"WRITE"}]
+4 /mmio_regions/0/size|mmio_regions|[{"base":0,"size":0,"permission":"WRITE"}]
+ok|mmio_regions|[{"base":"0xffffffff","size":1,"permission":"READ-ONLY"}]
+4 /mmio_regions/0/size|mmio_regions|[{"base":"0xffffffff","size":2,"permission":"READ-ONLY"}]
+3 /mmio_regions/0/name|mmio_regions|[{"name":3,"base":0,"size":16,"permission":"READ-ONLY"}]
+4 /mmio_regions/0/permission|mmio_regions|[{"base":0,"size":16,"permission":"WRITE"}]
+2 /services/0/name|services|[{"sid":"40"}]
+4 /services/0/sid|services|[{"name":"V","sid":"40","non_secure_clients":true}]
+3 /services/0/sid|services|[{"name":"V","sid":true,"non_secure_clients":true}]
+2 /services/0/sid|services|[{"name":"V","non_secure_clients":true}]
+2 /services/0/non_secure_clients|services|[{"name":"V","sid":1}]
+3 /services/0/non_secure_clients|services|[{"name":"V","sid":1,"non_secure_clients":"true"}]
+4 /services/0/version|services|[{"name":"V","sid":1,"non_secure_clients":true,"version":0}]
+3 /services/0/version|services|[{"name":"V","sid":1,"non_secure_clients":true,"version":null}]
+4 /services/0/version_policy|services|[{"name":"V","sid":1,"non_secure_clients":true,"version_policy":"LOOSE"}]
+4 /services/1/name|services|[{"name":"V","sid":1,"non_secure_clients":true},{"name":"","sid":2,"non_secure_clients":true}]
+3 /dependencies/1|dependencies|["A",5]
+4 /dependencies/0|dependencies|["device"]
+2 /irqs/0/source|irqs|[{"signal":"T"}]
+2 /irqs/0/signal|irqs|[{"source":5}]
+4 /irqs/0/source|irqs|[{"source":"5","signal":"T"}]
+ok|irqs|[{"source":"UART","signal":"T"}]
+ok|irqs|[{"source":4294967295,"signal":"T"}]
+4 /irqs/0/source|irqs|[{"source":4294967296,"signal":"T"}]
+3 /irqs/0/source|irqs|[{"source":-5,"signal":"T"}]
+3 /irqs/0/signal|irqs|[{"source":5,"signal":6}]
+"#;
 
 #[test]
 fn refusals_of_manifests(rt: HostRuntime) -> Result<(), Fail> {
-    let alloc = rt.alloc();
-    for (key, value, code, place) in &ROWS {
-        let (found, path) = refusal_of(alloc, key, value)?;
-        assert_eq!(rt; found, *code, "{key}: {value}");
-        if *code != 0 {
-            let wanted = format!(in alloc; "/manifests/7{place}")?;
-            assert_eq!(rt; path.as_str(), wanted.as_str(), "{key}: {value}");
-        }
+    for line in VALUES.lines() {
+        let (answer, row) = line.split_once("|").ok_or("a row without an answer")?;
+        let (key, value) = row.split_once("|").ok_or("a row without a value")?;
+        let found = answer_with(rt.alloc(), key, value)?;
+        assert_eq!(rt; found.as_str(), answer, "{row}");
     }
     Ok(())
 }
 
-#[test]
-fn a_manifest(rt: HostRuntime) -> Result<(), Fail> {
-    let manifest = manifest_with(rt.alloc(), "", "")?;
-    assert_eq!(rt; manifest.name.as_str(), "VAULT");
-    assert_eq!(rt; (manifest.stack_size, manifest.heap_size), (1024, 64));
-    assert_eq!(rt; manifest.dependencies.len(), 2);
-    let [service] = manifest.services.as_slice() else {
+fn usual_manifest(alloc: Global) -> Result<Manifest, Fail> {
+    let text = text_with(alloc, "", "")?;
+    Ok(manifest_of(alloc, text.as_str())?)
+}
+
+fn assert_service(rt: &impl Abort, services: &[ServiceItem]) -> Result<(), Fail> {
+    let [service] = services else {
         return Err(Fail::from("one service"));
     };
     assert_eq!(rt; (service.version, service.policy), (1, Policy::Strict));
-    let [irq] = manifest.irqs.as_slice() else {
+    Ok(())
+}
+
+fn assert_irq(rt: &impl Abort, irqs: &[IrqItem]) -> Result<(), Fail> {
+    let [irq] = irqs else {
         return Err(Fail::from("one interrupt"));
     };
     assert_eq!(rt; irq.source.as_str(), "5");
     Ok(())
+}
+
+fn assert_usual(rt: &impl Abort, manifest: &Manifest) -> Result<(), Fail> {
+    assert_eq!(rt; manifest.name.as_str(), "VAULT");
+    assert_eq!(rt; (manifest.stack_size, manifest.heap_size), (1024, 64));
+    assert_eq!(rt; manifest.dependencies.len(), 2);
+    assert_service(rt, manifest.services.as_slice())?;
+    assert_irq(rt, manifest.irqs.as_slice())
+}
+
+#[test]
+fn a_manifest(rt: HostRuntime) -> Result<(), Fail> {
+    let manifest = usual_manifest(rt.alloc())?;
+    assert_usual(&rt, &manifest)
 }
 
 /// The attributes of manifests in which those of a row stand besides. Where a name stands twice, the
@@ -474,44 +332,48 @@ const VERSIONS: &str = r#"256 ipc v 64|1.0|"unknown":7
 256 ipc v 64 5/T/false|1.0|"irqs":[{"source":5,"signal":"T","name":7,"handling":"FLIH"}]
 "#;
 
-/// What a manifest says of its version, in short: the entry point, or `-` for none, and the stack;
-/// by service its name, whether clients connect to it, its index and whether its vectors are mapped;
-/// by interrupt its source, its signal and whether it has a first-level handler.
-fn shown_manifest(alloc: Global, manifest: &Manifest) -> Result<String, AllocError> {
+/// A service's name, whether clients connect to it, its index and whether its vectors are mapped.
+fn put_service(text: &mut String, service: &ServiceItem) -> Result<(), AllocError> {
+    write!(text, " {}/", service.name.as_str())?;
+    write!(text, "{}/", service.connection_based)?;
+    write!(text, "{}/{}", service.stateless_handle, service.mm)
+}
+
+/// An interrupt's source, its signal and whether it has a first-level handler.
+fn put_irq(text: &mut String, irq: &IrqItem) -> Result<(), AllocError> {
+    write!(text, " {}/", irq.source.as_str())?;
+    write!(text, "{}/{}", irq.signal.as_str(), irq.flih)
+}
+
+/// A manifest's version, its model, the entry point, or `-` for none, and the stack.
+fn put_head(text: &mut String, manifest: &Manifest) -> Result<(), AllocError> {
     let model = if manifest.sfn { "sfn" } else { "ipc" };
-    let mut text = format!(in alloc; "{} {model} ", manifest.framework)?;
-    text.push_str(match manifest.entry_point.as_str() {
+    let entry_point = match manifest.entry_point.as_str() {
         "" => "-",
         name => name,
-    })?;
-    write!(text, " {}", manifest.stack_size)?;
+    };
+    write!(text, "{} {model} ", manifest.framework)?;
+    write!(text, "{entry_point} {}", manifest.stack_size)
+}
+
+/// What a manifest says of its version, in short, and of its services and interrupts.
+fn shown_manifest(alloc: Global, manifest: &Manifest) -> Result<String, AllocError> {
+    let mut text = String::new(alloc);
+    put_head(&mut text, manifest)?;
     for service in manifest.services.as_slice() {
-        write!(text, " {}/", service.name.as_str())?;
-        write!(text, "{}/", service.connection_based)?;
-        write!(text, "{}/{}", service.stateless_handle, service.mm)?;
+        put_service(&mut text, service)?;
     }
     for irq in manifest.irqs.as_slice() {
-        write!(text, " {}/", irq.source.as_str())?;
-        write!(text, "{}/{}", irq.signal.as_str(), irq.flih)?;
+        put_irq(&mut text, irq)?;
     }
     Ok(text)
 }
 
 /// What comes of a manifest.
 fn answer_of_manifest(alloc: Global, text: &str) -> Result<String, Fail> {
-    let place = Place {
-        root: Root::System,
-        steps: List::of(Vec::new(alloc)),
-    };
-    let tree = read_tree(alloc, text.as_bytes(), place)?;
-    match read_manifest(alloc, &tree, 7) {
+    match manifest_of(alloc, text) {
         Ok(manifest) => Ok(shown_manifest(alloc, &manifest)?),
-        Err(ReadError::Refused(refusal)) => {
-            let path = shown(alloc, &refusal)?;
-            let below = path.strip_prefix("/manifests/7").ok_or("another manifest")?;
-            Ok(format!(in alloc; "{} {below}", refusal.code)?)
-        }
-        Err(ReadError::Memory) => Err(Fail::from("no memory")),
+        Err(error) => shown_error(alloc, &error),
     }
 }
 
@@ -521,15 +383,19 @@ fn front_named(name: &str) -> Option<&'static str> {
     Some(*front)
 }
 
+/// What comes of the manifest of a row: the name of the attributes in front, and the others.
+fn answer_of_row(alloc: Global, row: &str) -> Result<String, Fail> {
+    let (front, members) = row.split_once("|").ok_or("a row without a front")?;
+    let front = front_named(front).ok_or("an unknown front")?;
+    let text = format!(in alloc; "{{{front},{members}}}")?;
+    answer_of_manifest(alloc, text.as_str())
+}
+
 #[test]
 fn versions_of_manifests(rt: HostRuntime) -> Result<(), Fail> {
-    let alloc = rt.alloc();
     for line in VERSIONS.lines() {
         let (answer, row) = line.split_once("|").ok_or("a row without an answer")?;
-        let (front, members) = row.split_once("|").ok_or("a row without a front")?;
-        let front = front_named(front).ok_or("an unknown front")?;
-        let text = format!(in alloc; "{{{front},{members}}}")?;
-        let found = answer_of_manifest(alloc, text.as_str())?;
+        let found = answer_of_row(rt.alloc(), row)?;
         assert_eq!(rt; found.as_str(), answer, "{row}");
     }
     Ok(())
@@ -555,26 +421,32 @@ fn code_of(alloc: Global, bytes: &[u8]) -> Result<u8, Fail> {
     }
 }
 
+/// Files, each with the code with which it is refused.
+static TREES: [(&[u8], u8); 10] = [
+    (b"{}", 0),
+    (b"", JSON),
+    (b"{} {}", JSON),
+    (b"[1,]", JSON),
+    (b"[01]", JSON),
+    (b"\xEF\xBB\xBF{}", JSON),
+    (b"[\"\xFF\"]", JSON),
+    (b"[\"\\ud800\"]", JSON),
+    (b"[1.5.2]", 0),
+    (b"[\"1.0]", JSON),
+];
+
+fn code_of_nested(alloc: Global, depth: usize) -> Result<u8, Fail> {
+    let bytes = nested(alloc, depth)?;
+    code_of(alloc, bytes.as_slice())
+}
+
 #[test]
 fn trees(rt: HostRuntime) -> Result<(), Fail> {
-    let alloc = rt.alloc();
-    let rows = [
-        (b"{}".as_slice(), 0),
-        (b"", JSON),
-        (b"{} {}", JSON),
-        (b"[1,]", JSON),
-        (b"[01]", JSON),
-        (b"\xEF\xBB\xBF{}", JSON),
-        (b"[\"\xFF\"]", JSON),
-        (b"[\"\\ud800\"]", JSON),
-        (b"[1.5.2]", 0),
-        (b"[\"1.0]", JSON),
-    ];
-    for (bytes, code) in rows {
-        assert_eq!(rt; code_of(alloc, bytes)?, code, "{bytes:?}");
+    for (bytes, code) in &TREES {
+        assert_eq!(rt; code_of(rt.alloc(), bytes)?, *code, "{bytes:?}");
     }
-    assert_eq!(rt; code_of(alloc, nested(alloc, 127)?.as_slice())?, 0);
-    assert_eq!(rt; code_of(alloc, nested(alloc, 128)?.as_slice())?, JSON);
+    assert_eq!(rt; code_of_nested(rt.alloc(), 127)?, 0);
+    assert_eq!(rt; code_of_nested(rt.alloc(), 128)?, JSON);
     Ok(())
 }
 

@@ -1,5 +1,8 @@
 //! Texts written by hand from the format, read, and the first wrong lines of others.
-use ffm_model::{ActorId, Call, Counts, Entry, Handle, Message, Outcome, Sid, Status, Verdict};
+use ffm_model::{
+    ActorId, Call, Counts, Entry, Handle, Message, Outcome, Sid, Status, Trace, Verdict,
+};
+use std::process::Abort;
 use std::test::Fail;
 use trace_print::{TraceError, read_trace};
 
@@ -44,9 +47,26 @@ n1 resume -> value 1
 full 7
 ";
 
+fn assert_ends(rt: &impl Abort, trace: &Trace, length: usize, verdict: Verdict) {
+    assert_eq!(rt; trace.verdict, verdict);
+    assert_eq!(rt; trace.entries.len(), length);
+}
+
+fn assert_calls(rt: &impl Abort, trace: &Trace, calls: &[Call]) {
+    for (entry, call) in trace.entries.as_slice().iter().zip(calls) {
+        assert_eq!(rt; entry.call, *call);
+    }
+}
+
+fn assert_events(rt: &impl Abort, trace: &Trace, events: &[(u32, Call)]) {
+    for (entry, (actor, call)) in trace.entries.as_slice().iter().zip(events) {
+        assert_eq!(rt; entry.actor, ActorId(*actor));
+        assert_eq!(rt; entry.call, *call);
+    }
+}
+
 #[test]
 fn reads_each_client_call(rt: HostRuntime) -> Result<(), Fail> {
-    let trace = read_trace(rt.alloc(), ALL, CLIENT_CALLS)?;
     let calls = [
         Call::FrameworkVersion,
         Call::Version { sid: Sid(0x1000) },
@@ -64,17 +84,14 @@ fn reads_each_client_call(rt: HostRuntime) -> Result<(), Fail> {
         },
         Call::Close { handle: Handle(0) },
     ];
-    assert_eq!(rt; trace.verdict, Verdict::Quiet);
-    assert_eq!(rt; trace.entries.len(), calls.len());
-    for (entry, call) in trace.entries.as_slice().iter().zip(calls) {
-        assert_eq!(rt; entry.call, call);
-    }
+    let trace = read_trace(rt.alloc(), ALL, CLIENT_CALLS)?;
+    assert_ends(&rt, &trace, calls.len(), Verdict::Quiet);
+    assert_calls(&rt, &trace, &calls);
     Ok(())
 }
 
 #[test]
 fn reads_each_service_call(rt: HostRuntime) -> Result<(), Fail> {
-    let trace = read_trace(rt.alloc(), ALL, SERVICE_CALLS)?;
     let handle = Handle(7);
     let calls = [
         Call::Wait {
@@ -118,18 +135,15 @@ fn reads_each_service_call(rt: HostRuntime) -> Result<(), Fail> {
         Call::ResetSignal { signal: 0x80000000 },
         Call::Panic,
     ];
-    assert_eq!(rt; trace.verdict, Verdict::Stalled);
-    assert_eq!(rt; trace.entries.len(), calls.len());
-    for (entry, call) in trace.entries.as_slice().iter().zip(calls) {
-        assert_eq!(rt; entry.call, call);
-    }
+    let trace = read_trace(rt.alloc(), ALL, SERVICE_CALLS)?;
+    assert_ends(&rt, &trace, calls.len(), Verdict::Stalled);
+    assert_calls(&rt, &trace, &calls);
     Ok(())
 }
 
 #[test]
 fn reads_each_event(rt: HostRuntime) -> Result<(), Fail> {
-    let trace = read_trace(rt.alloc(), ALL, EVENTS)?;
-    let calls = [
+    let events = [
         (
             0,
             Call::Load {
@@ -157,12 +171,9 @@ fn reads_each_event(rt: HostRuntime) -> Result<(), Fail> {
         (0, Call::Stop { spent: true }),
         (32, Call::Resume),
     ];
-    assert_eq!(rt; trace.verdict, Verdict::Full);
-    assert_eq!(rt; trace.entries.len(), calls.len());
-    for (entry, (actor, call)) in trace.entries.as_slice().iter().zip(calls) {
-        assert_eq!(rt; entry.actor, ActorId(actor));
-        assert_eq!(rt; entry.call, call);
-    }
+    let trace = read_trace(rt.alloc(), ALL, EVENTS)?;
+    assert_ends(&rt, &trace, events.len(), Verdict::Full);
+    assert_events(&rt, &trace, &events);
     Ok(())
 }
 
@@ -212,6 +223,56 @@ fn reads_each_outcome(rt: HostRuntime) -> Result<(), Fail> {
     Ok(())
 }
 
+// Texts, each with its first wrong line, for a system without a device.
+static WRONG: [(&str, u32); 46] = [
+    ("", 1),
+    ("quiet 0", 1),
+    ("quiet 1\n", 1),
+    ("quiet 00\n", 1),
+    ("loud 0\n", 1),
+    ("\nquiet 0\n", 1),
+    ("quiet 0\n\n", 2),
+    ("quiet 0\nquiet 0\n", 2),
+    ("quiet 0\nx", 2),
+    ("quiet 1\np1 clear -> done\n", 1),
+    ("p1 clear -> done\n", 2),
+    ("p1 clear -> done", 1),
+    ("p1 clear -> done\nquiet 0\n", 2),
+    ("p1 clear -> done\nquiet 1", 2),
+    ("p1 clear -> done\n\nquiet 1\n", 2),
+    ("p1 clear -> done\r\nquiet 1\n", 1),
+    ("p1 clear -> done\np3 clear -> done\nquiet 2\n", 2),
+    ("p2 clear -> done\nn2 clear -> done\nquiet 2\n", 2),
+    ("p0 clear -> done\nquiet 1\n", 1),
+    ("n1 resume -> done\ndev stop end -> done\nquiet 2\n", 2),
+    ("p01 clear -> done\nquiet 1\n", 1),
+    (" p1 clear -> done\nquiet 1\n", 1),
+    ("p1 clear -> done \nquiet 1\n", 1),
+    ("p1  clear -> done\nquiet 1\n", 1),
+    ("p1 clear => done\nquiet 1\n", 1),
+    ("p1 clear -> done 1\nquiet 1\n", 1),
+    ("p1 close 05 -> done\nquiet 1\n", 1),
+    ("p1 close -0 -> done\nquiet 1\n", 1),
+    ("p1 close +5 -> done\nquiet 1\n", 1),
+    ("p1 close 2147483648 -> done\nquiet 1\n", 1),
+    ("p1 close -2147483649 -> done\nquiet 1\n", 1),
+    ("p1 raise 4294967296 -> done\nquiet 1\n", 1),
+    ("p1 fire 0 -> done\nquiet 1\n", 1),
+    ("p1 fire 00 1 -> done\nquiet 1\n", 1),
+    ("p1 fire 0 01 -> done\nquiet 1\n", 1),
+    ("p1 fire 0 1 0 -> done\nquiet 1\n", 1),
+    ("p1 irq_enable -> done\nquiet 1\n", 1),
+    ("p1 irq_enable 0x0000001A -> done\nquiet 1\n", 1),
+    ("p1 irq_disable 16 -> number 1\nquiet 1\n", 1),
+    ("p1 irq_disable 0x10 -> number 1\nquiet 1\n", 1),
+    ("p1 reset_signal 0x00000010 1 -> done\nquiet 1\n", 1),
+    ("p1 version 0x0000100A -> number 1\nquiet 1\n", 1),
+    ("p1 version 0x1000 -> number 1\nquiet 1\n", 1),
+    ("p1 version 0x000001000 -> number 1\nquiet 1\n", 1),
+    ("p1 version 00001000 -> number 1\nquiet 1\n", 1),
+    ("\u{0}\u{7f}~\u{ff}\n\u{1} 2 3 4 5", 1),
+];
+
 #[test]
 fn tells_the_first_wrong_line(rt: HostRuntime) {
     let counts = Counts {
@@ -219,57 +280,10 @@ fn tells_the_first_wrong_line(rt: HostRuntime) {
         clients: 1,
         device: false,
     };
-    for (text, line) in [
-        ("", 1),
-        ("quiet 0", 1),
-        ("quiet 1\n", 1),
-        ("quiet 00\n", 1),
-        ("loud 0\n", 1),
-        ("\nquiet 0\n", 1),
-        ("quiet 0\n\n", 2),
-        ("quiet 0\nquiet 0\n", 2),
-        ("quiet 0\nx", 2),
-        ("quiet 1\np1 clear -> done\n", 1),
-        ("p1 clear -> done\n", 2),
-        ("p1 clear -> done", 1),
-        ("p1 clear -> done\nquiet 0\n", 2),
-        ("p1 clear -> done\nquiet 1", 2),
-        ("p1 clear -> done\n\nquiet 1\n", 2),
-        ("p1 clear -> done\r\nquiet 1\n", 1),
-        ("p1 clear -> done\np3 clear -> done\nquiet 2\n", 2),
-        ("p2 clear -> done\nn2 clear -> done\nquiet 2\n", 2),
-        ("p0 clear -> done\nquiet 1\n", 1),
-        ("n1 resume -> done\ndev stop end -> done\nquiet 2\n", 2),
-        ("p01 clear -> done\nquiet 1\n", 1),
-        (" p1 clear -> done\nquiet 1\n", 1),
-        ("p1 clear -> done \nquiet 1\n", 1),
-        ("p1  clear -> done\nquiet 1\n", 1),
-        ("p1 clear => done\nquiet 1\n", 1),
-        ("p1 clear -> done 1\nquiet 1\n", 1),
-        ("p1 close 05 -> done\nquiet 1\n", 1),
-        ("p1 close -0 -> done\nquiet 1\n", 1),
-        ("p1 close +5 -> done\nquiet 1\n", 1),
-        ("p1 close 2147483648 -> done\nquiet 1\n", 1),
-        ("p1 close -2147483649 -> done\nquiet 1\n", 1),
-        ("p1 raise 4294967296 -> done\nquiet 1\n", 1),
-        ("p1 fire 0 -> done\nquiet 1\n", 1),
-        ("p1 fire 00 1 -> done\nquiet 1\n", 1),
-        ("p1 fire 0 01 -> done\nquiet 1\n", 1),
-        ("p1 fire 0 1 0 -> done\nquiet 1\n", 1),
-        ("p1 irq_enable -> done\nquiet 1\n", 1),
-        ("p1 irq_enable 0x0000001A -> done\nquiet 1\n", 1),
-        ("p1 irq_disable 16 -> number 1\nquiet 1\n", 1),
-        ("p1 irq_disable 0x10 -> number 1\nquiet 1\n", 1),
-        ("p1 reset_signal 0x00000010 1 -> done\nquiet 1\n", 1),
-        ("p1 version 0x0000100A -> number 1\nquiet 1\n", 1),
-        ("p1 version 0x1000 -> number 1\nquiet 1\n", 1),
-        ("p1 version 0x000001000 -> number 1\nquiet 1\n", 1),
-        ("p1 version 00001000 -> number 1\nquiet 1\n", 1),
-        ("\u{0}\u{7f}~\u{ff}\n\u{1} 2 3 4 5", 1),
-    ] {
+    for (text, line) in &WRONG {
         let read = read_trace(rt.alloc(), counts, text.as_bytes());
         assert!(rt;
-            matches!(read, Err(TraceError::Syntax { line: found }) if found == line),
+            matches!(read, Err(TraceError::Syntax { line: found }) if found == *line),
             "{text:?}"
         );
     }

@@ -3,7 +3,7 @@
 
 use ffm_model::{
     ActorKind, CallName, Comparison, Instruction, Key, Lines, List, MapName, Name, Operand,
-    Operation, PathStep, RaiseItem, ReadError, Root, SCRIPT_SYNTAX,
+    Operation, PathStep, RaiseItem, ReadError, Refusal, Root, SCRIPT_SYNTAX,
 };
 use script_asm::{assemble, device_script};
 use std::alloc::Global;
@@ -104,12 +104,40 @@ const MAPS: [(&str, Option<u32>); 12] = [
     ("map_in r2 r16", Some(0)),
 ];
 
+// A right line of each kind, for a partition.
+static MAP_LINES: [&str; 4] = [
+    "map_in r2 0",
+    "unmap_in r2 0",
+    "map_out r2 0",
+    "unmap_out r2 0 4",
+];
+
 fn lines_of(alloc: Global, text: &str) -> Result<Lines, Fail> {
     let mut lines = Vec::new(alloc);
     for line in text.split('\n') {
         lines.push(Name::of(String::from_str(alloc, line)?))?;
     }
     Ok(Lines::of(List::of(lines)).ok_or("the lines are few")?)
+}
+
+// The line that a refusal of script 7 names.
+fn line_of(refusal: &Refusal) -> Option<u32> {
+    match refusal.place.steps.as_slice() {
+        [
+            PathStep::Key(Key::Scripts),
+            PathStep::Index(7),
+            PathStep::Key(Key::Lines),
+            PathStep::Index(line),
+        ] => Some(*line),
+        _ => None,
+    }
+}
+
+fn wrong_line(rt: &impl Abort, refusal: &Refusal) -> Result<u32, Fail> {
+    assert_eq!(rt; refusal.code, SCRIPT_SYNTAX);
+    assert_eq!(rt; refusal.place.root, Root::Scenario);
+    assert!(rt; refusal.cycle.is_empty());
+    Ok(line_of(refusal).ok_or("another place")?)
 }
 
 // The first wrong line of a script, by the place of its refusal.
@@ -123,20 +151,7 @@ fn first_wrong(
     match assemble(alloc, &lines, kind, 7) {
         Ok(_) => Ok(None),
         Err(ReadError::Memory) => Err(Fail::from("no memory was found")),
-        Err(ReadError::Refused(refusal)) => {
-            assert_eq!(rt; refusal.code, SCRIPT_SYNTAX);
-            assert_eq!(rt; refusal.place.root, Root::Scenario);
-            assert!(rt; refusal.cycle.is_empty());
-            match refusal.place.steps.as_slice() {
-                [
-                    PathStep::Key(Key::Scripts),
-                    PathStep::Index(7),
-                    PathStep::Key(Key::Lines),
-                    PathStep::Index(line),
-                ] => Ok(Some(*line)),
-                _ => Err(Fail::from("another place")),
-            }
-        }
+        Err(ReadError::Refused(refusal)) => Ok(Some(wrong_line(rt, &refusal)?)),
     }
 }
 
@@ -168,13 +183,8 @@ fn vectors_of_partitions(rt: HostRuntime) -> Result<(), Fail> {
         let found = first_wrong(&rt, rt.alloc(), ActorKind::Partition, text)?;
         assert_eq!(rt; found, *wrong, "{text:?}");
     }
-    for kind in [ActorKind::Client, ActorKind::Device] {
-        for line in [
-            "map_in r2 0",
-            "unmap_in r2 0",
-            "map_out r2 0",
-            "unmap_out r2 0 4",
-        ] {
+    for line in &MAP_LINES {
+        for kind in [ActorKind::Client, ActorKind::Device] {
             let found = first_wrong(&rt, rt.alloc(), kind, line)?;
             assert_eq!(rt; found, Some(0), "{kind:?} {line:?}");
         }

@@ -1,11 +1,13 @@
 //! Worked system and scenario files: what no clause says is that these answers are the ones wanted.
 
+use crate::paths::path_of;
 use ffm_model::{
-    Class, Lines, List, Name, Partition, PartsError, PathStep, Priority, ReadError, Refusal,
-    Region, RotType, Scenario, Source, System,
+    ActorId, Bytes, Class, Lines, List, Memory, Name, Partition, Parts, PartsError, Priority,
+    RaiseItem, ReadError, Refusal, Region, RotType, Scenario, Source, System,
 };
 use outside_io::MemoryFiles;
 use std::alloc::{AllocError, Global};
+use std::process::Abort;
 use std::test::Fail;
 use system_json::{read_scenario, read_system};
 
@@ -24,33 +26,46 @@ static FILES: [(&str, &str); 5] = [
     ("text", "\"vault\""),
 ];
 
-/// The files, and one that is a byte longer than may be.
-fn files(alloc: Global) -> Result<MemoryFiles, Fail> {
-    let mut files = MemoryFiles::new(alloc);
+fn put_files(alloc: Global, files: &mut MemoryFiles) -> Result<(), Memory> {
     for (name, text) in &FILES {
         files.add(alloc, name, text.as_bytes())?;
     }
+    Ok(())
+}
+
+/// Puts a file that is a byte longer than may be.
+fn put_long(alloc: Global, files: &mut MemoryFiles) -> Result<(), Memory> {
     let long = vec![in alloc; b' '; 1_048_577]?;
-    files.add(alloc, "long", &long)?;
+    files.add(alloc, "long", &long)
+}
+
+fn files(alloc: Global) -> Result<MemoryFiles, Memory> {
+    let mut files = MemoryFiles::new(alloc);
+    put_files(alloc, &mut files)?;
+    put_long(alloc, &mut files)?;
     Ok(files)
 }
 
 /// A refusal's code, and its place where that isn't the file's.
 fn shown(alloc: Global, refusal: &Refusal) -> Result<String, AllocError> {
-    let mut text = format!(in alloc; "{}", refusal.code)?;
-    for (i, step) in refusal.place.steps.as_slice().iter().enumerate() {
-        text.push_str(if i == 0 { " /" } else { "/" })?;
-        match step {
-            PathStep::Key(key) => text.push_str(key.text())?,
-            PathStep::Index(item) => write!(text, "{item}")?,
-        }
+    let path = path_of(alloc, refusal)?;
+    if path.is_empty() {
+        format!(in alloc; "{}", refusal.code)
+    } else {
+        format!(in alloc; "{} {path}", refusal.code)
     }
-    Ok(text)
+}
+
+fn parts_of(alloc: Global, text: &str) -> Result<Parts, PartsError> {
+    let Ok(mut files) = files(alloc) else {
+        return Err(PartsError::Memory);
+    };
+    read_system(alloc, text.as_bytes(), &mut files)
 }
 
 /// What comes of a system file: how many manifests are read, the refusal, or `fault`.
 fn answer_of_system(alloc: Global, text: &str) -> Result<String, Fail> {
-    match read_system(alloc, text.as_bytes(), &mut files(alloc)?) {
+    match parts_of(alloc, text) {
         Ok(parts) => Ok(format!(in alloc; "ok {}", parts.manifests.len())?),
         Err(PartsError::Refused(refusal)) => Ok(shown(alloc, &refusal)?),
         Err(PartsError::ReadFault) => Ok(String::from_str(alloc, "fault")?),
@@ -123,22 +138,25 @@ ok 0|"connections":[{"client":"A","service":"S","count":256}]
 ok 0|"unknown":{"clients":7}
 "#;
 
-/// The file that a row of a table stands for.
-fn whole_text(alloc: Global, front: &str, row: &str) -> Result<String, AllocError> {
+/// The system file that a row of the table stands for.
+fn whole_text(alloc: Global, row: &str) -> Result<String, AllocError> {
     if row.starts_with('"') && row.len() > 1 {
-        format!(in alloc; "{{{front}{row}}}")
+        format!(in alloc; "{{\"isolation_level\":1,\"manifests\":[],{row}}}")
     } else {
         String::from_str(alloc, row)
     }
 }
 
+fn answer_of_row(alloc: Global, row: &str) -> Result<String, Fail> {
+    let text = whole_text(alloc, row)?;
+    answer_of_system(alloc, text.as_str())
+}
+
 #[test]
 fn system_files(rt: HostRuntime) -> Result<(), Fail> {
-    let alloc = rt.alloc();
     for line in SYSTEMS.lines() {
         let (answer, row) = line.split_once("|").ok_or("a row without an answer")?;
-        let text = whole_text(alloc, "\"isolation_level\":1,\"manifests\":[],", row)?;
-        let found = answer_of_system(alloc, text.as_str())?;
+        let found = answer_of_row(rt.alloc(), row)?;
         assert_eq!(rt; found.as_str(), answer, "{row}");
     }
     Ok(())
@@ -185,32 +203,54 @@ fn source(
     })
 }
 
-/// Partitions VAULT and SPY, client NS, and where there is a device the sources TICK and 17. The
-/// signal of 17 is named as the other source is, and 17 alone has a first-level handler.
-fn system(alloc: Global, with_device: bool) -> Result<System, Fail> {
-    let vault = partition(alloc, "VAULT", 0)?;
-    let partitions = vec![in alloc; vault, partition(alloc, "SPY", 1)?]?;
+fn partitions(alloc: Global) -> Result<List<Partition>, AllocError> {
+    let mut partitions = Vec::new(alloc);
+    partitions.push(partition(alloc, "VAULT", 0)?)?;
+    partitions.push(partition(alloc, "SPY", 1)?)?;
+    Ok(List::of(partitions))
+}
+
+/// The sources TICK and 17. The signal of 17 is named as the other source is, and 17 alone has a
+/// first-level handler.
+fn sources(alloc: Global) -> Result<List<Source>, AllocError> {
     let mut sources = Vec::new(alloc);
-    if with_device {
-        sources.push(source(alloc, "TICK", "TOCK", 16, false)?)?;
-        sources.push(source(alloc, "17", "TICK", 32, true)?)?;
-    }
+    sources.push(source(alloc, "TICK", "TOCK", 16, false)?)?;
+    sources.push(source(alloc, "17", "TICK", 32, true)?)?;
+    Ok(List::of(sources))
+}
+
+fn clients(alloc: Global) -> Result<List<Name>, AllocError> {
+    let mut clients = Vec::new(alloc);
+    clients.push(name(alloc, "NS")?)?;
+    Ok(List::of(clients))
+}
+
+/// Partitions VAULT and SPY, client NS, and these sources.
+fn system(alloc: Global, sources: List<Source>) -> Result<System, Fail> {
     let regions = vec![in alloc;
         region(0x3000_0000, Class::Ram { domain: 1 }),
         region(0x3000_0020, Class::Ram { domain: 1 }),
         region(0x2000_0000, Class::NonSecure),
     ]?;
-    let clients = vec![in alloc; name(alloc, "NS")?]?;
     Ok(System::new(
         1,
-        List::of(partitions),
+        partitions(alloc)?,
         List::of(Vec::new(alloc)),
-        List::of(sources),
+        sources,
         List::of(regions),
-        List::of(clients),
+        clients(alloc)?,
         List::of(Vec::new(alloc)),
     )
     .ok_or("a system that isn't well formed")?)
+}
+
+fn system_with_device(alloc: Global) -> Result<System, Fail> {
+    system(alloc, sources(alloc)?)
+}
+
+/// A system without interrupt sources has no device.
+fn system_without_device(alloc: Global) -> Result<System, Fail> {
+    system(alloc, List::of(Vec::new(alloc)))
 }
 
 /// What comes of a scenario file.
@@ -318,88 +358,104 @@ ok|{"restarts":15}
 20 /schedule/0|{"schedule":[1.5]}
 "#;
 
-#[test]
-fn scenario_files(rt: HostRuntime) -> Result<(), Fail> {
-    let alloc = rt.alloc();
-    let with_device = system(alloc, true)?;
-    for line in SCENARIOS.lines() {
+/// The same, in a system without a device.
+const WITHOUT_DEVICE: &str = r#"20 /schedule/0|{"schedule":["device"]}
+20 /interrupts/0|{"interrupts":[17]}
+ok|{"interrupts":[]}
+"#;
+
+fn assert_scenarios(
+    rt: &impl Abort,
+    alloc: Global,
+    system: &System,
+    table: &str,
+) -> Result<(), Fail> {
+    for line in table.lines() {
         let (answer, row) = line.split_once("|").ok_or("a row without an answer")?;
-        let found = answer_of_scenario(alloc, &with_device, row)?;
+        let found = answer_of_scenario(alloc, system, row)?;
         assert_eq!(rt; found.as_str(), answer, "{row}");
     }
     Ok(())
 }
 
-/// A system without interrupt sources has no device.
+#[test]
+fn scenario_files(rt: HostRuntime) -> Result<(), Fail> {
+    let system = system_with_device(rt.alloc())?;
+    assert_scenarios(&rt, rt.alloc(), &system, SCENARIOS)
+}
+
 #[test]
 fn scenario_files_without_a_device(rt: HostRuntime) -> Result<(), Fail> {
-    let alloc = rt.alloc();
-    let without_device = system(alloc, false)?;
-    let rows = [
-        ("{\"schedule\":[\"device\"]}", "20 /schedule/0"),
-        ("{\"interrupts\":[17]}", "20 /interrupts/0"),
-        ("{\"interrupts\":[]}", "ok"),
-    ];
-    for (text, answer) in rows {
-        let found = answer_of_scenario(alloc, &without_device, text)?;
-        assert_eq!(rt; found.as_str(), answer, "{text}");
+    let system = system_without_device(rt.alloc())?;
+    assert_scenarios(&rt, rt.alloc(), &system, WITHOUT_DEVICE)
+}
+
+/// Puts an item so often, with commas between.
+fn put_repeated(text: &mut String, item: &str, count: u32) -> Result<(), AllocError> {
+    for i in 0..count {
+        text.push_str(if i > 0 { "," } else { "" })?;
+        text.push_str(item)?;
     }
     Ok(())
 }
 
-/// A text that repeats an item, with commas between.
-fn repeated(
-    alloc: Global,
-    front: &str,
-    item: &str,
-    count: u32,
-    back: &str,
-) -> Result<String, AllocError> {
+/// The file of a row: its front, how often an item stands, the item, and the back.
+fn text_of_long(alloc: Global, row: &str) -> Result<String, Fail> {
+    let (front, rest) = row.split_once("|").ok_or("a row without a count")?;
+    let (count, rest) = rest.split_once("|").ok_or("a row without an item")?;
+    let (item, back) = rest.split_once("|").ok_or("a row without a back")?;
+    let count = count.parse::<u32>()?;
     let mut text = String::from_str(alloc, front)?;
-    for i in 0..count {
-        if i > 0 {
-            text.push_str(",")?;
-        }
-        text.push_str(item)?;
-    }
+    put_repeated(&mut text, item, count)?;
     text.push_str(back)?;
     Ok(text)
 }
 
-/// The length of a list is looked at before its items.
+/// By line: what comes of a system file, and the file, as `text_of_long` reads it. The length of a
+/// list is looked at before its items.
+const LONG_SYSTEMS: &str = r#"ok 256|{"isolation_level":1,"manifests":[|256|"vault"|]}
+3 /manifests/0|{"isolation_level":1,"manifests":[|256|7|]}
+4 /manifests|{"isolation_level":1,"manifests":[|257|7|]}
+ok 0|{"isolation_level":1,"manifests":[],"clients":[|16|"A"|]}
+4 /clients|{"isolation_level":1,"manifests":[],"clients":[|17|7|]}
+"#;
+
+/// The same of scenario files.
+const LONG_SCENARIOS: &str = r#"ok|{"scripts":[{"actor":"NS","lines":[|4096|"end"|]}]}
+4 /scripts/0/lines|{"scripts":[{"actor":"NS","lines":[|4097|7|]}]}
+ok|{"scripts":[|8|{"actor":"NS","lines":[]}|]}
+4 /scripts/8/actor|{"scripts":[|9|{"actor":"NS","lines":[]}|]}
+ok|{"scripts":[|1|{"actor":"SPY","lines":[]}|]}
+4 /scripts/1/actor|{"scripts":[|2|{"actor":"SPY","lines":[]}|]}
+"#;
+
+fn answer_of_long_system(alloc: Global, row: &str) -> Result<String, Fail> {
+    let text = text_of_long(alloc, row)?;
+    answer_of_system(alloc, text.as_str())
+}
+
+fn answer_of_long_scenario(alloc: Global, row: &str) -> Result<String, Fail> {
+    let text = text_of_long(alloc, row)?;
+    let system = system_with_device(alloc)?;
+    answer_of_scenario(alloc, &system, text.as_str())
+}
+
 #[test]
-fn lengths_of_lists(rt: HostRuntime) -> Result<(), Fail> {
-    let alloc = rt.alloc();
-    let manifests = "{\"isolation_level\":1,\"manifests\":[";
-    let clients = "{\"isolation_level\":1,\"manifests\":[],\"clients\":[";
-    let systems = [
-        (manifests, "\"vault\"", 256, "]}", "ok 256"),
-        (manifests, "7", 256, "]}", "3 /manifests/0"),
-        (manifests, "7", 257, "]}", "4 /manifests"),
-        (clients, "\"A\"", 16, "]}", "ok 0"),
-        (clients, "7", 17, "]}", "4 /clients"),
-    ];
-    for (front, item, count, back, answer) in systems {
-        let text = repeated(alloc, front, item, count, back)?;
-        let found = answer_of_system(alloc, text.as_str())?;
-        assert_eq!(rt; found.as_str(), answer, "{front} {count}");
+fn lengths_of_lists_of_systems(rt: HostRuntime) -> Result<(), Fail> {
+    for line in LONG_SYSTEMS.lines() {
+        let (answer, row) = line.split_once("|").ok_or("a row without an answer")?;
+        let found = answer_of_long_system(rt.alloc(), row)?;
+        assert_eq!(rt; found.as_str(), answer, "{row}");
     }
-    let lines = "{\"scripts\":[{\"actor\":\"NS\",\"lines\":[";
-    let scripts = "{\"scripts\":[";
-    let client = "{\"actor\":\"NS\",\"lines\":[]}";
-    let partition = "{\"actor\":\"SPY\",\"lines\":[]}";
-    let scenarios = [
-        (lines, "\"end\"", 4096, "]}]}", "ok"),
-        (lines, "7", 4097, "]}]}", "4 /scripts/0/lines"),
-        (scripts, client, 8, "]}", "ok"),
-        (scripts, client, 9, "]}", "4 /scripts/8/actor"),
-        (scripts, partition, 1, "]}", "ok"),
-        (scripts, partition, 2, "]}", "4 /scripts/1/actor"),
-    ];
-    for (front, item, count, back, answer) in scenarios {
-        let text = repeated(alloc, front, item, count, back)?;
-        let found = answer_of_scenario(alloc, &system(alloc, true)?, text.as_str())?;
-        assert_eq!(rt; found.as_str(), answer, "{front} {count}");
+    Ok(())
+}
+
+#[test]
+fn lengths_of_lists_of_scenarios(rt: HostRuntime) -> Result<(), Fail> {
+    for line in LONG_SCENARIOS.lines() {
+        let (answer, row) = line.split_once("|").ok_or("a row without an answer")?;
+        let found = answer_of_long_scenario(rt.alloc(), row)?;
+        assert_eq!(rt; found.as_str(), answer, "{row}");
     }
     Ok(())
 }
@@ -407,76 +463,98 @@ fn lengths_of_lists(rt: HostRuntime) -> Result<(), Fail> {
 /// How many lines each script has, with `+` between.
 fn put_lengths(text: &mut String, scripts: &[Lines]) -> Result<(), AllocError> {
     for (i, lines) in scripts.iter().enumerate() {
-        if i > 0 {
-            text.push_str("+")?;
-        }
+        text.push_str(if i > 0 { "+" } else { "" })?;
         write!(text, "{}", lines.len())?;
     }
     Ok(())
 }
 
-/// What a scenario says, in short.
-fn shown_scenario(alloc: Global, scenario: &Scenario) -> Result<String, AllocError> {
-    let mut text = format!(in alloc; "limit {} lines", scenario.limit)?;
-    for scripts in scenario.lines.as_slice() {
-        text.push_str(" ")?;
-        put_lengths(&mut text, scripts.as_slice())?;
-    }
-    text.push_str(" order")?;
-    for actor in scenario.order.as_slice() {
+fn put_actors(text: &mut String, actors: &[ActorId]) -> Result<(), AllocError> {
+    for actor in actors {
         write!(text, " {}", actor.0)?;
     }
-    text.push_str(" schedule")?;
-    for actor in scenario.schedule.as_slice() {
-        write!(text, " {}", actor.0)?;
-    }
-    text.push_str(" raises")?;
-    for raise in scenario.raises.as_slice() {
+    Ok(())
+}
+
+fn put_raises(text: &mut String, raises: &[RaiseItem]) -> Result<(), AllocError> {
+    for raise in raises {
         write!(text, " {}", raise.source)?;
         if let Some(answer) = raise.result {
             write!(text, ":{answer}")?;
         }
     }
-    text.push_str(" memory")?;
-    for bytes in scenario.memory.as_slice() {
-        write!(text, " {:x}={:?}", bytes.address, bytes.content.as_slice())?;
-    }
-    write!(text, " restarts {}", scenario.restarts)?;
-    Ok(text)
+    Ok(())
 }
 
-#[test]
-fn a_scenario(rt: HostRuntime) -> Result<(), Fail> {
-    let alloc = rt.alloc();
-    let system = system(alloc, true)?;
-    let rows = [
-        (
-            "{}",
-            "limit 4096 lines 0 0 0 0 order schedule raises memory restarts 0",
-        ),
-        (
-            r#"{"event_limit":8,"scripts":[{"actor":"NS","lines":["a","b"]},{"actor":"VAULT","lines":["c"]},{"actor":"NS","lines":[]},{"actor":"NS","lines":["d"]}],"schedule":["device","SPY","NS","VAULT"],"interrupts":[17,"TICK",{"source":17,"result":0}],"memory":[{"address":"0x20000004","bytes":"0aFf"}],"restarts":3}"#,
-            "limit 8 lines 1 0 2+0+1 0 order 2 0 2 2 schedule 3 1 2 0 raises 1:1 0 1:0 memory 20000004=[10, 255] restarts 3",
-        ),
-    ];
-    for (text, answer) in rows {
-        let scenario = read_scenario(alloc, text.as_bytes(), &system)?;
-        let found = shown_scenario(alloc, &scenario)?;
+fn put_memory(text: &mut String, memory: &[Bytes]) -> Result<(), AllocError> {
+    for bytes in memory {
+        write!(text, " {:x}={:?}", bytes.address, bytes.content.as_slice())?;
+    }
+    Ok(())
+}
+
+/// Puts what a scenario says, in short.
+fn put_scenario(text: &mut String, scenario: &Scenario) -> Result<(), AllocError> {
+    write!(text, "limit {} lines", scenario.limit)?;
+    for scripts in scenario.lines.as_slice() {
+        text.push_str(" ")?;
+        put_lengths(text, scripts.as_slice())?;
+    }
+    text.push_str(" order")?;
+    put_actors(text, scenario.order.as_slice())?;
+    text.push_str(" schedule")?;
+    put_actors(text, scenario.schedule.as_slice())?;
+    text.push_str(" raises")?;
+    put_raises(text, scenario.raises.as_slice())?;
+    text.push_str(" memory")?;
+    put_memory(text, scenario.memory.as_slice())?;
+    write!(text, " restarts {}", scenario.restarts)
+}
+
+fn shown_scenario(alloc: Global, system: &System, text: &str) -> Result<String, Fail> {
+    let scenario = read_scenario(alloc, text.as_bytes(), system)?;
+    let mut shown = String::new(alloc);
+    put_scenario(&mut shown, &scenario)?;
+    Ok(shown)
+}
+
+/// By line: what a scenario says, and its file.
+const SHOWN: &str = r#"limit 4096 lines 0 0 0 0 order schedule raises memory restarts 0|{}
+limit 8 lines 1 0 2+0+1 0 order 2 0 2 2 schedule 3 1 2 0 raises 1:1 0 1:0 memory 20000004=[10, 255] restarts 3|{"event_limit":8,"scripts":[{"actor":"NS","lines":["a","b"]},{"actor":"VAULT","lines":["c"]},{"actor":"NS","lines":[]},{"actor":"NS","lines":["d"]}],"schedule":["device","SPY","NS","VAULT"],"interrupts":[17,"TICK",{"source":17,"result":0}],"memory":[{"address":"0x20000004","bytes":"0aFf"}],"restarts":3}
+"#;
+
+fn assert_shown(rt: &impl Abort, alloc: Global, system: &System) -> Result<(), Fail> {
+    for line in SHOWN.lines() {
+        let (answer, text) = line.split_once("|").ok_or("a row without an answer")?;
+        let found = shown_scenario(alloc, system, text)?;
         assert_eq!(rt; found.as_str(), answer);
     }
     Ok(())
 }
 
 #[test]
-fn a_system(rt: HostRuntime) -> Result<(), Fail> {
-    let alloc = rt.alloc();
+fn a_scenario(rt: HostRuntime) -> Result<(), Fail> {
+    let system = system_with_device(rt.alloc())?;
+    assert_shown(&rt, rt.alloc(), &system)
+}
+
+fn worked_parts(alloc: Global) -> Result<Parts, Fail> {
     let front = "{\"isolation_level\":3,\"clients\":[\"NS\"],\"manifests\":[\"vault\",";
-    let text = repeated(alloc, front, VAULT, 1, "]}")?;
-    let parts = read_system(alloc, text.as_bytes(), &mut files(alloc)?)?;
+    let text = format!(in alloc; "{front}{VAULT}]}}")?;
+    Ok(parts_of(alloc, text.as_str())?)
+}
+
+fn assert_worked(rt: &impl Abort, parts: &Parts) {
     assert_eq!(rt; (parts.level, parts.non_secure_ram), (3, 65536));
     assert_eq!(rt; (parts.manifests.len(), parts.clients.len()), (2, 1));
     for manifest in parts.manifests.as_slice() {
         assert_eq!(rt; manifest.name.as_str(), "VAULT");
     }
+}
+
+#[test]
+fn a_system(rt: HostRuntime) -> Result<(), Fail> {
+    let parts = worked_parts(rt.alloc())?;
+    assert_worked(&rt, &parts);
     Ok(())
 }

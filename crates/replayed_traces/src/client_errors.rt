@@ -1,8 +1,7 @@
 //! Programmer errors of a client, which change nothing, and calls that are none.
 
-use crate::altered::altered;
 use crate::systems::{LONG_WRITE, ONE_REQUEST, POLICIES};
-use crate::written::{expect, expect_each, run};
+use crate::written::{expect_altered, expect_each, run};
 use std::test::Fail;
 
 // Calls of a client with an idle connection, after which the run goes on as before.
@@ -41,10 +40,9 @@ const CALLS: [&str; 21] = [
 #[test]
 fn calls_that_change_nothing(rt: HostRuntime) -> Result<(), Fail> {
     let trace = run(&rt, &ONE_REQUEST)?;
-    for line in CALLS {
-        let changes = [(8, 0, line), (26, 1, "quiet 26\n")];
-        let text = altered(rt.alloc(), &trace, &changes)?;
-        expect(&rt, &ONE_REQUEST, text.as_bytes(), "legal 26")?;
+    for line in &CALLS {
+        let changes = [(8, 0, *line), (26, 1, "quiet 26\n")];
+        expect_altered(&rt, &ONE_REQUEST, &trace, &changes, "legal 26")?;
     }
     Ok(())
 }
@@ -62,8 +60,7 @@ fn other_answers(rt: HostRuntime) -> Result<(), Fail> {
         ("n1 store 0x20000004 1 0xffffff04 -> done\n", "illegal 11"),
     ] {
         let changes = [(8, 0, line), (26, 1, "quiet 26\n")];
-        let text = altered(rt.alloc(), &trace, &changes)?;
-        expect(&rt, &ONE_REQUEST, text.as_bytes(), answer)?;
+        expect_altered(&rt, &ONE_REQUEST, &trace, &changes, answer)?;
     }
     Ok(())
 }

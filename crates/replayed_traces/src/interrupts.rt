@@ -1,8 +1,7 @@
 //! Calls of the device, and ends of an interrupt.
 
-use crate::altered::altered;
 use crate::systems::{DISABLED, HANDLED_TICK, TWO_TICKS};
-use crate::written::{expect, expect_each, run};
+use crate::written::{expect_altered, expect_each, run};
 use std::test::Fail;
 
 #[test]
@@ -119,10 +118,9 @@ const DEVICE_CALLS: [(&str, &str); 10] = [
 #[test]
 fn calls_of_the_device(rt: HostRuntime) -> Result<(), Fail> {
     let trace = run(&rt, &HANDLED_TICK)?;
-    for (line, answer) in DEVICE_CALLS {
-        let changes = [(2, 0, line), (7, 1, "quiet 7\n")];
-        let text = altered(rt.alloc(), &trace, &changes)?;
-        expect(&rt, &HANDLED_TICK, text.as_bytes(), answer)?;
+    for (line, answer) in &DEVICE_CALLS {
+        let changes = [(2, 0, *line), (7, 1, "quiet 7\n")];
+        expect_altered(&rt, &HANDLED_TICK, &trace, &changes, answer)?;
     }
     Ok(())
 }

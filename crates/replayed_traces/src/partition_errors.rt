@@ -1,8 +1,7 @@
 //! Programmer errors of a partition, which panics, and calls that are none.
 
-use crate::altered::altered;
 use crate::systems::{LONG_WRITE, ONE_REQUEST};
-use crate::written::{expect, expect_each, run};
+use crate::written::{expect_altered, expect_each, run};
 use std::test::Fail;
 
 // Calls of a partition with a request whose output vector is full.
@@ -59,24 +58,23 @@ const NO_PANICS: [&str; 6] = [
     "p1 framework_version -> panicked\n",
 ];
 
-#[test]
-fn panics(rt: HostRuntime) -> Result<(), Fail> {
-    let trace = run(&rt, &LONG_WRITE)?;
-    for line in PANICS {
-        let text = altered(rt.alloc(), &trace, &[(12, 1, line)])?;
-        expect(&rt, &LONG_WRITE, text.as_bytes(), "legal 17")?;
+// Fails unless this is the answer to each of the traces with one of these lines in place of the panic.
+fn expect_calls(rt: &HostRuntime, lines: &[&str], answer: &str) -> Result<(), Fail> {
+    let trace = run(rt, &LONG_WRITE)?;
+    for line in lines {
+        expect_altered(rt, &LONG_WRITE, &trace, &[(12, 1, *line)], answer)?;
     }
     Ok(())
 }
 
 #[test]
+fn panics(rt: HostRuntime) -> Result<(), Fail> {
+    expect_calls(&rt, &PANICS, "legal 17")
+}
+
+#[test]
 fn no_panics(rt: HostRuntime) -> Result<(), Fail> {
-    let trace = run(&rt, &LONG_WRITE)?;
-    for line in NO_PANICS {
-        let text = altered(rt.alloc(), &trace, &[(12, 1, line)])?;
-        expect(&rt, &LONG_WRITE, text.as_bytes(), "illegal 12")?;
-    }
-    Ok(())
+    expect_calls(&rt, &NO_PANICS, "illegal 12")
 }
 
 #[test]

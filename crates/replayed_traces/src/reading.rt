@@ -1,23 +1,26 @@
 //! Texts that are no trace of the system, and numbers at the ends of their ranges.
 
-use crate::altered::{Change, altered};
+use crate::altered::Change;
 use crate::systems::ONE_REQUEST;
-use crate::written::{expect, expect_each, run};
-use std::alloc::Global;
+use crate::written::{expect_altered, expect_each, run};
 use std::test::Fail;
 
-// The refusal of a trace's line.
-fn refusal(alloc: Global, line: usize) -> Result<String, Fail> {
-    Ok(format!(in alloc; "refused 24 TraceSyntax trace /{line}")?)
+// Fails unless the trace after the changes is refused in the place of this line.
+fn expect_refusal(
+    rt: &HostRuntime,
+    trace: &str,
+    changes: &[Change<'_>],
+    line: usize,
+) -> Result<(), Fail> {
+    let answer = format!(in rt.alloc(); "refused 24 TraceSyntax trace /{line}")?;
+    expect_altered(rt, &ONE_REQUEST, trace, changes, &answer)
 }
 
 // Fails unless each of the texts is refused in the place of its line.
 fn expect_refused(rt: &HostRuntime, rows: &[(usize, &str)]) -> Result<(), Fail> {
     let trace = run(rt, &ONE_REQUEST)?;
     for (line, put) in rows {
-        let text = altered(rt.alloc(), &trace, &[(*line, 1, *put)])?;
-        let answer = refusal(rt.alloc(), *line)?;
-        expect(rt, &ONE_REQUEST, text.as_bytes(), &answer)?;
+        expect_refusal(rt, &trace, &[(*line, 1, *put)], *line)?;
     }
     Ok(())
 }
@@ -114,9 +117,7 @@ const PLACES: [(&[Change<'static>], usize); 9] = [
 fn places_of_refusals(rt: HostRuntime) -> Result<(), Fail> {
     let trace = run(&rt, &ONE_REQUEST)?;
     for (changes, line) in &PLACES {
-        let text = altered(rt.alloc(), &trace, changes)?;
-        let answer = refusal(rt.alloc(), *line)?;
-        expect(&rt, &ONE_REQUEST, text.as_bytes(), &answer)?;
+        expect_refusal(&rt, &trace, changes, *line)?;
     }
     Ok(())
 }

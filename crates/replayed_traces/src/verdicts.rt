@@ -1,8 +1,8 @@
 //! The last line, and the limit of the events.
 
-use crate::altered::{Change, altered};
+use crate::altered::Change;
 use crate::systems::{ONE_REQUEST, Pair};
-use crate::written::{expect, expect_each, run};
+use crate::written::{expect_altered, expect_each, run};
 use std::test::Fail;
 
 #[test]
@@ -43,19 +43,28 @@ const LIMITS: [(u32, &[Change<'static>], &str); 7] = [
     (8, &[(10, 17, "full 9\n")], "illegal 9"),
 ];
 
+// Fails unless this is the answer to a trace after the changes where the scenario states a limit.
+fn expect_limited(
+    rt: &HostRuntime,
+    trace: &str,
+    limit: u32,
+    changes: &[Change<'_>],
+    answer: &str,
+) -> Result<(), Fail> {
+    let members = ONE_REQUEST.scenario.strip_prefix('{').unwrap_or("");
+    let scenario = format!(in rt.alloc(); "{{\"event_limit\":{limit},{members}")?;
+    let pair = Pair {
+        system: ONE_REQUEST.system,
+        scenario: &scenario,
+    };
+    expect_altered(rt, &pair, trace, changes, answer)
+}
+
 #[test]
 fn limits(rt: HostRuntime) -> Result<(), Fail> {
-    let alloc = rt.alloc();
     let trace = run(&rt, &ONE_REQUEST)?;
-    let members = ONE_REQUEST.scenario.strip_prefix('{').unwrap_or("");
     for (limit, changes, answer) in &LIMITS {
-        let scenario = format!(in alloc; "{{\"event_limit\":{limit},{members}")?;
-        let pair = Pair {
-            system: ONE_REQUEST.system,
-            scenario: &scenario,
-        };
-        let text = altered(alloc, &trace, changes)?;
-        expect(&rt, &pair, text.as_bytes(), answer)?;
+        expect_limited(&rt, &trace, *limit, changes, answer)?;
     }
     Ok(())
 }

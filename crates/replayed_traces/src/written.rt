@@ -4,7 +4,7 @@ use crate::altered::{Change, altered};
 use crate::systems::Pair;
 use ffm_model::List;
 use ffm_top::{asks_threads, ffm_alone};
-use outside_io::{MemoryFiles, MemorySink};
+use outside_io::{Files, MemoryFiles, MemorySink, Sink};
 use std::alloc::Global;
 use std::str::from_utf8;
 use std::test::Fail;
@@ -23,6 +23,28 @@ fn words_of(alloc: Global, words: &[&str]) -> Result<Vec<String>, Fail> {
     Ok(list)
 }
 
+fn files_of(alloc: Global, pair: &Pair<'_>, trace: &[u8]) -> Result<MemoryFiles, Fail> {
+    let mut files = MemoryFiles::new(alloc);
+    files.add(alloc, "system", pair.system.as_bytes())?;
+    files.add(alloc, "scenario", pair.scenario.as_bytes())?;
+    files.add(alloc, "trace", trace)?;
+    Ok(files)
+}
+
+// The status of a command without threads.
+fn status_alone<F: Files, S: Sink>(
+    alloc: Global,
+    words: &[&str],
+    files: &mut F,
+    sink: &mut S,
+) -> Result<u8, Fail> {
+    let words = words_of(alloc, words)?;
+    if asks_threads(&words) {
+        return Err(Fail::from("a run with threads"));
+    }
+    Ok(ffm_alone(alloc, &words, files, sink))
+}
+
 // What the command writes, and its status.
 fn written_by(
     rt: &HostRuntime,
@@ -31,16 +53,9 @@ fn written_by(
     trace: &[u8],
 ) -> Result<(String, u8), Fail> {
     let alloc = rt.alloc();
-    let words = words_of(alloc, words)?;
-    let mut files = MemoryFiles::new(alloc);
-    files.add(alloc, "system", pair.system.as_bytes())?;
-    files.add(alloc, "scenario", pair.scenario.as_bytes())?;
-    files.add(alloc, "trace", trace)?;
+    let mut files = files_of(alloc, pair, trace)?;
     let mut sink = MemorySink::new(alloc, 4096, 256, List::of(Vec::new(alloc)))?;
-    if asks_threads(&words) {
-        return Err(Fail::from("a run with threads"));
-    }
-    let status = ffm_alone(alloc, &words, &mut files, &mut sink);
+    let status = status_alone(alloc, words, &mut files, &mut sink)?;
     Ok((String::from_str(alloc, from_utf8(sink.bytes())?)?, status))
 }
 
@@ -124,6 +139,18 @@ pub(crate) fn expect(
     expect_audit(rt, pair, trace, answer)
 }
 
+/// Fails unless this is the answer to the trace after the changes.
+pub(crate) fn expect_altered(
+    rt: &HostRuntime,
+    pair: &Pair<'_>,
+    trace: &str,
+    changes: &[Change<'_>],
+    answer: &str,
+) -> Result<(), Fail> {
+    let text = altered(rt.alloc(), trace, changes)?;
+    expect(rt, pair, text.as_bytes(), answer)
+}
+
 /// Fails unless each of the traces that the changes make of the written one has its answer.
 pub(crate) fn expect_each(
     rt: &HostRuntime,
@@ -132,8 +159,7 @@ pub(crate) fn expect_each(
 ) -> Result<(), Fail> {
     let trace = run(rt, pair)?;
     for (changes, answer) in rows {
-        let text = altered(rt.alloc(), &trace, changes)?;
-        expect(rt, pair, text.as_bytes(), answer)?;
+        expect_altered(rt, pair, &trace, changes, answer)?;
     }
     Ok(())
 }

@@ -3,11 +3,9 @@ ghost use Rattle.std.specs.Prelude.{◌≡◌, IfOk};
 ghost use Rattle.std.specs.List.{list_any};
 ghost use Rattle.memory_image.specs.Pieces.{regions_of, ranges_of, has_range, is_inside};
 
-use crate::parts::{partition, region};
-use ffm_model::{Bytes, Class, List, Name, Region, System};
-use memory_image::{
-    Image, count_differences, first_difference, first_difference_outside, open_within,
-};
+use crate::parts::{add_pieces, image_with, region, system_of};
+use ffm_model::{Class, List, Region, System};
+use memory_image::{Image, count_differences, first_difference, first_difference_outside};
 use std::alloc::Global;
 use std::process::Abort;
 use std::test::Fail;
@@ -20,7 +18,7 @@ const MMIO: Class = Class::Mmio {
 // A region of each size of the tests. Their order is not by address, some are neighbours, one has
 // no byte and lies amid another, and one ends at 2^32.
 fn system(alloc: Global) -> Result<System, Fail> {
-    let regions = vec![in alloc;
+    let regions = [
         region(0x3000_0000, 1_000, Class::Ram { domain: 0 }),
         region(0x2000_0000, 65, Class::NonSecure),
         region(0x4000_0010, 0, MMIO),
@@ -30,29 +28,15 @@ fn system(alloc: Global) -> Result<System, Fail> {
         region(0x4000_0100, 33, MMIO),
         region(0x1000_0000, 63, MMIO),
         region(0xffff_ffc0, 64, MMIO),
-    ]?;
-    let system = System::new(
-        3,
-        List::of(vec![in alloc; partition(alloc, 0, 0)]?),
-        List::of(Vec::new(alloc)),
-        List::of(Vec::new(alloc)),
-        List::of(regions),
-        List::of(vec![in alloc; Name::of(String::new(alloc))]?),
-        List::of(Vec::new(alloc)),
-    );
-    Ok(system.ok_or("the parts fit")?)
-}
-
-fn piece(alloc: Global, address: u32, bytes: &[u8]) -> Result<Bytes, Fail> {
-    Ok(Bytes {
-        address,
-        content: List::of(bytes.to_vec(alloc)?),
-    })
+    ];
+    system_of(alloc, &[(0, 0)], &regions)
 }
 
 // The bytes that both images of a pair begin with, ff from 0x30000020 to 0x3000003f and 5a at the
-// end of the addresses, and then the changes, each an address and its bytes.
-#[tactic(auto, using(memory_image::proofs::Systems::system_fits, memory_image::proofs::Systems::system_few))]
+// end of the addresses.
+const OPENING: &[(u32, &[u8])] = &[(0x3000_0020, &[0xff; 32]), (0xffff_ffc0, &[0x5a; 64])];
+
+// The image with those bytes and then the changes, each an address and its bytes.
 fn image_of(
     rt: &impl Abort,
     alloc: Global,
@@ -61,15 +45,41 @@ fn image_of(
 ) -> Result<Image, Fail>
     ensures { IfOk result (λ image. regions_of image ≡ ranges_of system.now.regions) }
 {
-    let mut opening = vec![in alloc;
-        piece(alloc, 0x3000_0020, &[0xff; 32])?,
-        piece(alloc, 0xffff_ffc0, &[0x5a; 64])?,
-    ]?;
-    for (address, bytes) in changes {
-        opening.push(piece(alloc, *address, bytes)?)?;
-    }
-    assert!(rt; open_within(system.regions.as_slice(), opening.as_slice()));
-    Ok(Image::new(alloc, &system.regions, &List::of(opening))?)
+    let mut opening = Vec::new(alloc);
+    add_pieces(alloc, &mut opening, OPENING)?;
+    add_pieces(alloc, &mut opening, changes)?;
+    image_with(rt, alloc, system, &List::of(opening))
+}
+
+// Two images of a system's regions.
+#[derive(Drop)]
+struct Pair {
+    system: System,
+    one: Image,
+    other: Image,
+    ghost same: { regions_of one ≡ ranges_of system.regions },
+    ghost alike: { regions_of other ≡ ranges_of system.regions },
+}
+
+// An image without changes, and one with these changes.
+fn pair_of(rt: &impl Abort, alloc: Global, changes: &[(u32, &[u8])]) -> Result<Pair, Fail> {
+    let system = system(alloc)?;
+    let one = image_of(rt, alloc, &system, &[])?;
+    let other = image_of(rt, alloc, &system, changes)?;
+    Ok(Pair { system, one, other })
+}
+
+// What a check of the two images answers, the second one with these changes.
+fn on_pair<T, C: FnOnce(&Pair) -> T>(
+    rt: &impl Abort,
+    alloc: Global,
+    changes: &[(u32, &[u8])],
+    check: C,
+) -> Result<T, Fail>
+    requires { C.IsAlwaysCallable check }
+{
+    let pair = pair_of(rt, alloc, changes)?;
+    Ok(check(&pair))
 }
 
 fn has_range(range: (u32, u32), address: u32, len: u32) -> bool
@@ -103,23 +113,26 @@ fn compare(one: &Image, other: &Image) -> Compared
     (first_difference(one, other), count_differences(one, other))
 }
 
+// The first image compared with the second one, and that one with it.
+fn compare_both(pair: &Pair) -> (Compared, Compared) {
+    (
+        compare(&pair.one, &pair.other),
+        compare(&pair.other, &pair.one),
+    )
+}
+
 // What a range's differences are. None where it isn't empty and lies whole in no region.
-fn compare_in(
-    system: &System,
-    one: &Image,
-    other: &Image,
-    address: u32,
-    len: u32,
-) -> Option<Compared>
-    requires one { regions_of one.now ≡ ranges_of system.now.regions }
-    requires other { regions_of other.now ≡ ranges_of system.now.regions }
-{
-    if !is_inside(system.regions.as_slice(), address, len) {
+fn compare_in(pair: &Pair, address: u32, len: u32) -> Option<Compared> {
+    if !is_inside(pair.system.regions.as_slice(), address, len) {
         return None;
     }
-    let first = one.first_difference_in(other, address, len);
-    let count = one.count_differences_in(other, address, len);
+    let first = pair.one.first_difference_in(&pair.other, address, len);
+    let count = pair.one.count_differences_in(&pair.other, address, len);
     Some((first, count))
+}
+
+fn first_outside(pair: &Pair, base: u32, size: u32) -> Option<u32> {
+    first_difference_outside(&pair.one, &pair.other, region(base, size, MMIO))
 }
 
 // A region, and the addresses of its first, its middle and its last byte.
@@ -137,68 +150,42 @@ const REGIONS: [RegionRow; 9] = [
     RegionRow(0x3000_0000, 1_000, &[0x3000_0000, 0x3000_01f4, 0x3000_03e7]),
 ];
 
+fn assert_same(rt: &impl Abort, pair: &Pair) {
+    assert_eq!(rt; compare(&pair.one, &pair.other), (None, 0));
+    for RegionRow(base, size, _) in &REGIONS {
+        let whole = compare_in(pair, *base, *size);
+        let outside = first_outside(pair, *base, *size);
+        assert_eq!(rt; (whole, outside), (Some((None, 0)), None), "{base:#x}");
+    }
+}
+
 #[test]
 fn no_byte_differs(rt: HostRuntime) -> Result<(), Fail> {
-    let system = system(rt.alloc())?;
-    let one = image_of(&rt, rt.alloc(), &system, &[])?;
-    let other = image_of(&rt, rt.alloc(), &system, &[])?;
-    assert_eq!(rt; compare(&one, &other), (None, 0));
-    for RegionRow(base, size, _) in &REGIONS {
-        assert_eq!(rt;
-            compare_in(&system, &one, &other, *base, *size),
-            Some((None, 0)),
-            "{base:#x}"
-        );
-        let skip = region(*base, *size, MMIO);
-        assert_eq!(rt;
-            first_difference_outside(&one, &other, skip),
-            None,
-            "{base:#x}"
-        );
-    }
-    Ok(())
+    on_pair(&rt, rt.alloc(), &[], |pair| assert_same(&rt, pair))
 }
 
 // The byte at an address of a region is the only one that differs.
-fn only_differs_at(
-    rt: &impl Abort,
-    alloc: Global,
-    system: &System,
-    row: &RegionRow,
-    address: u32,
-) -> Result<(), Fail> {
-    let byte: &[u8] = &[0x80];
-    let one = image_of(rt, alloc, system, &[])?;
-    let other = image_of(rt, alloc, system, &[(address, byte)])?;
+fn assert_only_at(rt: &impl Abort, pair: &Pair, row: &RegionRow, address: u32) {
     let found = (Some(address), 1);
-    assert_eq!(rt; compare(&one, &other), found, "{address:#x}");
-    assert_eq!(rt; compare(&other, &one), found, "{address:#x}");
-    assert_eq!(rt;
-        compare_in(system, &one, &other, row.0, row.1),
-        Some(found),
-        "{address:#x}"
+    let both = compare_both(pair);
+    assert_eq!(rt; both, (found, found), "{address:#x}");
+    let whole = compare_in(pair, row.0, row.1);
+    assert_eq!(rt; whole, Some(found), "{address:#x}");
+    let outside = (
+        first_outside(pair, address, 0),
+        first_outside(pair, row.0, row.1),
     );
-    let without = region(address, 0, MMIO);
-    assert_eq!(rt;
-        first_difference_outside(&one, &other, without),
-        Some(address),
-        "{address:#x}"
-    );
-    let whole = region(row.0, row.1, MMIO);
-    assert_eq!(rt;
-        first_difference_outside(&one, &other, whole),
-        None,
-        "{address:#x}"
-    );
-    Ok(())
+    assert_eq!(rt; outside, (Some(address), None), "{address:#x}");
 }
 
 #[test]
 fn one_byte_differs(rt: HostRuntime) -> Result<(), Fail> {
-    let system = system(rt.alloc())?;
     for row in &REGIONS {
         for address in row.2 {
-            only_differs_at(&rt, rt.alloc(), &system, row, *address)?;
+            let changes: &[(u32, &[u8])] = &[(*address, &[0x80])];
+            on_pair(&rt, rt.alloc(), changes, |pair| {
+                assert_only_at(&rt, pair, row, *address)
+            })?;
         }
     }
     Ok(())
@@ -232,19 +219,16 @@ const RANGES: [RangeRow; 15] = [
     RangeRow(0x2000_0000, 65, None, 0),
 ];
 
+fn assert_ranges(rt: &impl Abort, pair: &Pair) {
+    for RangeRow(address, len, first, count) in &RANGES {
+        let found = compare_in(pair, *address, *len);
+        assert_eq!(rt; found, Some((*first, *count)), "{address:#x} {len}");
+    }
+}
+
 #[test]
 fn ranges_are_compared(rt: HostRuntime) -> Result<(), Fail> {
-    let system = system(rt.alloc())?;
-    let one = image_of(&rt, rt.alloc(), &system, &[])?;
-    let other = image_of(&rt, rt.alloc(), &system, THREE)?;
-    for RangeRow(address, len, first, count) in &RANGES {
-        assert_eq!(rt;
-            compare_in(&system, &one, &other, *address, *len),
-            Some((*first, *count)),
-            "{address:#x} {len}"
-        );
-    }
-    Ok(())
+    on_pair(&rt, rt.alloc(), THREE, |pair| assert_ranges(&rt, pair))
 }
 
 // The changes of the second image, the first difference, and how many there are.
@@ -289,12 +273,10 @@ const IMAGES: [ImageRow; 10] = [
 
 #[test]
 fn images_are_compared(rt: HostRuntime) -> Result<(), Fail> {
-    let system = system(rt.alloc())?;
-    let one = image_of(&rt, rt.alloc(), &system, &[])?;
     for (k, ImageRow(changes, first, count)) in IMAGES.iter().enumerate() {
-        let other = image_of(&rt, rt.alloc(), &system, changes)?;
-        assert_eq!(rt; compare(&one, &other), (*first, *count), "at {k}");
-        assert_eq!(rt; compare(&other, &one), (*first, *count), "at {k}");
+        let found = (*first, *count);
+        let both = on_pair(&rt, rt.alloc(), changes, |pair| compare_both(pair))?;
+        assert_eq!(rt; both, (found, found), "at {k}");
     }
     Ok(())
 }
@@ -352,16 +334,12 @@ const SKIPS: [SkipRow; 31] = [
 
 #[test]
 fn a_range_is_passed_over(rt: HostRuntime) -> Result<(), Fail> {
-    let system = system(rt.alloc())?;
-    let one = image_of(&rt, rt.alloc(), &system, &[])?;
-    for (k, SkipRow(changes, base, size, first)) in SKIPS.iter().enumerate() {
-        let other = image_of(&rt, rt.alloc(), &system, changes)?;
-        let skip = region(*base, *size, MMIO);
-        assert_eq!(rt;
-            first_difference_outside(&one, &other, skip),
-            *first,
-            "at {k}"
-        );
+    for (k, row) in SKIPS.iter().enumerate() {
+        let SkipRow(changes, base, size, first) = row;
+        let found = on_pair(&rt, rt.alloc(), changes, |pair| {
+            first_outside(pair, *base, *size)
+        })?;
+        assert_eq!(rt; found, *first, "at {k}");
     }
     Ok(())
 }

@@ -11,6 +11,10 @@ fn slot(index: u32, generation: u32) -> Slot {
     Slot { index, generation }
 }
 
+fn assert_named(rt: &impl Abort, number: i32, named: Option<(Family, Slot)>) {
+    assert_eq!(rt; slot_of(Handle(number)), named, "{number}");
+}
+
 #[test]
 fn handles_of_slots(rt: HostRuntime) {
     let first = Slot {
@@ -27,13 +31,12 @@ fn handles_of_slots(rt: HostRuntime) {
     ] {
         let named = slot(index, generation);
         let message: i32 = number + 512;
-        assert_eq!(rt; slot_of(Handle(number)), Some((Family::Connection, named)));
-        assert_eq!(rt; slot_of(Handle(message)), Some((Family::Message, named)));
+        assert_named(&rt, number, Some((Family::Connection, named)));
+        assert_named(&rt, message, Some((Family::Message, named)));
     }
     // There are more messages than connections.
     for (number, index) in [(1792, 256), (1839, 303)] {
-        let named = slot(index, 1);
-        assert_eq!(rt; slot_of(Handle(number)), Some((Family::Message, named)));
+        assert_named(&rt, number, Some((Family::Message, slot(index, 1))));
     }
     for number in [
         0,
@@ -50,7 +53,7 @@ fn handles_of_slots(rt: HostRuntime) {
         i32::MIN,
         i32::MAX,
     ] {
-        assert_eq!(rt; slot_of(Handle(number)), None);
+        assert_named(&rt, number, None);
     }
 }
 
@@ -91,26 +94,46 @@ fn free(rt: &impl Abort, table: &mut Connections, slot: Slot) {
     table.free(slot);
 }
 
+// Tells a connection's handle, which has this number.
+fn assert_told(rt: &impl Abort, table: &mut Connections, slot: Slot, number: i32) {
+    assert_eq!(rt; tell(rt, table, slot), Handle(number));
+}
+
+fn assert_found(rt: &impl Abort, table: &Connections, owner: u32, number: i32, slot: Option<Slot>) {
+    let found = table.find(ActorId(owner), Handle(number));
+    assert_eq!(rt; found, slot, "{number} of {owner}");
+}
+
+fn assert_used(rt: &impl Abort, table: &Connections, service: u32, count: u32) {
+    let used = table.in_use(ActorId(4), service);
+    assert_eq!(rt; used, count, "of {service}");
+}
+
+fn assert_first(rt: &impl Abort, table: &Connections, owner: u32, from: u32, slot: Option<Slot>) {
+    let first = table.first_of(ActorId(owner), from);
+    assert_eq!(rt; first, slot, "of {owner} from {from} on");
+}
+
 #[test]
 fn connections_of_two_clients(rt: HostRuntime) {
     let mut table = Connections::new(2);
     let first = start(&rt, &mut table, 4, 7);
     let second = start(&rt, &mut table, 5, 7);
-    assert_eq!(rt; table.find(ActorId(4), Handle(1024)), None);
-    assert_eq!(rt; tell(&rt, &mut table, first), Handle(1024));
-    assert_eq!(rt; tell(&rt, &mut table, second), Handle(1025));
-    assert_eq!(rt; table.find(ActorId(4), Handle(1024)), Some(first));
-    assert_eq!(rt; table.find(ActorId(5), Handle(1024)), None);
-    assert_eq!(rt; table.find(ActorId(4), Handle(1536)), None);
-    assert_eq!(rt; table.in_use(ActorId(4), 7), 1);
-    assert_eq!(rt; table.in_use(ActorId(4), 5), 0);
+    assert_found(&rt, &table, 4, 1024, None);
+    assert_told(&rt, &mut table, first, 1024);
+    assert_told(&rt, &mut table, second, 1025);
+    assert_found(&rt, &table, 4, 1024, Some(first));
+    assert_found(&rt, &table, 5, 1024, None);
+    assert_found(&rt, &table, 4, 1536, None);
+    assert_used(&rt, &table, 7, 1);
+    assert_used(&rt, &table, 5, 0);
     free(&rt, &mut table, first);
     let third = start(&rt, &mut table, 4, 7);
-    assert_eq!(rt; table.find(ActorId(4), Handle(1024)), None);
-    assert_eq!(rt; tell(&rt, &mut table, third), Handle(2048));
-    assert_eq!(rt; table.first_of(ActorId(4), 0), Some(third));
-    assert_eq!(rt; table.first_of(ActorId(5), 0), Some(second));
-    assert_eq!(rt; table.first_of(ActorId(5), 2), None);
+    assert_found(&rt, &table, 4, 1024, None);
+    assert_told(&rt, &mut table, third, 2048);
+    assert_first(&rt, &table, 4, 0, Some(third));
+    assert_first(&rt, &table, 5, 0, Some(second));
+    assert_first(&rt, &table, 5, 2, None);
 }
 
 #[test]

@@ -1,10 +1,10 @@
 //! What no clause says: the answers of the calls that take memory, and ranges and bytes at edges.
-ghost use Rattle.std.specs.Prelude.{◌≡◌, ◌<◌, length, IfOk};
+ghost use Rattle.std.specs.Prelude.{◌≡◌};
 ghost use Rattle.memory_image.specs.Pieces.{regions_of, ranges_of};
 
-use crate::parts::{partition, region};
-use ffm_model::{ActorId, Bytes, Class, List, Name, System};
-use memory_image::{Image, may_read, may_write, open_within, valid_buffer};
+use crate::parts::{Sample, region, sample_of, system_of};
+use ffm_model::{ActorId, Class, Memory, System};
+use memory_image::{Image, may_read, may_write, valid_buffer};
 use std::alloc::Global;
 use std::process::Abort;
 use std::test::Fail;
@@ -17,50 +17,54 @@ const CLIENT: ActorId = ActorId(2);
 
 const NOBODY: ActorId = ActorId(3);
 
+const READ_ONLY: Class = Class::Mmio {
+    owner: 0,
+    writable: false,
+};
+
+const WRITABLE: Class = Class::Mmio {
+    owner: 0,
+    writable: true,
+};
+
 // Two partitions whose RAM regions are neighbours, MMIO of the first one, a client, and a region
 // without a byte.
 fn system_with(alloc: Global, spy_domain: u32) -> Result<System, Fail> {
-    let partitions = vec![in alloc; partition(alloc, 0, 0), partition(alloc, spy_domain, 1)]?;
-    let regions = vec![in alloc;
+    let regions = [
         region(0x3000_0000, 0x400, Class::Ram { domain: 0 }),
         region(0x3000_0400, 0x100, Class::Ram { domain: spy_domain }),
         region(0x2000_0000, 0x1_0000, Class::NonSecure),
-        region(
-            0x4000_0000,
-            0x20,
-            Class::Mmio {
-                owner: 0,
-                writable: false
-            }
-        ),
-        region(
-            0xffff_fff0,
-            0x10,
-            Class::Mmio {
-                owner: 0,
-                writable: true
-            }
-        ),
-        region(
-            0x3000_0400,
-            0,
-            Class::Mmio {
-                owner: 0,
-                writable: true
-            }
-        ),
-    ]?;
-    let clients = vec![in alloc; Name::of(String::new(alloc))]?;
-    let system = System::new(
-        3,
-        List::of(partitions),
-        List::of(Vec::new(alloc)),
-        List::of(Vec::new(alloc)),
-        List::of(regions),
-        List::of(clients),
-        List::of(Vec::new(alloc)),
-    );
-    Ok(system.ok_or("the parts fit")?)
+        region(0x4000_0000, 0x20, READ_ONLY),
+        region(0xffff_fff0, 0x10, WRITABLE),
+        region(0x3000_0400, 0, WRITABLE),
+    ];
+    system_of(alloc, &[(0, 0), (spy_domain, 1)], &regions)
+}
+
+// The client's bytes from 0x20000020 on are 68 ee 11 6c 6f, since the later piece wins.
+const OPENING: &[(u32, &[u8])] = &[
+    (0x2000_0020, b"hello"),
+    (0x2000_0021, &[0xee, 0x11]),
+    (0x3000_0400, &[0x01]),
+    (0xffff_ffff, &[0x7f]),
+    (0x0000_0000, &[]),
+];
+
+fn sample(rt: &impl Abort, alloc: Global, spy_domain: u32) -> Result<Sample, Fail> {
+    sample_of(rt, alloc, system_with(alloc, spy_domain)?, OPENING)
+}
+
+// What a check of a sample answers.
+fn on_sample<T, C: FnOnce(&Sample) -> T>(
+    rt: &impl Abort,
+    alloc: Global,
+    spy_domain: u32,
+    check: C,
+) -> Result<T, Fail>
+    requires { C.IsAlwaysCallable check }
+{
+    let sample = sample(rt, alloc, spy_domain)?;
+    Ok(check(&sample))
 }
 
 // An actor, a range, and whether it is a valid buffer, readable and writable.
@@ -88,56 +92,45 @@ const RANGES: [RangeRow; 19] = [
     RangeRow(NOBODY, 0x2000_0000, 1, false, false, false),
 ];
 
-#[test]
-fn actors_name_their_ranges(rt: HostRuntime) -> Result<(), Fail> {
-    let system = system_with(rt.alloc(), 1)?;
-    let image = image_of(&rt, rt.alloc(), &system)?;
-    for RangeRow(actor, base, len, valid, read, write) in &RANGES {
-        let answers = (
-            valid_buffer(&system, &image, *actor, *base, *len),
-            may_read(&system, &image, *actor, *base, *len),
-            may_write(&system, &image, *actor, *base, *len),
-        );
+fn answers_of(sample: &Sample, row: &RangeRow) -> (bool, bool, bool) {
+    let RangeRow(actor, base, len, ..) = *row;
+    (
+        valid_buffer(&sample.system, &sample.image, actor, base, len),
+        may_read(&sample.system, &sample.image, actor, base, len),
+        may_write(&sample.system, &sample.image, actor, base, len),
+    )
+}
+
+fn assert_ranges(rt: &impl Abort, sample: &Sample) {
+    for row in &RANGES {
+        let RangeRow(actor, base, len, valid, read, write) = *row;
         assert_eq!(rt;
-            answers,
-            (*valid, *read, *write),
+            answers_of(sample, row),
+            (valid, read, write),
             "{actor:?} {base:#x} {len:#x}"
         );
     }
-    Ok(())
+}
+
+#[test]
+fn actors_name_their_ranges(rt: HostRuntime) -> Result<(), Fail> {
+    on_sample(&rt, rt.alloc(), 1, |sample| assert_ranges(&rt, sample))
+}
+
+fn assert_shared(rt: &impl Abort, sample: &Sample) {
+    for (actor, base, read) in [
+        (SPY, 0x3000_0000, true),
+        (SPY, 0x4000_0000, false),
+        (CLIENT, 0x3000_0000, false),
+    ] {
+        let found = may_read(&sample.system, &sample.image, actor, base, 4);
+        assert_eq!(rt; found, read, "{actor:?} {base:#x}");
+    }
 }
 
 #[test]
 fn partitions_share_a_domain(rt: HostRuntime) -> Result<(), Fail> {
-    let system = system_with(rt.alloc(), 0)?;
-    let image = image_of(&rt, rt.alloc(), &system)?;
-    assert!(rt; may_read(&system, &image, SPY, 0x3000_0000, 4));
-    assert!(rt; !may_read(&system, &image, SPY, 0x4000_0000, 4));
-    assert!(rt; !may_read(&system, &image, CLIENT, 0x3000_0000, 4));
-    Ok(())
-}
-
-fn piece(alloc: Global, address: u32, bytes: &[u8]) -> Result<Bytes, Fail> {
-    Ok(Bytes {
-        address,
-        content: List::of(bytes.to_vec(alloc)?),
-    })
-}
-
-// The client's bytes from 0x20000020 on are 68 ee 11 6c 6f, since the later piece wins.
-#[tactic(auto, using(memory_image::proofs::Systems::system_fits, memory_image::proofs::Systems::system_few))]
-fn image_of(rt: &impl Abort, alloc: Global, system: &System) -> Result<Image, Fail>
-    ensures { IfOk result (λ image. regions_of image ≡ ranges_of system.now.regions) }
-{
-    let opening = vec![in alloc;
-        piece(alloc, 0x2000_0020, b"hello")?,
-        piece(alloc, 0x2000_0021, &[0xee, 0x11])?,
-        piece(alloc, 0x3000_0400, &[0x01])?,
-        piece(alloc, 0xffff_ffff, &[0x7f])?,
-        piece(alloc, 0x0000_0000, &[])?,
-    ]?;
-    assert!(rt; open_within(system.regions.as_slice(), opening.as_slice()));
-    Ok(Image::new(alloc, &system.regions, &List::of(opening))?)
+    on_sample(&rt, rt.alloc(), 0, |sample| assert_shared(&rt, sample))
 }
 
 fn load_as(system: &System, image: &Image, actor: ActorId, address: u32, size: u32) -> Option<u32>
@@ -165,14 +158,16 @@ const LOADS: [LoadRow; 9] = [
     LoadRow(SPY, 0x3000_0400, 1, Some(1)),
 ];
 
+fn assert_loads(rt: &impl Abort, sample: &Sample) {
+    for LoadRow(actor, address, size, number) in &LOADS {
+        let found = load_as(&sample.system, &sample.image, *actor, *address, *size);
+        assert_eq!(rt; found, *number, "{address:#x} {size}");
+    }
+}
+
 #[test]
 fn opening_bytes_are_read(rt: HostRuntime) -> Result<(), Fail> {
-    let system = system_with(rt.alloc(), 1)?;
-    let image = image_of(&rt, rt.alloc(), &system)?;
-    for LoadRow(actor, address, size, number) in &LOADS {
-        assert_eq!(rt; load_as(&system, &image, *actor, *address, *size), *number);
-    }
-    Ok(())
+    on_sample(&rt, rt.alloc(), 1, |sample| assert_loads(&rt, sample))
 }
 
 // An address, and where it lies.
@@ -188,14 +183,15 @@ const PLACES: [PlaceRow; 7] = [
     PlaceRow(0xffff_ffff, Some((4, 0xf))),
 ];
 
+fn assert_places(rt: &impl Abort, sample: &Sample) {
+    for PlaceRow(address, place) in &PLACES {
+        assert_eq!(rt; sample.image.locate(*address), *place);
+    }
+}
+
 #[test]
 fn addresses_are_located(rt: HostRuntime) -> Result<(), Fail> {
-    let system = system_with(rt.alloc(), 1)?;
-    let image = image_of(&rt, rt.alloc(), &system)?;
-    for PlaceRow(address, place) in &PLACES {
-        assert_eq!(rt; image.locate(*address), *place);
-    }
-    Ok(())
+    on_sample(&rt, rt.alloc(), 1, |sample| assert_places(&rt, sample))
 }
 
 // Whether an actor may write the value, which is then there.
@@ -220,21 +216,40 @@ const STORES: [StoreRow; 3] = [
     StoreRow(4, 0x1234_5678, 0x1234_5678),
 ];
 
-#[test]
-fn low_bytes_are_stored(rt: HostRuntime) -> Result<(), Fail> {
-    let system = system_with(rt.alloc(), 1)?;
-    let image = image_of(&rt, rt.alloc(), &system)?;
-    for StoreRow(size, value, word) in &STORES {
-        let mut copy = image.copy_of(rt.alloc())?;
-        assert!(rt; store_as(&system, &mut copy, 0x2000_fffc, 4, 0xaaaa_aaaa));
-        assert!(rt; store_as(&system, &mut copy, 0x2000_fffc, *size, *value));
-        assert_eq!(rt;
-            load_as(&system, &copy, CLIENT, 0x2000_fffc, 4),
-            Some(*word)
-        );
-        assert_eq!(rt; load_as(&system, &image, CLIENT, 0x2000_fffc, 4), Some(0));
+fn store_twice(rt: &impl Abort, system: &System, image: &mut Image, row: &StoreRow)
+    requires { regions_of image.old ≡ ranges_of system.now.regions }
+    ensures { regions_of image.new ≡ ranges_of system.now.regions }
+{
+    assert!(rt; store_as(system, image, 0x2000_fffc, 4, 0xaaaa_aaaa));
+    assert!(rt; store_as(system, image, 0x2000_fffc, row.0, row.1));
+}
+
+// The word that is read in a copy of an image after it was stored there.
+fn stored_word(
+    rt: &impl Abort,
+    alloc: Global,
+    sample: &Sample,
+    row: &StoreRow,
+) -> Result<Option<u32>, Memory> {
+    let mut copy = sample.image.copy_of(alloc)?;
+    store_twice(rt, &sample.system, &mut copy, row);
+    Ok(load_as(&sample.system, &copy, CLIENT, 0x2000_fffc, 4))
+}
+
+fn assert_stores(rt: &impl Abort, alloc: Global, sample: &Sample) -> Result<(), Memory> {
+    for row in &STORES {
+        let stored = stored_word(rt, alloc, sample, row)?;
+        let unchanged = load_as(&sample.system, &sample.image, CLIENT, 0x2000_fffc, 4);
+        assert_eq!(rt; (stored, unchanged), (Some(row.2), Some(0)));
     }
     Ok(())
+}
+
+#[test]
+fn low_bytes_are_stored(rt: HostRuntime) -> Result<(), Fail> {
+    let alloc = rt.alloc();
+    let checked = on_sample(&rt, alloc, 1, |sample| assert_stores(&rt, alloc, sample))?;
+    Ok(checked?)
 }
 
 // A buffer of one actor, one of another, and how many bytes are copied to it.
@@ -293,28 +308,51 @@ const COPIES: [(CopyRow, u32, u32); 7] = [
     ),
 ];
 
-#[test]
-fn bytes_are_copied(rt: HostRuntime) -> Result<(), Fail> {
-    let system = system_with(rt.alloc(), 1)?;
-    let image = image_of(&rt, rt.alloc(), &system)?;
+// The word that the writer reads at an address after a copy, in a copy of an image.
+fn copied_word(
+    rt: &impl Abort,
+    alloc: Global,
+    sample: &Sample,
+    row: &CopyRow,
+    address: u32,
+) -> Result<Option<u32>, Memory> {
+    let mut copy = sample.image.copy_of(alloc)?;
+    assert!(rt; copy_as(&sample.system, &mut copy, row));
+    Ok(load_as(&sample.system, &copy, row.2, address, 4))
+}
+
+fn assert_copies(rt: &impl Abort, alloc: Global, sample: &Sample) -> Result<(), Memory> {
     for (row, address, word) in &COPIES {
-        let mut copy = image.copy_of(rt.alloc())?;
-        assert!(rt; copy_as(&system, &mut copy, row));
-        assert_eq!(rt; load_as(&system, &copy, row.2, *address, 4), Some(*word));
+        let copied = copied_word(rt, alloc, sample, row, *address)?;
+        assert_eq!(rt; copied, Some(*word), "{address:#x}");
     }
     Ok(())
 }
 
 #[test]
+fn bytes_are_copied(rt: HostRuntime) -> Result<(), Fail> {
+    let alloc = rt.alloc();
+    let checked = on_sample(&rt, alloc, 1, |sample| assert_copies(&rt, alloc, sample))?;
+    Ok(checked?)
+}
+
+fn store_three(rt: &impl Abort, sample: &mut Sample) {
+    assert!(rt; valid_buffer(&sample.system, &sample.image, VAULT, 0x3000_03f4, 12));
+    let words = [0x1234_5678, 0xffff_ffff, 3];
+    sample.image.store_words(0x3000_03f4, &words);
+}
+
+fn assert_words(rt: &impl Abort, sample: &Sample) {
+    for (address, word) in [(0x3000_03f5, 0xff12_3456), (0x3000_03fc, 3)] {
+        let found = load_as(&sample.system, &sample.image, VAULT, address, 4);
+        assert_eq!(rt; found, Some(word), "{address:#x}");
+    }
+}
+
+#[test]
 fn words_are_stored(rt: HostRuntime) -> Result<(), Fail> {
-    let system = system_with(rt.alloc(), 1)?;
-    let mut image = image_of(&rt, rt.alloc(), &system)?;
-    assert!(rt; valid_buffer(&system, &image, VAULT, 0x3000_03f4, 12));
-    image.store_words(0x3000_03f4, &[0x1234_5678, 0xffff_ffff, 3]);
-    assert_eq!(rt;
-        load_as(&system, &image, VAULT, 0x3000_03f5, 4),
-        Some(0xff12_3456)
-    );
-    assert_eq!(rt; load_as(&system, &image, VAULT, 0x3000_03fc, 4), Some(3));
+    let mut sample = sample(&rt, rt.alloc(), 1)?;
+    store_three(&rt, &mut sample);
+    assert_words(&rt, &sample);
     Ok(())
 }

@@ -49,36 +49,36 @@ fn hands_a_refused_item_back(rt: HostRuntime) {
     assert_eq!(rt; pool.take(30), Err(30));
 }
 
-#[test]
-fn changes_one_item(rt: HostRuntime) {
-    let mut pool = Pool::<u32, 4>::new(3);
-    let Some(first) = take(&rt, &mut pool, 10) else {
+fn taken(rt: &impl Abort, pool: &mut Pool<u32, 4>, item: u32) -> Slot {
+    let Some(slot) = take(rt, pool, item) else {
         panic!(rt; "no room");
     };
-    let Some(second) = take(&rt, &mut pool, 20) else {
-        panic!(rt; "no room");
-    };
-    match pool.get_mut(first) {
+    slot
+}
+
+fn write_eleven(rt: &impl Abort, pool: &mut Pool<u32, 4>, slot: Slot) {
+    match pool.get_mut(slot) {
         Some(item) => *item = 11,
         None => panic!(rt; "not live"),
     }
+}
+
+fn assert_at(rt: &impl Abort, pool: &Pool<u32, 4>, index: u32, held: Option<Held<u32>>) {
+    assert_eq!(rt; pool.at(index), held, "at {index}");
+}
+
+#[test]
+fn changes_one_item(rt: HostRuntime) {
+    let mut pool = Pool::<u32, 4>::new(3);
+    let first = taken(&rt, &mut pool, 10);
+    let second = taken(&rt, &mut pool, 20);
+    write_eleven(&rt, &mut pool, first);
     assert!(rt; pool.get(second).is_some());
     pool.set(second, 21);
-    assert_eq!(rt;
-        pool.at(0),
-        Some(Held {
-            slot: first,
-            item: 11
-        })
-    );
-    assert_eq!(rt;
-        pool.at(1),
-        Some(Held {
-            slot: second,
-            item: 21
-        })
-    );
-    assert_eq!(rt; pool.at(2), None);
+    for (index, slot, item) in [(0, first, 11), (1, second, 21)] {
+        assert_at(&rt, &pool, index, Some(Held { slot, item }));
+    }
+    assert_at(&rt, &pool, 2, None);
     assert!(rt; pool.get(second).is_some());
     write_seven(&mut pool, second);
     assert_eq!(rt; pool.get(second).copied(), Some(7));
@@ -126,6 +126,36 @@ impl Plain {
 // A letter takes in, a digit puts back the live item at that place of the order.
 const STEPS: &[u8] = b"abcde1f0gh320ijk1lm02nop";
 
+fn put_back_nth(rt: &impl Abort, pool: &mut Pool<u32, 8>, plain: &mut Plain, place: usize) {
+    assert!(rt; place < plain.held.len());
+    let held = plain.held.remove(place);
+    assert_eq!(rt; put_back(rt, pool, held.slot), held.item);
+}
+
+fn take_step(
+    rt: &impl Abort,
+    pool: &mut Pool<u32, 8>,
+    plain: &mut Plain,
+    step: u8,
+) -> Result<(), AllocError> {
+    if step.is_ascii_digit() {
+        put_back_nth(rt, pool, plain, (step - b'0') as usize);
+    } else {
+        let expected = plain.take(step as u32)?;
+        assert_eq!(rt; take(rt, pool, step as u32), expected);
+    }
+    Ok(())
+}
+
+fn assert_alike(rt: &impl Abort, pool: &Pool<u32, 8>, plain: &Plain) {
+    assert_eq!(rt; pool.live() as usize, plain.held.len());
+    for (place, held) in plain.held.iter().enumerate() {
+        assert!(rt; (place as u32) < pool.live());
+        assert_eq!(rt; pool.nth(place as u32), *held);
+        assert_eq!(rt; pool.get(held.slot).copied(), Some(held.item));
+    }
+}
+
 #[test]
 fn does_what_a_plain_list_does(rt: HostRuntime) -> Result<(), AllocError> {
     let mut pool = Pool::<u32, 8>::new(4);
@@ -134,21 +164,8 @@ fn does_what_a_plain_list_does(rt: HostRuntime) -> Result<(), AllocError> {
         held: Vec::new(rt.alloc()),
     };
     for step in STEPS {
-        if step.is_ascii_digit() {
-            let place = (*step - b'0') as usize;
-            assert!(rt; place < plain.held.len());
-            let held = plain.held.remove(place);
-            assert_eq!(rt; put_back(&rt, &mut pool, held.slot), held.item);
-        } else {
-            let item = *step as u32;
-            assert_eq!(rt; take(&rt, &mut pool, item), plain.take(item)?);
-        }
-        assert_eq!(rt; pool.live() as usize, plain.held.len());
-        for (place, held) in plain.held.iter().enumerate() {
-            assert!(rt; (place as u32) < pool.live());
-            assert_eq!(rt; pool.nth(place as u32), *held);
-            assert_eq!(rt; pool.get(held.slot).copied(), Some(held.item));
-        }
+        take_step(&rt, &mut pool, &mut plain, *step)?;
+        assert_alike(&rt, &pool, &plain);
     }
     Ok(())
 }

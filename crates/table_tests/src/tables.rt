@@ -114,63 +114,87 @@ fn expected_signals(plain: &[Plain]) -> u32 {
     signals
 }
 
-#[test]
-fn does_what_a_plain_list_does(rt: HostRuntime) -> Result<(), Fail> {
-    let system = system_of(rt.alloc(), SYSTEM)?;
-    let mut tables = Tables::new(rt.alloc(), &system)?;
-    let connection = start(&rt, &mut tables);
-    let mut plain: Vec<Plain> = Vec::new(rt.alloc());
-    for (place, step) in STEPS.iter().enumerate() {
-        match step {
-            b'a' | b'b' => {
-                let service: u32 = if *step == b'a' { 0 } else { 1 };
-                let kind = *step as i32;
-                let slot = enqueue(&rt, &mut tables, Some(connection), service, kind);
-                plain.push(Plain {
-                    slot,
-                    service,
-                    kind,
-                    delivered: false,
-                })?;
-            }
-            b'A' => deliver(&rt, &mut tables, plain.as_mut_slice(), 0),
-            b'B' => deliver(&rt, &mut tables, plain.as_mut_slice(), 1),
-            _ => {
-                let at = step.wrapping_sub(b'0') as usize;
-                assert!(rt; at < plain.len());
-                let message = plain.remove(at);
-                assert_eq!(rt;
-                    drop_message(&rt, &mut tables, message.slot).kind,
-                    message.kind
-                );
-            }
-        }
-        assert_eq!(rt;
-            tables.messages().live() as usize,
-            plain.len(),
-            "at {place}"
-        );
-        assert_eq!(rt;
-            tables.signals(VAULT),
-            expected_signals(plain.as_slice()),
-            "at {place}"
-        );
-        assert_eq!(rt; tables.signals(CLIENT), 0);
-        for expected in plain.iter() {
-            let found = message(&rt, &tables, expected.slot);
-            assert_eq!(rt; found.delivered, expected.delivered);
-        }
+fn send(
+    rt: &impl Abort,
+    tables: &mut Tables,
+    plain: &mut Vec<Plain>,
+    connection: Slot,
+    step: u8,
+) -> Result<(), AllocError> {
+    let service: u32 = if step == b'a' { 0 } else { 1 };
+    let kind = step as i32;
+    let slot = enqueue(rt, tables, Some(connection), service, kind);
+    plain.push(Plain {
+        slot,
+        service,
+        kind,
+        delivered: false,
+    })?;
+    Ok(())
+}
+
+fn give_up(rt: &impl Abort, tables: &mut Tables, plain: &mut Vec<Plain>, step: u8) {
+    let at = step.wrapping_sub(b'0') as usize;
+    assert!(rt; at < plain.len());
+    let message = plain.remove(at);
+    let dropped = drop_message(rt, tables, message.slot);
+    assert_eq!(rt; dropped.kind, message.kind);
+}
+
+fn take_step(
+    rt: &impl Abort,
+    tables: &mut Tables,
+    plain: &mut Vec<Plain>,
+    connection: Slot,
+    step: u8,
+) -> Result<(), AllocError> {
+    match step {
+        b'a' | b'b' => send(rt, tables, plain, connection, step)?,
+        b'A' => deliver(rt, tables, plain.as_mut_slice(), 0),
+        b'B' => deliver(rt, tables, plain.as_mut_slice(), 1),
+        _ => give_up(rt, tables, plain, step),
     }
     Ok(())
 }
 
+fn assert_alike(rt: &impl Abort, tables: &Tables, plain: &[Plain], place: usize) {
+    let found = (tables.messages().live() as usize, tables.signals(VAULT));
+    assert_eq!(rt; found, (plain.len(), expected_signals(plain)), "at {place}");
+    assert_eq!(rt; tables.signals(CLIENT), 0);
+    for expected in plain {
+        let found = message(rt, tables, expected.slot);
+        assert_eq!(rt; found.delivered, expected.delivered);
+    }
+}
+
+fn take_steps(rt: &impl Abort, alloc: Global, tables: &mut Tables) -> Result<(), AllocError> {
+    let connection = start(rt, tables);
+    let mut plain: Vec<Plain> = Vec::new(alloc);
+    for (place, step) in STEPS.iter().enumerate() {
+        take_step(rt, tables, &mut plain, connection, *step)?;
+        assert_alike(rt, tables, plain.as_slice(), place);
+    }
+    Ok(())
+}
+
+fn tables_of(alloc: Global, text: &str) -> Result<Tables, Fail> {
+    let system = system_of(alloc, text)?;
+    Ok(Tables::new(alloc, &system)?)
+}
+
 #[test]
-fn signals_and_handles(rt: HostRuntime) -> Result<(), Fail> {
-    let system = system_of(rt.alloc(), SYSTEM)?;
-    let mut tables = Tables::new(rt.alloc(), &system)?;
+fn does_what_a_plain_list_does(rt: HostRuntime) -> Result<(), Fail> {
+    let mut tables = tables_of(rt.alloc(), SYSTEM)?;
+    Ok(take_steps(&rt, rt.alloc(), &mut tables)?)
+}
+
+fn assert_phases(rt: &impl Abort, tables: &mut Tables) {
     assert_eq!(rt; tables.phase(CLIENT), ActorPhase::Running);
     tables.set_phase(CLIENT, ActorPhase::Blocked);
     assert_eq!(rt; tables.phase(CLIENT), ActorPhase::Blocked);
+}
+
+fn assert_flags(rt: &impl Abort, tables: &mut Tables) {
     tables.set_doorbell(VAULT, true);
     let asserted = SourceFlags {
         enabled: true,
@@ -180,22 +204,38 @@ fn signals_and_handles(rt: HostRuntime) -> Result<(), Fail> {
     tables.set_source_flags(0, asserted);
     assert_eq!(rt; tables.source_flags(0), asserted);
     assert_eq!(rt; tables.signals(VAULT), PSA_DOORBELL | 0x40);
-    let connection = start(&rt, &mut tables);
-    let slot = enqueue(&rt, &mut tables, Some(connection), 1, 7);
-    assert_eq!(rt; tables.message_to(1), Some(slot));
-    assert_eq!(rt; tables.message_to(0), None);
+}
+
+// A message of the second service, before and after it is delivered.
+fn assert_held(rt: &impl Abort, tables: &mut Tables, connection: Slot) {
+    let slot = enqueue(rt, tables, Some(connection), 1, 7);
+    assert_eq!(rt;
+        (tables.message_to(1), tables.message_to(0)),
+        (Some(slot), None)
+    );
     assert_eq!(rt; tables.find_message(VAULT, Handle(1536)), None);
     assert_eq!(rt; tables.dequeue(1), Some(slot));
     assert_eq!(rt; tables.find_message(VAULT, Handle(1536)), Some(slot));
     assert_eq!(rt; tables.find_message(CLIENT, Handle(1536)), None);
+}
+
+fn assert_told(rt: &impl Abort, tables: &mut Tables, connection: Slot) {
     assert!(rt; tables.connections().is_live(connection));
     tables.set_connection_phase(connection, ConnPhase::Idle);
     assert!(rt; tables.connections().is_live(connection));
     assert_eq!(rt; tables.tell(connection), Handle(1024));
-    assert_eq!(rt;
-        tables.connections().find(CLIENT, Handle(1024)),
-        Some(connection)
-    );
+    let found = tables.connections().find(CLIENT, Handle(1024));
+    assert_eq!(rt; found, Some(connection));
+}
+
+#[test]
+fn signals_and_handles(rt: HostRuntime) -> Result<(), Fail> {
+    let mut tables = tables_of(rt.alloc(), SYSTEM)?;
+    assert_phases(&rt, &mut tables);
+    assert_flags(&rt, &mut tables);
+    let connection = start(&rt, &mut tables);
+    assert_held(&rt, &mut tables, connection);
+    assert_told(&rt, &mut tables, connection);
     Ok(())
 }
 
@@ -217,15 +257,18 @@ fn passes_through(
     assert_eq!(rt; tables.messages().live(), 0);
 }
 
+fn free(rt: &impl Abort, tables: &mut Tables, connection: Slot) {
+    assert!(rt; tables.connections().is_live(connection));
+    tables.free(connection);
+}
+
 #[test]
 fn messages_of_no_connection(rt: HostRuntime) -> Result<(), Fail> {
-    let system = system_of(rt.alloc(), SYSTEM)?;
-    let mut tables = Tables::new(rt.alloc(), &system)?;
+    let mut tables = tables_of(rt.alloc(), SYSTEM)?;
     let first = start(&rt, &mut tables);
     let second = start(&rt, &mut tables);
     passes_through(&rt, &mut tables, Some(second), Some(1));
-    assert!(rt; tables.connections().is_live(second));
-    tables.free(second);
+    free(&rt, &mut tables, second);
     passes_through(&rt, &mut tables, Some(second), None);
     passes_through(&rt, &mut tables, None, None);
     passes_through(&rt, &mut tables, Some(first), Some(0));
@@ -265,6 +308,13 @@ fn shared(alloc: Global, indices: [u32; 3]) -> Result<String, AllocError> {
     )
 }
 
+// The sizes of the pools of connections and of messages.
+fn sizes(alloc: Global, indices: [u32; 3]) -> Result<(u32, u32), Fail> {
+    let text = shared(alloc, indices)?;
+    let tables = tables_of(alloc, text.as_str())?;
+    Ok((tables.connections().size(), tables.messages().size()))
+}
+
 #[test]
 fn sizes_of_pools(rt: HostRuntime) -> Result<(), Fail> {
     for (indices, connections, messages) in [
@@ -274,10 +324,8 @@ fn sizes_of_pools(rt: HostRuntime) -> Result<(), Fail> {
         ([1, 32, 0], 5, 8),
         ([3, 2, 1], 0, 3),
     ] {
-        let system = system_of(rt.alloc(), &shared(rt.alloc(), indices)?)?;
-        let tables = Tables::new(rt.alloc(), &system)?;
-        assert_eq!(rt; tables.connections().size(), connections);
-        assert_eq!(rt; tables.messages().size(), messages, "{indices:?}");
+        let found = sizes(rt.alloc(), indices)?;
+        assert_eq!(rt; found, (connections, messages), "{indices:?}");
     }
     Ok(())
 }

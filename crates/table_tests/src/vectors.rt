@@ -1,11 +1,11 @@
 //! Worked requests: vectors at edges, moves in a row, and what the client is told.
-ghost use Rattle.std.specs.Prelude.{◌≡◌, ◌<◌, length, IfOk};
+ghost use Rattle.std.specs.Prelude.{◌≡◌, IfSome};
 ghost use Rattle.memory_image.specs.Pieces.{regions_of, ranges_of};
 ghost use Rattle.message_vectors.specs.Vectors.{AreWithin};
 
-use crate::parts::{partition, region};
-use ffm_model::{ActorId, Bytes, Class, List, Name, System, Vectors};
-use memory_image::{Image, open_within, valid_buffer};
+use crate::parts::{Sample, region, sample_of, system_of};
+use ffm_model::{ActorId, Class, System, Vectors};
+use memory_image::{Image, valid_buffer};
 use message_vectors::{finish, read, skip, snapshot, write};
 use std::alloc::Global;
 use std::process::Abort;
@@ -23,68 +23,35 @@ fn system(alloc: Global) -> Result<System, Fail> {
         owner: 0,
         writable: true,
     };
-    let regions = vec![in alloc;
+    let regions = [
         region(0x3000_0000, 0x100, Class::Ram { domain: 0 }),
         region(0xffff_ff00, 0x100, Class::Ram { domain: 1 }),
         region(0x2000_0000, 0x100, Class::NonSecure),
         region(0x4000_0000, 0x20, mmio),
-    ]?;
-    let system = System::new(
-        3,
-        List::of(vec![in alloc; partition(alloc, 0, 0), partition(alloc, 1, 1)]?),
-        List::of(Vec::new(alloc)),
-        List::of(Vec::new(alloc)),
-        List::of(regions),
-        List::of(vec![in alloc; Name::of(String::new(alloc))]?),
-        List::of(Vec::new(alloc)),
-    );
-    Ok(system.ok_or("the parts fit")?)
-}
-
-fn piece(alloc: Global, address: u32, bytes: &[u8]) -> Result<Bytes, Fail> {
-    Ok(Bytes {
-        address,
-        content: List::of(bytes.to_vec(alloc)?),
-    })
+    ];
+    system_of(alloc, &[(0, 0), (1, 1)], &regions)
 }
 
 // Eight descriptors of the client, one at the end of its memory, and two of the second partition
 // with the bytes of its input vector.
-#[tactic(auto, using(memory_image::proofs::Systems::system_fits, memory_image::proofs::Systems::system_few))]
-fn image_of(rt: &impl Abort, alloc: Global, system: &System) -> Result<Image, Fail>
-    ensures { IfOk result (λ image. regions_of image ≡ ranges_of system.now.regions) }
-{
-    let opening = vec![in alloc;
-        piece(
-            alloc,
-            0x2000_0000,
-            b"\x80\0\0\x20\x05\0\0\0\xff\0\0\x20\x01\0\0\0"
-        )?,
-        piece(
-            alloc,
-            0x2000_0010,
-            b"\xff\0\0\x20\x02\0\0\0\0\0\0\0\0\0\0\0"
-        )?,
-        piece(
-            alloc,
-            0x2000_0020,
-            b"\0\0\0\x40\x04\0\0\0\0\0\0\x30\x04\0\0\0"
-        )?,
-        piece(
-            alloc,
-            0x2000_0030,
-            b"\x90\0\0\x20\x08\0\0\0\xf0\xff\xff\xff\x20\0\0\0"
-        )?,
-        piece(alloc, 0x2000_00f8, b"\0\0\0\x20\0\x01\0\0")?,
-        piece(
-            alloc,
-            0xffff_ff00,
-            b"\xf0\xff\xff\xff\x10\0\0\0\x80\xff\xff\xff\x08\0\0\0"
-        )?,
-        piece(alloc, 0xffff_fff0, b"0123456789abcdef")?,
-    ]?;
-    assert!(rt; open_within(system.regions.as_slice(), opening.as_slice()));
-    Ok(Image::new(alloc, &system.regions, &List::of(opening))?)
+const OPENING: &[(u32, &[u8])] = &[
+    (0x2000_0000, b"\x80\0\0\x20\x05\0\0\0\xff\0\0\x20\x01\0\0\0"),
+    (0x2000_0010, b"\xff\0\0\x20\x02\0\0\0\0\0\0\0\0\0\0\0"),
+    (0x2000_0020, b"\0\0\0\x40\x04\0\0\0\0\0\0\x30\x04\0\0\0"),
+    (
+        0x2000_0030,
+        b"\x90\0\0\x20\x08\0\0\0\xf0\xff\xff\xff\x20\0\0\0",
+    ),
+    (0x2000_00f8, b"\0\0\0\x20\0\x01\0\0"),
+    (
+        0xffff_ff00,
+        b"\xf0\xff\xff\xff\x10\0\0\0\x80\xff\xff\xff\x08\0\0\0",
+    ),
+    (0xffff_fff0, b"0123456789abcdef"),
+];
+
+fn sample(rt: &impl Abort, alloc: Global) -> Result<Sample, Fail> {
+    sample_of(rt, alloc, system(alloc)?, OPENING)
 }
 
 // Where the descriptors of inputs and outputs lie, how many there are, and whether a client may
@@ -111,20 +78,27 @@ const CALLS: [CallRow; 17] = [
     CallRow(0x2000_0000, 0x8000_0001, 0x2000_0000, 0x8000_0001, false),
 ];
 
-#[test]
-fn clients_hand_over_vectors(rt: HostRuntime) -> Result<(), Fail> {
-    let system = system(rt.alloc())?;
-    let image = image_of(&rt, rt.alloc(), &system)?;
-    for CallRow(in_vec, in_len, out_vec, out_len, given) in &CALLS {
-        let vectors = snapshot(
-            &system, &image, CLIENT, *in_vec, *in_len, *out_vec, *out_len,
-        );
+fn is_given(sample: &Sample, row: &CallRow) -> bool {
+    let Sample { system, image } = sample;
+    let CallRow(in_vec, in_len, out_vec, out_len, _) = *row;
+    snapshot(system, image, CLIENT, in_vec, in_len, out_vec, out_len).is_some()
+}
+
+fn assert_calls(rt: &impl Abort, sample: &Sample) {
+    for row in &CALLS {
+        let CallRow(in_vec, in_len, out_vec, out_len, given) = *row;
         assert_eq!(rt;
-            vectors.is_some(),
-            *given,
+            is_given(sample, row),
+            given,
             "{in_vec:#x} {in_len} {out_vec:#x} {out_len}"
         );
     }
+}
+
+#[test]
+fn clients_hand_over_vectors(rt: HostRuntime) -> Result<(), Fail> {
+    let sample = sample(&rt, rt.alloc())?;
+    assert_calls(&rt, &sample);
     Ok(())
 }
 
@@ -301,26 +275,44 @@ const WORDS: [(ActorId, u32, u32); 7] = [
     (SPY, 0xffff_ff0c, 8),
 ];
 
+fn assert_moves(rt: &impl Abort, system: &System, image: &mut Image, vectors: &mut Vectors)
+    requires regions { regions_of image.old ≡ ranges_of system.now.regions }
+    requires within { AreWithin (regions_of image.old) vectors.old }
+    ensures regions { regions_of image.new ≡ ranges_of system.now.regions }
+    ensures within { AreWithin (regions_of image.new) vectors.new }
+{
+    for (row, count) in &MOVES {
+        assert_eq!(rt; moved(system, image, vectors, *row), *count, "{row:?}");
+    }
+}
+
+fn request(sample: &Sample) -> Option<Vectors>
+    ensures { IfSome result (λ vectors. AreWithin (regions_of sample.now.image) vectors) }
+{
+    let Sample { system, image } = sample;
+    snapshot(system, image, SPY, 0xffff_ff00, 1, 0xffff_ff08, 1)
+}
+
+// All moves of one request, and its end.
+fn serve(rt: &impl Abort, sample: &mut Sample) {
+    let Some(mut vectors) = request(sample) else {
+        panic!(rt; "the vectors are valid");
+    };
+    assert_moves(rt, &sample.system, &mut sample.image, &mut vectors);
+    finish(&mut sample.image, &vectors);
+}
+
+fn assert_words(rt: &impl Abort, sample: &Sample) {
+    for (actor, address, word) in &WORDS {
+        let found = load_as(&sample.system, &sample.image, *actor, *address);
+        assert_eq!(rt; found, Some(*word), "{address:#x}");
+    }
+}
+
 #[test]
 fn bytes_are_moved(rt: HostRuntime) -> Result<(), Fail> {
-    let system = system(rt.alloc())?;
-    let mut image = image_of(&rt, rt.alloc(), &system)?;
-    let given = snapshot(&system, &image, SPY, 0xffff_ff00, 1, 0xffff_ff08, 1);
-    let mut vectors = given.ok_or("the vectors are valid")?;
-    for (row, count) in &MOVES {
-        assert_eq!(rt;
-            moved(&system, &mut image, &mut vectors, *row),
-            *count,
-            "{row:?}"
-        );
-    }
-    finish(&mut image, &vectors);
-    for (actor, address, word) in &WORDS {
-        assert_eq!(rt;
-            load_as(&system, &image, *actor, *address),
-            Some(*word),
-            "{address:#x}"
-        );
-    }
+    let mut sample = sample(&rt, rt.alloc())?;
+    serve(&rt, &mut sample);
+    assert_words(&rt, &sample);
     Ok(())
 }

@@ -9,10 +9,8 @@ ghost use Rattle.work_orders.specs.View.{IsTraceWork};
 ghost use Rattle.work_orders.specs.Work.{judge_of, work_of};
 
 use command_words::{Command, Inspection};
-use ffm_model::{
-    List, Memory, PartsError, PathStep, Place, Refusal, Root, Scenario, System, TRACE_SYNTAX, Trace,
-};
-use ffm_top::refusal_line;
+use ffm_model::{Memory, PartsError, Refusal, Trace};
+use ffm_top::{refusal_line, wrong_line};
 use outside_io::Files;
 use std::alloc::{AllocError, Global};
 use trace_print::{TraceError, read_trace};
@@ -46,22 +44,6 @@ impl From<Memory> for Halt {
 pub struct TraceFiles {
     pub work: TraceWork,
     pub trace: Trace,
-}
-
-// The refusal of a trace's line, counted from 1.
-fn wrong_line(alloc: Global, line: u32) -> Result<Refusal, AllocError>
-    ensures { IfOk result (λ refusal. refusal ≡ wrong_line line) }
-{
-    let mut steps = Vec::new(alloc);
-    steps.push(PathStep::Index(line))?;
-    Ok(Refusal {
-        code: TRACE_SYNTAX,
-        place: Place {
-            root: Root::Trace,
-            steps: List::of(steps),
-        },
-        cycle: List::of(Vec::new(alloc)),
-    })
 }
 
 fn refused(alloc: Global, refusal: &Refusal) -> Halt

@@ -1,7 +1,8 @@
 //! Diagrams, by the words of the command line.
 
-use crate::texts::written;
+use crate::told::{Told, assert_tells, told_over};
 use std::alloc::Global;
+use std::process::Abort;
 use std::test::Fail;
 
 /// A connection that is refused, a doorbell and an interrupt. Then all end.
@@ -101,19 +102,25 @@ static CASES: [Case; 8] = [
     },
 ];
 
-// The status of `diagram` with these options, and what was written.
-fn drawn(alloc: Global, options: &[&str], trace: &str) -> Result<(u8, Vec<u8>), Fail> {
+// The words of `diagram` with these options.
+fn words_of<'a>(alloc: Global, options: &[&'a str]) -> Result<Vec<&'a str>, Fail> {
     let mut words = vec![in alloc; "ffm_view", "diagram", "system", "scenario", "trace"]?;
     words.extend_from_slice(options)?;
-    written(alloc, words.as_slice(), "{}", trace)
+    Ok(words)
 }
 
 #[test]
 fn parts_as_texts_of_mermaid(rt: HostRuntime) -> Result<(), Fail> {
     for case in &CASES {
-        let (status, text) = drawn(rt.alloc(), case.options, case.trace)?;
-        assert_eq!(rt; status, case.status, "{:?}", case.options);
-        assert_eq!(rt; text.as_slice(), case.text.as_bytes(), "{:?}", case.options);
+        let words = words_of(rt.alloc(), case.options)?;
+        let files = ("{}", case.trace);
+        assert_tells(
+            &rt,
+            rt.alloc(),
+            words.as_slice(),
+            files,
+            (case.status, case.text),
+        )?;
     }
     Ok(())
 }
@@ -133,12 +140,14 @@ const PIECES: [&str; 10] = [
     "<footer>quiet 12</footer>\n",
 ];
 
-#[test]
-fn part_as_a_page(rt: HostRuntime) -> Result<(), Fail> {
+// The page of entries 2 to 5, with its status.
+fn page(alloc: Global) -> Result<Told, Fail> {
     let options = ["--format", "html", "--from", "2", "--to", "5"];
-    let (status, text) = drawn(rt.alloc(), &options, TRACE)?;
-    let page = String::from_utf8(text)?;
-    assert_eq!(rt; status, 0);
+    let words = words_of(alloc, &options)?;
+    told_over(alloc, words.as_slice(), "{}", TRACE)
+}
+
+fn assert_page(rt: &impl Abort, page: &str) {
     assert!(rt;
         page.starts_with("<!DOCTYPE html>\n<html lang=\"en\">\n<head>\n<meta charset=\"utf-8\">\n")
     );
@@ -147,5 +156,12 @@ fn part_as_a_page(rt: HostRuntime) -> Result<(), Fail> {
     }
     assert_eq!(rt; page.matches("<g class=").count(), 3);
     assert!(rt; page.ends_with("</body>\n</html>\n"));
+}
+
+#[test]
+fn part_as_a_page(rt: HostRuntime) -> Result<(), Fail> {
+    let found = page(rt.alloc())?;
+    assert_eq!(rt; found.status, 0);
+    assert_page(&rt, str::from_utf8(&found.text)?);
     Ok(())
 }

@@ -10,4 +10,6 @@ mod outside;
 #[cfg(test)]
 mod texts;
 #[cfg(test)]
+mod told;
+#[cfg(test)]
 mod usage;

@@ -1,11 +1,10 @@
 //! The statuses of words, refused files, failing reads and puts.
 
-use crate::texts::{files_of, words_of, written};
+use crate::told::{assert_tells, files_of, status_of, told_over};
 use ffm_model::List;
 use outside_io::MemorySink;
 use std::alloc::Global;
 use std::test::Fail;
-use view_commands::ffm_view;
 
 /// A trace that is legal where the client and the partitions end.
 const ENDED: &str =
@@ -59,9 +58,9 @@ const LISTS: [(&[&str], u8); 12] = [
 #[test]
 fn lists_of_words(rt: HostRuntime) -> Result<(), Fail> {
     for (words, wanted) in LISTS {
-        let (status, text) = written(rt.alloc(), words, "{}", ENDED)?;
-        assert_eq!(rt; status, wanted, "{words:?}");
-        assert_eq!(rt; text.is_empty(), wanted == 7, "{words:?}");
+        let found = told_over(rt.alloc(), words, "{}", ENDED)?;
+        assert_eq!(rt; found.status, wanted, "{words:?}");
+        assert_eq!(rt; found.text.is_empty(), wanted == 7, "{words:?}");
     }
     Ok(())
 }
@@ -90,9 +89,7 @@ const REFUSALS: [(&str, &str, &str); 4] = [
 fn refusals(rt: HostRuntime) -> Result<(), Fail> {
     let words = ["ffm_view", "state", "system", "scenario", "trace"];
     for (scenario, trace, refusal) in REFUSALS {
-        let (status, text) = written(rt.alloc(), &words, scenario, trace)?;
-        assert_eq!(rt; status, 1, "{refusal}");
-        assert_eq!(rt; text.as_slice(), refusal.as_bytes(), "{refusal}");
+        assert_tells(&rt, rt.alloc(), &words, (scenario, trace), (1, refusal))?;
     }
     Ok(())
 }
@@ -101,21 +98,22 @@ fn refusals(rt: HostRuntime) -> Result<(), Fail> {
 fn no_state_behind_an_illegal_entry(rt: HostRuntime) -> Result<(), Fail> {
     let words = ["ffm_view", "state", "system", "scenario", "trace", "2"];
     let trace = "p1 stop end -> done\np1 stop end -> done\nquiet 2\n";
-    let (status, text) = written(rt.alloc(), &words, "{}", trace)?;
     let wanted = "entry 2 is illegal: no state behind entry 2; ffm_view why tells more\n";
-    assert_eq!(rt; status, 6);
-    assert_eq!(rt; text.as_slice(), wanted.as_bytes());
-    Ok(())
+    assert_tells(&rt, rt.alloc(), &words, ("{}", trace), (6, wanted))
 }
 
 // The status of `why` where a read or a put fails, each by its number, and how many bytes were written.
-fn status_of(alloc: Global, failing_read: u32, failing_put: u32) -> Result<(u8, usize), Fail> {
-    let words = words_of(alloc, &["ffm_view", "why", "system", "scenario", "trace"])?;
+fn told_with_faults(
+    alloc: Global,
+    failing_read: u32,
+    failing_put: u32,
+) -> Result<(u8, usize), Fail> {
     let mut files = files_of(alloc, "{}", ENDED)?;
     files.fail_at(List::of(vec![in alloc; failing_read]?));
     let failing = List::of(vec![in alloc; failing_put]?);
     let mut sink = MemorySink::new(alloc, 4096, 256, failing)?;
-    let status = ffm_view(alloc, words.as_slice(), &mut files, &mut sink);
+    let words = ["ffm_view", "why", "system", "scenario", "trace"];
+    let status = status_of(alloc, &words, &mut files, &mut sink)?;
     Ok((status, sink.bytes().len()))
 }
 
@@ -129,7 +127,7 @@ fn failing_reads_and_puts(rt: HostRuntime) -> Result<(), Fail> {
         (0, 1, 8, 0),
         (0, 0, 0, 8),
     ] {
-        let found = status_of(rt.alloc(), failing_read, failing_put)?;
+        let found = told_with_faults(rt.alloc(), failing_read, failing_put)?;
         assert_eq!(rt; found, (status, bytes), "{failing_read} {failing_put}");
     }
     Ok(())

@@ -1,14 +1,7 @@
 //! What is shown of small traces.
 
-use ffm_model::List;
-use outside_io::{MemoryFiles, MemorySink};
-use std::alloc::Global;
+use crate::told::assert_tells;
 use std::test::Fail;
-use view_commands::ffm_view;
-
-/// Two partitions, one with an interrupt source and one that may use its service, and a client of both.
-const SYSTEM: &str =
-    r#"{"isolation_level":1,"manifests":[{"psa_framework_version":1.0,"name":"CRYPTO","type":"PSA-ROT","priority":"NORMAL","entry_point":"main","stack_size":"0x400","services":[{"name":"HASH","sid":"0x40","non_secure_clients":true}],"irqs":[{"source":17,"signal":"TICK_SIGNAL"}]},{"psa_framework_version":1.0,"name":"LOG","type":"PSA-ROT","priority":"NORMAL","entry_point":"main","stack_size":"0x400","dependencies":["HASH"],"services":[{"name":"LOG","sid":"0x41","non_secure_clients":true}]}],"clients":["NS"]}"#;
 
 /// Requests under way, a doorbell and an interrupt.
 const MOVING: &str =
@@ -125,38 +118,6 @@ static SHOWN: [Shown; 11] = [
     },
 ];
 
-/// The words of a command line over the three files.
-pub(crate) fn words_of(alloc: Global, words: &[&str]) -> Result<Vec<String>, Fail> {
-    let mut list = Vec::new(alloc);
-    for word in words {
-        list.push(String::from_str(alloc, word)?)?;
-    }
-    Ok(list)
-}
-
-/// The system, a scenario and a trace.
-pub(crate) fn files_of(alloc: Global, scenario: &str, trace: &str) -> Result<MemoryFiles, Fail> {
-    let mut files = MemoryFiles::new(alloc);
-    files.add(alloc, "system", SYSTEM.as_bytes())?;
-    files.add(alloc, "scenario", scenario.as_bytes())?;
-    files.add(alloc, "trace", trace.as_bytes())?;
-    Ok(files)
-}
-
-/// The status of these words over a trace, and what was written.
-pub(crate) fn written(
-    alloc: Global,
-    words: &[&str],
-    scenario: &str,
-    trace: &str,
-) -> Result<(u8, Vec<u8>), Fail> {
-    let words = words_of(alloc, words)?;
-    let mut files = files_of(alloc, scenario, trace)?;
-    let mut sink = MemorySink::new(alloc, 16384, 256, List::of(Vec::new(alloc)))?;
-    let status = ffm_view(alloc, words.as_slice(), &mut files, &mut sink);
-    Ok((status, sink.bytes().to_vec(alloc)?))
-}
-
 #[test]
 fn shown_traces(rt: HostRuntime) -> Result<(), Fail> {
     for shown in &SHOWN {
@@ -169,9 +130,14 @@ fn shown_traces(rt: HostRuntime) -> Result<(), Fail> {
             shown.place,
         ];
         let count = if shown.place.is_empty() { 5 } else { 6 };
-        let (status, text) = written(rt.alloc(), &words[..count], "{}", shown.trace)?;
-        assert_eq!(rt; status, shown.status, "{}", shown.text);
-        assert_eq!(rt; text.as_slice(), shown.text.as_bytes());
+        let files = ("{}", shown.trace);
+        assert_tells(
+            &rt,
+            rt.alloc(),
+            &words[..count],
+            files,
+            (shown.status, shown.text),
+        )?;
     }
     Ok(())
 }
@@ -263,25 +229,21 @@ const REASONS: [(&str, &str); 19] = [
     ),
 ];
 
+const WHY: [&str; 5] = ["ffm_view", "why", "system", "scenario", "trace"];
+
 #[test]
 fn reasons(rt: HostRuntime) -> Result<(), Fail> {
-    let words = ["ffm_view", "why", "system", "scenario", "trace"];
     for (trace, reason) in REASONS {
-        let (status, text) = written(rt.alloc(), &words, "{}", trace)?;
-        assert_eq!(rt; status, 6, "{trace}");
-        assert_eq!(rt; text.as_slice(), reason.as_bytes(), "{trace}");
+        assert_tells(&rt, rt.alloc(), &WHY, ("{}", trace), (6, reason))?;
     }
     Ok(())
 }
 
 #[test]
 fn beyond_the_limit(rt: HostRuntime) -> Result<(), Fail> {
-    let words = ["ffm_view", "why", "system", "scenario", "trace"];
     let trace = "p1 stop end -> done\np2 stop end -> done\nfull 2\n";
-    let (status, text) = written(rt.alloc(), &words, r#"{"event_limit":1}"#, trace)?;
     let reason =
         "illegal 2\nentry   p2 stop end -> done\nactor   LOG (p2), before: runs\nrule    the run has as many entries as the scenario allows\n";
-    assert_eq!(rt; status, 6);
-    assert_eq!(rt; text.as_slice(), reason.as_bytes());
-    Ok(())
+    let files = (r#"{"event_limit":1}"#, trace);
+    assert_tells(&rt, rt.alloc(), &WHY, files, (6, reason))
 }

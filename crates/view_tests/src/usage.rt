@@ -1,6 +1,6 @@
 //! What `clap` writes at words that are no command, and as the help and the version.
 
-use crate::texts::written;
+use crate::told::assert_tells;
 use std::test::Fail;
 use view_words::VERSION;
 
@@ -124,20 +124,14 @@ Options:
 #[test]
 fn texts_of_mistakes_and_of_the_help(rt: HostRuntime) -> Result<(), Fail> {
     for (words, wanted, text) in TOLD {
-        let (status, told) = written(rt.alloc(), words, "{}", "quiet 0\n")?;
-        assert_eq!(rt; status, wanted, "{words:?}");
-        assert_eq!(rt; told.as_slice(), text.as_bytes(), "{words:?}");
+        assert_tells(&rt, rt.alloc(), words, ("{}", "quiet 0\n"), (wanted, text))?;
     }
     Ok(())
 }
 
 #[test]
 fn version(rt: HostRuntime) -> Result<(), Fail> {
-    let (status, text) = written(rt.alloc(), &["ffm_view", "--version"], "{}", "quiet 0\n")?;
-    assert_eq!(rt; status, 0);
-    assert_eq!(rt;
-        text.as_slice(),
-        format!(in rt.alloc(); "ffm_view {VERSION}\n")?.as_bytes()
-    );
-    Ok(())
+    let words = ["ffm_view", "--version"];
+    let text = format!(in rt.alloc(); "ffm_view {VERSION}\n")?;
+    assert_tells(&rt, rt.alloc(), &words, ("{}", "quiet 0\n"), (0, &text))
 }

@@ -1,16 +1,12 @@
-use Rattle.std.proofs.Common.{sym, ◌∙◌}
-use Rattle.manifest_json.proofs.Runs.{run_step, byte_step, all_written}
+use Rattle.std.proofs.Common.{arith, ◌∙◌, sym}
+use Rattle.std.proofs.lemmas.Bool.Decides.{nat_tests}
+use Rattle.manifest_json.proofs.Runs.{piece_step, all_written}
 use Rattle.manifest_json.proofs.quote.quote_decimals.Goals as goal
 
-pub loop-b-preserved-then-starts_run : goal.loop-b-preserved-then-starts_run
-loop-b-preserved-then-starts_run c =
-    rw (c.in_ok-put_run.ensures, c.split_run.ensures.run, c.split_run.ensures.behind)
-    (run_step c.loop-b.mode c.in-Some.b.now c.loop-b.rest.now c.in-Some.after.now c.loop-b.out.items _ c.in-Some.ensures.cases.0 (sym c.starts_run.ensures ∙ c.if-starts_run.true) c.loop-b.invariant)
-
-pub loop-b-preserved : goal.loop-b-preserved
-loop-b-preserved c =
-    rw c.in_ok-push.ensures.items
-    (byte_step c.loop-b.mode c.after-mode.result c.in-Some.b.now c.loop-b.rest.now c.in-Some.after.now c.loop-b.out.items _ c.in-Some.ensures.cases.0 (sym c.starts_run.ensures ∙ c.if-starts_run.false) c.after-mode.ensures c.loop-b.invariant)
+pub loop-rest-preserved : goal.loop-rest-preserved
+loop-rest-preserved c =
+    rw (c.in_ok-put_run.ensures, c.in_ok-extend_from_slice.ensures.items, c.split_run.ensures.run, c.split_run.ensures.behind, c.split_at.ensures.front, c.split_at.ensures.back)
+    (piece_step c.plain_len.result c.loop-rest.rest.now c.loop-rest.out.items _ c.plain_len.ensures.plain c.plain_len.ensures.run c.loop-rest.invariant)
 
 pub returns : goal.returns
-returns c = all_written c.loop-b.mode c.loop-b.rest.now c.loop-b.out.items _ c.in_default.ensures.cases c.loop-b.invariant
+returns c = all_written c.loop-rest.rest.now c.loop-rest.out.items _ (let empty = sym c.is_empty.ensures ∙ c.loop-rest-test.false in grind (arith, nat_tests)) c.loop-rest.invariant

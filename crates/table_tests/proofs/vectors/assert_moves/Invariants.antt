@@ -1,7 +1,7 @@
 use Rattle.std.proofs.Common.{◌≡◌}
 use Rattle.memory_image.specs.Pieces.{regions_of, ranges_of}
 use Rattle.message_vectors.specs.Vectors.{AreWithin}
-use Rattle.table_tests.proofs.vectors.bytes_are_moved.Given as goal
+use Rattle.table_tests.proofs.vectors.assert_moves.Given as goal
 
 abbrev pub invariant-loop-row : goal.invariant-loop-row
 invariant-loop-row g l = record {
