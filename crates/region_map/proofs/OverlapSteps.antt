@@ -1,12 +1,13 @@
 -- A step of the search for the first region that shares a byte with one before it.
-use Rattle.std.proofs.Common.{ℕ, ◌≡◌, ◌<◌, ◌+◌, ◌||◌, ◌⊎◌, inl, inr, ⊎_elim, not, List, [], ◌∷◌, ◌++◌, length, map, take, drop, get_or, ◌∙◌, ap, sym, refl, Bool, true, false, Some, append_assoc}
+use Rattle.std.proofs.Common.{ℕ, ◌≡◌, ◌<◌, ◌≤◌, ◌+◌, ◌||◌, ◌⊎◌, inl, inr, ⊎_elim, not, List, [], ◌∷◌, ◌++◌, length, map, take, drop, get_or, arith, ◌∙◌, ap, sym, refl, Bool, true, false, Some, append_assoc}
 use Rattle.std.specs.Prelude.{sum_by}
-use Rattle.std.specs.List.{list_any}
+use Rattle.std.specs.List.{AllByRecursion, list_any}
 use Rattle.std.specs.BTreeMap.{BTreeMap}
 use Rattle.std.proofs.Math.Bool.{or-false}
 use Rattle.std.proofs.lemmas.List.{map_more, drop_more}
 use Rattle.std.proofs.lemmas.List.Folds.{list_any-append}
 use Rattle.std.proofs.lemmas.Bool.{or_from}
+use Rattle.std.proofs.lemmas.Bool.Decides.{nat_tests}
 use Rattle.ffm_model.specs.declared.constants.TheConstants.{RAM_BASE}
 use Rattle.ffm_model.specs.declared.system.Region.{Region}
 use Rattle.ffm_model.specs.PartsItems.{PartsRecord}
@@ -86,3 +87,25 @@ pub overlap_found : (fs : List Region) (xs : List Placed) (i : ℕ) (x : Placed)
 overlap_found fs xs i x below here some =
     ap (λ t. first (overlapping (fs ++ regions_in (take i xs)) t)) (rest xs i x below here)
     ∙ met (fs ++ regions_in (take i xs)) (located_of x) (map located_of (drop (i + 1) xs)) some
+
+-- ---- regions one behind the other
+
+-- each region ends by this address
+abbrev pub EndBy : ℕ → List Region → Type 0
+EndBy end rs = AllByRecursion (λ r. r.base + r.size ≤ end) rs
+
+before_all : (end : ℕ) (rs : List Region) (x : Region) → EndBy end rs → end ≤ x.base → meets_one x rs ≡ false
+before_all end [] x by behind = refl
+before_all end (r ∷ rs) x by behind =
+    let here : not (apart r x) ≡ false = let e = by.0 in grind (arith, nat_tests) in
+    ap (λ b. b || meets_one x rs) here ∙ before_all end rs x by.1 behind
+
+pub misses_all : (p : PartsRecord) (ram non_secure end : ℕ) (rs : List Region) (x : Region) → 0 < x.size
+    → ram ≡ sum_by ram_needed p.manifests → non_secure ≡ rounded p.non_secure_ram
+    → meets_ram ram non_secure x ≡ false → EndBy end rs → end ≤ x.base → meets_one x (front p ++ rs) ≡ false
+misses_all p ram non_secure end rs x some is others miss by behind =
+    both p rs x ∙ or_from (meets_one x (front p)) (meets_one x rs) (front_meets p ram non_secure x some is others ∙ miss) (before_all end rs x by behind)
+
+pub one_behind : (end : ℕ) (rs : List Region) (x : Region) → EndBy end rs → end ≤ x.base → EndBy (x.base + x.size) (rs ++ x ∷ [])
+one_behind end [] x by behind = (omega arith, tt)
+one_behind end (r ∷ rs) x by behind = (let e = by.0 in omega arith, one_behind end rs x by.1 behind)

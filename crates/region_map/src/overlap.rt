@@ -1,5 +1,5 @@
 //! MMIO regions that share a byte with other regions.
-ghost use Rattle.std.specs.Prelude.{◌≡◌, ◌∷◌, [], ◌++◌, ◌≤◌, ◌⊎◌, ◌||◌, IsTrue, false, map, not, option_map, IfOk};
+ghost use Rattle.std.specs.Prelude.{◌≡◌, ◌∷◌, [], ◌++◌, ◌≤◌, ◌⊎◌, ◌||◌, IsTrue, None, false, map, not, option_map, IfOk};
 ghost use Rattle.ffm_model.specs.Layout.{rams_of, non_secure_of, overlapping};
 ghost use Rattle.ffm_model.specs.Repeats.{first};
 ghost use Rattle.ffm_model.specs.WellFormed.{apart};
@@ -52,6 +52,27 @@ fn meets_any(ram: u64, non_secure: u64, earlier: &BTreeMap<u32, u32>, region: &R
         || meets_earlier(earlier, region)
 }
 
+// Whether each MMIO region lies behind the one before it, and none shares a byte with RAM: the usual
+// case, which needs no map.
+fn follow_each_other(parts: &Parts, placed: &[Placed]) -> bool
+    ensures { IsTrue result → first (overlapping (rams_of parts.now ++ non_secure_of parts.now ∷ []) (map located_of placed.now)) ≡ None }
+{
+    let ram = ram_total(parts.manifests.as_slice());
+    let non_secure = rounded(u64::from(parts.non_secure_ram));
+    let mut end = 0;
+    for at in placed {
+        let region = &at.region;
+        if u64::from(region.base) < end
+            || meets(RAM_BASE, ram, region)
+            || meets(NON_SECURE_RAM_BASE, non_secure, region)
+        {
+            return false;
+        }
+        end = u64::from(region.base) + u64::from(region.size);
+    }
+    true
+}
+
 /// The place of the first MMIO region that shares a byte with RAM or with an earlier MMIO region.
 pub fn first_overlap(
     alloc: Global,
@@ -60,6 +81,9 @@ pub fn first_overlap(
 ) -> Result<Option<(u32, u32)>, AllocError>
     ensures { IfOk result (λ found. found ≡ option_map spot (first (overlapping (rams_of parts.now ++ non_secure_of parts.now ∷ []) (map located_of placed.now)))) }
 {
+    if follow_each_other(parts, placed) {
+        return Ok(None);
+    }
     let ram = ram_total(parts.manifests.as_slice());
     let non_secure = rounded(u64::from(parts.non_secure_ram));
     let mut earlier = BTreeMap::new(alloc);
