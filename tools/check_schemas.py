@@ -196,12 +196,20 @@ def inner(error):
     return error
 
 
+def is_of_1_0(tree, place):
+    """Whether a place lies in a manifest of 1.0."""
+    around = [at(tree, place[:length]) for length in range(len(place))]
+    return any(isinstance(part, dict) and part.get("psa_framework_version") in (1.0, "1.0") for part in around)
+
+
 def problems(validator, tree):
     for error in sorted(validator.iter_errors(tree), key=lambda e: list(map(str, e.absolute_path))):
         error = inner(error)
         place = "".join(f"/{step}" for step in error.absolute_path)
         message = error.message if len(error.message) < 300 else f"is not as the schema's {error.validator} asks"
-        message = "isn't allowed here" if (error.validator, error.validator_value) == ("not", {}) else message
+        if (error.validator, error.validator_value) == ("not", {}):
+            where = "in a manifest of 1.0" if is_of_1_0(tree, list(error.absolute_path)) else "here"
+            message = f"isn't allowed {where}"
         yield f"{place or 'the file'}: {message}"
 
 
