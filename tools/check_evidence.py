@@ -8,7 +8,8 @@ there, in the file or crate that is named before it in the same cell; a wrong bo
 of the row's contract's crate, and in evidence.md in italics where it stands in wrong_bodies/. In proved.md each
 public call of a crate has to stand in the crate's section, in code marks, and each clause that a section names has
 to be the crate's. The figures of crates, wrong bodies, tests, calls, examples and stored runs that the README and the
-pages state have to be those counted (figures.py). Prints what isn't so. The status is 1 where something is wrong."""
+pages state have to be those counted (figures.py). For each kind of lines in the stored traces rule_of_line.py has to
+find a rule, a definition, a clause and a test. Prints what isn't so. The status is 1 where something is wrong."""
 
 import pathlib
 import re
@@ -169,12 +170,18 @@ def wrong_proved(page):
 
 
 def main():
+    # Not at the top, since it uses the functions above.
+    from rule_of_line import kinds_and_lacks
+
     wrong = [what for page in PAGES for what in wrong_cells(page)]
     wrong += [f"{PROVED}: {what}" for what in wrong_proved(PROVED)]
     wrong += wrong_italics(pathlib.Path("docs/evidence.md"))
     wrong += wrong_figures()
+    kinds, lacks = kinds_and_lacks()
+    wrong += lacks
     count = sum(bool(set(row) & set(CITED)) for page in PAGES for _, row in rows(page))
-    print("\n".join(wrong) if wrong else f"{count} rows, all public calls, {len(list(figures()))} texts with figures")
+    told = f"{count} rows, all public calls, {len(list(figures()))} texts with figures, {len(kinds)} kinds of lines"
+    print("\n".join(wrong) if wrong else told)
     sys.exit(1 if wrong else 0)
 
 

@@ -13,7 +13,8 @@ run, and told.
 What the page shows is looked for in what its commands wrote, and in the texts that stand beside the examples they
 name. Compared are:
 - blocks of lines that ffm writes: they come, in this order;
-- the block behind commands of ffm_view: it is all that they write, where a line `..` stands for any lines;
+- the block behind commands of ffm_view and of tools/rule_of_line.py: it is all that they write, where a line `..`
+  stands for any lines;
 - lines of a trace or an audit in the first cells of a table: they come, and one with its number behind it, as in
   `quiet 31` (32), is that line; `..` stands for anything;
 - a last line, as `legal 6`, outside of the sections "To try": it comes, and with the status behind it;
@@ -39,7 +40,7 @@ COMMAND = re.compile(
     r"ffm (?:compile|run|replay|audit|make)\b|ffm_view \w+ (?![A-Z])"
     r"|(?:python3|rt|git|jq|sed|awk|grep|diff|\(?cd|export) |tools/|\.ci/run|set -eu"
 )
-VIEW = re.compile(r"^ffm_view ", re.M)
+WHOLE = re.compile(r"^(?:ffm_view|python3 tools/rule_of_line\.py) ", re.M)
 NOT_RUN = re.compile(r"\.ci/run|tools/list_axioms|\brt (ci|version)\b|\bgit ")
 ENTRY = r"(?:p\d+|n\d+|dev) [a-z_]+\b[^`]*"
 VERDICT = r"(?:quiet|stalled|full|legal|illegal|clean|restart) \d+"
@@ -245,12 +246,12 @@ def examples_of(commands):
     return [path.read_text().splitlines() for path in paths if path.exists()]
 
 
-def wrong_views(parts, outputs, commands):
-    """The blocks behind commands of ffm_view that aren't what these write."""
+def wrong_wholes(parts, outputs, commands):
+    """The blocks behind commands of ffm_view and of tools/rule_of_line.py that aren't what these write."""
     written = {block.line: output.text for block, output in zip(commands, outputs)}
     blocks = [part for part in parts if part.is_block]
     for before, block in zip(blocks, blocks[1:]):
-        if VIEW.search(before.text) and before.line in written and not block.is_command():
+        if WHOLE.search(before.text) and before.line in written and not block.is_command():
             if not is_all(block.text, written[before.line]):
                 yield block, "the commands above write another text"
 
@@ -270,7 +271,7 @@ def shown_wrong(page, parts, outputs, commands):
             yield from wrong_in_line(part, outputs, texts)
     for table in table_rows(part for part in parts if part.section != "To try"):
         yield from wrong_in_table(table, texts)
-    yield from wrong_views(parts, outputs, commands)
+    yield from wrong_wholes(parts, outputs, commands)
 
 
 def wrong_of(page, shell):
@@ -289,7 +290,8 @@ def wrong_of(page, shell):
         outputs.append(output)
         if status != 0 and not block.text.splitlines()[-1].startswith("diff "):
             yield block, f"status {status}: {output.errors.strip()[-300:]}"
-    if any(output.statuses or LAST.search(output.text) for output in outputs):
+    is_shown = any(output.statuses or LAST.search(output.text) for output in outputs)
+    if is_shown or any(WHOLE.search(block.text) for block in commands):
         yield from shown_wrong(page, parts, outputs, commands)
 
 

@@ -1,0 +1,640 @@
+#!/usr/bin/env python3
+"""Finds the rule of a line of a trace, with its definition, its clause, its wrong bodies and its tests.
+
+    python3 tools/rule_of_line.py TRACE NUMBER
+    python3 tools/rule_of_line.py 'n1 version 0x00000041 -> number 0'
+
+The first form takes a file and the number of a line in it, counted from 1, the second one the text of a line. For each
+rule that bears on the line it prints four things, with their places from the top of the repository:
+1. the rule in words, with > before what the outcome shows, or ? where the line doesn't tell,
+2. the definition,
+3. the function with its contract, with > before the clause,
+4. wrong bodies that are refused, worked runs and tests.
+The answer that a `resume` shows was made by another event. With a trace the call and that event are found; with the
+text alone the rules that may have made the answer are told by their places.
+
+All of it is read from the tables of docs/machine.md and docs/evidence.md, the words of traces from docs/formats.md.
+check_evidence.py says whether each line of the stored traces has the four things. A line isn't judged here: it is taken
+as one that the machine allows. The status is 1 where no such line is found, and 2 where the words are wrong."""
+
+import os
+import pathlib
+import re
+import sys
+import textwrap
+from dataclasses import dataclass
+from functools import lru_cache
+from typing import NamedTuple
+
+from check_evidence import CRATES, ITEM, TEST, TOKEN, WRONG_BODIES, file_of, rows, sources, without_links
+from check_links import HEADING, anchor
+from example_files import examples
+
+TOP = pathlib.Path(__file__).resolve().parents[1]
+MACHINE, EVIDENCE, FORMATS = (pathlib.Path("docs") / name for name in ("machine.md", "evidence.md", "formats.md"))
+USAGE = "usage: rule_of_line.py TRACE NUMBER | rule_of_line.py 'LINE', with the line in quotation marks"
+EVENT = re.compile(r"([pn][1-9]\d*|dev) (\w+)((?: \S+)*) -> (\w+)((?: \S+)*)")
+VERDICT, RESTART = re.compile(r"(quiet|stalled|full) \d+"), re.compile(r"restart \d+")
+ACTORS = {"p": "partition", "n": "client", "d": "device"}
+OPERANDS = {"d": r"-?\d+", "h": r"0x[0-9a-fA-F]+", "u": r"\d+"}
+
+# The sections of docs/machine.md that outcomes add to the table of the calls.
+CALLS, RIGHTS, ERROR, REPLY, PANIC = "the-calls", "who-has-which-call", "what-a-programmer-error-does", "reply", "panic"
+SIGNALS, RESETS, VERDICTS = "signals", "resets", "runs-verdicts-and-judgements"
+# The kinds of messages in the section Reply, by the calls that send them, or by the outcomes of their returns.
+REQUEST, CONNECTION, DISCONNECTION = "request", "-1", "-2"
+ASKED_BY = {"connect": [CONNECTION], "call": [REQUEST], "close": [DISCONNECTION]}
+ANSWERED_BY = {"value": [CONNECTION, REQUEST], "done": [DISCONNECTION]}
+
+
+class Unknown(Exception):
+    """What isn't found, as it is told on standard error."""
+
+
+# ---- the lines of a trace
+
+
+class Event(NamedTuple):
+    """The line of an event with its number, its actor, and the words of its call and its outcome."""
+    text: str
+    number: int
+    actor: str
+    word: str
+    given: tuple
+    outcome: str
+    shown: tuple
+
+    def kind(self):
+        return ACTORS[self.actor[0]]
+
+    def client_id(self):
+        number = int(self.actor[1:]) if self.kind() != "device" else 0
+        return -number if self.kind() == "client" else number
+
+    def is_stateless(self):
+        """Whether it names a stateless handle."""
+        return self.word in ("call", "close") and 0x40000000 < int(self.given[0]) <= 0x40000000 + 32
+
+    def answers(self, *values):
+        """Whether the outcome is one of these values."""
+        return self.outcome == "value" and self.shown[0] in values
+
+
+@lru_cache(maxsize=None)
+def forms():
+    """The words of calls and of outcomes, each with its name and the kinds of its operands."""
+    found = {"Call": {}, "Outcome": {}}
+    for _, row in rows(FORMATS):
+        for column in set(found) & set(row) if "Text" in row else ():
+            for name, form in zip(row[column].split(", "), re.findall("`([^`]+)`", row["Text"])):
+                word, *operands = form.split()
+                found[column][word] = name, operands
+    return found
+
+
+def name_of(event):
+    """The name of an event's call in the table of the calls."""
+    return forms()["Call"][event.word][0]
+
+
+@lru_cache(maxsize=None)
+def event_of(text, number=0):
+    """The parts of an event's line."""
+    parts = EVENT.fullmatch(text)
+    if not parts:
+        raise Unknown(f"no line of a trace: {text}")
+    actor, word, given, outcome, shown = parts.groups()
+    event = Event(text, number, actor, word, tuple(given.split()), outcome, tuple(shown.split()))
+    for column, told, values in (("Call", word, event.given), ("Outcome", outcome, event.shown)):
+        if told not in forms()[column]:
+            raise Unknown(f"{told}: no such word in a trace (docs/formats.md, Trace)")
+        operands = forms()[column][told][1]
+        if not re.fullmatch(" ".join(OPERANDS.get(operand, r"\w+") for operand in operands), " ".join(values)):
+            raise Unknown(f"{text}: a trace has `{' '.join([told, *operands])}` there (docs/formats.md, Trace)")
+    return event
+
+
+class Run:
+    """The events of a run before a line, where they are known."""
+
+    def __init__(self, events):
+        self.events = events
+        self.messages = {event.shown[1]: event for event in events if event.outcome == "message"}
+
+    def answered(self, reply):
+        """The event that delivered the message which a reply answers."""
+        return self.messages.get(reply.given[0])
+
+    def panicked(self, event):
+        """The partition that panics in an event: its actor, or the one whose request is answered with -129."""
+        if event.outcome == "panicked":
+            return event.actor
+        message = self.answered(event) if event.word == "reply" and event.given[1] == "-129" else None
+        is_of_partition = message and int(message.shown[0]) >= 0 and int(message.shown[2]) > 0
+        return f"p{message.shown[2]}" if is_of_partition else None
+
+    def some_panicked(self):
+        return any(self.panicked(event) for event in self.events)
+
+    def call_of(self, actor):
+        """The call in which an actor is blocked."""
+        last = next((event for event in reversed(self.events) if event.actor == actor), None)
+        return last if last and last.outcome == "blocked" else None
+
+    def answers_to(self, call):
+        """The event that delivered the message of a call, the reply to it, and where there is none the panics by which
+        the call may have been answered."""
+        since = [event for event in self.events if event.number > call.number]
+        messages = [event for event in since if event.outcome == "message" and int(event.shown[2]) == call.client_id()]
+        got = messages[0] if messages else None
+        replies = [event for event in since if event.word == "reply" and event.outcome == "done"]
+        reply = next((event for event in replies if got and self.answered(event) == got), None)
+        panics = [event for event in since if self.panicked(event) and not reply]
+        return got, reply, [event for event in panics if not got or self.panicked(event) == got.actor]
+
+    def is_connected(self, actor, handle):
+        """Whether a client was given a connection of that handle, and didn't close it."""
+        last, given = None, set()
+        for event in self.events:
+            if event.actor == actor:
+                if event.word == "resume" and last == "connect":
+                    given.add(event.shown[0])
+                if event.word == "close":
+                    given.discard(event.given[0])
+                last = event.word
+        return handle in given
+
+
+# ---- the pages
+
+
+@lru_cache(maxsize=None)
+def table(page):
+    return list(rows(page))
+
+
+@lru_cache(maxsize=None)
+def lines_of(path):
+    return path.read_text().splitlines()
+
+
+@lru_cache(maxsize=None)
+def section(name):
+    """The lines of a section of docs/machine.md with their numbers; the first one is its heading."""
+    found = []
+    for number, line in enumerate(lines_of(MACHINE), 1):
+        heading = HEADING.match(line)
+        if heading and found:
+            break
+        if found or heading and anchor(heading[2]) == name:
+            found.append((number, line))
+    if not found:
+        raise Unknown(f"{MACHINE}: no section {name}")
+    return found
+
+
+def place_of(name):
+    return f"{MACHINE}:{section(name)[0][0]}"
+
+
+def plain(text):
+    """A text without links and emphasis, and with the places of the sections to which it links."""
+    text = re.sub(r"\[([^\]]*)\]\(#([\w-]+)\)", lambda link: f"{link[1]} ({place_of(link[2])})", text)
+    return re.sub(r"\*(\w[^*]*)\*", r"\1", re.sub(r"\[([^\]]*)\]\([^)]*\)", r"\1", text))
+
+
+def words_of(name, keeps=lambda *cells: True):
+    """The text of a section, each line with a mark: > before the rows of its tables that are kept."""
+    head = None
+    for _, line in section(name)[1:]:
+        cells = [cell.strip() for cell in line.strip("|").split("|")] if line.startswith("|") else None
+        if cells and head and set(line) - set("|- ") and keeps(*cells):
+            yield ">", plain("; ".join(f"{column}: {cell}" if column else cell for column, cell in zip(head, cells)))
+        elif line and not cells and not line.startswith("Definition"):
+            yield " ", plain(line)
+        head = cells and (head or cells)
+
+
+def row_of_call(name):
+    """The row of a call in the table of the calls, with the number of its line."""
+    for number, row in table(MACHINE):
+        if row.get("Call") == name and "Otherwise" in row:
+            return number, row
+    raise Unknown(f"{MACHINE}: no row {name} in the table of the calls")
+
+
+def evidence_of(words):
+    """The row of docs/evidence.md that has these words in its API, or in its link to the rule in words."""
+    for number, row in table(EVIDENCE):
+        if "Definition" in row and words in (row.get("API") or row.get("Rule in words") or ""):
+            return number, row
+    raise Unknown(f"{EVIDENCE}: no row for {words}")
+
+
+# ---- the rules of a line
+
+
+@dataclass
+class Rule:
+    """A rule that bears on a line: its title, the place of its words and the words, each line with a mark, its row in
+    docs/evidence.md with the number of that line, and the row of the table of the calls that it is about."""
+    title: str
+    place: str
+    words: list
+    row: tuple
+    call: str = ""
+    is_sure: bool = True
+
+
+def explained(row, column):
+    """A cell of the table of the calls, with that of another row where it names one."""
+    named = re.findall(r"\b[aA]s ([A-Z]\w+)", row[column])
+    return plain(". ".join([row[column], *(f"{name}: {row_of_call(name)[1][column]}" for name in named)]))
+
+
+def terms_of(text):
+    """The lines above the table of the calls that say what terms in a text mean, with their numbers."""
+    for number, line in section(CALLS):
+        term = re.match(r"A \*(.+?)\*", line)
+        if term and term[1] in text:
+            yield number, plain(line)
+
+
+def shows_error(event, run):
+    """Whether the outcome shows a PROGRAMMER ERROR; None where that isn't told."""
+    if event.outcome == "panicked" or event.kind() == "partition" or event.word == "resume":
+        return event.outcome == "panicked"
+    if event.word == "connect" and event.answers("-130"):
+        return True if run and not run.some_panicked() else None
+    if event.word == "close" and event.outcome == "done":
+        if event.given[0] == "0" or event.is_stateless():
+            return event.given[0] != "0"
+        return not run.is_connected(event.actor, event.given[0]) if run else None
+    return event.answers("-129")
+
+
+def rule_of_call(event, run):
+    """The row of the call in the table of the calls."""
+    number, row = row_of_call(name_of(event))
+    shown, words = shows_error(event, run), []
+    for column, is_error in (("PROGRAMMER ERROR exactly where", True), ("Otherwise", False)):
+        if row[column]:
+            mark = "?" if shown is None else ">" if shown == is_error else " "
+            words.append((mark, f"{column}: {explained(row, column)}"))
+    words += [(" ", text) for _, text in terms_of(" ".join(row.values()))]
+    title = f"call {name_of(event)}" + (f", {row['API'].strip('`')}" if row["API"] else "")
+    return Rule(title, f"{MACHINE}:{number}", words, evidence_of(row["API"] or f"`{event.word}`"), name_of(event))
+
+
+def rule_of_stateless():
+    number, text = next(terms_of("stateless handle"))
+    row = evidence_of("`psa_call` by a stateless handle")
+    return Rule("call by a stateless handle", f"{MACHINE}:{number}", [(">", text)], row)
+
+
+def rule_of_error(event, is_sure):
+    """What a PROGRAMMER ERROR does, and who has the call where the actor doesn't."""
+    outcome = event.outcome.capitalize() + "".join(f"({value})" for value in event.shown)
+
+    def lacks_it(kind, calls):
+        return event.kind() in kind and (name_of(event) in re.findall(r"\w+", calls)) == calls.startswith("all but")
+
+    words = list(words_of(ERROR, lambda kind, due, state: kind.startswith(event.kind()) and due == outcome))
+    rights = list(words_of(RIGHTS, lacks_it))
+    words += rights if any(mark == ">" for mark, _ in rights) else []
+    return Rule("what a PROGRAMMER ERROR does", place_of(ERROR), words, evidence_of(f"#{ERROR})"), is_sure=is_sure)
+
+
+def rule_of_section(name, row, keeps=lambda *cells: True, call="", is_sure=True):
+    """A section of docs/machine.md with the rows of its tables that are kept."""
+    title = f"section {section(name)[0][1].strip('# ')}"
+    return Rule(title, place_of(name), list(words_of(name, keeps)), evidence_of(row), call, is_sure)
+
+
+def rule_of_reply(kinds, status=None, is_sure=True):
+    """The section Reply with the rows for messages of these kinds, and for a status where it is known."""
+    def keeps(cell, connection, client):
+        kind, told = cell.split(", ", 1)
+        is_told = told == "any status" or (status in re.findall(r"-?\d+", told)) != ("other than" in told)
+        return kind in kinds and (status is None or is_told)
+
+    return rule_of_section(REPLY, "`psa_reply`", keeps, "Reply", is_sure)
+
+
+def rule_of_panic(is_sure=True):
+    return rule_of_section(PANIC, "`psa_panic`", call="Panic", is_sure=is_sure)
+
+
+def rules_of_answer(event, run):
+    """The rules by which the answer that a resume shows was made, and the events that show it, each with what it is."""
+    call = run.call_of(event.actor) if run else None
+    notes = [(call, "the call that returns")] if call else []
+    if event.outcome == "signals":
+        return [rule_of_section(SIGNALS, f"#{SIGNALS})")], notes
+    kinds = ASKED_BY.get(call.word, []) if call else ANSWERED_BY.get(event.outcome, [])
+    is_refused, is_lost = event.answers("-130") and CONNECTION in kinds, event.answers("-145") and REQUEST in kinds
+    may_panic = event.outcome == "done" or is_refused or is_lost
+    got, reply, panics = run.answers_to(call) if call else (None, None, [])
+    notes += [(got, "its message")] if got else []
+    if reply:
+        notes.append((reply, "answered by this reply, and by no panic" if may_panic else "answered by this reply"))
+        return [rule_of_reply(kinds, reply.given[1])], notes
+    if panics:
+        what = f"answered by this {'' if len(panics) == 1 else 'or another '}panic, and by no reply"
+        return [rule_of_panic()], notes + [(panic, what) for panic in panics]
+    is_handle = CONNECTION in kinds and event.outcome == "value" and int(event.shown[0]) > 0
+    rules = [rule_of_reply(kinds, None if is_handle or not event.shown else event.shown[0], not may_panic)]
+    return rules + [rule_of_panic(is_sure=False)] * may_panic, notes
+
+
+def rules_of_reply(event, run):
+    """What a reply does by the kind of its message, the panic that it may owe, and the event that delivered the message."""
+    message = run.answered(event) if run else None
+    kinds = [CONNECTION, REQUEST, DISCONNECTION]
+    if message:
+        kinds = [REQUEST] if int(message.shown[0]) >= 0 else [message.shown[0]]
+    owes = event.given[1] == "-129" and (not message or run.panicked(event) is not None)
+    rules = [rule_of_reply(kinds, event.given[1])] + [rule_of_panic(is_sure=message is not None)] * owes
+    return rules, [(message, "the message that is answered")] if message else []
+
+
+def rules_of_event(event, run):
+    """The rules that bear on an event: that of its call, and those that its outcome adds."""
+    rules, shown, notes = [rule_of_call(event, run)], shows_error(event, run), []
+    if event.word == "call" and event.is_stateless():
+        rules.append(rule_of_stateless())
+    if shown is not False:
+        rules.append(rule_of_error(event, shown is not None))
+    if event.outcome == "panicked":
+        rules.append(rule_of_panic())
+    elif event.word == "reply":
+        (told, *more), notes = rules_of_reply(event, run)
+        rules[0].words += told.words
+        rules += more
+    elif event.word == "resume":
+        more, notes = rules_of_answer(event, run)
+        rules += more
+    elif event.word == "wait" and event.outcome == "signals":
+        rules.append(rule_of_section(SIGNALS, f"#{SIGNALS})"))
+    return rules, notes
+
+
+def rules_of(text, number=0, events=None):
+    """The rules that bear on a line, and other events with what they are to it. `events` are those before it in its run,
+    where they are known."""
+    verdict = VERDICT.fullmatch(text)
+    if verdict:
+        return [rule_of_section(VERDICTS, f"`{verdict[1]}`", lambda name, state: name == verdict[1])], []
+    if RESTART.fullmatch(text):
+        return [rule_of_section(RESETS, f"#{RESETS})")], []
+    return rules_of_event(event_of(text, number), None if events is None else Run(events))
+
+
+def events_before(lines, place):
+    """The events of the run before a line."""
+    events = []
+    for number, line in enumerate(lines[:place], 1):
+        if VERDICT.fullmatch(line) or RESTART.fullmatch(line):
+            events.clear()
+        else:
+            events.append(event_of(line, number))
+    return events
+
+
+# ---- definitions, clauses, wrong bodies and tests
+
+
+@dataclass(frozen=True)
+class Item:
+    """A function or a definition that a cell names: its file, the place of its line, from 0, its name and its clauses."""
+    path: pathlib.Path
+    place: int
+    name: str
+    clauses: tuple = ()
+
+    def told(self, clauses=()):
+        named = [name or "without a name" for name in clauses or self.clauses]
+        return f"{self.path}:{self.place + 1}, {self.name}" + (f", clause {', '.join(named)}" if named else "")
+
+
+def is_crate(word):
+    return (CRATES / word / "src").is_dir()
+
+
+def found_in(files, name, clauses):
+    """The item of that name, in the first of the files that has it."""
+    for path in files:
+        for place, line in enumerate(lines_of(path)):
+            if re.search(ITEM.format(name), line) and not re.match(r"\s*(//|--)", line):
+                return [Item(path, place, name, tuple(clauses))]
+    return []
+
+
+def tests_in(path):
+    text = path.read_text()
+    return [Item(path, text[:test.start(1)].count("\n"), test[1]) for test in re.finditer(TEST.format(r"(\w+)"), text)]
+
+
+@lru_cache(maxsize=None)
+def items_of(cell, column):
+    """The items that a cell names, with their clauses; of a file of tests without names all its tests."""
+    found = []
+    for part in without_links(cell).split(";"):
+        files, named, has_clauses = [], [], False
+        for token in TOKEN.findall(part):
+            word = token.strip("`").split("::")[-1]
+            if token.endswith((".rt", ".antt")):
+                path = file_of(token, column, files)
+                files = [path] if path else []
+            elif token[0] == "`" and has_clauses:
+                named[-1][1].append(word)
+            elif token[0] == "`":
+                named.append((word, []))
+            elif is_crate(token):
+                files = sources(token)
+            has_clauses = has_clauses or named != [] and token in ("clause", "clauses")
+        found += [item for name, clauses in named for item in found_in(files, name, clauses)]
+        found += [test for path in files[:1] if column == "Tests" and not named for test in tests_in(path)]
+    return found
+
+
+def block_of(item):
+    """The lines of a definition, or of a function without its body, with the comment above."""
+    lines, start, end = lines_of(item.path), item.place, item.place + 1
+    while start > 0 and re.match(r"\s*(//|--|#\[)", lines[start - 1]):
+        start -= 1
+    if start > 1 and lines[start - 1] == "" and lines[start - 2].startswith("-- ----"):
+        start -= 2
+    # A body begins with a brace in a line of its own; behind a definition comes an empty line.
+    stops = ("{", "{}") if item.path.suffix == ".rt" else ("",)
+    while end < len(lines) and lines[end].strip() not in stops:
+        end += 1
+    return textwrap.dedent("\n".join(lines[start:end])).splitlines()
+
+
+def definition_of(item, call):
+    """The lines of a definition; of the table of all calls the line of one alone."""
+    lines = block_of(item)
+    cases = [line for line in lines if re.search(r"\bcall\.[A-Z]", line)]
+    is_table = len(cases) == len(forms()["Call"])
+    return [line for line in lines if not is_table or line not in cases or re.search(rf"\bcall\.{call}\b", line)]
+
+
+def contract_of(item):
+    """The lines of a function without its body, with marks before its clauses, and their names: those that the row names,
+    else `answer`, else the one without a name, else all."""
+    lines = block_of(item)
+    found = [re.match(r" +ensures (\w*) ?\{", line) for line in lines]
+    names = [clause[1] for clause in found if clause]
+    names = list(item.clauses) or [name for name in ("answer", "") if name in names][:1] or names
+    return [(">" if clause and clause[1] in names else " ", line) for clause, line in zip(found, lines)], names
+
+
+def functions_of(row):
+    column = "Contract and body" if "Contract and body" in row else "Contract"
+    return items_of(row[column], column)
+
+
+def wrong_bodies_of(row):
+    """The files of the wrong bodies that a row names, each of the crate named before it, or of the contract's."""
+    crate = next((word for item in functions_of(row)[:1] for word in item.path.parts if is_crate(word)), "")
+    for token in TOKEN.findall(without_links(row["Wrong bodies, refused"])):
+        crate = token if is_crate(token) else crate
+        for folder in (CRATES / crate / "must-fail", WRONG_BODIES / crate):
+            if (folder / f"{token}.edit").is_file():
+                yield folder / f"{token}.edit"
+
+
+def runs_of(row):
+    """The worked runs, the tests and the examples that a row names, each with what it is."""
+    for column in (name for name in row if name.startswith("Worked") or name == "Tests"):
+        for item in items_of(row[column], column):
+            yield "test" if column == "Tests" and "machine_examples" not in item.path.parts else "worked run", item.told()
+    for path, more in re.findall(r"\]\(\.\./([^)#]+)\)([^;]*)", row["Tests"]):
+        yield "example", path + more
+
+
+# ---- what is printed
+
+
+def wrapped(mark, text):
+    """A text in lines of 110 characters, with the mark before each."""
+    return [f" {mark} {part}" for part in textwrap.wrap(text, 110)]
+
+
+def text_of(rule, is_whole):
+    """The lines that are printed of a rule: all of it, or the places alone."""
+    number, row = rule.row
+    yield f"== {rule.title}{'' if rule.is_sure else ' (perhaps)'}"
+    yield f"1. {rule.place}"
+    for mark, text in rule.words if is_whole else ():
+        yield from wrapped(mark, text)
+    for item in items_of(row["Definition"], "Definition"):
+        yield f"2. {item.told()}"
+        yield from (f"   {line}" for line in definition_of(item, rule.call) if is_whole)
+    for item in functions_of(row):
+        lines, names = contract_of(item)
+        yield f"3. {item.told(names)}"
+        yield from (f" {mark} {line}" for mark, line in lines if is_whole)
+    yield f"4. {EVIDENCE}:{number}"
+    if is_whole:
+        yield from (f"   wrong body: {path}" for path in wrong_bodies_of(row))
+        yield from (f"   {what}: {text}" for what, text in runs_of(row))
+
+
+def told(text, number=0, events=None):
+    """All lines that are printed of a line."""
+    rules, notes = rules_of(text, number, events)
+    yield f"line {number}: {text}" if number else text
+    yield from (f"line {event.number}: {event.text} ({what})" for event, what in notes)
+    for rule in rules:
+        yield ""
+        yield from (line.rstrip() for line in text_of(rule, is_whole=rule.is_sure or events is not None))
+
+
+def answer(words):
+    """The lines that are printed: of the one line that is given, or of that with a number in a trace."""
+    lines = pathlib.Path(words[0]).read_text().splitlines() if len(words) == 2 else []
+    os.chdir(TOP)
+    if len(words) == 1:
+        return told(words[0].strip())
+    number = int(words[1])
+    if not 1 <= number <= len(lines):
+        raise Unknown(f"{words[0]}: no line {number} among {len(lines)}")
+    return told(lines[number - 1], number, events_before(lines, number - 1))
+
+
+# ---- all lines of the stored traces, for check_evidence.py
+
+
+def is_line(text):
+    try:
+        return VERDICT.fullmatch(text) or RESTART.fullmatch(text) or event_of(text)
+    except Unknown:
+        return False
+
+
+def stored_traces():
+    """The traces of the examples and those in sources, without the lines that are wrong there, each with its file."""
+    line = r"(?:(?:p\d+|n\d+|dev) [a-z_]+\b[^\"\n{}]* -> [^\"\n{}]+|(?:quiet|stalled|full|restart) \d+)"
+    for example in examples().values():
+        yield example.trace, lines_of(example.trace)
+    for path in sorted(CRATES.glob("*/src/**/*.rt")):
+        for trace in re.findall(rf"(?:{line}\n)+", path.read_text().replace("\\n", "\n")):
+            yield path, [text for text in trace.splitlines() if is_line(text)]
+
+
+def lacks_of(rule):
+    """What a rule lacks of the four things, and what docs/machine.md names of it and docs/evidence.md doesn't."""
+    number, row = rule.row
+    definitions, functions = items_of(row["Definition"], "Definition"), functions_of(row)
+    tests = [item for item in runs_of(row) if item[0] == "test"]
+    for what, found in (("rule", rule.words), ("definition", definitions), ("clause", functions), ("test", tests)):
+        if not found:
+            yield f"{rule.title}: no {what} ({EVIDENCE}:{number})"
+    row_in_words = row_of_call(rule.call)[1] if rule.call else {}
+    for column, found in (("Definition", definitions), ("Contract and body", functions)):
+        places = [(item.path, item.place) for item in found]
+        for item in items_of(row_in_words.get(column, ""), column):
+            if (item.path, item.place) not in places:
+                yield f"{EVIDENCE}:{number} doesn't name {item.name}, as the row {rule.call} of {MACHINE} does"
+
+
+def kinds_and_lacks():
+    """The kinds of lines in the stored traces, and what the lines lack, with the first line of each lack. Lines are of
+    a kind where they have the same words, negative numbers and rules. Each is looked up alone, and in its run."""
+    kinds, lacks = set(), {}
+    for path, lines in stored_traces():
+        for place, line in enumerate(lines):
+            words = re.sub(r"(?<=[a-z])\d+| (?:0x[0-9a-f]+|\d+|-\d)\b", "", line)
+            for events in (None, events_before(lines, place)):
+                try:
+                    rules, _ = rules_of(line, place + 1, events)
+                    kind = (words, *(rule.title for rule in rules))
+                    new = [] if kind in kinds else [what for rule in rules for what in lacks_of(rule)]
+                    kinds.add(kind)
+                except Unknown as unknown:
+                    new = [str(unknown)]
+                for what in new:
+                    lacks.setdefault(what, f"{path}: {line}: {what}")
+    return kinds, list(lacks.values())
+
+
+def main():
+    words = sys.argv[1:]
+    is_number = len(words) == 2 and re.fullmatch("[0-9]+", words[1])
+    if len(words) != 1 and not is_number or words[0].startswith("-"):
+        print(USAGE, file=sys.stderr)
+        sys.exit(2)
+    try:
+        print("\n".join(answer(words)), flush=True)
+    except BrokenPipeError:
+        # Who reads it has read enough, as head does.
+        os.dup2(os.open(os.devnull, os.O_WRONLY), sys.stdout.fileno())
+    except (OSError, UnicodeDecodeError, Unknown) as wrong:
+        print(f"rule_of_line.py: {wrong}", file=sys.stderr)
+        sys.exit(1)
+
+
+if __name__ == "__main__":
+    main()
