@@ -6,13 +6,14 @@ ghost use Rattle.machine_calls.specs.Machine.{IsMachineOf};
 use crate::condition::{Condition, marked};
 use ffm_model::{ActorId, Call, System};
 use machine_calls::Machine;
+use machine_rules::is_access_size;
 use memory_image::{may_read, may_write};
 use std::alloc::{AllocError, Global};
 
 fn of_size(size: u32) -> Condition
     ensures { told result ≡ size_condition size }
 {
-    marked("the size isn't 1, 2 or 4", !matches!(size, 1 | 2 | 4))
+    marked("the size isn't 1, 2 or 4", !is_access_size(size))
 }
 
 /// Those of a load or a store.

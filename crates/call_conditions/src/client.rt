@@ -2,16 +2,18 @@
 ghost use Rattle.std.specs.Prelude.{◌≡◌, IfOk, false, map};
 ghost use Rattle.std.specs.Option.{option_map_or};
 ghost use Rattle.call_conditions.specs.Conditions.{are_arrays_wrong, client_conditions, close_conditions, connect_conditions, connection_closed, connection_named, invoke_conditions, names_own, told};
-ghost use Rattle.ffm_model.specs.Actors.{is_stateless, permits, stateless_index};
-ghost use Rattle.ffm_model.specs.ClientCalls.{is_busy, refuses_requests, takes_version};
+ghost use Rattle.ffm_model.specs.Actors.{permits};
+ghost use Rattle.ffm_model.specs.ClientCalls.{is_busy, refuses_requests};
 ghost use Rattle.machine_calls.specs.Machine.{IsMachineOf, spm_of_objects};
 
 use crate::condition::{Condition, marked};
 use ffm_model::{
-    ActorId, Call, ConnPhase, Handle, MAX_STATELESS, OpenConnection, PSA_IPC_CALL, PSA_MAX_IOVEC,
-    PSA_NULL_HANDLE, Policy, STATELESS_BASE, Sid, System,
+    ActorId, Call, Handle, OpenConnection, PSA_IPC_CALL, PSA_NULL_HANDLE, Sid, System,
 };
 use machine_calls::{Machine, Objects};
+use machine_rules::{
+    are_few, is_busy, is_stateless, refuses_requests, stateless_index, takes_version,
+};
 use memory_image::valid_buffer;
 use std::alloc::{AllocError, Global};
 
@@ -19,27 +21,6 @@ fn permits(system: &System, actor: ActorId, service: u32) -> bool
     ensures { result ≡ permits system.now actor.0 service }
 {
     system.budget(actor, service).is_some()
-}
-
-fn is_stateless(system: &System, service: u32) -> bool
-    ensures { result ≡ is_stateless system.now service }
-{
-    match system.services.as_slice().get(service as usize) {
-        Some(found) => found.stateless != 0,
-        None => false,
-    }
-}
-
-fn takes_version(system: &System, service: u32, version: u32) -> bool
-    ensures { result ≡ takes_version system.now service version }
-{
-    match system.services.as_slice().get(service as usize) {
-        Some(found) => match found.policy {
-            Policy::Strict => found.version == version,
-            Policy::Relaxed => version <= found.version,
-        },
-        None => false,
-    }
 }
 
 fn of_connect(system: &System, actor: ActorId, sid: Sid, version: u32) -> [Condition; 4]
@@ -60,17 +41,6 @@ fn of_connect(system: &System, actor: ActorId, sid: Sid, version: u32) -> [Condi
         marked("the caller isn't permitted", is_closed),
         marked("the version doesn't fit", is_misfit),
     ]
-}
-
-// The index that a stateless handle shows.
-fn stateless_index(handle: Handle) -> Option<u32>
-    ensures { result ≡ stateless_index handle }
-{
-    if handle.0 > STATELESS_BASE as i32 && handle.0 <= (STATELESS_BASE + MAX_STATELESS) as i32 {
-        Some(handle.0 as u32 - STATELESS_BASE)
-    } else {
-        None
-    }
 }
 
 // The connection that a handle names: a stateless handle names none.
@@ -96,11 +66,12 @@ fn names_own(system: &System, objects: &Objects, actor: ActorId, handle: Handle)
     }
 }
 
-fn refuses_requests(connection: Option<OpenConnection>) -> bool
+// Whether it is one on which no request can be made.
+fn is_refusing(connection: Option<OpenConnection>) -> bool
     ensures { result ≡ option_map_or (λ c. refuses_requests c.phase) connection false }
 {
     match connection {
-        Some(connection) => matches!(connection.phase, ConnPhase::Busy | ConnPhase::Error),
+        Some(connection) => refuses_requests(connection.phase),
         None => false,
     }
 }
@@ -118,7 +89,7 @@ fn are_arrays_wrong(
 {
     let (in_vec, in_len) = inputs;
     let (out_vec, out_len) = outputs;
-    if in_len > PSA_MAX_IOVEC || out_len > PSA_MAX_IOVEC - in_len {
+    if !are_few(in_len, out_len) {
         return true;
     }
     !valid_buffer(system, &machine.memory, actor, in_vec, 8 * in_len)
@@ -141,10 +112,7 @@ fn of_invoke(
             "neither a handle of the caller nor a stateless handle of the caller",
             !names_own(system, objects, actor, handle),
         ),
-        marked(
-            "the connection is Busy or Error",
-            refuses_requests(connection),
-        ),
+        marked("the connection is Busy or Error", is_refusing(connection)),
         marked("the kind is negative", kind < PSA_IPC_CALL),
         Condition {
             words: "a rule of the vectors is broken",
@@ -164,11 +132,12 @@ fn connection_closed(objects: &Objects, actor: ActorId, handle: Handle) -> Optio
     }
 }
 
-fn is_busy(connection: Option<OpenConnection>) -> bool
+// Whether it is one on which a request is on its way.
+fn has_request(connection: Option<OpenConnection>) -> bool
     ensures { result ≡ option_map_or (λ c. is_busy c.phase) connection false }
 {
     match connection {
-        Some(connection) => matches!(connection.phase, ConnPhase::Busy),
+        Some(connection) => is_busy(connection.phase),
         None => false,
     }
 }
@@ -182,7 +151,7 @@ fn of_close(objects: &Objects, actor: ActorId, handle: Handle) -> [Condition; 2]
             "neither handle 0 nor a handle of the caller",
             handle.0 != PSA_NULL_HANDLE && connection.is_none(),
         ),
-        marked("the connection is Busy", is_busy(connection)),
+        marked("the connection is Busy", has_request(connection)),
     ]
 }
 

@@ -1,52 +1,14 @@
 //! The conditions of the calls by which a partition takes and answers messages.
-ghost use Rattle.std.specs.Prelude.{◌≡◌, ◌&&◌, ◌==◌, IfOk, map, filter};
+ghost use Rattle.std.specs.Prelude.{◌≡◌, IfOk, map};
 ghost use Rattle.call_conditions.specs.Conditions.{get_conditions, reply_conditions, service_conditions, set_rhandle_conditions, told, wait_conditions};
-ghost use Rattle.ffm_model.specs.ServiceCalls.{is_connect_status, service_of_signal};
-ghost use Rattle.ffm_model.specs.Signals.{assigned_to, union_of};
 ghost use Rattle.machine_calls.specs.Machine.{IsMachineOf, spm_of_objects};
 
 use crate::condition::{Condition, marked};
-use ffm_model::{
-    ActorId, Call, PSA_DOORBELL, PSA_ERROR_CONNECTION_BUSY, PSA_ERROR_CONNECTION_REFUSED,
-    PSA_IPC_CONNECT, PSA_SUCCESS, PendingMessage, Service, Source, Status, System,
-};
+use ffm_model::{ActorId, Call, PSA_IPC_CONNECT, PendingMessage, Status, System};
 use machine_calls::Machine;
+use machine_rules::{MESSAGE_SIZE, assigned_to, is_connect_status, service_of_signal};
 use memory_image::valid_buffer;
 use std::alloc::{AllocError, Global};
-
-/// How many bytes `psa_msg_t` has.
-const MESSAGE_SIZE: u32 = 48;
-
-// The signals of a partition's services.
-fn service_signals(services: &[Service], partition: u32) -> u32
-    ensures { result ≡ union_of (map (λ v. v.signal) (filter (λ v. v.owner == partition) services.now)) }
-{
-    services
-        .iter()
-        .filter(|v| v.owner == partition)
-        .map(|v| v.signal)
-        .fold(0, |word, signal| word | signal)
-}
-
-// The signals of a partition's interrupt sources.
-fn source_signals(sources: &[Source], partition: u32) -> u32
-    ensures { result ≡ union_of (map (λ v. v.signal) (filter (λ v. v.owner == partition) sources.now)) }
-{
-    sources
-        .iter()
-        .filter(|v| v.owner == partition)
-        .map(|v| v.signal)
-        .fold(0, |word, signal| word | signal)
-}
-
-// The signals that a partition has at all.
-fn assigned_to(system: &System, partition: u32) -> u32
-    ensures { result ≡ assigned_to system.now partition }
-{
-    let services = service_signals(system.services.as_slice(), partition);
-    let sources = source_signals(system.sources.as_slice(), partition);
-    PSA_DOORBELL | (services | sources)
-}
 
 fn of_wait(system: &System, actor: ActorId, mask: u32) -> [Condition; 1]
     ensures { map told result ≡ wait_conditions system.now actor.0 mask }
@@ -55,14 +17,6 @@ fn of_wait(system: &System, actor: ActorId, mask: u32) -> [Condition; 1]
         "the mask has no signal that the caller has at all",
         assigned_to(system, actor.0) & mask == 0,
     )]
-}
-
-// The place of the caller's service that has the signal.
-fn service_with(system: &System, actor: ActorId, signal: u32) -> Option<usize>
-    ensures { result ≡ service_of_signal system.now actor.0 signal }
-{
-    let mut services = system.services.as_slice().iter();
-    services.position(|service| service.owner == actor.0 && service.signal == signal)
 }
 
 fn of_get(
@@ -75,7 +29,7 @@ fn of_get(
     requires { IsMachineOf system.now machine.now }
     ensures { map told result ≡ get_conditions system.now (spm_of_objects machine.now.objects) actor.0 signal msg }
 {
-    let service = service_with(system, actor, signal);
+    let service = service_of_signal(system, actor.0, signal);
     let is_empty = match service {
         Some(place) => machine.objects.first_undelivered(place).is_none(),
         None => false,
@@ -106,21 +60,11 @@ fn of_set_rhandle(message: &Option<PendingMessage>) -> [Condition; 2]
     ]
 }
 
-// Whether it is what a service may answer to psa_connect.
-fn is_connect_status(status: Status) -> bool
-    ensures { result ≡ is_connect_status status.0 }
-{
-    matches!(
-        status.0,
-        PSA_SUCCESS | PSA_ERROR_CONNECTION_REFUSED | PSA_ERROR_CONNECTION_BUSY
-    )
-}
-
 fn of_reply(message: &Option<PendingMessage>, status: Status) -> [Condition; 2]
     ensures { map told result ≡ reply_conditions message.now status.0 }
 {
     let is_misfit = match message {
-        Some(message) => message.kind == PSA_IPC_CONNECT && !is_connect_status(status),
+        Some(message) => message.kind == PSA_IPC_CONNECT && !is_connect_status(status.0),
         None => false,
     };
     [

@@ -1,13 +1,12 @@
 //! The conditions of the calls on doorbells and interrupts.
-ghost use Rattle.std.specs.Prelude.{◌≡◌, ◌&&◌, ◌==◌, IfOk, false, get_or, map, position};
+ghost use Rattle.std.specs.Prelude.{◌≡◌, IfOk, false, get_or, map};
 ghost use Rattle.call_conditions.specs.Conditions.{asserted_condition, clear_conditions, enable_conditions, first_level_condition, notify_conditions, number_condition, second_level_condition, signal_conditions, source_numbered, told};
-ghost use Rattle.ffm_model.specs.SignalCalls.{has_flih, source_of_signal};
-ghost use Rattle.ffm_model.specs.State.{flags_at};
 ghost use Rattle.machine_calls.specs.Machine.{spm_of_objects};
 
 use crate::condition::{Condition, marked};
 use ffm_model::{ActorId, Call, System};
 use machine_calls::Objects;
+use machine_rules::{has_flih, is_asserted, source_of_signal};
 use std::alloc::{AllocError, Global};
 
 fn of_notify(system: &System, partition: i32) -> [Condition; 1]
@@ -33,14 +32,6 @@ fn of_clear(objects: &Objects, actor: ActorId) -> [Condition; 1]
     [marked("the caller's doorbell isn't asserted", !is_rung)]
 }
 
-// The place of the caller's source that has the signal.
-fn source_with(system: &System, actor: ActorId, signal: u32) -> Option<usize>
-    ensures { result ≡ source_of_signal system.now actor.0 signal }
-{
-    let mut sources = system.sources.as_slice().iter();
-    sources.position(|source| source.owner == actor.0 && source.signal == signal)
-}
-
 // The place of the source with a number.
 fn source_numbered(system: &System, source: u32) -> Option<usize>
     ensures { result ≡ source_numbered system.now source }
@@ -52,29 +43,11 @@ fn source_numbered(system: &System, source: u32) -> Option<usize>
     }
 }
 
-fn is_asserted(objects: &Objects, source: usize) -> bool
-    ensures { result ≡ (flags_at (spm_of_objects objects.now) source).asserted }
-{
-    match objects.sources.as_slice().get(source) {
-        Some(flags) => flags.asserted,
-        None => false,
-    }
-}
-
-fn has_flih(system: &System, source: usize) -> bool
-    ensures { result ≡ has_flih system.now source }
-{
-    match system.sources.as_slice().get(source) {
-        Some(source) => source.flih,
-        None => false,
-    }
-}
-
 fn of_assertion(objects: &Objects, source: Option<usize>) -> Condition
     ensures { told result ≡ asserted_condition (spm_of_objects objects.now) source }
 {
     let is_asserted = match source {
-        Some(place) => is_asserted(objects, place),
+        Some(place) => is_asserted(objects.sources.as_slice(), place),
         None => false,
     };
     marked(
@@ -108,7 +81,7 @@ fn of_enable(system: &System, actor: ActorId, signal: u32) -> [Condition; 1]
 {
     [marked(
         "the word isn't the signal of one of the caller's sources",
-        source_with(system, actor, signal).is_none(),
+        source_of_signal(system, actor, signal).is_none(),
     )]
 }
 
@@ -135,12 +108,12 @@ pub fn signal_conditions(
         Call::Notify { partition } => Ok(Vec::from_array(alloc, of_notify(system, partition))?),
         Call::Clear => Ok(Vec::from_array(alloc, of_clear(objects, actor))?),
         Call::Eoi { signal } => {
-            let source = source_with(system, actor, signal);
+            let source = source_of_signal(system, actor, signal);
             let level = of_first_level(system, source);
             Ok(Vec::from_array(alloc, [of_assertion(objects, source), level])?)
         }
         Call::ResetSignal { signal } => {
-            let source = source_with(system, actor, signal);
+            let source = source_of_signal(system, actor, signal);
             let level = of_second_level(system, source);
             Ok(Vec::from_array(alloc, [of_assertion(objects, source), level])?)
         }

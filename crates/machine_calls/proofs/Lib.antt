@@ -1,5 +1,4 @@
 mod Changed
 mod Fitting
 mod MessageLemmas
-mod MovedLemmas
 mod Leaving

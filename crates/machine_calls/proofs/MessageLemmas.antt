@@ -17,9 +17,10 @@ use Rattle.ffm_model.specs.ServiceCalls.{get_of, message_size, is_connect_status
 use Rattle.ffm_model.specs.State.{State, delivered, has_handle, is_undelivered, message_held, vectors_put, with_vectors, without_message}
 use Rattle.memory_image.specs.declared.image.Image.{Image}
 use Rattle.memory_image.specs.Pieces.{byte_at, ranges_of, regions_of}
+use Rattle.machine_rules.specs.Vectors.{VectorsFit}
 use Rattle.machine_calls.specs.declared.machine.Machine.{Machine}
 use Rattle.machine_calls.specs.declared.machine.Objects.{Objects}
-use Rattle.machine_calls.specs.Machine.{spm_of_objects, state_of, IsMachineOf, MessagesFit, VectorsFit}
+use Rattle.machine_calls.specs.Machine.{spm_of_objects, state_of, IsMachineOf, MessagesFit}
 
 -- ---- psa_get
 

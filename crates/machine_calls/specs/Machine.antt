@@ -1,18 +1,16 @@
 -- The checker's state as the machine's definitions have it, and what a call answers and leaves of it.
 -- Source: FF-M 1.0; the machine's definition of each call is an outcome and a state, or nothing where the call is a PROGRAMMER ERROR.
-use Rattle.std.specs.Prelude.{ℕ, ◌+◌, ◌*◌, ◌<◌, ◌≤◌, ◌≡◌, true, List, [], ◌∷◌, ◌++◌, Option, Some, None, Result, Ok, Err, All}
-use Rattle.ffm_model.specs.declared.constants.TheConstants.{PSA_MAX_IOVEC}
+use Rattle.std.specs.Prelude.{ℕ, ◌≡◌, List, [], ◌∷◌, ◌++◌, Option, Some, None, Result, Ok, Err, All}
 use Rattle.ffm_model.specs.declared.system.System.{System}
 use Rattle.ffm_model.specs.declared.machine.Handle.{Handle}
 use Rattle.ffm_model.specs.declared.machine.Memory.{Memory}
 use Rattle.ffm_model.specs.declared.machine.Message.{Message}
 use Rattle.ffm_model.specs.declared.machine.Outcome.{Outcome}
 use Rattle.ffm_model.specs.declared.machine.Outcome.TheVariants.{Got}
-use Rattle.ffm_model.specs.declared.objects.Span.{Span}
-use Rattle.ffm_model.specs.declared.objects.Vectors.{Vectors}
 use Rattle.ffm_model.specs.ClientCalls.{Move, move, Effect, effect}
 use Rattle.ffm_model.specs.State.{SpmState, State}
-use Rattle.memory_image.specs.Pieces.{byte_at, is_inside, ranges_of, regions_of}
+use Rattle.memory_image.specs.Pieces.{byte_at, ranges_of, regions_of}
+use Rattle.machine_rules.specs.Vectors.{VectorsFit}
 use Rattle.machine_calls.specs.declared.machine.Objects.{Objects}
 use Rattle.machine_calls.specs.declared.machine.Machine.{Machine}
 
@@ -43,19 +41,7 @@ Does due old (Ok (Some o)) new = (given : List Handle) → due given ≡ Some (e
 Does due old (Ok None) new = ((given : List Handle) → due given ≡ None) × (new ≡ old)
 Does due old (Err e) new = Unit {0}
 
--- ---- what is kept of a vector, so that its bytes can be moved
-
--- the vector lies in one of the regions, and no more bytes were moved than it has
-pub record SpanFits (regions : List (ℕ × ℕ)) (v : Span) : Type 0 where
-  pub inside : is_inside v.base v.len regions ≡ true
-  pub moved : v.moved ≤ v.len
-
--- the vectors lie in the regions, and so does the descriptor of each given output
-pub record VectorsFit (regions : List (ℕ × ℕ)) (vectors : Vectors) : Type 0 where
-  pub few : vectors.out_len ≤ PSA_MAX_IOVEC
-  pub inputs : All (SpanFits regions) vectors.input
-  pub outputs : All (SpanFits regions) vectors.output
-  pub descriptors : (k : ℕ) → k < vectors.out_len → is_inside (vectors.out_vec + 8 * k) 8 regions ≡ true
+-- ---- what is kept of the messages and the memory
 
 -- the vectors of all messages fit the regions
 abbrev pub MessagesFit : List (ℕ × ℕ) → Objects → Type 0

@@ -1,17 +1,12 @@
 //! Loads and stores.
 ghost use Rattle.std.specs.Prelude.{◌≡◌, Ok};
-ghost use Rattle.ffm_model.specs.Accesses.{is_access_size, load, store};
+ghost use Rattle.ffm_model.specs.Accesses.{load, store};
 ghost use Rattle.machine_calls.specs.Machine.{state_of, Does, IsMachineOf};
 
 use crate::machine::Machine;
 use ffm_model::{ActorId, Outcome, System};
+use machine_rules::is_access_size;
 use memory_image::{may_read, may_write};
-
-fn is_access_size(size: u32) -> bool
-    ensures { result ≡ is_access_size size }
-{
-    matches!(size, 1 | 2 | 4)
-}
 
 impl Machine {
     /// A load of an actor. None where the size isn't 1, 2 or 4, or the range isn't one that the actor may read.

@@ -3,87 +3,22 @@ ghost use Rattle.std.specs.Prelude.{◌≡◌, ◌+◌, ◌<◌, ◌≤◌, ◌^
 ghost use Rattle.std.specs.Prelude as prelude;
 ghost use Rattle.std.specs.Option.{option_map};
 ghost use Rattle.ffm_model.specs.declared.objects.ActorPhase.TheVariants as phase;
-ghost use Rattle.ffm_model.specs.Actors.{budget_of, is_stateless, stateless_index};
+ghost use Rattle.ffm_model.specs.Actors.{budget_of};
 ghost use Rattle.ffm_model.specs.State.{with_message, with_phase};
-ghost use Rattle.ffm_model.specs.ClientCalls.{in_state, call_to, connection_called, move, psa_call, psa_close, service_called, psa_connect, version_number, takes_version, is_service_panicked, connect_issued, connect_to, refuses_requests, call_on, close_on, is_busy};
-ghost use Rattle.ffm_model.specs.Panic.{is_dead};
-ghost use Rattle.machine_calls.specs.Machine.{spm_of_objects, state_of, Moves, Does, VectorsFit, MessagesFit, IsMachineOf};
+ghost use Rattle.ffm_model.specs.ClientCalls.{in_state, call_to, connection_called, move, psa_call, psa_close, service_called, psa_connect, is_service_panicked, connect_issued, connect_to, call_on, close_on};
+ghost use Rattle.machine_rules.specs.Vectors.{VectorsFit};
+ghost use Rattle.machine_calls.specs.Machine.{spm_of_objects, state_of, Moves, Does, MessagesFit, IsMachineOf};
 
 use crate::machine::{Machine, Objects};
-use crate::snapshot::{NO_VECTORS, vectors_of};
 use ffm_model::{
-    ActorId, ActorPhase, ConnPhase, Handle, MAX_STATELESS, Memory, OpenConnection, Outcome,
+    ActorId, ActorPhase, ConnPhase, Handle, Memory, OpenConnection, Outcome,
     PSA_ERROR_COMMUNICATION_FAILURE, PSA_ERROR_CONNECTION_BUSY, PSA_ERROR_CONNECTION_REFUSED,
-    PSA_IPC_CONNECT, PSA_IPC_DISCONNECT, PSA_NULL_HANDLE, PSA_VERSION_NONE, Policy, STATELESS_BASE,
-    Sid, System, Vectors,
+    PSA_IPC_CONNECT, PSA_IPC_DISCONNECT, PSA_NULL_HANDLE, Sid, System, Vectors,
 };
-
-/// `psa_version`: a service that the actor may not use answers as one that isn't there.
-pub fn version(system: &System, actor: ActorId, sid: Sid) -> u32
-    ensures { result ≡ version_number system.now actor.0 sid }
-{
-    let Some(place) = system.service_at(sid) else {
-        return PSA_VERSION_NONE;
-    };
-    if system.budget(actor, place).is_none() {
-        return PSA_VERSION_NONE;
-    }
-    match system.services.as_slice().get(place as usize) {
-        Some(service) => service.version,
-        None => PSA_VERSION_NONE,
-    }
-}
-
-fn takes_version(system: &System, service: u32, asked: u32) -> bool
-    ensures { result ≡ takes_version system.now service asked }
-{
-    match system.services.as_slice().get(service as usize) {
-        Some(found) => match found.policy {
-            Policy::Strict => found.version == asked,
-            Policy::Relaxed => asked <= found.version,
-        },
-        None => false,
-    }
-}
-
-// Whether clients call a service by its handle.
-fn is_stateless(system: &System, service: u32) -> bool
-    ensures { result ≡ is_stateless system.now service }
-{
-    match system.services.as_slice().get(service as usize) {
-        Some(found) => found.stateless != 0,
-        None => false,
-    }
-}
-
-// The index that a stateless handle shows.
-fn stateless_index(handle: Handle) -> Option<u32>
-    ensures { result ≡ stateless_index handle }
-{
-    if handle.0 > STATELESS_BASE as i32 && handle.0 <= (STATELESS_BASE + MAX_STATELESS) as i32 {
-        Some(handle.0 as u32 - STATELESS_BASE)
-    } else {
-        None
-    }
-}
-
-fn refuses_requests(phase: ConnPhase) -> bool
-    ensures { result ≡ refuses_requests phase }
-{
-    matches!(phase, ConnPhase::Busy | ConnPhase::Error)
-}
-
-fn is_dead(phase: ConnPhase) -> bool
-    ensures { result ≡ is_dead phase }
-{
-    matches!(phase, ConnPhase::Dead)
-}
-
-fn is_busy(phase: ConnPhase) -> bool
-    ensures { result ≡ is_busy phase }
-{
-    matches!(phase, ConnPhase::Busy)
-}
+use machine_rules::{
+    NO_VECTORS, is_busy, is_dead, is_stateless, refuses_requests, stateless_index, takes_version,
+    vectors_of,
+};
 
 impl Objects {
     fn is_service_panicked(&self, system: &System, service: u32) -> bool

@@ -2,7 +2,8 @@
 ghost use Rattle.std.specs.Prelude.{◌≡◌, ◌==◌, ◌&&◌, ◌++◌, ◌∷◌, [], not, ℕ, IfOk, find, filter, map, count_by};
 ghost use Rattle.std.specs.Prelude as prelude;
 ghost use Rattle.ffm_model.specs.State.{has_handle, connection_held, connection_by_serial, in_use, phase_put, rhandle_put, handle_put, with_connection_handle, with_connection_phase, with_message, with_request, with_rhandle, without_connection};
-ghost use Rattle.machine_calls.specs.Machine.{spm_of_objects, VectorsFit, MessagesFit};
+ghost use Rattle.machine_rules.specs.Vectors.{VectorsFit};
+ghost use Rattle.machine_calls.specs.Machine.{spm_of_objects, MessagesFit};
 
 use crate::machine::Objects;
 use ffm_model::{ActorId, ConnPhase, Handle, Memory, OpenConnection, PendingMessage, Vectors};

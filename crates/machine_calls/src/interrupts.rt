@@ -1,11 +1,12 @@
 //! Doorbells and interrupts.
 ghost use Rattle.std.specs.Prelude.{◌≡◌, Ok, false, get_or, slice_set};
-ghost use Rattle.ffm_model.specs.SignalCalls.{forwarded, has_flih, psa_notify, psa_clear, psa_eoi, psa_irq_enable, psa_irq_disable, psa_reset_signal, source_of_signal, with_doorbell, with_flags, fire, raise};
+ghost use Rattle.ffm_model.specs.SignalCalls.{psa_notify, psa_clear, psa_eoi, psa_irq_enable, psa_irq_disable, psa_reset_signal, with_doorbell, with_flags, fire, raise};
 ghost use Rattle.ffm_model.specs.State.{flags_at};
 ghost use Rattle.machine_calls.specs.Machine.{spm_of_objects, Moves};
 
 use crate::machine::Objects;
 use ffm_model::{ActorId, Outcome, SourceFlags, System};
+use machine_rules::{forwarded, has_flih, source_of_signal};
 
 fn put_doorbell(doorbells: &mut [bool], partition: usize, set: bool)
     ensures { doorbells.new ≡ slice_set doorbells.old partition set }
@@ -20,38 +21,6 @@ fn put_flags(sources: &mut [SourceFlags], source: usize, flags: SourceFlags)
 {
     if source < sources.len() {
         sources[source] = flags;
-    }
-}
-
-// An enabled source that is pending asserts its signal: with SLIH as soon as that is clear, with FLIH in any case.
-fn forwarded(flih: bool, flags: SourceFlags) -> SourceFlags
-    ensures { result ≡ forwarded flih flags }
-{
-    if flags.enabled && flags.pending && (flih || !flags.asserted) {
-        SourceFlags {
-            pending: false,
-            asserted: true,
-            ..flags
-        }
-    } else {
-        flags
-    }
-}
-
-// The partition's interrupt source that has the signal.
-fn source_of_signal(system: &System, actor: ActorId, signal: u32) -> Option<usize>
-    ensures { result ≡ source_of_signal system.now actor.0 signal }
-{
-    let mut sources = system.sources.as_slice().iter();
-    sources.position(|source| source.owner == actor.0 && source.signal == signal)
-}
-
-fn has_flih(system: &System, source: usize) -> bool
-    ensures { result ≡ has_flih system.now source }
-{
-    match system.sources.as_slice().get(source) {
-        Some(source) => source.flih,
-        None => false,
     }
 }
 

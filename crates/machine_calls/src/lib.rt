@@ -11,12 +11,9 @@ mod connections;
 mod interrupts;
 mod machine;
 mod messages;
-mod moves;
 mod panic;
 mod replies;
 mod service;
 mod signals;
-mod snapshot;
 
-pub use client::version;
 pub use machine::{Machine, Objects};

@@ -7,16 +7,7 @@ ghost use Rattle.machine_calls.specs.Machine.{spm_of_objects};
 
 use crate::machine::Objects;
 use ffm_model::{Handle, PSA_IPC_CALL, PSA_MAX_IOVEC, PendingMessage, System, Vectors};
-
-/// Whether the service is the partition's.
-pub fn is_service_of(system: &System, partition: u32, service: u32) -> bool
-    ensures { result ≡ is_service_of system.now partition service }
-{
-    match system.services.as_slice().get(service as usize) {
-        Some(service) => service.owner == partition,
-        None => false,
-    }
-}
+use machine_rules::{is_service_of, is_undelivered};
 
 fn has_handle(message: &PendingMessage, handle: Handle) -> bool
     ensures { result ≡ has_handle message.now.handle handle }
@@ -25,12 +16,6 @@ fn has_handle(message: &PendingMessage, handle: Handle) -> bool
         Some(shown) => shown.0 == handle.0,
         None => false,
     }
-}
-
-pub fn is_undelivered(message: &PendingMessage, service: usize) -> bool
-    ensures { result ≡ is_undelivered service message.now }
-{
-    message.handle.is_none() && message.service as usize == service
 }
 
 fn is_held(system: &System, partition: u32, message: &PendingMessage, handle: Handle) -> bool

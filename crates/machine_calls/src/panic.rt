@@ -9,16 +9,16 @@ ghost use Rattle.ffm_model.specs.Actors.{is_service_of};
 ghost use Rattle.ffm_model.specs.Memory.{no_vectors};
 ghost use Rattle.ffm_model.specs.Panic.{callers_answered, client_answered, clients_answered, without_service, without_client, disconnection, panic_effect};
 ghost use Rattle.machine_calls.specs.Leaving.{left_of, disconnection_left, Leaves};
-ghost use Rattle.machine_calls.specs.Machine.{spm_of_objects, VectorsFit, MessagesFit};
+ghost use Rattle.machine_rules.specs.Vectors.{VectorsFit};
+ghost use Rattle.machine_calls.specs.Machine.{spm_of_objects, MessagesFit};
 
 use crate::machine::Objects;
-use crate::messages::is_service_of;
-use crate::snapshot::NO_VECTORS;
 use ffm_model::{
     ActorId, ActorPhase, ConnPhase, Memory, OpenConnection, Outcome,
     PSA_ERROR_COMMUNICATION_FAILURE, PSA_ERROR_CONNECTION_REFUSED, PSA_IPC_DISCONNECT,
     PendingMessage, System,
 };
+use machine_rules::{NO_VECTORS, is_service_of};
 
 // Answers the client of a lost connection, where it waits.
 fn answer_client(phase: ConnPhase, phases: &mut [ActorPhase], client: u32)

@@ -1,42 +1,16 @@
 //! `psa_reply`.
 ghost use Rattle.std.specs.Prelude.{◌≡◌, ℕ, IfOk, if◌then◌else◌};
 ghost use Rattle.std.specs.Prelude as prelude;
-ghost use Rattle.ffm_model.specs.Actors.{is_partition, kind_of};
-ghost use Rattle.ffm_model.specs.ServiceCalls.{answered, close_answered, connect_answered, is_connect_status, owes_panic, psa_reply, replied, reply_to, request_answered, request_failed, with_request_phase};
+ghost use Rattle.ffm_model.specs.ServiceCalls.{answered, close_answered, connect_answered, owes_panic, psa_reply, replied, reply_to, request_answered, request_failed, with_request_phase};
 ghost use Rattle.ffm_model.specs.Panic.{panic_effect};
 ghost use Rattle.machine_calls.specs.Machine.{spm_of_objects, state_of, Does, IsMachineOf, MessagesFit};
 
 use crate::machine::{Machine, Objects};
-use crate::moves::tell_lengths;
 use ffm_model::{
-    ActorId, ActorPhase, ConnPhase, Handle, Memory, Outcome, PSA_ERROR_CONNECTION_BUSY,
-    PSA_ERROR_CONNECTION_REFUSED, PSA_ERROR_PROGRAMMER_ERROR, PSA_IPC_CALL, PSA_IPC_CONNECT,
-    PSA_SUCCESS, PendingMessage, Status, System,
+    ActorId, ActorPhase, ConnPhase, Handle, Memory, Outcome, PSA_ERROR_PROGRAMMER_ERROR,
+    PSA_IPC_CALL, PSA_IPC_CONNECT, PSA_SUCCESS, PendingMessage, Status, System,
 };
-
-fn is_partition(system: &System, actor: u32) -> bool
-    ensures { result ≡ is_partition (kind_of system.now actor) }
-{
-    (actor as usize) < system.partitions.len()
-}
-
-// What a service may answer to `psa_connect`.
-fn is_connect_status(status: i32) -> bool
-    ensures { result ≡ is_connect_status status }
-{
-    status == PSA_SUCCESS
-        || status == PSA_ERROR_CONNECTION_REFUSED
-        || status == PSA_ERROR_CONNECTION_BUSY
-}
-
-// A partition whose request was answered with PROGRAMMER ERROR panics in the same event.
-fn owes_panic(system: &System, message: PendingMessage, status: i32) -> bool
-    ensures { result ≡ owes_panic system.now message status }
-{
-    message.kind >= PSA_IPC_CALL
-        && status == PSA_ERROR_PROGRAMMER_ERROR
-        && is_partition(system, message.client.0)
-}
+use machine_rules::{is_connect_status, is_partition, owes_panic, tell_lengths};
 
 impl Objects {
     fn answer_connect(&mut self, serial: u32, message: PendingMessage, status: i32)

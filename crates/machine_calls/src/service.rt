@@ -1,90 +1,22 @@
 //! The calls of `psa/service.h` that wait for messages, take them and move their bytes.
-ghost use Rattle.std.specs.Prelude.{◌≡◌, ◌++◌, ◌==◌, ◌&&◌, Ok, length, option_and_then, position, if◌then◌else◌};
+ghost use Rattle.std.specs.Prelude.{◌≡◌, Ok, option_and_then, if◌then◌else◌};
 ghost use Rattle.std.specs.Option.{option_map, option_map_or};
 ghost use Rattle.ffm_model.specs.ClientCalls.{in_state};
 ghost use Rattle.std.specs.Ordering.{int_eq};
-ghost use Rattle.ffm_model.specs.Actors.{client_id_of};
-ghost use Rattle.ffm_model.specs.ServiceCalls.{message_words, psa_wait, psa_get, psa_set_rhandle, psa_read, psa_skip, psa_write, service_of_signal, shown_message, sizes_of};
+ghost use Rattle.ffm_model.specs.ServiceCalls.{psa_wait, psa_get, psa_set_rhandle, psa_read, psa_skip, psa_write, shown_message};
 ghost use Rattle.ffm_model.specs.State.{connection_by_serial};
 ghost use Rattle.machine_calls.specs.Machine.{spm_of_objects, state_of, Moves, Does, Gets, IsMachineOf};
 
 use crate::machine::{Machine, Objects};
-use crate::moves::{advance, copy_from, copy_to, skip};
-use crate::signals::assigned_to;
 use ffm_model::{
     ActorId, ActorPhase, Handle, Message, Outcome, PSA_BLOCK, PSA_IPC_CONNECT, PendingMessage,
-    Service, Span, System,
+    System,
+};
+use machine_rules::{
+    MESSAGE_SIZE, advance, assigned_to, client_id_of, copy_from, copy_to, service_of_signal,
+    sizes_of, skip, words_of,
 };
 use memory_image::valid_buffer;
-
-// How many bytes a `psa_msg_t` takes.
-const MESSAGE_SIZE: u32 = 48;
-
-fn place_of(services: &[Service], partition: u32, signal: u32) -> Option<usize>
-    ensures { result ≡ position (λ v. (v.owner == partition) && (v.signal == signal)) services.now }
-{
-    services
-        .iter()
-        .position(|v| v.owner == partition && v.signal == signal)
-}
-
-// The place of the partition's service that has the signal.
-fn service_of_signal(system: &System, partition: u32, signal: u32) -> Option<usize>
-    ensures { result ≡ service_of_signal system.now partition signal }
-{
-    place_of(system.services.as_slice(), partition, signal)
-}
-
-// An actor's client ID: a partition's place plus one, -k for the k-th non-secure client, and 0 for any other.
-#[tactic(auto, using(ffm_model::proofs::ActorLemmas::few_partitions, ffm_model::proofs::ActorLemmas::few_clients))]
-fn client_id_of(system: &System, actor: u32) -> i32
-    ensures { result ≡ client_id_of system.now actor }
-{
-    let partitions = system.partitions.len();
-    let at = actor as usize;
-    if at < partitions {
-        actor as i32 + 1
-    } else if at - partitions < system.clients.len() {
-        -1 - (at - partitions) as i32
-    } else {
-        0
-    }
-}
-
-fn sizes_of(vectors: [Span; 4]) -> [u32; 4]
-    ensures { result ≡ sizes_of vectors }
-{
-    [
-        vectors[0].len,
-        vectors[1].len,
-        vectors[2].len,
-        vectors[3].len,
-    ]
-}
-
-// Three times four words, one behind the other.
-fn joined(head: [u32; 4], input: [u32; 4], output: [u32; 4]) -> [u32; 12]
-    ensures { result ≡ head ++ (input ++ output) }
-{
-    [
-        head[0], head[1], head[2], head[3], input[0], input[1], input[2], input[3], output[0],
-        output[1], output[2], output[3],
-    ]
-}
-
-// The twelve words of a `psa_msg_t`.
-fn words_of(message: Message) -> [u32; 12]
-    ensures words { result ≡ message_words message }
-    ensures count { length result ≡ 12 }
-{
-    let head = [
-        message.kind.cast_unsigned(),
-        message.handle.0.cast_unsigned(),
-        message.client_id.cast_unsigned(),
-        message.rhandle,
-    ];
-    joined(head, message.in_size, message.out_size)
-}
 
 impl Objects {
     // The rhandle that a message carries: 0 for that of a `psa_connect`, else its connection's.

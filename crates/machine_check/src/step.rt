@@ -16,7 +16,8 @@ use ffm_model::{
     ActorId, ActorKind, ActorPhase, Call, Entry, Group, Handle, Memory, Outcome,
     PSA_ERROR_PROGRAMMER_ERROR, PSA_FRAMEWORK_VERSION, System, group_of, has_call, refusal_of,
 };
-use machine_calls::{Machine, Objects, version};
+use machine_calls::{Machine, Objects};
+use machine_rules::version;
 use std::collections::BTreeSet;
 
 /// The last number that a handle may have.

@@ -3,7 +3,8 @@ ghost use Rattle.std.specs.Prelude.{◌≡◌, length};
 ghost use Rattle.std.specs.Option.{option_map_or};
 ghost use Rattle.ffm_model.specs.ServiceCalls.{output_at, request_held};
 ghost use Rattle.ffm_model.specs.State.{message_held};
-ghost use Rattle.machine_calls.specs.Machine.{spm_of_objects, IsMachineOf, SpanFits, VectorsFit};
+ghost use Rattle.machine_calls.specs.Machine.{spm_of_objects, IsMachineOf};
+ghost use Rattle.machine_rules.specs.Vectors.{SpanFits, VectorsFit};
 ghost use Rattle.memory_image.specs.Pieces.{regions_of};
 ghost use Rattle.machine_check.specs.Written.{by_done, by_get, by_read, length_words, next_bytes, nothing, one_range, written, HasFourSizes};
 

@@ -1,7 +1,7 @@
 use Rattle.std.proofs.Common.{sym, subst}
 use Rattle.std.proofs.lemmas.List.Elements.{All-push, All-same}
 use Rattle.ffm_model.specs.declared.objects.Vectors.{Vectors}
-use Rattle.machine_calls.specs.Machine.{VectorsFit}
+use Rattle.machine_rules.specs.Vectors.{VectorsFit}
 use Rattle.machine_calls.proofs.Fitting.{none_fit}
 use Rattle.machine_calls.proofs.panic.send_disconnection.Goals as goal
 

@@ -1,8 +1,8 @@
 use Rattle.std.proofs.Common.{◌≡◌, ◌++◌, ℕ, List, take}
 use Rattle.std.specs.Prelude.{All}
 use Rattle.std.specs.List.{filter_map}
+use Rattle.machine_rules.specs.Vectors.{VectorsFit}
 use Rattle.machine_calls.specs.Leaving.{disconnection_left}
-use Rattle.machine_calls.specs.Machine.{VectorsFit}
 use Rattle.machine_calls.proofs.panic.send_disconnections.Given as goal
 
 -- the disconnections of the connections so far are sent

@@ -1,5 +1,6 @@
 use Rattle.std.proofs.Common.{sym, subst}
-use Rattle.machine_calls.specs.Machine.{spm_of_objects, VectorsFit}
+use Rattle.machine_rules.specs.Vectors.{VectorsFit}
+use Rattle.machine_calls.specs.Machine.{spm_of_objects}
 use Rattle.machine_check.proofs.Covered.{held-fits}
 use Rattle.machine_check.proofs.written.written_by_reply.Goals as goal
 

@@ -1,6 +1,7 @@
 use Rattle.std.proofs.Common.{sym, subst}
 use Rattle.ffm_model.specs.ServiceCalls.{output_at}
-use Rattle.machine_calls.specs.Machine.{spm_of_objects, SpanFits}
+use Rattle.machine_rules.specs.Vectors.{SpanFits}
+use Rattle.machine_calls.specs.Machine.{spm_of_objects}
 use Rattle.machine_check.proofs.Covered.{request-fits, span-fits}
 use Rattle.machine_check.proofs.written.written_by_write.Goals as goal
 

@@ -1,5 +1,5 @@
 use Rattle.std.proofs.lemmas.List.Elements.{All-filter, All-same}
-use Rattle.machine_calls.specs.Machine.{VectorsFit}
+use Rattle.machine_rules.specs.Vectors.{VectorsFit}
 use Rattle.machine_calls.proofs.Fitting.{still_fit}
 use Rattle.machine_calls.proofs.machine.Objects.panic.Goals as goal
 

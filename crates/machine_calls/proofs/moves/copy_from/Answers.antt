@@ -1,5 +1,0 @@
-use Rattle.machine_calls.proofs.MovedLemmas.{rest_inside}
-use Rattle.machine_calls.proofs.moves.copy_from.Goals as goal
-
-pub copy-requires-clause-from : goal.copy-requires-clause-from
-copy-requires-clause-from c = rest_inside _ c.args.span.now _ _ c.next_byte-from.ensures c.requires.rest c.requires.inside

@@ -1,5 +1,0 @@
-use Rattle.machine_calls.proofs.MovedLemmas.{rest_inside}
-use Rattle.machine_calls.proofs.moves.copy_to.Goals as goal
-
-pub copy-requires-clause-to : goal.copy-requires-clause-to
-copy-requires-clause-to c = rest_inside _ c.args.span.now _ _ c.next_byte-to.ensures c.requires.rest c.requires.inside

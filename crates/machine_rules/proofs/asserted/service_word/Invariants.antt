@@ -1,0 +1,9 @@
+use Rattle.std.proofs.Common.{◌≡◌}
+use Rattle.std.specs.Prelude.{fold, bit_or}
+use Rattle.ffm_model.specs.Signals.{union_of}
+use Rattle.machine_rules.specs.Signals.{services_asserted, services_from}
+use Rattle.machine_rules.proofs.asserted.service_word.Given as goal
+
+-- the word so far with the signals that are left is all
+abbrev pub invariant-loop-place : goal.invariant-loop-place
+invariant-loop-place l = fold bit_or l.word (services_from l.services l.messages l.partition l.place) ≡ union_of (services_asserted l.services l.messages l.partition)
