@@ -1,19 +1,23 @@
 #!/usr/bin/env python3
 """Times the look-ups of large systems: regions by their addresses, and budgets by client and service.
 
-    python3 tools/benchmark_lookups.py crates/ffm/out/ffm
+    python3 tools/benchmark_lookups.py [--repeats N] crates/ffm/out/ffm
 
-Makes the files in a folder of their own, and prints for each the processor seconds. A system has 576,000 regions in 32
-manifest files: a scenario of one load of the last region, one of 4,096 loads of it, and one of 20,000 pieces of opening
-memory in it. Another has 14,336 permitted pairs of count 0, and 16 clients that connect and ask for versions, 65,584
-events in all, which are run and judged."""
+Makes the files in a folder of their own, runs all of the works in turn, N times (3), and prints for each the
+processor seconds, the least, the middle and the most. A system has 576,000 regions in 32 manifest files: a scenario
+of one load of the last region, one of 4,096 loads of it, and one of 20,000 pieces of opening memory in it. The one
+load also in a system of half as many of these files, and in one with files of half as many regions. Another system
+has 14,336 permitted pairs of count 0, and 16 clients that connect and ask for versions, 65,584 events in all, which
+are run and judged."""
 
-import json
+import argparse
 import pathlib
 import resource
+import statistics
 import subprocess
-import sys
 import tempfile
+
+from timing import compact
 
 REGIONS = 18_000
 PARTITIONS, SERVICES, CLIENTS = 32, 28, 16
@@ -26,19 +30,25 @@ def manifest(name, **more):
 
 
 def write(folder, name, value):
-    (folder / name).write_text(json.dumps(value, separators=(",", ":")))
+    (folder / name).write_text(compact(value))
     return name
 
 
-def regions(folder):
-    """A system of many regions, and the address of the last one."""
+def regions(folder, name, partitions=PARTITIONS, each=REGIONS):
+    """A system with so many regions in each of its manifest files, and the address of the last region."""
     names = []
-    for p in range(PARTITIONS):
-        first = FIRST + p * REGIONS * STEP
-        items = [{"base": first + k * STEP, "size": 4, "permission": "READ-WRITE"} for k in range(REGIONS)]
-        names.append(write(folder, f"partition_{p}.json", manifest(f"P{p}", mmio_regions=items)))
-    write(folder, "regions.json", {"isolation_level": 1, "manifests": names, "clients": ["NS"]})
-    return FIRST + PARTITIONS * REGIONS * STEP - STEP
+    for p in range(partitions):
+        first = FIRST + p * each * STEP
+        items = [{"base": first + k * STEP, "size": 4, "permission": "READ-WRITE"} for k in range(each)]
+        names.append(write(folder, f"{name}_{p}.json", manifest(f"P{p}", mmio_regions=items)))
+    write(folder, f"{name}.json", {"isolation_level": 1, "manifests": names, "clients": ["NS"]})
+    return FIRST + partitions * each * STEP - STEP
+
+
+def loads(folder, name, partitions, last, count, **more):
+    """A scenario in which the last partition loads from the last region so many times."""
+    scripts = [{"actor": f"P{partitions - 1}", "lines": [f"load {last} 4"] * count}]
+    return write(folder, name, {"event_limit": 5000, "scripts": scripts, **more})
 
 
 def pairs(folder):
@@ -56,33 +66,51 @@ def pairs(folder):
     write(folder, "asking.json", {"event_limit": 262144, "scripts": [{"actor": c, "lines": lines} for c in clients]})
 
 
-def timed(program, folder, label, *words):
+def works(folder):
+    """What is timed, with its words."""
+    last = regions(folder, "all")
+    half = regions(folder, "fewer", partitions=PARTITIONS // 2)
+    short = regions(folder, "shorter", each=REGIONS // 2)
+    pieces = [{"address": last, "bytes": "0102"}] * 20_000
+    pairs(folder)
+    return {
+        "one load": ["run", "all.json", loads(folder, "one.json", PARTITIONS, last, 1)],
+        "one load, half as many files": ["run", "fewer.json", loads(folder, "half.json", PARTITIONS // 2, half, 1)],
+        "one load, files of half the length": ["run", "shorter.json", loads(folder, "short.json", PARTITIONS, short, 1)],
+        "4,096 loads of the last region": ["run", "all.json", loads(folder, "many.json", PARTITIONS, last, 4096)],
+        "20,000 pieces of opening memory": ["run", "all.json", loads(folder, "pieces.json", PARTITIONS, last, 1, memory=pieces)],
+        "connect and version over 14,336 pairs": ["run", "pairs.json", "asking.json"],
+        "their trace judged": ["replay", "pairs.json", "asking.json", "trace.txt"],
+    }
+
+
+def timed(program, folder, words):
+    """The processor seconds of one run, and what it wrote."""
     before = resource.getrusage(resource.RUSAGE_CHILDREN)
     done = subprocess.run([program, *words], cwd=folder, stdout=subprocess.PIPE, check=True)
     after = resource.getrusage(resource.RUSAGE_CHILDREN)
-    seconds = after.ru_utime + after.ru_stime - before.ru_utime - before.ru_stime
-    print(f"{label:44} {seconds:6.2f} s   {done.stdout.decode().splitlines()[-1]}")
-    return done.stdout
+    return after.ru_utime + after.ru_stime - before.ru_utime - before.ru_stime, done.stdout
 
 
 def main():
-    program = str(pathlib.Path(sys.argv[1]).resolve())
+    parser = argparse.ArgumentParser()
+    parser.add_argument("--repeats", type=int, default=3)
+    parser.add_argument("program", type=pathlib.Path)
+    given = parser.parse_args()
     with tempfile.TemporaryDirectory() as name:
         folder = pathlib.Path(name)
-        last = regions(folder)
-        load = f"load {last} 4"
-        pieces = [{"address": last, "bytes": "0102"}] * 20_000
-        scenarios = {
-            "one load": {"scripts": [{"actor": "P31", "lines": [load]}]},
-            "4,096 loads of the last region": {"event_limit": 5000, "scripts": [{"actor": "P31", "lines": [load] * 4096}]},
-            "20,000 pieces of opening memory": {"memory": pieces, "scripts": [{"actor": "P31", "lines": [load]}]},
-        }
-        for label, scenario in scenarios.items():
-            timed(program, folder, label, "run", "regions.json", write(folder, "scenario.json", scenario))
-        pairs(folder)
-        trace = timed(program, folder, "connect and version over 14,336 pairs", "run", "pairs.json", "asking.json")
-        (folder / "trace.txt").write_bytes(trace)
-        timed(program, folder, "their trace judged", "replay", "pairs.json", "asking.json", "trace.txt")
+        times, said = {}, {}
+        labelled = works(folder)
+        for _ in range(given.repeats):
+            for label, words in labelled.items():
+                seconds, text = timed(str(given.program.resolve()), folder, words)
+                times.setdefault(label, []).append(seconds)
+                said[label] = text.decode().splitlines()[-1]
+                if words[1] == "pairs.json" and words[0] == "run":
+                    (folder / "trace.txt").write_bytes(text)
+        for label, seconds in times.items():
+            least, middle, most = min(seconds), statistics.median(seconds), max(seconds)
+            print(f"{label:38} {least:6.2f} {middle:6.2f} {most:6.2f} s   {said[label]}")
 
 
 if __name__ == "__main__":
