@@ -18,7 +18,7 @@ use std::test::Fail;
 // item that names one and is writable, or a read-only one with a base and a size; a manifest of the
 // items above it, with its type, stack size and heap size; and a level and a size of non-secure RAM,
 // with what comes of all of these. Of a region that is the base, the size and the class. A blank line
-// ends a layout.
+// ends a layout. Two have more than 16 items, for which the regions are put in order by their names.
 const LAYOUTS: &str = "\
 given 1 10000 = 20000000+10000.ns
 
@@ -73,6 +73,51 @@ region FLASH 50000000 20
 named FLASH
 manifest application 0 0
 given 3 0 = 30000000+0.ram1 20000000+0.ns 40000000+10.mmio0rw
+
+region NOPE 40000100 8
+region FLASH 40000000 10
+region FLASH 50000000 20
+named FLASH
+range 60000000 1
+range 60000010 1
+range 60000020 1
+range 60000030 1
+range 60000040 1
+range 60000050 1
+range 60000060 1
+range 60000070 1
+range 60000080 1
+range 60000090 1
+range 600000a0 1
+range 600000b0 1
+range 600000c0 1
+range 600000d0 1
+range 600000e0 1
+named NOPE
+manifest application 0 0
+given 3 0 = 30000000+0.ram1 20000000+0.ns 40000000+10.mmio0rw 60000000+1.mmio0r 60000010+1.mmio0r 60000020+1.mmio0r 60000030+1.mmio0r 60000040+1.mmio0r 60000050+1.mmio0r 60000060+1.mmio0r 60000070+1.mmio0r 60000080+1.mmio0r 60000090+1.mmio0r 600000a0+1.mmio0r 600000b0+1.mmio0r 600000c0+1.mmio0r 600000d0+1.mmio0r 600000e0+1.mmio0r 40000100+8.mmio0rw
+
+region FLASH 40000000 10
+region FLASH 50000000 20
+named FLASH
+range 60000000 1
+range 60000010 1
+range 60000020 1
+range 60000030 1
+range 60000040 1
+range 60000050 1
+range 60000060 1
+range 60000070 1
+range 60000080 1
+range 60000090 1
+range 600000a0 1
+range 600000b0 1
+range 600000c0 1
+range 600000d0 1
+range 600000e0 1
+named NOPE
+manifest application 0 0
+given 3 0 = unknown 0 16
 
 region FLASH 40000000 10
 named FLASH

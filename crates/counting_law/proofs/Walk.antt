@@ -20,6 +20,9 @@ use Rattle.counting_law.proofs.SlotNames.{Taken, names-distinct, next-taken}
 pub handle-self : (h : Handle) → handle_eq h h ≡ true
 handle-self h = (Decides-int_eq h.0 h.0).1 refl
 
+pub handle-same : (h k : Handle) → handle_eq h k ≡ true → h ≡ k
+handle-same h k e = let same : h.0 ≡ k.0 = (Decides-int_eq h.0 k.0).0 e in λ j. record { 0 = same j }
+
 -- the name was shown
 abbrev pub was_shown : ℕ → List Handle → SlotName → Bool
 was_shown base given t = list_any (handle_eq (name_of base t)) given

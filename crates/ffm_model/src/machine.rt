@@ -124,7 +124,7 @@ pub enum Call {
     /// `psa_clear` of `psa/service.h`: clears the caller's own PSA_DOORBELL.
     Clear,
     /// `psa_eoi` of `psa/service.h`: a second-level handler is done with the interrupt of that signal, one
-    /// bit, which is clear then.
+    /// bit, which is cleared. Where the source is enabled and pending, it is asserted again at once.
     Eoi {
         signal: u32,
     },

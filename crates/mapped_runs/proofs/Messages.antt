@@ -28,7 +28,8 @@ use Rattle.counting_law.proofs.Reply.{settled, settled-keeps}
 use Rattle.counting_law.proofs.Resume.{put-same}
 use Rattle.counting_law.proofs.Turns.{panicked-self, settled-cases}
 use Rattle.mapped_runs.proofs.Changes.{AreNew, EachChange, is_vector_call, none-new}
-use Rattle.mapped_runs.proofs.Tables.{handle-flip, handle-same, same_handle}
+use Rattle.counting_law.proofs.Walk.{handle-same}
+use Rattle.mapped_runs.proofs.Tables.{handle-flip, same_handle}
 
 -- ---- lists
 

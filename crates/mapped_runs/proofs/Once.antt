@@ -41,7 +41,8 @@ use Rattle.mapped_runs.proofs.Fits.{holds-at, mappable}
 use Rattle.mapped_runs.proofs.Kept.{Kept, arrived-given, is-partition, run-kept, standing, step-grows}
 use Rattle.mapped_runs.proofs.Lines.{arrived-has, behind-table, get-noted, other-keeps, plan-call, read-noted, reply-noted, runs-back, skip-noted, unmap_out-call}
 use Rattle.mapped_runs.proofs.Own.{AreGiven, Own, get-new, own-step}
-use Rattle.mapped_runs.proofs.Tables.{changed-other, changed-same, handle-same, is_unmapped, none-held, same_handle, without-other, without-same}
+use Rattle.counting_law.proofs.Walk.{handle-same}
+use Rattle.mapped_runs.proofs.Tables.{changed-other, changed-same, is_unmapped, none-held, same_handle, without-other, without-same}
 
 -- ---- a vector that stays unmapped
 

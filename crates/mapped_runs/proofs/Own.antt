@@ -40,11 +40,11 @@ use Rattle.counting_law.proofs.Balance.{Balanced}
 use Rattle.counting_law.proofs.Events.{caller-running}
 use Rattle.counting_law.proofs.Resume.{fresh-new, int_same, times}
 use Rattle.counting_law.proofs.Steps.{step-is, new_handle}
-use Rattle.counting_law.proofs.Walk.{handle-self}
+use Rattle.counting_law.proofs.Walk.{handle-same, handle-self}
 use Rattle.mapped_runs.proofs.Changes.{AreNew, Unmoved, effect-has, get-made, read-made, reply-leaves, reply-made, request-is, skip-made, write-made}
 use Rattle.mapped_runs.proofs.Fits.{AreHeld, Fits, InputUse, Match, OutputUse, input-fits, moved-held, output-fits}
 use Rattle.mapped_runs.proofs.Messages.{AreWaiting, first-new, get-found, get-still, owed-still, self-dead, settled-still}
-use Rattle.mapped_runs.proofs.Tables.{changed-count, handle-flip, handle-same, is_unmapped, new-kept, new-size, new-unmapped, new-unused, none-held, same_handle, without-count, without-other, without-same}
+use Rattle.mapped_runs.proofs.Tables.{changed-count, handle-flip, is_unmapped, new-kept, new-size, new-unmapped, new-unused, none-held, same_handle, without-count, without-other, without-same}
 
 -- ---- a step of the actor
 

@@ -1,6 +1,6 @@
 -- The table of held messages: what is found in it behind each change, and the states of its vectors.
 use Rattle.std.proofs.Common.{ℕ, zero, suc, ◌≡◌, ◌≤◌, ◌<◌, ◌+◌, Bool, true, false, List, [], ◌∷◌, length, refl, ap, sym, ◌∙◌, subst, arith}
-use Rattle.std.specs.Prelude.{ℤ, Option, Some, None, count_by, map, get_or, slice_set, if◌then◌else◌}
+use Rattle.std.specs.Prelude.{Option, Some, None, count_by, map, get_or, slice_set, if◌then◌else◌}
 use Rattle.std.specs.Option.{option_map}
 use Rattle.list_laws.proofs.Counts.{bit, count-cons}
 use Rattle.ffm_model.specs.declared.machine.Handle.{Handle}
@@ -10,15 +10,10 @@ use Rattle.ffm_model.specs.ServiceCalls.{moved_by, sizes_of}
 use Rattle.ffm_model.specs.State.{handle_eq}
 use Rattle.ffm_model.specs.Held.{HeldMessage, HeldVector, VectorState, changed_at, fresh_vector, held, is_fresh, is_held_as, is_mapped, is_or_was_mapped, touched, vector_at, with_state, without}
 use Rattle.ffm_model.specs.Held.VectorState.{fresh, used, mapped, unmapped}
-use Rattle.counting_law.proofs.Resume.{int_flip, int_same}
+use Rattle.counting_law.proofs.Resume.{int_flip}
+use Rattle.counting_law.proofs.Walk.{handle-same}
 
 -- ---- handles
-
-handle-of : (h k : Handle) → h.0 ≡ k.0 → h ≡ k
-handle-of h k e = ap (λ (z : ℤ). record { 0 = z }) e
-
-pub handle-same : (h k : Handle) → handle_eq h k ≡ true → h ≡ k
-handle-same h k e = handle-of h k (int_same h.0 k.0 e)
 
 pub handle-flip : (h k : Handle) → handle_eq h k ≡ handle_eq k h
 handle-flip h k = int_flip h.0 k.0

@@ -1,4 +1,5 @@
-//! The files that are read and the sink that is written: what they tell, and how often they failed.
+//! The files that are read and the sink that is written: what they tell, and how often they failed; and the words of the
+//! command line.
 #![tactic(auto)]
 
 mod files;
@@ -14,6 +15,7 @@ mod steady_files;
 mod steady_sink;
 #[cfg(test)]
 mod tests;
+mod words;
 
 pub use files::{FileError, Files};
 pub use gathering::Gathering;
@@ -24,3 +26,4 @@ pub use output::{Output, Telling};
 pub use sink::{Failed, Sink, put_all};
 pub use steady_files::SteadyFiles;
 pub use steady_sink::SteadySink;
+pub use words::given_words;

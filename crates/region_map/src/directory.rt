@@ -1,6 +1,6 @@
 //! The regions of a system file by their names.
 ghost use Rattle.std.specs.Prelude.{◌≡◌, find, IfSome, IfOk};
-ghost use Rattle.std.specs.Option.{option_copied};
+ghost use Rattle.std.specs.Option.{ForSome, option_copied};
 ghost use Rattle.std.specs.Str.{bytes_eq};
 ghost use Rattle.ffm_model.specs.Layout.{range_named};
 ghost use Rattle.region_map.specs.Directories.{TellsFirst, IsRange};
@@ -9,12 +9,15 @@ use ffm_model::{Location, MmioItem, RegionItem};
 use std::alloc::{AllocError, Global};
 use std::collections::BTreeMap;
 
-/// The regions that manifests may name, and the place of the first one of each name.
+// The most look-ups for which the regions themselves are searched.
+const FEW: usize = 16;
+
+/// The regions that manifests may name, with the place of the first one of each name where many are looked up.
 #[derive(Drop)]
 pub struct Directory<'a> {
     regions: &'a [RegionItem],
-    places: BTreeMap<&'a str, usize>,
-    ghost first: { TellsFirst places regions.now },
+    places: Option<BTreeMap<&'a str, usize>>,
+    ghost first: { ForSome places (λ places. TellsFirst places regions.now) },
 }
 
 // The place of the first region of each name.
@@ -29,12 +32,25 @@ fn places_of(alloc: Global, regions: &[RegionItem]) -> Result<BTreeMap<&str, usi
 }
 
 impl<'a> Directory<'a> {
-    /// The regions, by their names.
-    pub fn of(alloc: Global, regions: &'a [RegionItem]) -> Result<Directory<'a>, AllocError>
+    /// The regions, by their names. `count` is how many of them are to be looked up, which decides how.
+    pub fn of(
+        alloc: Global,
+        regions: &'a [RegionItem],
+        count: usize,
+    ) -> Result<Directory<'a>, AllocError>
         ensures { IfOk result (λ directory. directory.regions.now ≡ regions.now) }
     {
+        if count <= FEW {
+            return Ok(Directory {
+                regions,
+                places: None,
+            });
+        }
         match places_of(alloc, regions) {
-            Ok(places) => Ok(Directory { regions, places }),
+            Ok(places) => Ok(Directory {
+                regions,
+                places: Some(places),
+            }),
             Err(e) => Err(e),
         }
     }
@@ -43,7 +59,10 @@ impl<'a> Directory<'a> {
     fn find(&self, name: &str) -> Option<&RegionItem>
         ensures { option_copied result ≡ find (λ r. bytes_eq r.name name.now) self.now.regions.now }
     {
-        match self.places.get(name) {
+        let Some(places) = &self.places else {
+            return self.regions.iter().find(|r| r.name.as_str() == name);
+        };
+        match places.get(name) {
             Some(place) => self.regions.get(*place),
             None => None,
         }

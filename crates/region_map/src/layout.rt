@@ -55,8 +55,8 @@ fn regions_laid_out(
 pub fn lay_out(alloc: Global, parts: &Parts) -> Result<List<Region>, LayoutError>
     ensures { LaysOut parts.now result }
 {
-    let directory = Directory::of(alloc, parts.regions.as_slice())?;
     let items = located::<MmioRegions>(alloc, parts.manifests.as_slice())?;
+    let directory = Directory::of(alloc, parts.regions.as_slice(), items.as_slice().len())?;
     let placed = place_all(alloc, &directory, items.as_slice())?;
     if let Some((manifest, item)) = first_overlap(alloc, parts, placed.as_slice())? {
         return Err(LayoutError::Overlap { manifest, item });

@@ -16,7 +16,7 @@ use Rattle.counting_law.specs.Fresh.{slots_named}
 use Rattle.counting_law.proofs.Fresh.{Named}
 use Rattle.counting_law.proofs.Resume.{times}
 use Rattle.counting_law.proofs.SlotNames.{Taken, is_slot}
-use Rattle.counting_law.proofs.Walk.{handle-self, shown-taken, was_shown, with_slots}
+use Rattle.counting_law.proofs.Walk.{handle-same, handle-self, shown-taken, was_shown, with_slots}
 use Rattle.memory_image.specs.Pieces.{byte_at}
 use Rattle.object_pools.specs.declared.slot.Slot.{Slot}
 use Rattle.object_pools.specs.declared.slot.Held.{Held}
@@ -138,9 +138,6 @@ untold-messages given (h ∷ hs) none =
 
 -- ---- handles that were given
 
-handle-is : (h k : Handle) → handle_eq h k ≡ true → h ≡ k
-handle-is h k e = let same : h.0 ≡ k.0 = (Decides-int_eq h.0 k.0).0 e in λ j. record { 0 = same j }
-
 -- what holds of each handle that is there at least once holds of all
 each-given : (P : Handle → Type 0) (hs all : List Handle) → ((x : Handle) → times hs x ≤ times all x) → ((x : Handle) → 1 ≤ times all x → P x) → All P hs
 each-given P [] all le holds = All-nil P
@@ -160,7 +157,7 @@ given-taken d k h are conns past some =
           record {
             family = Message;
             slot = slot_of it.slot;
-            named = handle-is h (name_of 512 it.slot) it.passes;
+            named = handle-same h (name_of 512 it.slot) it.passes;
             first = it.first;
             taken = omega (arith, it.before, are.past_messages.uses it.slot.index);
           }
@@ -169,7 +166,7 @@ given-taken d k h are conns past some =
           record {
             family = Connection;
             slot = slot_of it.slot;
-            named = handle-is h (name_of 0 it.slot) it.passes;
+            named = handle-same h (name_of 0 it.slot) it.passes;
             first = it.first;
             taken = omega (arith, it.before, are.past_connections.uses it.slot.index);
           }

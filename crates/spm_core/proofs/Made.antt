@@ -3,7 +3,7 @@ use Rattle.std.proofs.Common.{ℕ, ◌≡◌, ◌<◌, ◌≤◌, ◌||◌, Bool
 use Rattle.std.specs.Prelude.{Option, Some, None, option_and_then, nat_lt, is_none, is_some, get_or, find, position, if◌then◌else◌, IsSomeAnd}
 use Rattle.std.specs.List.{position_or_len}
 use Rattle.std.specs.Option.{option_map, option_map_or}
-use Rattle.std.proofs.lemmas.Bool.Decides.{nat_tests, Decides-int_eq}
+use Rattle.std.proofs.lemmas.Bool.Decides.{nat_tests}
 use Rattle.ffm_model.specs.declared.constants.TheConstants.{MAX_ENTRIES}
 use Rattle.ffm_model.specs.declared.system.System.{System}
 use Rattle.ffm_model.specs.declared.machine.Entry.{Entry}
@@ -24,7 +24,7 @@ use Rattle.ffm_model.specs.Step.{step, after, may_call, handle_allowed, handle_s
 use Rattle.ffm_model.specs.Names.{NamedState, NamesSoFar, named_step, named_after, name_due, name_of, name_at_return, shows_name, names_after, no_slot}
 use Rattle.ffm_model.proofs.StepLemmas.{named_after-push, step-fits, Fits}
 use Rattle.counting_law.specs.Fresh.{NamesFit}
-use Rattle.counting_law.proofs.Walk.{place-found}
+use Rattle.counting_law.proofs.Walk.{handle-same, place-found}
 use Rattle.counting_law.proofs.Fresh.{run-named, run-names}
 use Rattle.memory_image.specs.Pieces.{byte_at}
 use Rattle.slot_names.specs.Named.{NamesAre, KeepsNames}
@@ -34,9 +34,6 @@ use Rattle.spm_tables.specs.TablesView.{TablesView, spm_of}
 use Rattle.spm_core.specs.Performed.{Does, IsEffect, ShowsName, Holds, entry_of}
 
 -- ---- a handle that is shown is the name that is due, and that is fresh
-
-handle-from : (h k : Handle) → handle_eq h k ≡ true → h ≡ k
-handle-from h k e = let same : h.0 ≡ k.0 = (Decides-int_eq h.0 k.0).0 e in λ j. record { 0 = same j }
 
 is_none-if : {X : Type 0} (b : Bool) (x : Option X) → is_none (if b then x else None) ≡ false → is_some x ≡ true
 is_none-if true (Some x) h = refl
@@ -80,7 +77,7 @@ allowed s es w e fit few shows =
     let h : Handle = handle_shown e.outcome in
     let due : Option Handle = name_due s w.state a e.call w.names in
     let named : (x : Option Handle) → name_due s w.state a e.call w.names ≡ x → is_some x ≡ true → option_map_or (handle_eq h) x true ≡ true → fresh w.state h ≡ true = elim [
-      | Some k ↦ λ is some same. subst (λ (y : Handle). fresh w.state y ≡ true) (sym (handle-from h k same)) (fit.due a e.call k few is)
+      | Some k ↦ λ is some same. subst (λ (y : Handle). fresh w.state y ≡ true) (sym (handle-same h k same)) (fit.due a e.call k few is)
       | None ↦ λ is some same. cc
     ] in
     let go : (wrong gives : Bool) → programmer_error s w.state a e.call ≡ wrong → gives_handle (phase_of w.state.spm a) e.call ≡ gives

@@ -3,6 +3,7 @@
 use crate::counts::{Moved, TraceCounts, Wait};
 use ffm_model::System;
 use itoa::Buffer;
+use machine_rules::is_stateless;
 use std::alloc::{AllocError, Global};
 use trace_words::{
     CALL_COUNT, Word, actor_name, longest_actor_name, longest_name, name_at, put, put_actor,
@@ -123,13 +124,6 @@ fn most_connections(system: &System) -> u32 {
         sum = sum.saturating_add(budget.count);
     }
     sum
-}
-
-fn is_stateless(system: &System, service: u32) -> bool {
-    match system.services.as_slice().get(service as usize) {
-        Some(service) => service.stateless != 0,
-        None => false,
-    }
 }
 
 // How many actors may use a stateless service: each may have one request on its way.

@@ -4,6 +4,7 @@ use Rattle.std.proofs.Common.{ℕ, ◌≡◌, Bool, true, false, not, ◌&&◌, 
 use Rattle.std.specs.Prelude.{ℤ, pos, int_lt, bit_and, nat_lt, nat_le, ◌==◌, Option, Some, None, option_and_then, if◌then◌else◌, find}
 use Rattle.std.specs.Option.{option_map, option_map_or}
 use Rattle.std.specs.Ordering.{int_eq}
+use Rattle.list_laws.proofs.Tests.{find-passes}
 use Rattle.ffm_model.specs.declared.constants.TheConstants.{PSA_BLOCK, PSA_FRAMEWORK_VERSION, PSA_IPC_DISCONNECT, PSA_NULL_HANDLE, PSA_ERROR_CONNECTION_REFUSED, PSA_ERROR_CONNECTION_BUSY, PSA_ERROR_COMMUNICATION_FAILURE, PSA_ERROR_PROGRAMMER_ERROR}
 use Rattle.ffm_model.specs.declared.system.System.{System}
 use Rattle.ffm_model.specs.declared.system.ActorKind.{ActorKind}
@@ -135,14 +136,8 @@ closed-by s st a d c true asks own = ends s st.spm a d outcome.Done (without_con
 closed-by s st a d c false asks own = λ there blocked why. record { message = _; added = refl; client = own; asks = asks; phase = set-phase st.spm a Blocked there }
 
 -- who holds a connection is its client
-pub found-passes : {X : Type 0} (q : X → Bool) (xs : List X) (x : X) → find q xs ≡ Some x → q x ≡ true
-found-passes q [] x e = cc
-found-passes {X} q (y ∷ ys) x e =
-    let go : (b : Bool) → q y ≡ b → (if b then Some y else find q ys) ≡ Some x → q x ≡ true = elim [ true ↦ λ k f. let same : y ≡ x = cc in ap q (sym same) ∙ k | false ↦ λ k f. found-passes q ys x f ] in
-    go (q y) refl e
-
 pub own-connection : (b : SpmState) (a : ℕ) (h : Handle) (c : OpenConnection) → connection_held b a h ≡ Some c → c.client.0 ≡ a
-own-connection b a h c e = eqb-true c.client.0 a (and_parts _ _ (found-passes (λ (x : OpenConnection). (x.client.0 == a) && has_handle x.handle h) b.connections c e)).0
+own-connection b a h c e = eqb-true c.client.0 a (and_parts _ _ (find-passes (λ (x : OpenConnection). (x.client.0 == a) && has_handle x.handle h) b.connections c e)).0
 
 call-by : (s : System) (st : State) (a : ℕ) (d : Call) (c : OpenConnection) (kind : ℤ) (v : Vectors) (x : Bool) → Asks s st.spm a d c.service kind → c.client.0 ≡ a → IfMove s st a d (if x then None else Some (call_on st.spm a c kind v))
 call-by s st a d c kind v true asks own = tt

@@ -5,6 +5,7 @@ use Rattle.std.specs.List.{AllByRecursion, cons_option, filter_map}
 use Rattle.std.specs.Option.{option_map, option_map_or}
 use Rattle.std.proofs.lemmas.Bool.{and_from, and_parts}
 use Rattle.list_laws.proofs.Counts.{bit, bit-le, both-le-right, count-cons, count-ext, count-filter-le, count-found, count-le}
+use Rattle.list_laws.proofs.Tests.{find-passes}
 use Rattle.ffm_model.specs.declared.constants.TheConstants.{PSA_ERROR_COMMUNICATION_FAILURE, PSA_IPC_CONNECT, PSA_IPC_DISCONNECT}
 use Rattle.ffm_model.specs.declared.system.Service.{Service}
 use Rattle.ffm_model.specs.declared.system.Source.{Source}
@@ -43,7 +44,6 @@ use Rattle.trace_diagram.specs.declared.arrows.Arrow.{Arrow}
 use Rattle.trace_diagram.specs.declared.arrows.Meaning.TheVariants as meaning
 use Rattle.trace_diagram.specs.Arrows.{arrow, arrow_of_call, arrows_of, is_return, issued, message_arrow, panic_arrows, panicking_by, release_arrow, reply_arrow, service_of_handle}
 use Rattle.trace_diagram.specs.Gathering.{is_answer}
-use Rattle.trace_diagram.proofs.Issues.{found-passes}
 use Rattle.trace_diagram.proofs.Replies.{IsReplied, step-replies}
 use Rattle.trace_diagram.proofs.Waiting.{awaited-is, client-is, each-disconnection, owed-panicked, settled-messages}
 
@@ -220,7 +220,7 @@ is-one c m some = same_or_not m.client.0 c (is_of c m ≡ true) (λ z. ap (λ (x
 plain-once : (s : System) (limit next : Handle → ℕ) (b new : SpmState) (a c : ℕ) (h : Handle) (status : ℤ) (m : PendingMessage) → Balanced s limit b → Balanced s next new → phase_of b c ≡ Blocked → message_held s b a h ≡ Some m → owes_panic s m status ≡ false
     → new ≡ replied s b h status m → Once c (reply_arrow a status m ∷ []) new
 plain-once s limit next b new a c h status m balanced k blocked held free is =
-    let passes = found-passes (λ (x : PendingMessage). is_service_of s a x.service && has_handle x.handle h) b.messages m held in
+    let passes = find-passes (λ (x : PendingMessage). is_service_of s a x.service && has_handle x.handle h) b.messages m held in
     record {
       few = omega (arith, reply-count c a status m [], bit-le (is_of c m));
       free = λ some now.
@@ -235,7 +235,7 @@ own-owed : (s : System) (limit : Handle → ℕ) (b new : SpmState) (a : ℕ) (h
     → new ≡ panic_effect s (settled b h status m) m.client.0 → Once m.client.0 (reply_arrow a status m ∷ panic_arrows s b m.client.0) new
 own-owed s limit b new a h status m n balanced running blocked held kind is =
     let p : ℕ = m.client.0 in
-    let passes : (is_service_of s a m.service ≡ true) × (has_handle m.handle h ≡ true) = and_parts _ _ (found-passes (λ (x : PendingMessage). is_service_of s a x.service && has_handle x.handle h) b.messages m held) in
+    let passes : (is_service_of s a m.service ≡ true) × (has_handle m.handle h ≡ true) = and_parts _ _ (find-passes (λ (x : PendingMessage). is_service_of s a x.service && has_handle x.handle h) b.messages m held) in
     let apart : (p == a) ≡ false = same_or_not p a ((p == a) ≡ false) (λ z. absurd (let bad : Running ≡ Blocked = sym running ∙ (ap (phase_of b) (sym z) ∙ blocked) in cc)) (λ z. z) in
     let split : (x : PendingMessage) → bit (lost s a p x) + bit (lost s p p x) ≤ bit (is_of p x) =
     λ x. let go : (y z w : Bool) → bit y + bit z ≤ 1 → bit (y && w) + bit (z && w) ≤ bit w = elim [ true ↦ elim [ true ↦ λ w few. absurd (omega (arith, few)) | false ↦ λ w few. omega arith ] | false ↦ λ z w few. omega (arith, both-le-right z w) ] in

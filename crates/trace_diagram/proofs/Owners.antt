@@ -6,6 +6,7 @@ use Rattle.std.specs.Option.{option_map, option_map_or, unwrap_or}
 use Rattle.std.proofs.lemmas.Bool.{and_from, and_parts, eqb-true}
 use Rattle.std.proofs.lemmas.List.Quantifiers.{position-Some}
 use Rattle.list_laws.proofs.Counts.{bit, count-found}
+use Rattle.list_laws.proofs.Tests.{find-passes}
 use Rattle.ffm_model.specs.declared.system.Budget.{Budget}
 use Rattle.ffm_model.specs.declared.system.Service.{Service}
 use Rattle.ffm_model.specs.declared.system.System.{System}
@@ -19,7 +20,7 @@ use Rattle.ffm_model.proofs.WellFormedLemmas.{budgets_hold}
 use Rattle.counting_law.proofs.Balance.{Balanced}
 use Rattle.counting_law.proofs.Parts.{is_itself}
 use Rattle.trace_diagram.specs.Pairs.{Asks}
-use Rattle.trace_diagram.proofs.Issues.{found-passes, own-connection}
+use Rattle.trace_diagram.proofs.Issues.{own-connection}
 
 -- the service at a place has an owner
 abbrev pub Owned : System → ℕ → Type 0
@@ -59,7 +60,7 @@ budget-owned s a service None at some = absurd (omega (arith, some))
 budget-owned s a service (Some b) at some =
     let n : ℕ = length s.partitions + length s.clients in
     let fits : Budget → Bool = λ (x : Budget). nat_lt x.client.0 n && option_map_or (λ (v : Service). not (v.owner == x.client.0)) (slice_get s.services x.service) false in
-    let same : b.service ≡ service = eqb-true b.service service (and_parts (b.client.0 == a) (b.service == service) (found-passes (λ (x : Budget). (x.client.0 == a) && (x.service == service)) s.budgets b at)).1 in
+    let same : b.service ≡ service = eqb-true b.service service (and_parts (b.client.0 == a) (b.service == service) (find-passes (λ (x : Budget). (x.client.0 == a) && (x.service == service)) s.budgets b at)).1 in
     let all : list_all fits s.budgets ≡ true = (and_parts _ _ (and_parts _ _ (budgets_hold s)).0).0 in
     let passes : option_map_or (λ (v : Service). not (v.owner == b.client.0)) (slice_get s.services b.service) false ≡ true = (and_parts _ _ (found-all fits _ s.budgets b all at)).1 in
     subst (Owned s) same (owned-by s b.service (λ (v : Service). not (v.owner == b.client.0)) (slice_get s.services b.service) refl passes)

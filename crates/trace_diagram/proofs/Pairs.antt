@@ -5,6 +5,7 @@ use Rattle.std.specs.List.{AllByRecursion}
 use Rattle.std.specs.Option.{option_map, option_map_or}
 use Rattle.std.proofs.lemmas.Bool.{and_parts, eqb-true}
 use Rattle.std.proofs.lemmas.List.{append_assoc, length-append}
+use Rattle.list_laws.proofs.Tests.{find-passes}
 use Rattle.ffm_model.specs.declared.constants.TheConstants.{PSA_IPC_CONNECT, PSA_IPC_DISCONNECT}
 use Rattle.ffm_model.specs.declared.system.Service.{Service}
 use Rattle.ffm_model.specs.declared.system.Source.{Source}
@@ -33,7 +34,6 @@ use Rattle.trace_diagram.specs.Arrows.{arrow, arrow_of, arrow_of_call, arrows_of
 use Rattle.trace_diagram.specs.Gathering.{arrows_at, arrows_from, is_in_part, placed}
 use Rattle.trace_diagram.specs.Pairs.{AnswersPair, Asks, answered_message, EachAnswerPairs, IsPair, IsWaiting}
 use Rattle.trace_diagram.proofs.Everywhere.{each-append, each-filter_map, each-found, each-map, each-option}
-use Rattle.trace_diagram.proofs.Issues.{found-passes}
 use Rattle.trace_diagram.proofs.Waiting.{Each, Kept, WaitsAt, opening-kept, step-kept}
 
 -- ---- the arrow of a call
@@ -107,7 +107,7 @@ reply-fits : (s : System) (b : SpmState) (W : ℕ → ℕ → ℤ → Type 0) (a
     → IfFits s b W (option_map (reply_arrow a status) o)
 reply-fits s b W a h status None all held = tt
 reply-fits s b W a h status (Some m) all held =
-    let passes = found-passes (λ (x : PendingMessage). is_service_of s a x.service && has_handle x.handle h) b.messages m held in (
+    let passes = find-passes (λ (x : PendingMessage). is_service_of s a x.service && has_handle x.handle h) b.messages m held in (
       owner-by a (slice_get s.services m.service) (and_parts _ _ passes).0,
       each-found (λ (x : PendingMessage). phase_of b x.client.0 ≡ Blocked → W x.client.0 x.service x.kind) (λ (x : PendingMessage). is_service_of s a x.service && has_handle x.handle h) b.messages m all held,
     )

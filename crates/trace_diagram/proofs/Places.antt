@@ -4,6 +4,7 @@ use Rattle.std.specs.Prelude.{nat_le, count_by, Option, Some, None, if◌then◌
 use Rattle.std.specs.Option.{option_map_or}
 use Rattle.std.proofs.lemmas.Bool.{and_from, and_parts, eqb-true}
 use Rattle.list_laws.proofs.Counts.{bit, count-cons, count-le, some-found}
+use Rattle.list_laws.proofs.Tests.{find-passes}
 use Rattle.ffm_model.specs.declared.system.System.{System}
 use Rattle.ffm_model.specs.declared.machine.Entry.{Entry}
 use Rattle.ffm_model.specs.declared.objects.ActorPhase.TheVariants.{Blocked}
@@ -23,7 +24,6 @@ use Rattle.trace_diagram.specs.Arrows.{arrows_of}
 use Rattle.trace_diagram.specs.Gathering.{arrows_at, arrows_from, is_answer, is_in_part, placed}
 use Rattle.trace_diagram.specs.Pairs.{EachIsAnsweredOnce, answers_call_at}
 use Rattle.trace_diagram.proofs.Everywhere.{each-of}
-use Rattle.trace_diagram.proofs.Issues.{found-passes}
 use Rattle.trace_diagram.proofs.Once.{Event, Once, entry-once, frees, none-counted}
 use Rattle.trace_diagram.proofs.Pairs.{blocked-phase, length-push}
 use Rattle.trace_diagram.proofs.Waiting.{Kept, is-inside, opening-kept, set-other, set-own, step-kept, was-blocked}
@@ -188,7 +188,7 @@ once-left s m limit part past (e ∷ left) n last st place f some =
       | suc k ↦ λ found.
           let one : 1 ≤ count_by (names place (n + 1) st.spm last) xs = omega (arith, found) in
           let y = some-found (names place (n + 1) st.spm last) xs one in
-          let it : Named place st.spm last y.0 = named place (n + 1) st.spm last y.0 (found-passes (names place (n + 1) st.spm last) xs y.0 y.1) in
+          let it : Named place st.spm last y.0 = named place (n + 1) st.spm last y.0 (find-passes (names place (n + 1) st.spm last) xs y.0 y.1) in
           let both = answered s m past n last st new e place (n + 1) y.0 f is some it one in
           omega (
             arith,

@@ -2,18 +2,17 @@
 ghost use Rattle.std.specs.Prelude.{◌≡◌, ◌++◌, [], IfOk};
 ghost use Rattle.std.specs.List.{cons_option, filter_map};
 ghost use Rattle.std.specs.Option.{option_map};
-ghost use Rattle.ffm_model.specs.Actors.{is_partition, is_service_of, kind_of, owner_of, stateless_index};
-ghost use Rattle.ffm_model.specs.ServiceCalls.{owes_panic};
+ghost use Rattle.ffm_model.specs.Actors.{owner_of};
 ghost use Rattle.ffm_model.specs.SignalCalls.{place_of_id};
 ghost use Rattle.machine_calls.specs.Machine.{spm_of_objects};
 ghost use Rattle.trace_diagram.specs.Arrows.{arrow, arrow_of, arrow_of_call, arrows_of, interrupt_arrow, is_return, issued, message_arrow, panic_arrows, panicking, release_arrow, reply_arrow, sent, service_of_handle};
 
 use ffm_model::{
-    ActorId, ActorPhase, Call, Entry, Handle, MAX_STATELESS, Memory, Outcome,
-    PSA_ERROR_PROGRAMMER_ERROR, PSA_IPC_CALL, PSA_IPC_CONNECT, PSA_IPC_DISCONNECT, PendingMessage,
-    STATELESS_BASE, System,
+    ActorId, ActorPhase, Call, Entry, Handle, Memory, Outcome, PSA_IPC_CONNECT, PSA_IPC_DISCONNECT,
+    PendingMessage, System,
 };
 use machine_calls::Objects;
+use machine_rules::{is_service_of, owes_panic, stateless_index};
 use std::alloc::Global;
 
 /// What an arrow means. Services and sources are given by their places in the system.
@@ -77,26 +76,6 @@ fn owner_of(system: &System, service: u32) -> Option<u32>
 {
     let service = system.services.as_slice().get(service as usize)?;
     Some(service.owner)
-}
-
-fn is_service_of(system: &System, partition: u32, service: u32) -> bool
-    ensures { result ≡ is_service_of system.now partition service }
-{
-    match system.services.as_slice().get(service as usize) {
-        Some(service) => service.owner == partition,
-        None => false,
-    }
-}
-
-// The index that a stateless handle shows.
-fn stateless_index(handle: Handle) -> Option<u32>
-    ensures { result ≡ stateless_index handle }
-{
-    if handle.0 > STATELESS_BASE as i32 && handle.0 <= (STATELESS_BASE + MAX_STATELESS) as i32 {
-        Some(handle.0 as u32 - STATELESS_BASE)
-    } else {
-        None
-    }
 }
 
 // The service that a handle of the caller names: a stateless handle, or that of a connection.
@@ -237,21 +216,6 @@ pub fn arrow_of(system: &System, objects: &Objects, entry: &Entry) -> Option<Arr
         return Some(arrow_between(actor, actor, Meaning::Wake { outcome }));
     }
     arrow_of_call(system, objects, actor, entry.call, entry.outcome)
-}
-
-fn is_partition(system: &System, actor: ActorId) -> bool
-    ensures { result ≡ is_partition (kind_of system.now actor.0) }
-{
-    (actor.0 as usize) < system.partitions.len()
-}
-
-// A partition whose request is answered with PROGRAMMER ERROR panics.
-fn owes_panic(system: &System, message: PendingMessage, status: i32) -> bool
-    ensures { result ≡ owes_panic system.now message status }
-{
-    message.kind >= PSA_IPC_CALL
-        && status == PSA_ERROR_PROGRAMMER_ERROR
-        && is_partition(system, message.client)
 }
 
 // The partition that panics in an entry: the caller, or the client whose request is answered with PROGRAMMER ERROR.
