@@ -1,6 +1,7 @@
 //! Audits: the changes of each legal entry, and how the trace is judged.
 
-use crate::worked::{AUDIT, CONNECTION, STEADY, SYSTEM, Texts, answer};
+use crate::worked::{CHANGES, CONNECTION, STEADY, SYSTEM, Texts, answer};
+use sample_commands::AUDIT;
 use sample_texts::{ONE_REQUEST_SCENARIO, ONE_REQUEST_TRACE};
 use std::test::Fail;
 
@@ -41,7 +42,7 @@ static AUDITED: [Audited; 11] = [
     Audited {
         texts: CONNECTION,
         status: 0,
-        text: AUDIT,
+        text: CHANGES,
     },
     // Registers are outside of the driver's RAM, bytes stored again are no change, and a PROGRAMMER ERROR changes none.
     Audited {
@@ -222,11 +223,10 @@ clean 17
 
 #[test]
 fn audited_traces(rt: HostRuntime) -> Result<(), Fail> {
-    let words = ["ffm", "audit", "system", "scenario", "trace"];
     for case in &AUDITED {
-        let (status, text) = answer(rt.alloc(), &words, case.texts, STEADY)?;
-        assert_eq!(rt; text.as_slice(), case.text.as_bytes());
-        assert_eq!(rt; status, case.status, "{}", case.text);
+        let found = answer(rt.alloc(), AUDIT, case.texts, STEADY)?;
+        assert_eq!(rt; found.text.as_slice(), case.text.as_bytes());
+        assert_eq!(rt; found.status, case.status, "{}", case.text);
     }
     Ok(())
 }

@@ -1,9 +1,10 @@
 //! The commands over files that are cut, reads that fail, and outputs that fail or take a byte a call.
 
-use crate::worked::{COMMANDS, CONNECTION, Outside, STEADY, SYSTEM, Texts, answer, words_of};
+use crate::worked::{COMMANDS, CONNECTION, Outside, STEADY, SYSTEM, Texts, answer};
 use ffm_top::{asks_threads, ffm_steady};
 use outside_io::{MemoryFiles, SteadyFiles, SteadySink};
-use sample_texts::VAULT_MANIFEST;
+use sample_commands::{RUN, files_of, words_of};
+use sample_texts::{ASKED_TRACE, ASKING_SCENARIO, VAULT_MANIFEST};
 use std::test::Fail;
 
 // The first lines of a text.
@@ -32,14 +33,14 @@ fn each_read_fails(rt: HostRuntime) -> Result<(), Fail> {
                 failing_read,
                 ..STEADY
             };
-            let (status, written) = answer(rt.alloc(), words, CONNECTION, outside)?;
+            let found = answer(rt.alloc(), words, CONNECTION, outside)?;
             // The system and its manifest, the scenario and, of the judged, the trace.
             if (failing_read as usize) < words.len() {
-                assert_eq!(rt; status, 7, "{}", failing_read);
-                assert!(rt; written.is_empty());
+                assert_eq!(rt; found.status, 7, "{}", failing_read);
+                assert!(rt; found.text.is_empty());
             } else {
-                assert_eq!(rt; status, 0, "{}", failing_read);
-                assert_eq!(rt; written.as_slice(), text.as_bytes());
+                assert_eq!(rt; found.status, 0, "{}", failing_read);
+                assert_eq!(rt; found.text.as_slice(), text.as_bytes());
             }
         }
     }
@@ -55,9 +56,9 @@ fn each_put_fails(rt: HostRuntime) -> Result<(), Fail> {
                 failing_put: written_before as u32 + 1,
                 ..STEADY
             };
-            let (status, written) = answer(rt.alloc(), words, CONNECTION, outside)?;
-            assert_eq!(rt; status, 8, "{}", written_before);
-            assert_eq!(rt; written.as_slice(), first_lines(text, written_before));
+            let found = answer(rt.alloc(), words, CONNECTION, outside)?;
+            assert_eq!(rt; found.status, 8, "{}", written_before);
+            assert_eq!(rt; found.text.as_slice(), first_lines(text, written_before));
         }
     }
     Ok(())
@@ -67,9 +68,9 @@ fn each_put_fails(rt: HostRuntime) -> Result<(), Fail> {
 fn one_byte_a_put(rt: HostRuntime) -> Result<(), Fail> {
     let narrow = Outside { piece: 1, ..STEADY };
     for (words, text) in COMMANDS {
-        let (status, written) = answer(rt.alloc(), words, CONNECTION, narrow)?;
-        assert_eq!(rt; status, 0);
-        assert_eq!(rt; written.as_slice(), text.as_bytes());
+        let found = answer(rt.alloc(), words, CONNECTION, narrow)?;
+        assert_eq!(rt; found.status, 0);
+        assert_eq!(rt; found.text.as_slice(), text.as_bytes());
     }
     Ok(())
 }
@@ -88,42 +89,32 @@ fn each_cut_system(rt: HostRuntime) -> Result<(), Fail> {
                 ..CONNECTION
             };
             for (words, _) in COMMANDS {
-                let (status, written) = answer(alloc, words, texts, STEADY)?;
-                assert_eq!(rt; status, 1, "{}", length);
-                assert_eq!(rt; written.as_slice(), b"refused 1 Json system\n".as_slice());
+                let found = answer(alloc, words, texts, STEADY)?;
+                assert_eq!(rt; found.status, 1, "{}", length);
+                assert_eq!(rt;
+                    found.text.as_slice(),
+                    b"refused 1 Json system\n".as_slice()
+                );
             }
         }
     }
     Ok(())
 }
 
-/// What a client asks, and what it is answered.
-const ASKING: &str =
-    r#"{"scripts":[{"actor":"NS","lines":["framework_version","version 0x40","version 0x99","version 0x41"]}],
-"schedule":["NS","NS","NS","NS"]}"#;
-
-const ASKED: &str = "n1 framework_version -> number 257
-n1 version 0x00000040 -> number 1
-n1 version 0x00000099 -> number 0
-n1 version 0x00000041 -> number 0
-p1 stop end -> done
-n1 stop end -> done
-quiet 6
-";
-
 // Files and a sink that never fail. A sink whose room is too small takes the text all the same, and tells nothing of it.
 #[test]
 fn steady_pair(rt: HostRuntime) -> Result<(), Fail> {
     let alloc = rt.alloc();
-    let words = words_of(alloc, &["ffm", "run", "system", "scenario"])?;
+    let words = words_of(alloc, RUN)?;
     if asks_threads(&words) {
         return Err(Fail::from("a run with threads"));
     }
-    for (room, text) in [(4096, ASKED), (40, "n1 framework_version -> number 257\n")] {
-        let mut files = MemoryFiles::new(alloc);
-        files.add(alloc, "system", SYSTEM.as_bytes())?;
+    for (room, text) in [
+        (4096, ASKED_TRACE),
+        (40, "n1 framework_version -> number 257\n"),
+    ] {
+        let mut files = files_of(alloc, SYSTEM, ASKING_SCENARIO, b"")?;
         files.add(alloc, "manifest", VAULT_MANIFEST.as_bytes())?;
-        files.add(alloc, "scenario", ASKING.as_bytes())?;
         let mut steady = SteadyFiles::new(files);
         let mut sink = SteadySink::new(alloc, room)?;
         let status = ffm_steady(alloc, &words, &mut steady, &mut sink);

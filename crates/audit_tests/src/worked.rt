@@ -1,8 +1,7 @@
 //! The files that the tests share, and what comes of a list of words over them.
 
 use ffm_model::List;
-use ffm_top::{asks_threads, ffm_alone};
-use outside_io::{MemoryFiles, MemorySink};
+use sample_commands::{AUDIT, REPLAY, RUN, Told, files_of, sink_of, told_alone};
 use sample_texts::{ONE_REQUEST_SCENARIO, ONE_REQUEST_TRACE, VAULT_MANIFEST};
 use std::alloc::Global;
 use std::test::Fail;
@@ -12,7 +11,7 @@ pub(crate) const SYSTEM: &str =
     r#"{"isolation_level":3,"manifests":["manifest"],"clients":["NS"]}"#;
 
 /// What the entries of the connection's run changed.
-pub(crate) const AUDIT: &str = "4 0x30000000 9 -
+pub(crate) const CHANGES: &str = "4 0x30000000 9 -
 10 0x30000000 7 -
 11 0x30000100 3 -
 12 0x30000100 2 -
@@ -55,45 +54,23 @@ pub(crate) const STEADY: Outside = Outside {
     piece: 4096,
 };
 
-/// The words of a command line.
-pub(crate) fn words_of(alloc: Global, words: &[&str]) -> Result<Vec<String>, Fail> {
-    let mut list = Vec::new(alloc);
-    for word in words {
-        list.push(String::from_str(alloc, word)?)?;
-    }
-    Ok(list)
-}
-
-/// The status and the text that come of these words over the files named `system`, `manifest`,
-/// `scenario` and `trace`.
+/// What these words tell over the files named `system`, `manifest`, `scenario` and `trace`.
 pub(crate) fn answer(
     alloc: Global,
     words: &[&str],
     texts: Texts<'_>,
     outside: Outside,
-) -> Result<(u8, Vec<u8>), Fail> {
-    let list = words_of(alloc, words)?;
-    if asks_threads(&list) {
-        return Err(Fail::from("a run with threads"));
-    }
-    let mut files = MemoryFiles::new(alloc);
-    files.add(alloc, "system", texts.system.as_bytes())?;
+) -> Result<Told, Fail> {
+    let mut files = files_of(alloc, texts.system, texts.scenario, texts.trace.as_bytes())?;
     files.add(alloc, "manifest", VAULT_MANIFEST.as_bytes())?;
-    files.add(alloc, "scenario", texts.scenario.as_bytes())?;
-    files.add(alloc, "trace", texts.trace.as_bytes())?;
     files.fail_at(List::of(vec![in alloc; outside.failing_read]?));
-    let failing = List::of(vec![in alloc; outside.failing_put]?);
-    let mut sink = MemorySink::new(alloc, 65_536, outside.piece.max(1), failing)?;
-    let status = ffm_alone(alloc, &list, &mut files, &mut sink);
-    Ok((status, sink.bytes().to_vec(alloc)?))
+    let sink = sink_of(alloc, 65_536, outside.piece.max(1), outside.failing_put)?;
+    told_alone(alloc, words, files, sink)
 }
 
 /// The words of the commands over the files, with what each writes over the connection's.
 pub(crate) const COMMANDS: [(&[&str], &str); 3] = [
-    (&["ffm", "run", "system", "scenario"], ONE_REQUEST_TRACE),
-    (
-        &["ffm", "replay", "system", "scenario", "trace"],
-        "legal 25\n",
-    ),
-    (&["ffm", "audit", "system", "scenario", "trace"], AUDIT),
+    (RUN, ONE_REQUEST_TRACE),
+    (REPLAY, "legal 25\n"),
+    (AUDIT, CHANGES),
 ];

@@ -1,24 +1,16 @@
 //! What no clause says: that the statuses come with ample memory, and that the texts are the ones wanted.
 
-use crate::told::{
-    RUN, Worked, assert_tells, assert_told, files_of, status_of, told_alone, told_over,
-};
-use ffm_model::List;
-use outside_io::{Failed, MemoryFiles, Sink};
+use crate::told::{Worked, assert_tells, assert_told, files_of};
+use ffm_model::{List, OpenGate};
+use ffm_top::ffm;
+use outside_io::{Failed, Sink};
+use sample_commands::{REPLAY, RUN, sink_of, told_alone, told_over, words_of};
+use sample_texts::{ASKED_TRACE, ASKING_SCENARIO, CLOCK, STATELESS_REQUEST_SCENARIO, VAULT};
 use std::alloc::Global;
 use std::process::Abort;
 use std::sync::Wait;
 use std::test::Fail;
 use std::thread::Threads;
-
-const ONE_CLIENT: &str =
-    r#"{"isolation_level":3,"manifests":[{"psa_framework_version":1.0,"name":"VAULT","type":"APPLICATION-ROT","priority":"NORMAL","entry_point":"vault_main","stack_size":"0x400","services":[{"name":"VAULT","sid":"0x40","non_secure_clients":true},{"name":"ADMIN","sid":"0x41","non_secure_clients":false,"version":2}]}],"clients":["NS"]}"#;
-
-const ASKING: &str =
-    r#"{"scripts":[{"actor":"NS","lines":["framework_version","version 0x40","version 0x99","version 0x41"]}],"schedule":["NS","NS","NS","NS"]}"#;
-
-const ASKED: &str =
-    "n1 framework_version -> number 257\nn1 version 0x00000040 -> number 1\nn1 version 0x00000099 -> number 0\nn1 version 0x00000041 -> number 0\np1 stop end -> done\nn1 stop end -> done\nquiet 6\n";
 
 // A partition with an interrupt source.
 const TIMER: &str =
@@ -30,16 +22,12 @@ const DISABLING: &str =
 const DISABLED: &str =
     "p1 irq_disable 0x00000010 -> number 1\ndev raise 0 -> done\np1 irq_disable 0x00000010 -> number 0\ndev stop end -> done\np1 wait 0x00000010 0x00000000 -> signals 0x00000000\np1 irq_enable 0x00000010 -> done\np1 wait 0x00000010 0x00000000 -> signals 0x00000010\np1 reset_signal 0x00000010 -> panicked\nquiet 8\n";
 
-// A stateless service, whose handle is 0x40000001, and a client.
-const CLOCK: &str =
-    r#"{"isolation_level":3,"manifests":[{"psa_framework_version":1.1,"name":"CLOCK","type":"PSA-ROT","priority":"NORMAL","entry_point":"main","stack_size":"0x400","services":[{"name":"CLOCK","sid":"0x50","non_secure_clients":true,"connection_based":false}]}],"clients":["NS"]}"#;
-
 static WORKED: [Worked<'static>; 21] = [
     Worked {
-        system: ONE_CLIENT,
-        scenario: ASKING,
+        system: VAULT,
+        scenario: ASKING_SCENARIO,
         status: 0,
-        text: ASKED,
+        text: ASKED_TRACE,
     },
     Worked {
         system: r#"{"isolation_level":1,"manifests":[]}"#,
@@ -54,13 +42,13 @@ static WORKED: [Worked<'static>; 21] = [
         text: "n2 stop end -> done\nn1 stop end -> done\nquiet 2\n",
     },
     Worked {
-        system: ONE_CLIENT,
+        system: VAULT,
         scenario: r#"{"event_limit":1}"#,
         status: 5,
         text: "p1 stop end -> done\nfull 1\n",
     },
     Worked {
-        system: ONE_CLIENT,
+        system: VAULT,
         scenario: r#"{"scripts":[{"actor":"NS","lines":["again:","set r1 2","jmp again"]}]}"#,
         status: 0,
         text: "p1 stop end -> done\nn1 stop spent -> done\nquiet 2\n",
@@ -78,7 +66,7 @@ static WORKED: [Worked<'static>; 21] = [
         text: DISABLED,
     },
     Worked {
-        system: ONE_CLIENT,
+        system: VAULT,
         scenario: r#"{"scripts":[{"actor":"NS","lines":["connect 0x40 1"]}]}"#,
         status: 4,
         text: "p1 stop end -> done\nn1 connect 0x00000040 1 -> blocked\nstalled 2\n",
@@ -120,25 +108,25 @@ static WORKED: [Worked<'static>; 21] = [
         text: "refused 23 FileTooLong system /manifests/0\n",
     },
     Worked {
-        system: ONE_CLIENT,
+        system: VAULT,
         scenario: r#"{"schedule":["NS","device"]}"#,
         status: 1,
         text: "refused 20 UnknownActor scenario /schedule/1\n",
     },
     Worked {
-        system: ONE_CLIENT,
+        system: VAULT,
         scenario: r#"{"scripts":[{"actor":"NS","lines":["connect 0x40 1","set r5 r0","call r5 0"]}]}"#,
         status: 1,
         text: "refused 19 ScriptSyntax scenario /scripts/0/lines/2\n",
     },
     Worked {
-        system: ONE_CLIENT,
+        system: VAULT,
         scenario: r#"{"interrupts":[1]}"#,
         status: 1,
         text: "refused 20 UnknownActor scenario /interrupts/0\n",
     },
     Worked {
-        system: ONE_CLIENT,
+        system: VAULT,
         scenario: "",
         status: 1,
         text: "refused 1 Json scenario\n",
@@ -151,7 +139,7 @@ static WORKED: [Worked<'static>; 21] = [
     },
     Worked {
         system: CLOCK,
-        scenario: r#"{"scripts":[{"actor":"CLOCK","lines":["wait 0xffffffff 0x80000000","get r0 0x30000000","reply r2 5"]},{"actor":"NS","lines":["call 0x40000001 0 0 0 0 0","close 0x40000001","connect 0x50 1"]}]}"#,
+        scenario: STATELESS_REQUEST_SCENARIO,
         status: 0,
         text: "p1 wait 0xffffffff 0x80000000 -> blocked\nn1 call 1073741825 0 0x00000000 0 0x00000000 0 -> blocked\np1 resume -> signals 0x00000010\np1 get 0x00000010 0x30000000 -> message 0 1536 -1 0x00000000 0 0 0 0 0 0 0 0\np1 reply 1536 5 -> done\nn1 resume -> value 5\np1 stop end -> done\nn1 close 1073741825 -> done\nn1 connect 0x00000050 1 -> value -130\nn1 stop end -> done\nquiet 10\n",
     },
@@ -182,8 +170,6 @@ struct Outside {
 
 const USAGE: &str =
     "usage: ffm compile SYSTEM | ffm run [--threads] SYSTEM SCENARIO | ffm replay SYSTEM SCENARIO TRACE | ffm audit SYSTEM SCENARIO TRACE | ffm make N\n";
-
-const REPLAY: &[&str] = &["ffm", "replay", "system", "scenario", "trace"];
 
 static OUTSIDE: [Outside; 9] = [
     Outside {
@@ -254,16 +240,10 @@ static OUTSIDE: [Outside; 9] = [
 #[test]
 fn faults_and_words(rt: HostRuntime) -> Result<(), Fail> {
     for case in &OUTSIDE {
-        let mut files = files_of(rt.alloc(), ONE_CLIENT, ASKING)?;
+        let mut files = files_of(rt.alloc(), VAULT, ASKING_SCENARIO)?;
         files.fail_at(List::of(vec![in rt.alloc(); case.failing_read]?));
-        let found = told_over(
-            &rt,
-            rt.alloc(),
-            case.words,
-            &mut files,
-            256,
-            case.failing_put,
-        )?;
+        let sink = sink_of(rt.alloc(), 4096, 256, case.failing_put)?;
+        let found = told_over(&rt, rt.alloc(), case.words, files, sink, &OpenGate)?;
         assert_told(&rt, &found, case.status, case.text, case.text);
     }
     Ok(())
@@ -315,22 +295,17 @@ const LISTS: [(&[&str], u8); 39] = [
     (&["ffm", "replay", "system", "scenario", "cut"], 1),
 ];
 
-// The two files with a trace of the run, and a part of one.
-fn files_with_traces(alloc: Global) -> Result<MemoryFiles, Fail> {
-    let mut files = files_of(alloc, ONE_CLIENT, ASKING)?;
-    files.add(alloc, "trace", ASKED.as_bytes())?;
-    files.add(alloc, "cut", b"p1 stop end -> done\nquiet 2\n")?;
-    Ok(files)
-}
-
-// The status that comes of a list of words.
+// The status that comes of a list of words over the two files, a trace of the run, and a part of one.
 fn status_of_list<R: Threads + Wait + Sync>(
     rt: &R,
     alloc: Global,
     list: &[&str],
 ) -> Result<u8, Fail> {
-    let mut files = files_with_traces(alloc)?;
-    Ok(told_over(rt, alloc, list, &mut files, 256, 0)?.status)
+    let trace = ASKED_TRACE.as_bytes();
+    let mut files = sample_commands::files_of(alloc, VAULT, ASKING_SCENARIO, trace)?;
+    files.add(alloc, "cut", b"p1 stop end -> done\nquiet 2\n")?;
+    let sink = sink_of(alloc, 4096, 256, 0)?;
+    Ok(told_over(rt, alloc, list, files, sink, &OpenGate)?.status)
 }
 
 #[test]
@@ -349,9 +324,8 @@ fn assert_text(
     (system, scenario, trace): (&str, &str, &str),
     text: &str,
 ) -> Result<(), Fail> {
-    let mut files = files_of(alloc, system, scenario)?;
-    files.add(alloc, "trace", trace.as_bytes())?;
-    let found = told_alone(alloc, words, &mut files, 4096, 256)?;
+    let files = sample_commands::files_of(alloc, system, scenario, trace.as_bytes())?;
+    let found = told_alone(alloc, words, files, sink_of(alloc, 4096, 256, 0)?)?;
     assert_eq!(rt; found.text.as_slice(), text.as_bytes(), "{text}");
     Ok(())
 }
@@ -364,7 +338,7 @@ fn generated_runs(rt: HostRuntime) -> Result<(), Fail> {
         ("2000", "make 2000 entries 256224 bytes 256000 quiet\n"),
     ] {
         let words = ["ffm", "make", rounds];
-        assert_text(&rt, rt.alloc(), &words, (ONE_CLIENT, ASKING, ""), text)?;
+        assert_text(&rt, rt.alloc(), &words, (VAULT, ASKING_SCENARIO, ""), text)?;
     }
     Ok(())
 }
@@ -372,7 +346,13 @@ fn generated_runs(rt: HostRuntime) -> Result<(), Fail> {
 #[test]
 fn judged_traces(rt: HostRuntime) -> Result<(), Fail> {
     let alloc = rt.alloc();
-    assert_text(&rt, alloc, REPLAY, (ONE_CLIENT, ASKING, ASKED), "legal 6\n")?;
+    assert_text(
+        &rt,
+        alloc,
+        REPLAY,
+        (VAULT, ASKING_SCENARIO, ASKED_TRACE),
+        "legal 6\n",
+    )?;
     assert_text(
         &rt,
         alloc,
@@ -386,20 +366,24 @@ fn judged_traces(rt: HostRuntime) -> Result<(), Fail> {
 fn refused_traces(rt: HostRuntime) -> Result<(), Fail> {
     const WRONG: &str = r#"{"scripts":[{"actor":"NS","lines":["nothing"]}]}"#;
     for (scenario, trace, text) in [
-        (ASKING, "", "refused 24 TraceSyntax trace /1\n"),
-        (ASKING, "quiet 0", "refused 24 TraceSyntax trace /1\n"),
+        (ASKING_SCENARIO, "", "refused 24 TraceSyntax trace /1\n"),
         (
-            ASKING,
+            ASKING_SCENARIO,
+            "quiet 0",
+            "refused 24 TraceSyntax trace /1\n",
+        ),
+        (
+            ASKING_SCENARIO,
             "p1 stop end -> done\nquiet 2\n",
             "refused 24 TraceSyntax trace /2\n",
         ),
         (
-            ASKING,
+            ASKING_SCENARIO,
             "p2 stop end -> done\nquiet 1\n",
             "refused 24 TraceSyntax trace /1\n",
         ),
         (
-            ASKING,
+            ASKING_SCENARIO,
             "n1 stop end -> done\nquiet 1\n\n",
             "refused 24 TraceSyntax trace /3\n",
         ),
@@ -410,7 +394,7 @@ fn refused_traces(rt: HostRuntime) -> Result<(), Fail> {
             "refused 19 ScriptSyntax scenario /scripts/0/lines/0\n",
         ),
     ] {
-        assert_text(&rt, rt.alloc(), REPLAY, (ONE_CLIENT, scenario, trace), text)?;
+        assert_text(&rt, rt.alloc(), REPLAY, (VAULT, scenario, trace), text)?;
     }
     Ok(())
 }
@@ -442,8 +426,10 @@ impl Sink for Lost {
 
 #[test]
 fn lost_output(rt: HostRuntime) -> Result<(), Fail> {
-    let mut files = files_of(rt.alloc(), ONE_CLIENT, ASKING)?;
+    let words = words_of(rt.alloc(), RUN)?;
+    let mut files = files_of(rt.alloc(), VAULT, ASKING_SCENARIO)?;
     let mut sink = Lost { faults: 0 };
-    assert_eq!(rt; status_of(&rt, rt.alloc(), RUN, &mut files, &mut sink)?, 8);
+    let status = ffm(&rt, rt.alloc(), &words, &mut files, &mut sink, &OpenGate);
+    assert_eq!(rt; status, 8);
     Ok(())
 }

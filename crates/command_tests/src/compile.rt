@@ -1,7 +1,7 @@
 //! The compiler at work: refusals with their places, and listings.
 
-use crate::told::{Told, assert_told, told_alone};
-use outside_io::MemoryFiles;
+use crate::told::assert_told;
+use sample_commands::{Told, files_of, sink_of, told_alone};
 use std::alloc::Global;
 use std::process::Abort;
 use std::test::Fail;
@@ -54,9 +54,8 @@ const COMPILE: [&str; 3] = ["ffm", "compile", "system"];
 
 // The status and the text of compiling a system file.
 fn compiled(alloc: Global, system: &str) -> Result<Told, Fail> {
-    let mut files = MemoryFiles::new(alloc);
-    files.add(alloc, "system", system.as_bytes())?;
-    told_alone(alloc, &COMPILE, &mut files, 8192, 64)
+    let files = files_of(alloc, system, "", b"")?;
+    told_alone(alloc, &COMPILE, files, sink_of(alloc, 8192, 64, 0)?)
 }
 
 // Fails unless this very line refuses the file.

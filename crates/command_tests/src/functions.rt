@@ -1,6 +1,7 @@
 //! Services as functions: runs whose texts are the ones wanted, and the lines that are refused.
 
-use crate::told::{RUN, Worked, assert_tells};
+use crate::told::{Worked, assert_tells};
+use sample_commands::RUN;
 use std::test::Fail;
 
 // Two services as functions, the second stateless with the handle 0x40000001, a service of another

@@ -1,6 +1,7 @@
 //! Resets after a panic: the texts and statuses of all runs together, and where restarts are refused.
 
-use crate::told::{RUN, Worked, assert_tells};
+use crate::told::{Worked, assert_tells};
+use sample_commands::RUN;
 use std::test::Fail;
 
 // A partition with a flash of its own and a service, and a client.

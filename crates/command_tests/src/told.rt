@@ -1,21 +1,13 @@
 //! What `ffm` answers and writes over files in memory.
-ghost use Rattle.std.specs.Prelude.{◌<◌};
 
-use ffm_model::{List, OpenGate};
-use ffm_top::{asks_threads, ffm, ffm_alone};
-use outside_io::{Files, MemoryFiles, MemorySink, Sink};
+use ffm_model::OpenGate;
+use outside_io::MemoryFiles;
+use sample_commands::{Told, sink_of, told_over};
 use std::alloc::Global;
 use std::process::Abort;
 use std::sync::Wait;
 use std::test::Fail;
 use std::thread::Threads;
-
-/// A status, and the text that was written.
-#[derive(Drop)]
-pub(crate) struct Told {
-    pub(crate) status: u8,
-    pub(crate) text: Vec<u8>,
-}
 
 /// A system file and a scenario file, and what comes of them.
 #[derive(Clone, Copy)]
@@ -26,92 +18,12 @@ pub(crate) struct Worked<'a> {
     pub(crate) text: &'a str,
 }
 
-/// The words of a run of the two files.
-pub(crate) const RUN: &[&str] = &["ffm", "run", "system", "scenario"];
-
-// The words of a command line.
-fn words_of(alloc: Global, words: &[&str]) -> Result<Vec<String>, Fail> {
-    let mut list = Vec::new(alloc);
-    for word in words {
-        list.push(String::from_str(alloc, word)?)?;
-    }
-    Ok(list)
-}
-
-/// The two files, and one that is a byte longer than may be.
+/// The two files, a trace file without a byte, and one that is a byte longer than may be.
 pub(crate) fn files_of(alloc: Global, system: &str, scenario: &str) -> Result<MemoryFiles, Fail> {
-    let mut files = MemoryFiles::new(alloc);
-    files.add(alloc, "system", system.as_bytes())?;
-    files.add(alloc, "scenario", scenario.as_bytes())?;
+    let mut files = sample_commands::files_of(alloc, system, scenario, b"")?;
     let long = vec![in alloc; b' '; 1_048_577]?;
     files.add(alloc, "long", &long)?;
     Ok(files)
-}
-
-/// The status of a command.
-pub(crate) fn status_of<R: Threads + Wait + Sync, F: Files, S: Sink>(
-    rt: &R,
-    alloc: Global,
-    words: &[&str],
-    files: &mut F,
-    sink: &mut S,
-) -> Result<u8, Fail> {
-    let words = words_of(alloc, words)?;
-    Ok(ffm(rt, alloc, &words, files, sink, &OpenGate))
-}
-
-// The status of a command without threads.
-fn status_alone<F: Files, S: Sink>(
-    alloc: Global,
-    words: &[&str],
-    files: &mut F,
-    sink: &mut S,
-) -> Result<u8, Fail> {
-    let words = words_of(alloc, words)?;
-    if asks_threads(&words) {
-        return Err(Fail::from("a run with threads"));
-    }
-    Ok(ffm_alone(alloc, &words, files, sink))
-}
-
-// The status, and what the sink took.
-fn with_text(alloc: Global, status: u8, sink: &MemorySink) -> Result<Told, Fail> {
-    let text = sink.bytes().to_vec(alloc)?;
-    Ok(Told { status, text })
-}
-
-/// What a command tells over these files, where the sink takes so many bytes at once, and the put with
-/// this number fails.
-pub(crate) fn told_over<R: Threads + Wait + Sync>(
-    rt: &R,
-    alloc: Global,
-    words: &[&str],
-    files: &mut MemoryFiles,
-    piece: usize,
-    failing_put: u32,
-) -> Result<Told, Fail>
-    requires { 0 < piece }
-{
-    let failing = List::of(vec![in alloc; failing_put]?);
-    let mut sink = MemorySink::new(alloc, 4096, piece, failing)?;
-    let status = status_of(rt, alloc, words, files, &mut sink)?;
-    with_text(alloc, status, &sink)
-}
-
-/// What a command without threads tells over these files, where the sink has this room, and takes so
-/// many bytes at once.
-pub(crate) fn told_alone(
-    alloc: Global,
-    words: &[&str],
-    files: &mut MemoryFiles,
-    room: usize,
-    piece: usize,
-) -> Result<Told, Fail>
-    requires { 0 < piece }
-{
-    let mut sink = MemorySink::new(alloc, room, piece, List::of(Vec::new(alloc)))?;
-    let status = status_alone(alloc, words, files, &mut sink)?;
-    with_text(alloc, status, &sink)
 }
 
 /// Fails unless this status and this text came of a case.
@@ -127,8 +39,9 @@ pub(crate) fn assert_tells<R: Threads + Wait + Sync + Abort>(
     words: &[&str],
     worked: &Worked<'_>,
 ) -> Result<(), Fail> {
-    let mut files = files_of(alloc, worked.system, worked.scenario)?;
-    let found = told_over(rt, alloc, words, &mut files, 7, 0)?;
+    let files = files_of(alloc, worked.system, worked.scenario)?;
+    let sink = sink_of(alloc, 4096, 7, 0)?;
+    let found = told_over(rt, alloc, words, files, sink, &OpenGate)?;
     assert_told(rt, &found, worked.status, worked.text, worked.scenario);
     Ok(())
 }

@@ -1,6 +1,6 @@
 //! The systems and scenarios whose traces are altered.
 
-use sample_texts::{ONE_REQUEST_SCENARIO, VAULT};
+use sample_texts::{LONG_WRITE_SCENARIO, ONE_REQUEST_SCENARIO, VAULT};
 
 /// A system file and a scenario file.
 #[derive(Drop)]
@@ -18,12 +18,7 @@ pub(crate) const ONE_REQUEST: Pair<'static> = Pair {
 /// A request whose service writes past the vector's end, and panics.
 pub(crate) const LONG_WRITE: Pair<'static> = Pair {
     system: VAULT,
-    scenario: r#"{"scripts":[{"actor":"VAULT","lines":["top:","wait 0xffffffff 0x80000000",
-"get r0 0x30000000","jeq r1 0 req","reply r2 0","jmp top","req:","write r2 0 0x30000100 8",
-"write r2 0 0x30000100 1"]},{"actor":"NS","lines":["connect 0x40 1","set r5 r0",
-"call r5 0 0x20000000 1 0x20000008 1","call r5 0 0 0 0 0","close r5","connect 0x40 1"]}],
-"memory":[{"address":"0x20000000","bytes":"20000020050000003000002008000000"},
-{"address":"0x20000020","bytes":"68656c6c6f"}]}"#,
+    scenario: LONG_WRITE_SCENARIO,
 };
 
 /// A partition that handles an interrupt.

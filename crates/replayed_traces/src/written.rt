@@ -2,48 +2,9 @@
 
 use crate::altered::{Change, altered};
 use crate::systems::Pair;
-use ffm_model::List;
-use ffm_top::{asks_threads, ffm_alone};
-use outside_io::{Files, MemoryFiles, MemorySink, Sink};
-use std::alloc::Global;
+use sample_commands::{AUDIT, REPLAY, RUN, files_of, sink_of, told_alone};
 use std::str::from_utf8;
 use std::test::Fail;
-
-const RUN: [&str; 4] = ["ffm", "run", "system", "scenario"];
-
-const REPLAY: [&str; 5] = ["ffm", "replay", "system", "scenario", "trace"];
-
-const AUDIT: [&str; 5] = ["ffm", "audit", "system", "scenario", "trace"];
-
-fn words_of(alloc: Global, words: &[&str]) -> Result<Vec<String>, Fail> {
-    let mut list = Vec::new(alloc);
-    for word in words {
-        list.push(String::from_str(alloc, word)?)?;
-    }
-    Ok(list)
-}
-
-fn files_of(alloc: Global, pair: &Pair<'_>, trace: &[u8]) -> Result<MemoryFiles, Fail> {
-    let mut files = MemoryFiles::new(alloc);
-    files.add(alloc, "system", pair.system.as_bytes())?;
-    files.add(alloc, "scenario", pair.scenario.as_bytes())?;
-    files.add(alloc, "trace", trace)?;
-    Ok(files)
-}
-
-// The status of a command without threads.
-fn status_alone<F: Files, S: Sink>(
-    alloc: Global,
-    words: &[&str],
-    files: &mut F,
-    sink: &mut S,
-) -> Result<u8, Fail> {
-    let words = words_of(alloc, words)?;
-    if asks_threads(&words) {
-        return Err(Fail::from("a run with threads"));
-    }
-    Ok(ffm_alone(alloc, &words, files, sink))
-}
 
 // What the command writes, and its status.
 fn written_by(
@@ -53,15 +14,14 @@ fn written_by(
     trace: &[u8],
 ) -> Result<(String, u8), Fail> {
     let alloc = rt.alloc();
-    let mut files = files_of(alloc, pair, trace)?;
-    let mut sink = MemorySink::new(alloc, 4096, 256, List::of(Vec::new(alloc)))?;
-    let status = status_alone(alloc, words, &mut files, &mut sink)?;
-    Ok((String::from_str(alloc, from_utf8(sink.bytes())?)?, status))
+    let files = files_of(alloc, pair.system, pair.scenario, trace)?;
+    let found = told_alone(alloc, words, files, sink_of(alloc, 4096, 256, 0)?)?;
+    Ok((String::from_str(alloc, from_utf8(&found.text)?)?, found.status))
 }
 
 /// The trace that a run of the files writes.
 pub(crate) fn run(rt: &HostRuntime, pair: &Pair<'_>) -> Result<String, Fail> {
-    match written_by(rt, &RUN, pair, b"")? {
+    match written_by(rt, RUN, pair, b"")? {
         (trace, 0) => Ok(trace),
         (text, status) => Err(Fail::new(format!(in rt.alloc();
             "status {status} of a run:\n{text}"
@@ -107,7 +67,7 @@ pub(crate) fn expect_replay(
     trace: &[u8],
     answer: &str,
 ) -> Result<(), Fail> {
-    let (text, status) = written_by(rt, &REPLAY, pair, trace)?;
+    let (text, status) = written_by(rt, REPLAY, pair, trace)?;
     if is_replay(&text, answer) && status == status_of(answer) {
         return Ok(());
     }
@@ -121,7 +81,7 @@ pub(crate) fn expect_audit(
     trace: &[u8],
     answer: &str,
 ) -> Result<(), Fail> {
-    let (text, status) = written_by(rt, &AUDIT, pair, trace)?;
+    let (text, status) = written_by(rt, AUDIT, pair, trace)?;
     if is_audit(&text, answer) && status == status_of(answer) {
         return Ok(());
     }

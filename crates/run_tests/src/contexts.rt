@@ -56,11 +56,11 @@ fn a_ninth_script_is_refused(rt: HostRuntime) -> Result<(), Fail> {
     let scenario = format!(in rt.alloc();
         r#"{{"scripts":[{script},{script},{script},{script},{script},{script},{script},{script},{script}]}}"#
     )?;
-    let (status, text) = run(rt.alloc(), VAULT, &scenario)?;
+    let found = run(rt.alloc(), VAULT, &scenario)?;
     assert_eq!(rt;
-        from_utf8(text.as_slice())?,
+        from_utf8(&found.text)?,
         "refused 4 BadValue scenario /scripts/8/actor\n"
     );
-    assert_eq!(rt; status, 1);
+    assert_eq!(rt; found.status, 1);
     Ok(())
 }

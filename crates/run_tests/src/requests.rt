@@ -1,11 +1,11 @@
 //! Requests and their answers, panics in the midst of them, and the limit of a run.
 
 use crate::systems::{CLOCK, SERVER, VAULT};
-use crate::worked::{Worked, check_all};
-use sample_texts::{ONE_REQUEST_SCENARIO, ONE_REQUEST_TRACE};
+use crate::worked::{Worked, check, check_all};
+use sample_texts::{LONG_WRITE_SCENARIO, ONE_REQUEST_SCENARIO, ONE_REQUEST_TRACE};
 use std::test::Fail;
 
-static RUNS: [Worked; 8] = [
+static RUNS: [Worked; 7] = [
     // A connection with one request, which is read and written in pieces, and its end.
     Worked {
         system: VAULT,
@@ -16,10 +16,7 @@ static RUNS: [Worked; 8] = [
     // A write past the end of an output vector is a PROGRAMMER ERROR: the partition panics, and its client is told.
     Worked {
         system: VAULT,
-        scenario: r##"{"scripts":[
-{"actor":"VAULT","lines":["top:","wait 0xffffffff 0x80000000","get r0 0x30000000","jeq r1 0 req","reply r2 0","jmp top","req:","write r2 0 0x30000100 8","write r2 0 0x30000100 1"]},
-{"actor":"NS","lines":["connect 0x40 1","set r5 r0","call r5 0 0x20000000 1 0x20000008 1","call r5 0 0 0 0 0","close r5","connect 0x40 1"]}],
-"memory":[{"address":"0x20000000","bytes":"20000020050000003000002008000000"},{"address":"0x20000020","bytes":"68656c6c6f"}]}"##,
+        scenario: LONG_WRITE_SCENARIO,
         status: 0,
         trace: "p1 wait 0xffffffff 0x80000000 -> blocked
 n1 connect 0x00000040 1 -> blocked
@@ -171,25 +168,6 @@ n1 connect 0x00000040 1 -> blocked
 stalled 2
 ",
     },
-    // A run that the limit ends.
-    Worked {
-        system: VAULT,
-        scenario: r##"{"scripts":[
-{"actor":"VAULT","lines":["top:","wait 0xffffffff 0x80000000","get r0 0x30000000","jeq r1 0 req","reply r2 0","jmp top","req:","read r2 0 0x30000100 3","read r2 0 0x30000100 3","read r2 0 0x30000100 3","write r2 0 0x30000100 4","reply r2 7","jmp top"]},
-{"actor":"NS","lines":["connect 0x40 1","set r5 r0","call r5 0 0x20000000 1 0x20000008 1","close r5","load 0x2000000c 4"]}],
-"memory":[{"address":"0x20000000","bytes":"20000020050000003000002008000000"},{"address":"0x20000020","bytes":"68656c6c6f"}],"event_limit":8}"##,
-        status: 5,
-        trace: "p1 wait 0xffffffff 0x80000000 -> blocked
-n1 connect 0x00000040 1 -> blocked
-p1 resume -> signals 0x00000010
-p1 get 0x00000010 0x30000000 -> message -1 1536 -1 0x00000000 0 0 0 0 0 0 0 0
-p1 reply 1536 0 -> done
-n1 resume -> value 1024
-p1 wait 0xffffffff 0x80000000 -> blocked
-n1 call 1024 0 0x20000000 1 0x20000008 1 -> blocked
-full 8
-",
-    },
     // What is skipped of an input vector isn't read, and nothing is left behind its end.
     Worked {
         system: CLOCK,
@@ -219,4 +197,18 @@ quiet 13
 #[test]
 fn runs_of_requests(rt: HostRuntime) -> Result<(), Fail> {
     check_all(&rt, rt.alloc(), &RUNS)
+}
+
+// The first of the runs, which each lower limit ends.
+#[test]
+fn runs_up_to_a_limit(rt: HostRuntime) -> Result<(), Fail> {
+    let members = ONE_REQUEST_SCENARIO.strip_prefix('{').ok_or("no object")?;
+    let mut entries = String::new(rt.alloc());
+    for (limit, entry) in (1..25).zip(ONE_REQUEST_TRACE.lines()) {
+        let scenario = format!(in rt.alloc(); r#"{{"event_limit":{limit},{members}"#)?;
+        entries.push_str(&format!(in rt.alloc(); "{entry}\n")?)?;
+        let trace = format!(in rt.alloc(); "{entries}full {limit}\n")?;
+        check(&rt, rt.alloc(), VAULT, &scenario, 5, &trace)?;
+    }
+    Ok(())
 }

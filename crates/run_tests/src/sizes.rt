@@ -88,21 +88,27 @@ fn more_than_a_thousand_connections(rt: HostRuntime) -> Result<(), Fail> {
     let scenario = r#"{"event_limit":20000,"scripts":[{"actor":"VAULT","lines":["again:",
 "wait 0xffffffff 0x80000000","get r0 0x30000000","reply r2 0","jmp again"]},
 {"actor":"NS","lines":["set r6 1100","again:","connect 0x40 1","close r0","sub r6 1","jne r6 0 again"]}]}"#;
-    let (status, text) = run(rt.alloc(), VAULT, scenario)?;
-    assert_eq!(rt; status, 0);
-    assert!(rt; text.ends_with(b"n1 stop end -> done\nquiet 13202\n"));
-    check_legal(&rt, rt.alloc(), VAULT, scenario, &text, 13202)
+    let found = run(rt.alloc(), VAULT, scenario)?;
+    assert_eq!(rt; found.status, 0);
+    assert!(rt; found.text.ends_with(b"n1 stop end -> done\nquiet 13202\n"));
+    check_legal(&rt, rt.alloc(), VAULT, scenario, &found.text, 13202)
 }
 
 #[test]
 fn more_than_a_hundred_thousand_entries(rt: HostRuntime) -> Result<(), Fail> {
     let scenario = r#"{"event_limit":120000,
 "scripts":[{"actor":"NS","lines":["again:","version 0x40","jmp again"]}]}"#;
-    let (status, text) = run(rt.alloc(), VAULT, scenario)?;
-    assert_eq!(rt; status, 5);
-    assert!(rt; text.starts_with(b"p1 stop end -> done\nn1 version 0x00000040 -> number 1\n"));
-    assert!(rt; text.ends_with(b"n1 version 0x00000040 -> number 1\nfull 120000\n"));
-    check_legal(&rt, rt.alloc(), VAULT, scenario, &text, 120_000)
+    let found = run(rt.alloc(), VAULT, scenario)?;
+    assert_eq!(rt; found.status, 5);
+    assert!(rt;
+        found.text.starts_with(b"p1 stop end -> done\nn1 version 0x00000040 -> number 1\n")
+    );
+    assert!(rt;
+        found
+            .text
+            .ends_with(b"n1 version 0x00000040 -> number 1\nfull 120000\n")
+    );
+    check_legal(&rt, rt.alloc(), VAULT, scenario, &found.text, 120_000)
 }
 
 // 100,000 local lines before a call; one more; and no end of them.

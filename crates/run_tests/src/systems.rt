@@ -1,6 +1,6 @@
 //! Systems that several runs share.
 
-pub(crate) use sample_texts::VAULT;
+pub(crate) use sample_texts::{CLOCK, VAULT};
 
 /// The same with two clients.
 pub(crate) const TWO_CLIENTS: &str =
@@ -45,13 +45,6 @@ pub(crate) const HANDLED: &str =
     r#"{"isolation_level":1,"manifests":[{"psa_framework_version":1.1,"name":"TICK",
 "type":"PSA-ROT","priority":"NORMAL","entry_point":"main","stack_size":"0x400",
 "irqs":[{"source":17,"name":"TICK","handling":"FLIH"}]}]}"#;
-
-/// A stateless service, whose handle is 0x40000001, and a client that may use it.
-pub(crate) const CLOCK: &str =
-    r#"{"isolation_level":3,"manifests":[{"psa_framework_version":1.1,"name":"CLOCK",
-"type":"PSA-ROT","priority":"NORMAL","entry_point":"main","stack_size":"0x400",
-"services":[{"name":"CLOCK","sid":"0x50","non_secure_clients":true,"connection_based":false}]}],
-"clients":["NS"]}"#;
 
 /// A stateless service, whose handle is 0x40000020, and a partition and a client that may use it.
 pub(crate) const METER: &str =

@@ -1,8 +1,6 @@
 //! Runs with the traces that are wanted of them.
 
-use ffm_model::List;
-use ffm_top::{asks_threads, ffm_alone};
-use outside_io::{MemoryFiles, MemorySink};
+use sample_commands::{AUDIT, REPLAY, RUN, Told, files_of, sink_of, told_alone};
 use std::alloc::Global;
 use std::process::Abort;
 use std::str::from_utf8;
@@ -16,41 +14,21 @@ pub(crate) struct Worked {
     pub trace: &'static str,
 }
 
-/// The words over a system, a scenario and a trace, which are the files of these names: the status
-/// and the text that come of them.
-pub(crate) fn answer(
+// What the words tell over a system, a scenario and a trace.
+fn told(
     alloc: Global,
     words: &[&str],
     system: &str,
     scenario: &str,
     trace: &[u8],
-) -> Result<(u8, Vec<u8>), Fail> {
-    let mut list = Vec::new(alloc);
-    for word in words {
-        list.push(String::from_str(alloc, word)?)?;
-    }
-    if asks_threads(&list) {
-        return Err(Fail::from("a run with threads"));
-    }
-    let mut files = MemoryFiles::new(alloc);
-    files.add(alloc, "system", system.as_bytes())?;
-    files.add(alloc, "scenario", scenario.as_bytes())?;
-    files.add(alloc, "trace", trace)?;
-    let mut sink = MemorySink::new(alloc, 16_777_216, 4096, List::of(Vec::new(alloc)))?;
-    let status = ffm_alone(alloc, &list, &mut files, &mut sink);
-    Ok((status, sink.bytes().to_vec(alloc)?))
+) -> Result<Told, Fail> {
+    let files = files_of(alloc, system, scenario, trace)?;
+    told_alone(alloc, words, files, sink_of(alloc, 16_777_216, 4096, 0)?)
 }
 
-/// The status and the text of the run of a scenario over a system.
-pub(crate) fn run(alloc: Global, system: &str, scenario: &str) -> Result<(u8, Vec<u8>), Fail> {
-    let words = ["ffm", "run", "system", "scenario"];
-    answer(alloc, &words, system, scenario, b"")
-}
-
-// The status and the text of the audit of a trace.
-fn audit(alloc: Global, system: &str, scenario: &str, trace: &[u8]) -> Result<(u8, Vec<u8>), Fail> {
-    let words = ["ffm", "audit", "system", "scenario", "trace"];
-    answer(alloc, &words, system, scenario, trace)
+/// What the run of a scenario over a system tells.
+pub(crate) fn run(alloc: Global, system: &str, scenario: &str) -> Result<Told, Fail> {
+    told(alloc, RUN, system, scenario, b"")
 }
 
 /// Asserts that a trace is judged to be a run of so many entries, and that its audit ends so.
@@ -62,15 +40,14 @@ pub(crate) fn check_legal(
     trace: &[u8],
     entries: usize,
 ) -> Result<(), Fail> {
-    let words = ["ffm", "replay", "system", "scenario", "trace"];
-    let (status, text) = answer(alloc, &words, system, scenario, trace)?;
+    let found = told(alloc, REPLAY, system, scenario, trace)?;
     let wanted = format!(in alloc; "legal {entries}\n")?;
-    assert_eq!(rt; from_utf8(text.as_slice())?, wanted.as_str());
-    assert_eq!(rt; status, 0);
-    let (status, text) = audit(alloc, system, scenario, trace)?;
+    assert_eq!(rt; from_utf8(&found.text)?, wanted.as_str());
+    assert_eq!(rt; found.status, 0);
+    let found = told(alloc, AUDIT, system, scenario, trace)?;
     let wanted = format!(in alloc; "clean {entries}\n")?;
-    assert!(rt; text.ends_with(wanted.as_bytes()));
-    assert_eq!(rt; status, 0);
+    assert!(rt; found.text.ends_with(wanted.as_bytes()));
+    assert_eq!(rt; found.status, 0);
     Ok(())
 }
 
@@ -83,9 +60,9 @@ pub(crate) fn check_audit(
     trace: &str,
     wanted: &str,
 ) -> Result<(), Fail> {
-    let (status, text) = audit(alloc, system, scenario, trace.as_bytes())?;
-    assert_eq!(rt; from_utf8(text.as_slice())?, wanted, "{trace}");
-    assert_eq!(rt; status, 0);
+    let found = told(alloc, AUDIT, system, scenario, trace.as_bytes())?;
+    assert_eq!(rt; from_utf8(&found.text)?, wanted, "{trace}");
+    assert_eq!(rt; found.status, 0);
     Ok(())
 }
 
@@ -98,9 +75,9 @@ pub(crate) fn check(
     status: u8,
     trace: &str,
 ) -> Result<(), Fail> {
-    let (answered, text) = run(alloc, system, scenario)?;
-    assert_eq!(rt; from_utf8(text.as_slice())?, trace);
-    assert_eq!(rt; answered, status, "{trace}");
+    let found = run(alloc, system, scenario)?;
+    assert_eq!(rt; from_utf8(&found.text)?, trace);
+    assert_eq!(rt; found.status, status, "{trace}");
     let entries = trace.lines().filter(|line| line.contains(" -> ")).count();
     check_legal(rt, alloc, system, scenario, trace.as_bytes(), entries)
 }

@@ -1,4 +1,4 @@
-//! Texts that several crates of tests share: the files of one system with a run of it.
+//! Texts that several crates of tests share: the files of systems, with runs of them.
 #![tactic(auto)]
 
 /// The manifest of a partition with two services, of which non-secure clients may use the first.
@@ -53,3 +53,39 @@ n1 load 0x2000000c 4 -> number 4
 n1 stop end -> done
 quiet 25
 ";
+
+/// The scenario file of a client that asks for versions.
+pub const ASKING_SCENARIO: &str =
+    r#"{"scripts":[{"actor":"NS","lines":["framework_version","version 0x40","version 0x99","version 0x41"]}],
+"schedule":["NS","NS","NS","NS"]}"#;
+
+/// The trace of its run.
+pub const ASKED_TRACE: &str = "n1 framework_version -> number 257
+n1 version 0x00000040 -> number 1
+n1 version 0x00000099 -> number 0
+n1 version 0x00000041 -> number 0
+p1 stop end -> done
+n1 stop end -> done
+quiet 6
+";
+
+/// The scenario file of a request whose service writes past the vector's end, and panics.
+pub const LONG_WRITE_SCENARIO: &str = r#"{"scripts":[
+{"actor":"VAULT","lines":["top:","wait 0xffffffff 0x80000000","get r0 0x30000000","jeq r1 0 req",
+"reply r2 0","jmp top","req:","write r2 0 0x30000100 8","write r2 0 0x30000100 1"]},
+{"actor":"NS","lines":["connect 0x40 1","set r5 r0","call r5 0 0x20000000 1 0x20000008 1",
+"call r5 0 0 0 0 0","close r5","connect 0x40 1"]}],
+"memory":[{"address":"0x20000000","bytes":"20000020050000003000002008000000"},
+{"address":"0x20000020","bytes":"68656c6c6f"}]}"#;
+
+/// The system file of a stateless service, whose handle is 0x40000001, and a client that may use it.
+pub const CLOCK: &str =
+    r#"{"isolation_level":3,"manifests":[{"psa_framework_version":1.1,"name":"CLOCK",
+"type":"PSA-ROT","priority":"NORMAL","entry_point":"main","stack_size":"0x400",
+"services":[{"name":"CLOCK","sid":"0x50","non_secure_clients":true,"connection_based":false}]}],
+"clients":["NS"]}"#;
+
+/// The scenario file of a request to it, by a handle that is no connection and can't be closed.
+pub const STATELESS_REQUEST_SCENARIO: &str = r#"{"scripts":[
+{"actor":"CLOCK","lines":["wait 0xffffffff 0x80000000","get r0 0x30000000","reply r2 5"]},
+{"actor":"NS","lines":["call 0x40000001 0 0 0 0 0","close 0x40000001","connect 0x50 1"]}]}"#;

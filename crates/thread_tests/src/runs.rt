@@ -1,9 +1,9 @@
 //! Runs with a thread for each actor, by the top call.
 
 use crate::holds::Holds;
-use ffm_model::{ActorId, Gate, List, OpenGate};
-use ffm_top::ffm;
-use outside_io::{MemoryFiles, MemorySink};
+use ffm_model::{ActorId, Gate, OpenGate};
+use sample_commands::{REPLAY, Told, files_of, sink_of, told_over};
+use sample_texts::{CLOCK, ONE_REQUEST_SCENARIO, STATELESS_REQUEST_SCENARIO};
 use std::alloc::Global;
 use std::sync::Wait;
 use std::test::Fail;
@@ -15,17 +15,6 @@ const TWO_CLIENTS: &str =
 
 const ASKING: &str =
     r#"{"scripts":[{"actor":"NS","lines":["version 0x40","version 0x40","version 0x40"]},{"actor":"NS2","lines":["version 0x40","version 0x40","version 0x40"]}]}"#;
-
-// A client connects, makes a request with vectors, and closes.
-const ONE_REQUEST: &str =
-    r#"{"memory":[{"address":"0x20000000","bytes":"20000020050000003000002008000000"},{"address":"0x20000020","bytes":"68656c6c6f"}],"scripts":[{"actor":"VAULT","lines":["top:","wait 0xffffffff 0x80000000","get r0 0x30000000","jeq r1 0 req","reply r2 0","jmp top","req:","read r2 0 0x30000100 3","read r2 0 0x30000100 3","read r2 0 0x30000100 3","write r2 0 0x30000100 4","reply r2 7","jmp top"]},{"actor":"NS","lines":["connect 0x40 1","set r5 r0","call r5 0 0x20000000 1 0x20000008 1","close r5","load 0x2000000c 4"]}]}"#;
-
-// A stateless service, whose handle is 0x40000001, and a client.
-const CLOCK: &str =
-    r#"{"isolation_level":3,"manifests":[{"psa_framework_version":1.1,"name":"CLOCK","type":"PSA-ROT","priority":"NORMAL","entry_point":"main","stack_size":"0x400","services":[{"name":"CLOCK","sid":"0x50","non_secure_clients":true,"connection_based":false}]}],"clients":["NS"]}"#;
-
-const ONE_STATELESS_REQUEST: &str =
-    r#"{"scripts":[{"actor":"CLOCK","lines":["wait 0xffffffff 0x80000000","get r0 0x30000000","reply r2 5"]},{"actor":"NS","lines":["call 0x40000001 0 0 0 0 0","close 0x40000001","connect 0x50 1"]}]}"#;
 
 // What each order of the two actors writes, whatever the order of the lines.
 static STATELESS_LINES: [&str; 11] = [
@@ -50,30 +39,17 @@ struct Texts<'a> {
     trace: &'a [u8],
 }
 
-fn words_of(alloc: Global, list: &[&str]) -> Result<Vec<String>, Fail> {
-    let mut words = Vec::new(alloc);
-    for word in list {
-        words.push(String::from_str(alloc, word)?)?;
-    }
-    Ok(words)
-}
-
-// The status and the text of the words over the three files.
-fn written<R: Threads + Wait + Sync, G: Gate + Sync>(
+// What the words tell over the three files.
+fn told<R: Threads + Wait + Sync, G: Gate + Sync>(
     rt: &R,
     alloc: Global,
     gate: &G,
     words: &[&str],
     texts: &Texts<'_>,
-) -> Result<(u8, Vec<u8>), Fail> {
-    let words = words_of(alloc, words)?;
-    let mut files = MemoryFiles::new(alloc);
-    files.add(alloc, "system", texts.system.as_bytes())?;
-    files.add(alloc, "scenario", texts.scenario.as_bytes())?;
-    files.add(alloc, "trace", texts.trace)?;
-    let mut sink = MemorySink::new(alloc, 8192, 256, List::of(Vec::new(alloc)))?;
-    let status = ffm(rt, alloc, &words, &mut files, &mut sink, gate);
-    Ok((status, sink.bytes().to_vec(alloc)?))
+) -> Result<Told, Fail> {
+    let files = files_of(alloc, texts.system, texts.scenario, texts.trace)?;
+    let sink = sink_of(alloc, 8192, 256, 0)?;
+    Ok(told_over(rt, alloc, words, files, sink, gate)?)
 }
 
 fn text_of(alloc: Global, bytes: &[u8]) -> Result<String, Fail> {
@@ -101,8 +77,6 @@ fn has_line(text: &str, line: &str) -> bool {
 
 const RUN: &[&str] = &["ffm", "run", "--threads", "system", "scenario"];
 
-const REPLAY: &[&str] = &["ffm", "replay", "system", "scenario", "trace"];
-
 #[test]
 fn turns_are_those_of_the_threads(rt: HostRuntime) -> Result<(), Fail> {
     let (first, second) = (ActorId(1), ActorId(2));
@@ -116,17 +90,17 @@ fn turns_are_those_of_the_threads(rt: HostRuntime) -> Result<(), Fail> {
             scenario: ASKING,
             trace: b"",
         };
-        let (status, text) = written(&rt, rt.alloc(), &gate, RUN, &texts)?;
+        let found = told(&rt, rt.alloc(), &gate, RUN, &texts)?;
         assert!(rt; !gate.gave_up());
-        assert_eq!(rt; status, 0);
-        let trace = text_of(rt.alloc(), text.as_slice())?;
+        assert_eq!(rt; found.status, 0);
+        let trace = text_of(rt.alloc(), found.text.as_slice())?;
         assert!(rt;
             lines_before(trace.as_str(), early_name, late_name) >= 2,
             "{trace}"
         );
-        texts.trace = text.as_slice();
-        let (_, judged) = written(&rt, rt.alloc(), &OpenGate, REPLAY, &texts)?;
-        assert_eq!(rt; judged.as_slice(), b"legal 9\n".as_slice());
+        texts.trace = found.text.as_slice();
+        let judged = told(&rt, rt.alloc(), &OpenGate, REPLAY, &texts)?;
+        assert_eq!(rt; judged.text.as_slice(), b"legal 9\n".as_slice());
     }
     Ok(())
 }
@@ -135,15 +109,15 @@ fn turns_are_those_of_the_threads(rt: HostRuntime) -> Result<(), Fail> {
 fn requests_beside_each_other(rt: HostRuntime) -> Result<(), Fail> {
     let mut texts = Texts {
         system: TWO_CLIENTS,
-        scenario: ONE_REQUEST,
+        scenario: ONE_REQUEST_SCENARIO,
         trace: b"",
     };
-    let (status, text) = written(&rt, rt.alloc(), &OpenGate, RUN, &texts)?;
-    assert_eq!(rt; status, 0);
-    texts.trace = text.as_slice();
-    let (judged, line) = written(&rt, rt.alloc(), &OpenGate, REPLAY, &texts)?;
-    assert_eq!(rt; judged, 0);
-    assert!(rt; line.as_slice().starts_with(b"legal "));
+    let found = told(&rt, rt.alloc(), &OpenGate, RUN, &texts)?;
+    assert_eq!(rt; found.status, 0);
+    texts.trace = found.text.as_slice();
+    let judged = told(&rt, rt.alloc(), &OpenGate, REPLAY, &texts)?;
+    assert_eq!(rt; judged.status, 0);
+    assert!(rt; judged.text.as_slice().starts_with(b"legal "));
     Ok(())
 }
 
@@ -151,12 +125,12 @@ fn requests_beside_each_other(rt: HostRuntime) -> Result<(), Fail> {
 fn stateless_request(rt: HostRuntime) -> Result<(), Fail> {
     let texts = Texts {
         system: CLOCK,
-        scenario: ONE_STATELESS_REQUEST,
+        scenario: STATELESS_REQUEST_SCENARIO,
         trace: b"",
     };
-    let (status, text) = written(&rt, rt.alloc(), &OpenGate, RUN, &texts)?;
-    assert_eq!(rt; status, 0);
-    let trace = text_of(rt.alloc(), text.as_slice())?;
+    let found = told(&rt, rt.alloc(), &OpenGate, RUN, &texts)?;
+    assert_eq!(rt; found.status, 0);
+    let trace = text_of(rt.alloc(), found.text.as_slice())?;
     assert_eq!(rt;
         trace.as_str().lines().count(),
         STATELESS_LINES.len(),

@@ -1,6 +1,7 @@
 //! Diagrams, by the words of the command line.
 
-use crate::told::{Told, assert_tells, told_over};
+use crate::told::{assert_tells, told_over};
+use sample_commands::Told;
 use std::alloc::Global;
 use std::process::Abort;
 use std::test::Fail;

@@ -1,8 +1,8 @@
 //! The statuses of words, refused files, failing reads and puts.
 
-use crate::told::{assert_tells, files_of, status_of, told_over};
+use crate::told::{assert_tells, files_of, told_into, told_over};
 use ffm_model::List;
-use outside_io::MemorySink;
+use sample_commands::{Told, sink_of};
 use std::alloc::Global;
 use std::test::Fail;
 
@@ -102,19 +102,13 @@ fn no_state_behind_an_illegal_entry(rt: HostRuntime) -> Result<(), Fail> {
     assert_tells(&rt, rt.alloc(), &words, ("{}", trace), (6, wanted))
 }
 
-// The status of `why` where a read or a put fails, each by its number, and how many bytes were written.
-fn told_with_faults(
-    alloc: Global,
-    failing_read: u32,
-    failing_put: u32,
-) -> Result<(u8, usize), Fail> {
+// What `why` tells where a read or a put fails, each by its number.
+fn told_with_faults(alloc: Global, failing_read: u32, failing_put: u32) -> Result<Told, Fail> {
     let mut files = files_of(alloc, "{}", ENDED)?;
     files.fail_at(List::of(vec![in alloc; failing_read]?));
-    let failing = List::of(vec![in alloc; failing_put]?);
-    let mut sink = MemorySink::new(alloc, 4096, 256, failing)?;
+    let sink = sink_of(alloc, 4096, 256, failing_put)?;
     let words = ["ffm_view", "why", "system", "scenario", "trace"];
-    let status = status_of(alloc, &words, &mut files, &mut sink)?;
-    Ok((status, sink.bytes().len()))
+    Ok(told_into(alloc, &words, files, sink)?)
 }
 
 #[test]
@@ -128,7 +122,11 @@ fn failing_reads_and_puts(rt: HostRuntime) -> Result<(), Fail> {
         (0, 0, 0, 8),
     ] {
         let found = told_with_faults(rt.alloc(), failing_read, failing_put)?;
-        assert_eq!(rt; found, (status, bytes), "{failing_read} {failing_put}");
+        assert_eq!(rt;
+            (found.status, found.text.len()),
+            (status, bytes),
+            "{failing_read} {failing_put}"
+        );
     }
     Ok(())
 }

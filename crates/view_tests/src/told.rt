@@ -1,8 +1,9 @@
 //! What `ffm_view` answers and writes over files in memory.
 
-use ffm_model::List;
-use outside_io::{Files, MemoryFiles, MemorySink, Sink};
-use std::alloc::Global;
+use ffm_model::Memory;
+use outside_io::{MemoryFiles, MemorySink};
+use sample_commands::{Told, sink_of, words_of};
+use std::alloc::{AllocError, Global};
 use std::process::Abort;
 use std::test::Fail;
 use view_commands::ffm_view;
@@ -11,40 +12,21 @@ use view_commands::ffm_view;
 const SYSTEM: &str =
     r#"{"isolation_level":1,"manifests":[{"psa_framework_version":1.0,"name":"CRYPTO","type":"PSA-ROT","priority":"NORMAL","entry_point":"main","stack_size":"0x400","services":[{"name":"HASH","sid":"0x40","non_secure_clients":true}],"irqs":[{"source":17,"signal":"TICK_SIGNAL"}]},{"psa_framework_version":1.0,"name":"LOG","type":"PSA-ROT","priority":"NORMAL","entry_point":"main","stack_size":"0x400","dependencies":["HASH"],"services":[{"name":"LOG","sid":"0x41","non_secure_clients":true}]}],"clients":["NS"]}"#;
 
-/// A status, and the text that was written.
-#[derive(Drop)]
-pub(crate) struct Told {
-    pub(crate) status: u8,
-    pub(crate) text: Vec<u8>,
-}
-
-// The words of a command line.
-fn words_of(alloc: Global, words: &[&str]) -> Result<Vec<String>, Fail> {
-    let mut list = Vec::new(alloc);
-    for word in words {
-        list.push(String::from_str(alloc, word)?)?;
-    }
-    Ok(list)
-}
-
 /// The system, a scenario and a trace.
-pub(crate) fn files_of(alloc: Global, scenario: &str, trace: &str) -> Result<MemoryFiles, Fail> {
-    let mut files = MemoryFiles::new(alloc);
-    files.add(alloc, "system", SYSTEM.as_bytes())?;
-    files.add(alloc, "scenario", scenario.as_bytes())?;
-    files.add(alloc, "trace", trace.as_bytes())?;
-    Ok(files)
+pub(crate) fn files_of(alloc: Global, scenario: &str, trace: &str) -> Result<MemoryFiles, Memory> {
+    sample_commands::files_of(alloc, SYSTEM, scenario, trace.as_bytes())
 }
 
-/// The status of these words.
-pub(crate) fn status_of<F: Files, S: Sink>(
+/// What these words tell over these files, into this sink.
+pub(crate) fn told_into(
     alloc: Global,
     words: &[&str],
-    files: &mut F,
-    sink: &mut S,
-) -> Result<u8, Fail> {
+    mut files: MemoryFiles,
+    mut sink: MemorySink,
+) -> Result<Told, AllocError> {
     let words = words_of(alloc, words)?;
-    Ok(ffm_view(alloc, words.as_slice(), files, sink))
+    let status = ffm_view(alloc, &words, &mut files, &mut sink);
+    Told::of(alloc, status, &sink)
 }
 
 /// What these words tell over a scenario and a trace.
@@ -54,11 +36,8 @@ pub(crate) fn told_over(
     scenario: &str,
     trace: &str,
 ) -> Result<Told, Fail> {
-    let mut files = files_of(alloc, scenario, trace)?;
-    let mut sink = MemorySink::new(alloc, 16384, 256, List::of(Vec::new(alloc)))?;
-    let status = status_of(alloc, words, &mut files, &mut sink)?;
-    let text = sink.bytes().to_vec(alloc)?;
-    Ok(Told { status, text })
+    let files = files_of(alloc, scenario, trace)?;
+    Ok(told_into(alloc, words, files, sink_of(alloc, 16384, 256, 0)?)?)
 }
 
 /// Fails unless these words tell this over a scenario and a trace.
