@@ -16,7 +16,10 @@ fn written_by(
     let alloc = rt.alloc();
     let files = files_of(alloc, pair.system, pair.scenario, trace)?;
     let found = told_alone(alloc, words, files, sink_of(alloc, 4096, 256, 0)?)?;
-    Ok((String::from_str(alloc, from_utf8(&found.text)?)?, found.status))
+    Ok((
+        String::from_str(alloc, from_utf8(&found.text)?)?,
+        found.status,
+    ))
 }
 
 /// The trace that a run of the files writes.
