@@ -11,7 +11,9 @@ rule that bears on the line it prints four things, with their places from the to
 3. the function with its contract, with > before the clause,
 4. wrong bodies that are refused, worked runs and tests.
 The answer that a `resume` shows was made by another event. With a trace the call and that event are found; with the
-text alone the rules that may have made the answer are told by their places.
+text alone the rules that may have made the answer are told by their places. Of signals, and of the message of a `get`,
+the events behind them are found as far as the trace tells them.
+A line `refused ..` is of no trace: the rows of its code in docs/formats.md are printed.
 
 All of it is read from the tables of docs/machine.md and docs/evidence.md, the words of traces from docs/formats.md.
 check_evidence.py says whether each line of the stored traces has the four things. A line isn't judged here: it is taken
@@ -22,8 +24,10 @@ import pathlib
 import re
 import sys
 import textwrap
+from collections import Counter
 from dataclasses import dataclass
 from functools import lru_cache
+from itertools import takewhile
 from typing import NamedTuple
 
 from check_evidence import CRATES, ITEM, TEST, TOKEN, WRONG_BODIES, file_of, rows, sources, without_links
@@ -31,20 +35,24 @@ from check_links import HEADING, anchor
 from example_files import examples
 
 TOP = pathlib.Path(__file__).resolve().parents[1]
-MACHINE, EVIDENCE, FORMATS = (pathlib.Path("docs") / name for name in ("machine.md", "evidence.md", "formats.md"))
+PAGES = ("machine.md", "evidence.md", "formats.md", "view.md")
+MACHINE, EVIDENCE, FORMATS, VIEW = (pathlib.Path("docs") / name for name in PAGES)
 USAGE = "usage: rule_of_line.py TRACE NUMBER | rule_of_line.py 'LINE', with the line in quotation marks"
 EVENT = re.compile(r"([pn][1-9]\d*|dev) (\w+)((?: \S+)*) -> (\w+)((?: \S+)*)")
 VERDICT, RESTART = re.compile(r"(quiet|stalled|full) \d+"), re.compile(r"restart \d+")
+REFUSAL = re.compile(r"refused (\d+)\b.*")
 ACTORS = {"p": "partition", "n": "client", "d": "device"}
 OPERANDS = {"d": r"-?\d+", "h": r"0x[0-9a-fA-F]+", "u": r"\d+"}
 
 # The sections of docs/machine.md that outcomes add to the table of the calls.
 CALLS, RIGHTS, ERROR, REPLY, PANIC = "the-calls", "who-has-which-call", "what-a-programmer-error-does", "reply", "panic"
-SIGNALS, RESETS, VERDICTS = "signals", "resets", "runs-verdicts-and-judgements"
+SIGNALS, MESSAGE, RESETS, VERDICTS = "signals", "the-message", "resets", "runs-verdicts-and-judgements"
 # The kinds of messages in the section Reply, by the calls that send them, or by the outcomes of their returns.
 REQUEST, CONNECTION, DISCONNECTION = "request", "-1", "-2"
 ASKED_BY = {"connect": [CONNECTION], "call": [REQUEST], "close": [DISCONNECTION]}
 ANSWERED_BY = {"value": [CONNECTION, REQUEST], "done": [DISCONNECTION]}
+# The doorbell's bit, the calls with the signal of a source, and how many events are told of which one asserted it.
+DOORBELL, CALLS_OF_SOURCES, FEW, PERHAPS = 0x8, ("eoi", "reset_signal", "irq_enable", "irq_disable"), 6, "perhaps"
 
 
 class Unknown(Exception):
@@ -78,6 +86,14 @@ class Event(NamedTuple):
     def answers(self, *values):
         """Whether the outcome is one of these values."""
         return self.outcome == "value" and self.shown[0] in values
+
+    def names(self, actor, bit, *words):
+        """Whether it is an allowed call of that actor, one of these words, with that signal."""
+        return self.actor == actor and self.word in words and self.outcome != "panicked" and int(self.given[0], 16) == bit
+
+    def message_kind(self):
+        """The kind of the message that it shows."""
+        return REQUEST if int(self.shown[0]) >= 0 else self.shown[0]
 
 
 @lru_cache(maxsize=None)
@@ -114,11 +130,18 @@ def event_of(text, number=0):
     return event
 
 
-class Run:
-    """The events of a run before a line, where they are known."""
+def is_event(text):
+    try:
+        return event_of(text) is not None
+    except Unknown:
+        return False
 
-    def __init__(self, events):
-        self.events = events
+
+class Run:
+    """The events of a run before a line, and those behind it."""
+
+    def __init__(self, events, behind=()):
+        self.events, self.behind = events, behind
         self.messages = {event.shown[1]: event for event in events if event.outcome == "message"}
 
     def answered(self, reply):
@@ -135,6 +158,49 @@ class Run:
 
     def some_panicked(self):
         return any(self.panicked(event) for event in self.events)
+
+    def maker_of(self, message):
+        """The event that made the message which an event shows: the call in which its client is blocked, or the panic in
+        which the client's connection is closed."""
+        number = int(message.shown[2])
+        client = f"p{number}" if number > 0 else f"n{-number}"
+        last = next((event for event in reversed(self.events) if client in (event.actor, self.panicked(event))), None)
+        return last if last and (last.outcome == "blocked" or self.panicked(last)) else None
+
+    def rings_of(self, actor):
+        """The event that asserted a partition's doorbell: the first `notify` since it was cleared."""
+        cleared = max((event.number for event in self.events if event.actor == actor and event.word == "clear"), default=0)
+        rings = (event for event in self.events if event.word == "notify" and event.given[0] == actor[1:])
+        return [event for event in rings if event.number > cleared and event.outcome == "done"][:1]
+
+    def interrupts_of(self, actor, bit):
+        """The events of which one asserted the signal of a partition's source: an interrupt, or what forwards one that is
+        pending. Each time that it was asserted took an interrupt of its own, and each time but the last it was cleared."""
+        cleared = [event.number for event in self.events if event.names(actor, bit, "eoi", "reset_signal")]
+        counts, found = Counter(), []
+        for event in self.events:
+            is_interrupt = event.word in ("raise", "fire") and event.outcome == "done" and event.given[1:] != ("0",)
+            counts.update(event.given[:1] if is_interrupt else ())
+            count = counts[event.given[0]] if is_interrupt else max(counts.values(), default=0)
+            forwards = is_interrupt or event.names(actor, bit, "eoi", "irq_enable")
+            if forwards and count > len(cleared) and event.number >= max(cleared, default=0):
+                found.append(event)
+        return found
+
+    def asserted_by(self, actor, bit):
+        """The events behind a signal that a partition is shown, each with what it did, as far as the lines tell. A bit that
+        a later `get` names is a service's, and the message there is the oldest one that waits."""
+        word = f"0x{bit:08x}"
+        if bit == DOORBELL:
+            return [(event, f"asserted {word}") for event in self.rings_of(actor)]
+        got = next((event for event in self.behind if event.names(actor, bit, "get")), None)
+        if got:
+            maker = self.maker_of(got)
+            return [(maker, f"made the message that asserts {word}"), (got, "takes that message")] if maker else []
+        is_source = any(event.names(actor, bit, *CALLS_OF_SOURCES) for event in (*self.events, *self.behind))
+        found = self.interrupts_of(actor, bit) if is_source else []
+        what = f"asserted {word}" if len(found) == 1 else f"{PERHAPS} asserted {word}"
+        return [(event, what) for event in found] if len(found) <= FEW else []
 
     def call_of(self, actor):
         """The call in which an actor is blocked."""
@@ -179,27 +245,27 @@ def lines_of(path):
 
 
 @lru_cache(maxsize=None)
-def section(name):
-    """The lines of a section of docs/machine.md with their numbers; the first one is its heading."""
+def section(name, page=MACHINE):
+    """The lines of a section of a page with their numbers; the first one is its heading."""
     found = []
-    for number, line in enumerate(lines_of(MACHINE), 1):
+    for number, line in enumerate(lines_of(page), 1):
         heading = HEADING.match(line)
         if heading and found:
             break
         if found or heading and anchor(heading[2]) == name:
             found.append((number, line))
     if not found:
-        raise Unknown(f"{MACHINE}: no section {name}")
+        raise Unknown(f"{page}: no section {name}")
     return found
 
 
-def place_of(name):
-    return f"{MACHINE}:{section(name)[0][0]}"
+def place_of(name, page=MACHINE):
+    return f"{page}:{section(name, page)[0][0]}"
 
 
-def plain(text):
-    """A text without links and emphasis, and with the places of the sections to which it links."""
-    text = re.sub(r"\[([^\]]*)\]\(#([\w-]+)\)", lambda link: f"{link[1]} ({place_of(link[2])})", text)
+def plain(text, page=MACHINE):
+    """A page's text without links and emphasis, and with the places of the sections to which it links."""
+    text = re.sub(r"\[([^\]]*)\]\(#([\w-]+)\)", lambda link: f"{link[1]} ({place_of(link[2], page)})", text)
     return re.sub(r"\*(\w[^*]*)\*", r"\1", re.sub(r"\[([^\]]*)\]\([^)]*\)", r"\1", text))
 
 
@@ -281,6 +347,9 @@ def rule_of_call(event, run):
         if row[column]:
             mark = "?" if shown is None else ">" if shown == is_error else " "
             words.append((mark, f"{column}: {explained(row, column)}"))
+        if is_error and shown is not False and ";" in words[-1][1]:
+            asks = f"change the line's outcome in a copy of the trace, and ask `ffm_view why` ({place_of('why', VIEW)})"
+            words.append((" ", f"Which of these holds: {asks}"))
     words += [(" ", text) for _, text in terms_of(" ".join(row.values()))]
     title = f"call {name_of(event)}" + (f", {row['API'].strip('`')}" if row["API"] else "")
     return Rule(title, f"{MACHINE}:{number}", words, evidence_of(row["API"] or f"`{event.word}`"), name_of(event))
@@ -325,12 +394,27 @@ def rule_of_panic(is_sure=True):
     return rule_of_section(PANIC, "`psa_panic`", call="Panic", is_sure=is_sure)
 
 
+def rule_of_signals(event, run):
+    """The section Signals, and the events that asserted the signals that are shown, as far as the lines tell."""
+    rule, notes, untold = rule_of_section(SIGNALS, f"#{SIGNALS})"), [], []
+    for bit in (1 << place for place in range(32) if run and int(event.shown[0], 16) >> place & 1):
+        found = run.asserted_by(event.actor, bit)
+        notes += found
+        if not found or found[0][1].startswith(PERHAPS):
+            untold.append(f"0x{bit:08x}")
+    if untold:
+        asks = f"`ffm_view state SYSTEM SCENARIO TRACE {event.number}` ({place_of('state', VIEW)})"
+        rule.words.append((" ", f"What asserts {', '.join(untold)} here: {asks}"))
+    return rule, notes
+
+
 def rules_of_answer(event, run):
     """The rules by which the answer that a resume shows was made, and the events that show it, each with what it is."""
     call = run.call_of(event.actor) if run else None
     notes = [(call, "the call that returns")] if call else []
     if event.outcome == "signals":
-        return [rule_of_section(SIGNALS, f"#{SIGNALS})")], notes
+        rule, more = rule_of_signals(event, run)
+        return [rule], notes + more
     kinds = ASKED_BY.get(call.word, []) if call else ANSWERED_BY.get(event.outcome, [])
     is_refused, is_lost = event.answers("-130") and CONNECTION in kinds, event.answers("-145") and REQUEST in kinds
     may_panic = event.outcome == "done" or is_refused or is_lost
@@ -352,10 +436,26 @@ def rules_of_reply(event, run):
     message = run.answered(event) if run else None
     kinds = [CONNECTION, REQUEST, DISCONNECTION]
     if message:
-        kinds = [REQUEST] if int(message.shown[0]) >= 0 else [message.shown[0]]
+        kinds = [message.message_kind()]
     owes = event.given[1] == "-129" and (not message or run.panicked(event) is not None)
     rules = [rule_of_reply(kinds, event.given[1])] + [rule_of_panic(is_sure=message is not None)] * owes
     return rules, [(message, "the message that is answered")] if message else []
+
+
+def rules_of_message(event, run):
+    """What the numbers of a message say, and the event that made it; the rule of that where it is a panic."""
+    kind, maker = event.message_kind(), run.maker_of(event) if run else None
+    told = f"{section(MESSAGE)[0][1].strip('# ')} ({place_of(MESSAGE)}): {' '.join(text for _, text in words_of(MESSAGE))}"
+    words = [(" ", told)]
+    for call in (call for call, kinds in ASKED_BY.items() if kind in kinds and not maker):
+        panic = f", or by its panic ({place_of(PANIC)})" if kind == DISCONNECTION and int(event.shown[2]) > 0 else ""
+        place = f"{MACHINE}:{row_of_call(forms()['Call'][call][0])[0]}"
+        words.append((" ", f"It was made by the client's `{call}` ({place}){panic}"))
+    if not maker or maker.outcome == "blocked":
+        return words, [], [(maker, "made this message")] if maker else []
+    rule = rule_of_panic()
+    rule.words = [(">" if f"of kind {DISCONNECTION} is made" in text else mark, text) for mark, text in rule.words]
+    return words, [rule], [(maker, "the client's panic, which made this message")]
 
 
 def rules_of_event(event, run):
@@ -375,30 +475,36 @@ def rules_of_event(event, run):
         more, notes = rules_of_answer(event, run)
         rules += more
     elif event.word == "wait" and event.outcome == "signals":
-        rules.append(rule_of_section(SIGNALS, f"#{SIGNALS})"))
+        rule, notes = rule_of_signals(event, run)
+        rules.append(rule)
+    elif event.word == "get" and event.outcome == "message":
+        words, more, notes = rules_of_message(event, run)
+        rules[0].words += words
+        rules += more
     return rules, notes
 
 
-def rules_of(text, number=0, events=None):
-    """The rules that bear on a line, and other events with what they are to it. `events` are those before it in its run,
-    where they are known."""
+def rules_of(text, number=0, run=None):
+    """The rules that bear on a line, and other events with what they are to it. `run` is the run around it, where that is
+    known."""
     verdict = VERDICT.fullmatch(text)
     if verdict:
         return [rule_of_section(VERDICTS, f"`{verdict[1]}`", lambda name, state: name == verdict[1])], []
     if RESTART.fullmatch(text):
         return [rule_of_section(RESETS, f"#{RESETS})")], []
-    return rules_of_event(event_of(text, number), None if events is None else Run(events))
+    return rules_of_event(event_of(text, number), run)
 
 
-def events_before(lines, place):
-    """The events of the run before a line."""
+def run_around(lines, place):
+    """The run around a line: the events before it, and those behind it as far as they are lines of a trace."""
     events = []
     for number, line in enumerate(lines[:place], 1):
         if VERDICT.fullmatch(line) or RESTART.fullmatch(line):
             events.clear()
         else:
             events.append(event_of(line, number))
-    return events
+    behind = takewhile(lambda numbered: is_event(numbered[1]), enumerate(lines[place + 1:], place + 2))
+    return Run(events, [event_of(line, number) for number, line in behind])
 
 
 # ---- definitions, clauses, wrong bodies and tests
@@ -406,27 +512,31 @@ def events_before(lines, place):
 
 @dataclass(frozen=True)
 class Item:
-    """A function or a definition that a cell names: its file, the place of its line, from 0, its name and its clauses."""
+    """A function or a definition that a cell names: its file, the place of its line, from 0, its name, its clauses, and
+    what the cell says of it in parentheses."""
     path: pathlib.Path
     place: int
     name: str
     clauses: tuple = ()
+    remark: str = ""
 
     def told(self, clauses=()):
         named = [name or "without a name" for name in clauses or self.clauses]
-        return f"{self.path}:{self.place + 1}, {self.name}" + (f", clause {', '.join(named)}" if named else "")
+        clause = f", clause {', '.join(named)}" if named else ""
+        return f"{self.path}:{self.place + 1}, {self.name}{clause}{self.remark}"
 
 
 def is_crate(word):
     return (CRATES / word / "src").is_dir()
 
 
-def found_in(files, name, clauses):
-    """The item of that name, in the first of the files that has it."""
+def found_in(files, name, clauses, part):
+    """The item of that name, in the first of the files that has it. `part` is the text of the cell that names it."""
+    remark = re.search(rf"\b{name}`( \([^)]*\))", part)
     for path in files:
         for place, line in enumerate(lines_of(path)):
             if re.search(ITEM.format(name), line) and not re.match(r"\s*(//|--)", line):
-                return [Item(path, place, name, tuple(clauses))]
+                return [Item(path, place, name, tuple(clauses), remark[1] if remark else "")]
     return []
 
 
@@ -453,7 +563,7 @@ def items_of(cell, column):
             elif is_crate(token):
                 files = sources(token)
             has_clauses = has_clauses or named != [] and token in ("clause", "clauses")
-        found += [item for name, clauses in named for item in found_in(files, name, clauses)]
+        found += [item for name, clauses in named for item in found_in(files, name, clauses, part)]
         found += [test for path in files[:1] if column == "Tests" and not named for test in tests_in(path)]
     return found
 
@@ -542,36 +652,47 @@ def text_of(rule, is_whole):
         yield from (f"   {what}: {text}" for what, text in runs_of(row))
 
 
-def told(text, number=0, events=None):
+def told(text, number=0, run=None):
     """All lines that are printed of a line."""
-    rules, notes = rules_of(text, number, events)
+    rules, notes = rules_of(text, number, run)
     yield f"line {number}: {text}" if number else text
     yield from (f"line {event.number}: {event.text} ({what})" for event, what in notes)
     for rule in rules:
         yield ""
-        yield from (line.rstrip() for line in text_of(rule, is_whole=rule.is_sure or events is not None))
+        yield from (line.rstrip() for line in text_of(rule, is_whole=rule.is_sure or run is not None))
+
+
+def told_of_refusal(text, code):
+    """The lines that are printed of the line of a refusal: the rows of docs/formats.md of its code."""
+    found = [(number, row) for number, row in table(FORMATS) if code in re.findall(r"\d+", row.get("Code", ""))]
+    if not found:
+        raise Unknown(f"{text}: no refusal has this code ({place_of('refusals', FORMATS)})")
+    yield text
+    for number, row in found:
+        yield f"a refusal: {FORMATS}:{number}"
+        for column, cell in row.items():
+            yield from wrapped(">", f"{column}: {plain(cell, FORMATS)}")
 
 
 def answer(words):
     """The lines that are printed: of the one line that is given, or of that with a number in a trace."""
     lines = pathlib.Path(words[0]).read_text().splitlines() if len(words) == 2 else []
     os.chdir(TOP)
-    if len(words) == 1:
-        return told(words[0].strip())
-    number = int(words[1])
-    if not 1 <= number <= len(lines):
-        raise Unknown(f"{words[0]}: no line {number} among {len(lines)}")
-    return told(lines[number - 1], number, events_before(lines, number - 1))
+    number = int(words[1]) if lines else 0
+    if len(words) == 2 and not 1 <= number <= len(lines):
+        raise Unknown(f"{words[0]}: no line {words[1]} among {len(lines)}")
+    text = lines[number - 1] if number else words[0].strip()
+    refusal = REFUSAL.fullmatch(text)
+    if refusal:
+        return told_of_refusal(text, refusal[1])
+    return told(text, number, run_around(lines, number - 1) if number else None)
 
 
 # ---- all lines of the stored traces, for check_evidence.py
 
 
 def is_line(text):
-    try:
-        return VERDICT.fullmatch(text) or RESTART.fullmatch(text) or event_of(text)
-    except Unknown:
-        return False
+    return VERDICT.fullmatch(text) or RESTART.fullmatch(text) or is_event(text)
 
 
 def stored_traces():
@@ -607,9 +728,9 @@ def kinds_and_lacks():
     for path, lines in stored_traces():
         for place, line in enumerate(lines):
             words = re.sub(r"(?<=[a-z])\d+| (?:0x[0-9a-f]+|\d+|-\d)\b", "", line)
-            for events in (None, events_before(lines, place)):
+            for run in (None, run_around(lines, place)):
                 try:
-                    rules, _ = rules_of(line, place + 1, events)
+                    rules, _ = rules_of(line, place + 1, run)
                     kind = (words, *(rule.title for rule in rules))
                     new = [] if kind in kinds else [what for rule in rules for what in lacks_of(rule)]
                     kinds.add(kind)
