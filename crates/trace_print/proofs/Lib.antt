@@ -3,7 +3,6 @@ pub mod Counting
 pub mod Decimals
 pub mod Parts
 pub mod DecimalDigits
-pub mod EightDigits
 pub mod HexadecimalDigits
 pub mod Numbers
 pub mod Again
@@ -11,7 +10,6 @@ pub mod Plain
 pub mod Entries
 pub mod Printed
 pub mod Verdicts
-pub mod TenBytes
 pub mod Traces
 pub mod FirstLine
 pub mod WholeTrace

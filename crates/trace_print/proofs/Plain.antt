@@ -53,7 +53,7 @@ unfolding hexadecimal_digits IsPlain
 plain_hexadecimal_digits zero n = tt
 plain_hexadecimal_digits (suc k) n = plain_append (hexadecimal_digits k (n / 16)) (hexadecimal_digit (n % 16) ∷ []) (plain_hexadecimal_digits k (n / 16)) (plain_one (hexadecimal_digit (n % 16)) (digit_high (n % 16)))
 
-pub plain_hexadecimal : (n : ℕ) → IsPlain (hexadecimal_word n)
+plain_hexadecimal : (n : ℕ) → IsPlain (hexadecimal_word n)
 unfolding hexadecimal_word IsPlain
 plain_hexadecimal n = (lit< tt, (lit< tt, plain_hexadecimal_digits 8 n))
 

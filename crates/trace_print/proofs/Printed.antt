@@ -93,9 +93,6 @@ hexadecimal_from w n is e =
 hexadecimal_number : (w : Word) → Gives (hexadecimal_of w) (λ n. (w ≡ hexadecimal_word n) × IsU32 n)
 hexadecimal_number w = when (is_hexadecimal w) (number_after 16 0 (drop 2 w)) _ (λ is. given (number_after 16 0 (drop 2 w)) _ (λ n e. (hexadecimal_from w n is e, number_below 16 0 n (drop 2 w) (omega arith) e)))
 
-pub hexadecimal_is : (w : Word) (n : ℕ) → hexadecimal_of w ≡ Some n → w ≡ hexadecimal_word n
-hexadecimal_is w n e = (given_is (hexadecimal_of w) _ n (hexadecimal_number w) e).0
-
 positive_word : (w : Word) (n : ℕ) → w ≡ decimal n → Gives (positive n) (λ z. (w ≡ signed_decimal z) × IsI32 z)
 positive_word w n e = when (nat_lt n (2 ^ 31)) (Some (pos n)) _ (λ t. let small : n < 2 ^ 31 = grind (arith, nat_tests, t) in done (pos n) _ (e, record { sfits = small }))
 

@@ -1,6 +1,6 @@
 //! Words of a line, and the numbers that they spell, each in the one spelling that is printed.
 
-ghost use Rattle.std.specs.Prelude.{◌≡◌, ◌∷◌, ◌++◌, IfSome, length};
+ghost use Rattle.std.specs.Prelude.{◌≡◌, ◌∷◌, ◌++◌, IfSome};
 ghost use Rattle.std.specs.Option.{option_map};
 ghost use Rattle.trace_print.specs.Numbers.{digit_at, more, with_digit, number_after, unsigned_of, signed_of, hexadecimal_of, negative, positive};
 ghost use Rattle.trace_print.specs.Reading.{word_at, unsigned_at, hexadecimal_at, signed_at};
@@ -42,29 +42,21 @@ pub fn word<'a>(words: Words<'a>) -> Option<(&'a [u8], Words<'a>)>
     Some(split_once(b' ', text))
 }
 
-// The digit that a byte is, in base 16. Each range takes one comparison, since a difference below
-// zero wraps round to a large number.
-fn digit_at(byte: u8) -> Option<u32>
+fn digit_at(byte: u8) -> Option<u8>
     ensures { result ≡ digit_at byte }
 {
-    let byte = u32::from(byte);
-    let digit = byte.wrapping_sub(b'0' as u32);
-    let letter = byte.wrapping_sub(b'a' as u32);
-    if digit < 10 {
-        Some(digit)
-    } else if letter < 6 {
-        Some(letter + 10)
-    } else {
-        None
+    match byte {
+        b'0'..=b'9' => Some(byte - b'0'),
+        b'a'..=b'f' => Some(byte - b'a' + 10),
+        _ => None,
     }
 }
 
-fn more(base: u8, n: u32, digit: u32) -> Option<u32>
+fn more(base: u8, n: u32, digit: u8) -> Option<u32>
     ensures { result ≡ more base n digit }
 {
-    let base = u32::from(base);
     if digit < base {
-        n.checked_mul(base)?.checked_add(digit)
+        u32::try_from(u64::from(n) * u64::from(base) + u64::from(digit)).ok()
     } else {
         None
     }
@@ -88,26 +80,12 @@ pub fn number(base: u8, digits: &[u8]) -> Option<u32>
     Some(n)
 }
 
-// The number that eight digits in base 16 spell. It always fits.
-fn eight_digits(digits: &[u8]) -> Option<u32>
-    requires { length digits.now ≡ 8 }
-    ensures { result ≡ number_after 16 0 digits.now }
-{
-    let mut n = 0;
-    for byte in digits {
-        let digit = digit_at(*byte)?;
-        n = n * 16 + digit;
-    }
-    Some(n)
-}
-
 // `0x` and eight lower-case digits.
 fn hexadecimal_of(word: &[u8]) -> Option<u32>
-    requires { length word.now ≡ 10 }
     ensures { result ≡ hexadecimal_of word.now }
 {
-    if word[0] == b'0' && word[1] == b'x' {
-        eight_digits(&word[2..])
+    if word.len() == 10 && word[0] == b'0' && word[1] == b'x' {
+        number(16, &word[2..])
     } else {
         None
     }
@@ -159,18 +137,12 @@ pub fn unsigned<'a>(words: Words<'a>) -> Option<(u32, Words<'a>)>
     Some((unsigned_of(word)?, words))
 }
 
-/// The first word as a hexadecimal number, and the words behind it. Such a word has ten bytes, and
-/// behind them it ends.
+/// The first word as a hexadecimal number, and the words behind it.
 pub fn hexadecimal<'a>(words: Words<'a>) -> Option<(u32, Words<'a>)>
     ensures { option_map seen result ≡ hexadecimal_at (words_of words.entry) }
 {
-    let (word, behind) = words?.split_at_checked(10)?;
-    let n = hexadecimal_of(word)?;
-    match behind {
-        [] => Some((n, None)),
-        [b' ', rest @ ..] => Some((n, Some(rest))),
-        _ => None,
-    }
+    let (word, words) = word(words)?;
+    Some((hexadecimal_of(word)?, words))
 }
 
 /// The first word as a signed number, and the words behind it.
