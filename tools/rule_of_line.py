@@ -348,7 +348,7 @@ def rule_of_call(event, run):
             mark = "?" if shown is None else ">" if shown == is_error else " "
             words.append((mark, f"{column}: {explained(row, column)}"))
         if is_error and shown is not False and ";" in words[-1][1]:
-            asks = f"change the line's outcome in a copy of the trace, and ask `ffm_view why` ({place_of('why', VIEW)})"
+            asks = f"change the line's outcome in a copy of the trace, and ask the built program, `ffm_view why` ({place_of('why', VIEW)})"
             words.append((" ", f"Which of these holds: {asks}"))
     words += [(" ", text) for _, text in terms_of(" ".join(row.values()))]
     title = f"call {name_of(event)}" + (f", {row['API'].strip('`')}" if row["API"] else "")

@@ -1,11 +1,9 @@
 //! The conditions of an access to memory.
 ghost use Rattle.std.specs.Prelude.{◌≡◌, IfOk, map};
 ghost use Rattle.call_conditions.specs.Conditions.{memory_conditions, size_condition, told};
-ghost use Rattle.machine_calls.specs.Machine.{IsMachineOf};
 
 use crate::condition::{Condition, marked};
 use ffm_model::{ActorId, Call, System};
-use machine_calls::Machine;
 use machine_rules::is_access_size;
 use memory_image::{may_read, may_write};
 use std::alloc::{AllocError, Global};
@@ -20,22 +18,19 @@ fn of_size(size: u32) -> Condition
 pub fn memory_conditions(
     alloc: Global,
     system: &System,
-    machine: &Machine,
     actor: ActorId,
     call: Call,
 ) -> Result<Vec<Condition>, AllocError>
-    requires { IsMachineOf system.now machine.now }
     ensures { IfOk result (λ conditions. map told conditions.items ≡ memory_conditions system.now actor.0 call) }
 {
-    let memory = &machine.memory;
     match call {
         Call::Load { address, size } => {
-            let is_wrong = !may_read(system, memory, actor, address, size);
+            let is_wrong = !may_read(system, actor, address, size);
             let range = marked("the caller may not read the range", is_wrong);
             Ok(Vec::from_array(alloc, [of_size(size), range])?)
         }
         Call::Store { address, size, .. } => {
-            let is_wrong = !may_write(system, memory, actor, address, size);
+            let is_wrong = !may_write(system, actor, address, size);
             let range = marked("the caller may not write the range", is_wrong);
             Ok(Vec::from_array(alloc, [of_size(size), range])?)
         }

@@ -54,7 +54,7 @@ pub fn conditions(
         Group::Service => service_conditions(alloc, system, machine, actor, call),
         Group::Transfer => transfer_conditions(alloc, system, machine, actor, call),
         Group::Signal => signal_conditions(alloc, system, &machine.objects, actor, call),
-        Group::Memory => memory_conditions(alloc, system, machine, actor, call),
+        Group::Memory => memory_conditions(alloc, system, actor, call),
         Group::Actor => actor_conditions(alloc, call),
     }
 }

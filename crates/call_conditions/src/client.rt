@@ -79,12 +79,10 @@ fn is_refusing(connection: Option<OpenConnection>) -> bool
 // The rules of the vectors but for what their descriptors say.
 fn are_arrays_wrong(
     system: &System,
-    machine: &Machine,
     actor: ActorId,
     inputs: (u32, u32),
     outputs: (u32, u32),
 ) -> bool
-    requires { IsMachineOf system.now machine.now }
     ensures { result ≡ are_arrays_wrong system.now actor.0 inputs.0 inputs.1 outputs.0 outputs.1 }
 {
     let (in_vec, in_len) = inputs;
@@ -92,8 +90,8 @@ fn are_arrays_wrong(
     if !are_few(in_len, out_len) {
         return true;
     }
-    !valid_buffer(system, &machine.memory, actor, in_vec, 8 * in_len)
-        || !valid_buffer(system, &machine.memory, actor, out_vec, 8 * out_len)
+    !valid_buffer(system, actor, in_vec, 8 * in_len)
+        || !valid_buffer(system, actor, out_vec, 8 * out_len)
 }
 
 fn of_invoke(
@@ -180,7 +178,7 @@ pub fn client_conditions(
             out_len,
         } => {
             let inputs = (in_vec, in_len);
-            let are_wrong = are_arrays_wrong(system, machine, actor, inputs, (out_vec, out_len));
+            let are_wrong = are_arrays_wrong(system, actor, inputs, (out_vec, out_len));
             let conditions = of_invoke(system, objects, actor, handle, kind, are_wrong);
             Ok(Vec::from_array(alloc, conditions)?)
         }

@@ -42,7 +42,7 @@ fn of_get(
         marked("no message waits for that service", is_empty),
         marked(
             "the 48 bytes at msg are no valid buffer",
-            !valid_buffer(system, &machine.memory, actor, msg, MESSAGE_SIZE),
+            !valid_buffer(system, actor, msg, MESSAGE_SIZE),
         ),
     ]
 }

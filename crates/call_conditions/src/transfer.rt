@@ -32,13 +32,12 @@ fn of_request(message: &Option<PendingMessage>, index: u32) -> [Condition; 3]
     ]
 }
 
-fn of_buffer(system: &System, machine: &Machine, actor: ActorId, buffer: u32, len: u32) -> Condition
-    requires { IsMachineOf system.now machine.now }
+fn of_buffer(system: &System, actor: ActorId, buffer: u32, len: u32) -> Condition
     ensures { told result ≡ buffer_condition system.now actor.0 buffer len }
 {
     marked(
         "(buffer, len) is no valid buffer",
-        !valid_buffer(system, &machine.memory, actor, buffer, len),
+        !valid_buffer(system, actor, buffer, len),
     )
 }
 
@@ -88,7 +87,7 @@ pub fn transfer_conditions(
         } => {
             let message = machine.objects.message_held(system, actor.0, handle);
             let [held, request, place] = of_request(&message, index);
-            let room = of_buffer(system, machine, actor, buffer, len);
+            let room = of_buffer(system, actor, buffer, len);
             Ok(Vec::from_array(alloc, [held, request, place, room])?)
         }
         Call::Skip { handle, index, .. } => {
@@ -103,7 +102,7 @@ pub fn transfer_conditions(
         } => {
             let message = machine.objects.message_held(system, actor.0, handle);
             let [held, request, place] = of_request(&message, index);
-            let bytes = of_buffer(system, machine, actor, buffer, len);
+            let bytes = of_buffer(system, actor, buffer, len);
             let rest = of_rest(&message, index, len);
             Ok(Vec::from_array(alloc, [held, request, place, bytes, rest])?)
         }

@@ -38,12 +38,12 @@ const INTERRUPTS: [(u32, Option<u32>, Outcome); 9] = [
 ];
 
 // A manager of the partition's system, which has made no event.
-#[tactic(auto, using(memory_image::proofs::Systems::system_fits, memory_image::proofs::Systems::system_few))]
+#[tactic(auto, using(memory_image::proofs::Systems::system_fits, ffm_model::proofs::RangeLemmas::regions_few))]
 fn manager(alloc: Global) -> Result<Spm, Fail>
     ensures { IfOk result (λ m. m.history ≡ []) }
 {
     let system = system_of(alloc, DRIVER)?;
-    let image = Image::new(alloc, &system.regions, &List::of(Vec::new(alloc)))?;
+    let image = Image::new(alloc, system.regions.list(), &List::of(Vec::new(alloc)))?;
     Ok(Spm::new(alloc, system, image, 4)?)
 }
 

@@ -1,7 +1,8 @@
 //! What the calls are made on: tables at their start and an image, of a system of one partition and one client.
 ghost use Rattle.std.specs.Prelude.{◌≡◌, IfOk, IsTrue};
 ghost use Rattle.ffm_model.specs.State.{opening_spm, phase_of};
-ghost use Rattle.memory_image.specs.Pieces.{ranges_of, regions_of};
+ghost use Rattle.ffm_model.specs.Ranges.{ranges_of};
+ghost use Rattle.memory_image.specs.Pieces.{regions_of};
 ghost use Rattle.slot_names.specs.Premises.{Premises};
 ghost use Rattle.spm_tables.specs.TablesView.{spm_of};
 
@@ -25,6 +26,13 @@ pub(crate) const SYSTEM: &str = r#"{"isolation_level":3,"manifests":[
 {"name":"SECURE","sid":"0x42","non_secure_clients":false}]}],
 "non_secure_ram":"0x400","clients":["NS"]}"#;
 
+// A service for requests by a stateless handle, 0x40000001, and a client that may make them.
+pub(crate) const STATELESS: &str = r#"{"isolation_level":3,"manifests":[
+{"psa_framework_version":1.1,"name":"VAULT","type":"APPLICATION-ROT",
+"priority":"NORMAL","entry_point":"main","stack_size":"0x400",
+"services":[{"name":"COUNT","sid":"0x50","non_secure_clients":true,"connection_based":false,"stateless_handle":1}]}],
+"non_secure_ram":"0x400","clients":["NS"]}"#;
+
 pub(crate) fn runs(tables: &Tables, actor: ActorId) -> bool
     ensures { IsTrue result → phase_of (spm_of tables.now) actor.0 ≡ ActorPhase.Running }
 {
@@ -41,16 +49,16 @@ pub(crate) fn ready(alloc: Global, system: &System) -> Result<Tables, Fail>
     Ok(Tables::new(alloc, system)?)
 }
 
-// The descriptors of a vector of the client, and of one in the partition's RAM.
-#[tactic(auto, using(memory_image::proofs::Systems::system_fits, memory_image::proofs::Systems::system_few))]
+// In the client's RAM the descriptor of a vector, and behind it the vector's four bytes.
+#[tactic(auto, using(memory_image::proofs::Systems::system_fits, ffm_model::proofs::RangeLemmas::regions_few))]
 pub(crate) fn image_of(rt: &impl Abort, alloc: Global, system: &System) -> Result<Image, Fail>
     ensures { IfOk result (λ image. regions_of image ≡ ranges_of system.now.regions) }
 {
-    let descriptors = Bytes {
+    let vector = Bytes {
         address: 0x2000_0000,
-        content: List::of(b"\0\x01\0\x20\x04\0\0\0\0\0\0\x30\x04\0\0\0".to_vec(alloc)?),
+        content: List::of(b"\x08\0\0\x20\x04\0\0\0\x0b\x16\x21\x2c".to_vec(alloc)?),
     };
-    let opening = vec![in alloc; descriptors]?;
+    let opening = vec![in alloc; vector]?;
     assert!(rt; open_within(system.regions.as_slice(), opening.as_slice()));
-    Ok(Image::new(alloc, &system.regions, &List::of(opening))?)
+    Ok(Image::new(alloc, system.regions.list(), &List::of(opening))?)
 }

@@ -60,7 +60,7 @@ names-held y d m new a k s c ph kind v h phased made kept same sent =
     let waiting : m.messages ≡ d.messages = ap (λ (x : TablesView). x.messages) after in
     let P : OpenConnection → Type 0 = λ x. IsSomeAnd (free_slot m.messages) (λ place. new.messages ≡ taken m.messages place (message_on s x kind v)) in
     let at = placed m.messages new.messages (message_on s changed kind v) (at-item (item_at m.connections s) changed P (item-phased d m a k s c ph h phased) sent) in
-    names-asked y d new s at.0 c changed (message_on s changed kind v) made kept h.live refl (same ∙ ap (λ (x : TablesView). x.connections) after)
+    names-asked y d new s at.0 c changed (message_on s changed kind v) made kept h.live refl (λ e. e) (same ∙ ap (λ (x : TablesView). x.connections) after)
     (ap (λ (w : Places QueuedMessage). free_slot w) (sym waiting) ∙ at.1) (at.2 ∙ ap (λ (w : Places QueuedMessage). taken w at.0 (message_on s changed kind v)) waiting)
 
 -- psa_call by a stateless handle

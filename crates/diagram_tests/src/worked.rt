@@ -87,7 +87,7 @@ pub(crate) fn drawn(
     if system.regions.len() >= 2147483648 || trace.entries.len() >= 2147483648 {
         return Err(Fail::from("too many regions or entries"));
     }
-    let image = Image::new(alloc, &system.regions, &List::of(Vec::new(alloc)))?;
+    let image = Image::new(alloc, system.regions.list(), &List::of(Vec::new(alloc)))?;
     let diagram = diagram(alloc, system, &image, 1000, &trace, part, format)?;
     Ok(diagram.text(alloc, system, &trace)?)
 }
@@ -103,7 +103,7 @@ pub(crate) fn arrows_of_text(
     if system.regions.len() >= 2147483648 || trace.entries.len() >= 2147483648 {
         return Err(Fail::from("too many regions or entries"));
     }
-    let image = Image::new(alloc, &system.regions, &List::of(Vec::new(alloc)))?;
+    let image = Image::new(alloc, system.regions.list(), &List::of(Vec::new(alloc)))?;
     let entries = trace.entries.as_slice();
     Ok(gather(alloc, system, &image, 1000, entries, WHOLE)?)
 }

@@ -1,4 +1,5 @@
 pub mod WellFormedLemmas
+pub mod RangeLemmas
 pub mod ActorLemmas
 pub mod PartsLemmas
 pub mod ReadingLemmas

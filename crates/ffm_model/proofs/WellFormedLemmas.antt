@@ -21,6 +21,11 @@ pub budgets_hold : (s : System) → budgets_fit (length s.partitions + length s.
 unfolding is_well_formed
 budgets_hold s = right _ _ s.well_formed
 
+-- no two services have one SID
+pub sids_differ : (s : System) → each_pair (λ v w. not (v.sid.0 == w.sid.0)) s.services ≡ true
+unfolding is_well_formed
+sids_differ s = right _ _ (left _ _ s.well_formed)
+
 pub signals_hold : (s : System) → signals_fit (length s.partitions) s.services s.sources ≡ true
 unfolding is_well_formed
 signals_hold s = right _ _ (left _ _ (left _ _ s.well_formed))

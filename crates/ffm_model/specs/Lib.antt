@@ -8,6 +8,7 @@ pub mod Scripts
 pub mod Plans
 pub mod ScriptRuns
 pub mod WellFormed
+pub mod Ranges
 pub mod Parts
 pub mod Actors
 pub mod Groups

@@ -7,8 +7,11 @@ ghost use Rattle.ffm_model.specs.WellFormed.{is_well_formed, each_pair, budget_b
 use crate::list::List;
 use crate::machine::{ActorId, Sid};
 use crate::name::Name;
+use crate::regions::Regions;
+use crate::services::Services;
 use crate::trace::Counts;
 use crate::well_formed::do_parts_fit;
+use std::alloc::{AllocError, Global};
 use std::cmp::Ordering;
 
 /// What an actor is.
@@ -120,20 +123,13 @@ pub struct Budget {
 pub struct System {
     pub level: u32,
     pub partitions: List<Partition>,
-    pub services: List<Service>,
+    pub services: Services,
     pub sources: List<Source>,
-    pub regions: List<Region>,
+    pub regions: Regions,
     pub clients: List<Name>,
     pub budgets: List<Budget>,
     pub ghost counted: { IsTrue (nat_lt (length services) (2 ^ 31) && nat_lt (length regions) (2 ^ 31)) },
     pub ghost well_formed: { IsTrue (is_well_formed level partitions services sources regions clients budgets) },
-}
-
-// The place of the first service with the SID.
-fn place_of(services: &[Service], sid: Sid) -> Option<usize>
-    ensures { result ≡ position (λ v. v.sid.0 == sid.0) services.now }
-{
-    services.iter().position(|v| v.sid.0 == sid.0)
 }
 
 // The place of the first service with the index.
@@ -164,7 +160,7 @@ fn count_for(budgets: &[Budget], client: ActorId, service: u32) -> Option<u32>
 }
 
 impl System {
-    ghost use Rattle.std.specs.Prelude.{◌≡◌, ◌<◌, ◌^◌, length, is_some, IfSome};
+    ghost use Rattle.std.specs.Prelude.{◌≡◌, ◌<◌, ◌^◌, length, is_some, IfSome, IfOk};
     ghost use Rattle.ffm_model.specs.WellFormed.{is_well_formed};
     ghost use Rattle.ffm_model.specs.Parts.{SystemParts, system_from, parts_of_system};
     ghost use Rattle.ffm_model.specs.Actors.{actor_count, counts_of, kind_of, client_id_of, service_at, stateless_at, budget_of};
@@ -203,11 +199,28 @@ impl System {
         Some(System {
             level,
             partitions,
-            services,
+            services: Services::of(services),
             sources,
-            regions,
+            regions: Regions::of(regions),
             clients,
             budgets,
+        })
+    }
+
+    /// The same system, with its services kept by SID too, and its regions by address, so that a look-up
+    /// among many doesn't go through all. `AllocError` where memory is wanting; then the system is gone.
+    #[tactic(auto, using(crate::proofs::RangeLemmas::services_apart, crate::proofs::RangeLemmas::services_few, crate::proofs::RangeLemmas::regions_apart, crate::proofs::RangeLemmas::regions_few))]
+    pub fn in_order(self, alloc: Global) -> Result<System, AllocError>
+        ensures { IfOk result (λ s. s ≡ self) }
+    {
+        Ok(System {
+            level: self.level,
+            partitions: self.partitions,
+            services: self.services.by_sid(alloc)?,
+            sources: self.sources,
+            regions: self.regions.by_address(alloc)?,
+            clients: self.clients,
+            budgets: self.budgets,
         })
     }
 
@@ -272,7 +285,7 @@ impl System {
     pub fn service_at(&self, sid: Sid) -> Option<u32>
         ensures { result ≡ service_at self.now sid }
     {
-        match place_of(self.services.as_slice(), sid) {
+        match self.services.place_of(sid) {
             Some(i) => Some(i as u32),
             None => None,
         }

@@ -8,7 +8,7 @@ use Rattle.ffm_model.specs.declared.system.System.{System}
 use Rattle.ffm_model.specs.ClientCalls.{Move, psa_call, psa_close, psa_connect}
 use Rattle.ffm_model.specs.Panic.{panic_effect}
 use Rattle.ffm_model.specs.State.{SpmState, State}
-use Rattle.memory_image.specs.Pieces.{ranges_of}
+use Rattle.ffm_model.specs.Ranges.{ranges_of}
 use Rattle.message_vectors.specs.Vectors.{AreWithin}
 use Rattle.isolation_law.proofs.Within.{AllMeet, MovedMeets, calls, closes, connects, none-within, panics, within-kept}
 

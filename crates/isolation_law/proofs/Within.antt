@@ -40,7 +40,8 @@ use Rattle.ffm_model.specs.ServiceCalls.{psa_wait, psa_get, psa_set_rhandle, psa
 use Rattle.ffm_model.specs.SignalCalls.{source_of_signal, interrupted}
 use Rattle.ffm_model.specs.Calls.{call_case, error_effect, effect_of}
 use Rattle.ffm_model.specs.Step.{step, after}
-use Rattle.memory_image.specs.Pieces.{is_inside, ranges_of}
+use Rattle.ffm_model.specs.Ranges.{ranges_of}
+use Rattle.memory_image.specs.Pieces.{is_inside}
 use Rattle.message_vectors.specs.Vectors.{AreWithin}
 use Rattle.message_vectors.proofs.Moved.{read_within, input_within, output_within}
 use Rattle.isolation_law.specs.Vectors.{AreFour, HaveFour, LieWithin}

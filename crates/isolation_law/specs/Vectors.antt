@@ -4,7 +4,7 @@ use Rattle.std.specs.Prelude.{◌≡◌, length, All}
 use Rattle.ffm_model.specs.declared.system.System.{System}
 use Rattle.ffm_model.specs.declared.objects.Vectors.{Vectors}
 use Rattle.ffm_model.specs.State.{SpmState}
-use Rattle.memory_image.specs.Pieces.{ranges_of}
+use Rattle.ffm_model.specs.Ranges.{ranges_of}
 use Rattle.message_vectors.specs.Vectors.{AreWithin}
 
 -- four input and four output vectors, of which those that aren't given have length 0

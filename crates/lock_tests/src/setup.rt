@@ -21,14 +21,14 @@ const SYSTEM: &str = r#"{"isolation_level":3,"manifests":[
 {"name":"ADMIN","sid":"0x41","non_secure_clients":false,"version":2}]}],
 "non_secure_ram":"0x1000","clients":["NS","OTHER"]}"#;
 
-#[tactic(auto, using(memory_image::proofs::Systems::system_fits, memory_image::proofs::Systems::system_few))]
+#[tactic(auto, using(memory_image::proofs::Systems::system_fits, ffm_model::proofs::RangeLemmas::regions_few))]
 pub fn manager(alloc: Global, limit: u32) -> Result<Spm, Fail>
     requires positive { 1 ≤ limit }
     requires limited { limit ≤ MAX_ENTRIES }
     ensures { IfOk result (λ m. m.history ≡ []) }
 {
     let system = system_of(alloc, SYSTEM)?;
-    let image = Image::new(alloc, &system.regions, &List::of(Vec::new(alloc)))?;
+    let image = Image::new(alloc, system.regions.list(), &List::of(Vec::new(alloc)))?;
     Ok(Spm::new(alloc, system, image, limit)?)
 }
 

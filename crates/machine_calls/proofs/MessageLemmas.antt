@@ -16,7 +16,8 @@ use Rattle.ffm_model.specs.ClientCalls.{effect}
 use Rattle.ffm_model.specs.ServiceCalls.{get_of, message_size, is_connect_status, message_words, psa_get, reply_to, request_held, service_of_signal, shown_message}
 use Rattle.ffm_model.specs.State.{State, delivered, has_handle, is_undelivered, message_held, vectors_put, with_vectors, without_message}
 use Rattle.memory_image.specs.declared.image.Image.{Image}
-use Rattle.memory_image.specs.Pieces.{byte_at, ranges_of, regions_of}
+use Rattle.ffm_model.specs.Ranges.{ranges_of}
+use Rattle.memory_image.specs.Pieces.{byte_at, regions_of}
 use Rattle.machine_rules.specs.Vectors.{VectorsFit}
 use Rattle.machine_calls.specs.declared.machine.Machine.{Machine}
 use Rattle.machine_calls.specs.declared.machine.Objects.{Objects}

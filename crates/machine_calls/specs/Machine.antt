@@ -9,7 +9,8 @@ use Rattle.ffm_model.specs.declared.machine.Outcome.{Outcome}
 use Rattle.ffm_model.specs.declared.machine.Outcome.TheVariants.{Got}
 use Rattle.ffm_model.specs.ClientCalls.{Move, move, Effect, effect}
 use Rattle.ffm_model.specs.State.{SpmState, State}
-use Rattle.memory_image.specs.Pieces.{byte_at, ranges_of, regions_of}
+use Rattle.ffm_model.specs.Ranges.{ranges_of}
+use Rattle.memory_image.specs.Pieces.{byte_at, regions_of}
 use Rattle.machine_rules.specs.Vectors.{VectorsFit}
 use Rattle.machine_calls.specs.declared.machine.Objects.{Objects}
 use Rattle.machine_calls.specs.declared.machine.Machine.{Machine}

@@ -14,7 +14,7 @@ impl Machine {
         requires { IsMachineOf system.now self.now }
         ensures does { Does (λ given. load system.now (state_of self.now given) actor.0 address size) self.now (Ok result) self.now }
     {
-        if !is_access_size(size) || !may_read(system, &self.memory, actor, address, size) {
+        if !is_access_size(size) || !may_read(system, actor, address, size) {
             return None;
         }
         Some(Outcome::Number(self.memory.load(address, size)))
@@ -34,7 +34,7 @@ impl Machine {
         ensures made { self.new.objects.connections_made ≡ self.old.objects.connections_made }
         ensures kept { IsMachineOf system.now self.new }
     {
-        if !is_access_size(size) || !may_write(system, &self.memory, actor, address, size) {
+        if !is_access_size(size) || !may_write(system, actor, address, size) {
             return None;
         }
         self.memory.store(address, size, value);

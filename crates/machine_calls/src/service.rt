@@ -108,7 +108,7 @@ impl Machine {
     {
         let service = service_of_signal(system, actor.0, signal)?;
         let message = self.objects.first_undelivered(service)?;
-        if !valid_buffer(system, &self.memory, actor, msg, MESSAGE_SIZE) {
+        if !valid_buffer(system, actor, msg, MESSAGE_SIZE) {
             return None;
         }
         let shown = self.objects.shown(system, message, handle);
@@ -155,7 +155,7 @@ impl Machine {
         ensures kept { IsMachineOf system.now self.new }
     {
         let message = self.objects.request_held(system, actor.0, handle, index)?;
-        if !valid_buffer(system, &self.memory, actor, buffer, len) {
+        if !valid_buffer(system, actor, buffer, len) {
             return None;
         }
         let span = message.vectors.input[index as usize];
@@ -182,7 +182,7 @@ impl Machine {
         ensures kept { IsMachineOf system.now self.new }
     {
         let message = self.objects.request_held(system, actor.0, handle, index)?;
-        if !valid_buffer(system, &self.memory, actor, buffer, len) {
+        if !valid_buffer(system, actor, buffer, len) {
             return None;
         }
         let span = message.vectors.output[index as usize];

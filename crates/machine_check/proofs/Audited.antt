@@ -13,7 +13,8 @@ use Rattle.ffm_model.specs.State.{State, opening}
 use Rattle.ffm_model.specs.Step.{step}
 use Rattle.ffm_model.specs.Verdicts.{Legal, IllegalAt, judged, verdict_at, verdict_eq}
 use Rattle.machine_calls.specs.Machine.{spm_of_objects, state_of}
-use Rattle.memory_image.specs.Pieces.{byte_at, ranges_of, regions_of}
+use Rattle.ffm_model.specs.Ranges.{ranges_of}
+use Rattle.memory_image.specs.Pieces.{byte_at, regions_of}
 use Rattle.machine_check.specs.declared.auditing.AuditReport.{AuditReport}
 use Rattle.machine_check.specs.declared.auditing.Auditor.{Auditor}
 use Rattle.machine_check.specs.declared.auditing.Change.{Change}

@@ -10,7 +10,8 @@ use Rattle.byte_lanes.specs.Differences.{any_covers, count_in, differs, lesser, 
 use Rattle.byte_lanes.proofs.Ranges.{least_same, lesser_of}
 use Rattle.ffm_model.specs.declared.system.System.{System}
 use Rattle.ffm_model.specs.Memory.{ByteMap, bytes_at, write_bytes}
-use Rattle.memory_image.specs.Pieces.{fit_an_image, is_inside, ranges_of}
+use Rattle.ffm_model.specs.Ranges.{ranges_of}
+use Rattle.memory_image.specs.Pieces.{fit_an_image, is_inside}
 use Rattle.memory_image.proofs.Changed.{length-bytes_at}
 use Rattle.memory_image.proofs.Stored.{ends_below}
 use Rattle.machine_check.specs.declared.differences.Differences.{Differences}

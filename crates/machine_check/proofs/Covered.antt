@@ -36,7 +36,8 @@ use Rattle.ffm_model.specs.SignalCalls.{psa_notify, psa_clear, psa_eoi, psa_irq_
 use Rattle.ffm_model.specs.State.{State, SpmState, phase_of, message_held, is_undelivered, with_phase}
 use Rattle.ffm_model.specs.Step.{step, may_call, handle_allowed, handle_shown, message_eq, outcome_eq}
 use Rattle.machine_rules.specs.Vectors.{SpanFits, VectorsFit}
-use Rattle.memory_image.specs.Pieces.{is_inside, ranges_of}
+use Rattle.ffm_model.specs.Ranges.{ranges_of}
+use Rattle.memory_image.specs.Pieces.{is_inside}
 use Rattle.memory_image.proofs.Changed.{length-bytes_at}
 use Rattle.memory_image.proofs.Stored.{part_inside}
 use Rattle.memory_image.proofs.Systems.{buffer_inside, writable_inside}

@@ -16,8 +16,9 @@ use Rattle.ffm_model.specs.Memory.{is_ram_of}
 use Rattle.ffm_model.specs.PartitionRam.{ram_of}
 use Rattle.ffm_model.specs.Reach.{covers}
 use Rattle.ffm_model.specs.WellFormed.{each_pair}
-use Rattle.memory_image.specs.Pieces.{has_range, is_inside, ranges_of, share_no_byte}
-use Rattle.memory_image.proofs.Systems.{regions_apart}
+use Rattle.ffm_model.specs.Ranges.{has_range, ranges_of, share_no_byte}
+use Rattle.memory_image.specs.Pieces.{is_inside}
+use Rattle.ffm_model.proofs.RangeLemmas.{regions_apart}
 use Rattle.machine_check.specs.Auditing.{own_ram}
 
 -- a region covers an address as it covers another one

@@ -11,7 +11,8 @@ use Rattle.ffm_model.specs.declared.constants.TheConstants.{MAX_IMAGE_BYTES}
 use Rattle.ffm_model.specs.declared.scenario.Bytes.{Bytes}
 use Rattle.ffm_model.specs.declared.system.System.{System}
 use Rattle.ffm_model.specs.WellFormed.{each_pair}
-use Rattle.memory_image.specs.Pieces.{byte_at, fit_an_image, ranges_of, regions_of, share_no_byte}
+use Rattle.ffm_model.specs.Ranges.{ranges_of, share_no_byte}
+use Rattle.memory_image.specs.Pieces.{byte_at, fit_an_image, regions_of}
 use Rattle.memory_image.proofs.Compared.{same_outside}
 use Rattle.memory_image.proofs.Systems.{system_fits}
 use Rattle.machine_check.specs.declared.differences.Differences.{Differences}

@@ -12,7 +12,8 @@ use Rattle.ffm_model.specs.Memory.{ByteMap}
 use Rattle.ffm_model.specs.State.{opening}
 use Rattle.ffm_model.specs.Verdicts.{judged}
 use Rattle.machine_calls.specs.Machine.{state_of, IsMachineOf}
-use Rattle.memory_image.specs.Pieces.{byte_at, ranges_of, regions_of}
+use Rattle.ffm_model.specs.Ranges.{ranges_of}
+use Rattle.memory_image.specs.Pieces.{byte_at, regions_of}
 use Rattle.machine_check.specs.declared.auditing.Auditor.{Auditor}
 use Rattle.machine_check.specs.declared.auditing.Change.{Change}
 use Rattle.machine_check.specs.declared.differences.Differences.{Differences}

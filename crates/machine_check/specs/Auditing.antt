@@ -14,7 +14,7 @@ use Rattle.ffm_model.specs.Reach.{covers}
 use Rattle.ffm_model.specs.State.{State, opening}
 use Rattle.ffm_model.specs.Step.{step}
 use Rattle.ffm_model.specs.Verdicts.{Judgement, Legal, IllegalAt, judged}
-use Rattle.memory_image.specs.Pieces.{ranges_of}
+use Rattle.ffm_model.specs.Ranges.{ranges_of}
 use Rattle.machine_check.specs.declared.auditing.AuditReport.{AuditReport}
 use Rattle.machine_check.specs.declared.auditing.Change.{Change}
 use Rattle.machine_check.specs.Answers.{judgement}

@@ -2,7 +2,8 @@
 ghost use Rattle.std.specs.Prelude.{◌≡◌, ◌+◌, ◌<◌, ◌≤◌, ◌^◌, ◌∷◌, [], true};
 ghost use Rattle.byte_lanes.specs.Differences.{lesser};
 ghost use Rattle.ffm_model.specs.Reach.{covers};
-ghost use Rattle.memory_image.specs.Pieces.{byte_at, is_inside, ranges_of, regions_of};
+ghost use Rattle.ffm_model.specs.Ranges.{ranges_of};
+ghost use Rattle.memory_image.specs.Pieces.{byte_at, is_inside, regions_of};
 ghost use Rattle.machine_check.specs.Auditing.{own_ram};
 ghost use Rattle.machine_check.specs.Written.{taken_from, ranges_in, AreDifferences, AreInside};
 
@@ -30,8 +31,7 @@ fn covers(region: &Region, address: u32) -> bool
 
 // Whether an address lies in the actor's own RAM: of a partition its own region, of a non-secure client the non-secure
 // region. A device has none.
-fn is_own_ram(system: &System, memory: &Image, actor: ActorId, address: u32) -> bool
-    requires { regions_of memory.now ≡ ranges_of system.now.regions }
+fn is_own_ram(system: &System, actor: ActorId, address: u32) -> bool
     ensures { result ≡ own_ram system.now actor.0 address }
 {
     match system.partitions.as_slice().get(actor.0 as usize) {
@@ -39,7 +39,7 @@ fn is_own_ram(system: &System, memory: &Image, actor: ActorId, address: u32) -> 
             Some(region) => covers(region, address),
             None => false,
         },
-        None => valid_buffer(system, memory, actor, address, 1),
+        None => valid_buffer(system, actor, address, 1),
     }
 }
 
@@ -66,7 +66,7 @@ impl Differences {
         ensures count { result.count ≤ len }
     {
         let lowest = old.first_difference_in(new, address, len);
-        let is_own = is_own_ram(system, old, actor, address);
+        let is_own = is_own_ram(system, actor, address);
         Differences {
             lowest,
             count: old.count_differences_in(new, address, len),

@@ -6,8 +6,8 @@ use Rattle.std.proofs.lemmas.List.Elements.{All-append, All-replicate, All-take,
 use Rattle.ffm_model.specs.declared.system.System.{System}
 use Rattle.ffm_model.specs.declared.objects.Span.{Span}
 use Rattle.ffm_model.specs.Memory.{ByteMap, span_at, spans_at, vectors_read, no_span, valid_buffer}
-use Rattle.memory_image.specs.Pieces.{ranges_of}
-use Rattle.memory_image.proofs.Places.{holds_at}
+use Rattle.ffm_model.specs.Ranges.{ranges_of}
+use Rattle.ffm_model.proofs.RangeLemmas.{holds_at}
 use Rattle.memory_image.proofs.Stored.{part_inside}
 use Rattle.memory_image.proofs.Systems.{buffer_inside}
 use Rattle.machine_rules.specs.Vectors.{SpanFits, VectorsFit}

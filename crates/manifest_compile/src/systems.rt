@@ -11,8 +11,8 @@ ghost use Rattle.manifest_items.specs.Seen.{seen};
 
 use crate::indices::{index_for, stated_indices};
 use ffm_model::{
-    Budget, FRAMEWORK_1_0, IrqItem, List, Manifest, Name, Partition, Parts, Region, RotType,
-    Service, ServiceItem, Source, System,
+    Budget, FRAMEWORK_1_0, IrqItem, List, Manifest, Name, Partition, Parts, Region, Regions,
+    RotType, Service, ServiceItem, Source, System,
 };
 use manifest_items::{At, Services, located};
 use region_map::domain_at;
@@ -174,7 +174,8 @@ fn names_of(alloc: Global, names: &[Name]) -> Result<List<Name>, AllocError>
     Ok(List::of(copies))
 }
 
-/// The system of parts that break no rule, with its regions and budgets.
+/// The system of parts that break no rule, with its regions and budgets, kept by SID and by address too
+/// (`System::in_order`). `AllocError` where memory is wanting.
 pub fn system_of(
     alloc: Global,
     parts: &Parts,
@@ -191,13 +192,15 @@ pub fn system_of(
     let services = services_of(alloc, manifests)?;
     let sources = sources_of(alloc, manifests)?;
     let clients = names_of(alloc, parts.clients.as_slice())?;
-    Ok(System {
+    let system = System {
         level: parts.level,
         partitions,
-        services,
+        services: ffm_model::Services::of(services),
         sources,
-        regions,
+        regions: Regions::of(regions),
         clients,
         budgets,
-    })
+    };
+    let ordered = system.in_order(alloc)?;
+    Ok(ordered)
 }

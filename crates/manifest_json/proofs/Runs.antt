@@ -146,11 +146,6 @@ run_leads bytes none starts = (prefix_len-le-length is_run_byte bytes, first_run
 pub run_length : (bytes : List ℕ) → length (run bytes) ≡ prefix_len is_run_byte bytes
 run_length bytes = length-take-le (prefix_len is_run_byte bytes) bytes (prefix_len-le-length is_run_byte bytes)
 
--- a front that has one byte is not empty
-pub some_front : (p : ℕ → Bool) (bytes : List ℕ) → 0 < length bytes → p (get_or bytes 0 0) ≡ true → 0 < prefix_len p bytes
-some_front p [] some is = absurd (omega arith)
-some_front p (b ∷ bs) some is = rw (is, one-add) (omega arith)
-
 -- ---- the steps of writing
 
 pub piece_step : (n : ℕ) (rest out all : List ℕ) → Leads outside n outside rest → (n < length rest → is_run_byte (get_or rest n 0) ≡ true)

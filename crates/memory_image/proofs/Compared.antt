@@ -12,7 +12,8 @@ use Rattle.byte_lanes.proofs.Ranges.{lesser_of, least_same}
 use Rattle.ffm_model.specs.declared.scenario.Bytes.{Bytes}
 use Rattle.ffm_model.specs.declared.constants.TheConstants.{MAX_IMAGE_BYTES}
 use Rattle.ffm_model.specs.Memory.{ByteMap}
-use Rattle.memory_image.specs.Pieces.{byte_at, range_of, has_range, share_no_byte, regions_of, is_inside, fit_an_image}
+use Rattle.ffm_model.specs.Ranges.{has_range, share_no_byte}
+use Rattle.memory_image.specs.Pieces.{byte_at, range_of, regions_of, is_inside, fit_an_image}
 use Rattle.ffm_model.specs.WellFormed.{each_pair}
 use Rattle.memory_image.proofs.Changed.{counted_le}
 

@@ -8,12 +8,13 @@ use Rattle.std.proofs.lemmas.Bool.Decides.{nat_tests}
 use Rattle.ffm_model.specs.declared.scenario.Bytes.{Bytes}
 use Rattle.ffm_model.specs.Memory.{ByteMap, write_bytes}
 use Rattle.ffm_model.specs.WellFormed.{each_pair}
-use Rattle.memory_image.specs.Pieces.{byte_at, range_of, has_range, share_no_byte, IsPut, regions_of, fit_an_image, is_inside}
+use Rattle.ffm_model.specs.Ranges.{has_range, share_no_byte}
+use Rattle.memory_image.specs.Pieces.{byte_at, range_of, IsPut, regions_of, fit_an_image, is_inside}
 use Rattle.std.proofs.lemmas.List.Folds.{list_all-map}
 use Rattle.std.proofs.lemmas.Bool.{and_parts, or_right}
 use Rattle.list_laws.proofs.Tests.{list_any-more}
 use Rattle.list_laws.proofs.Bools.{or_rest}
-use Rattle.memory_image.proofs.Places.{holds_at}
+use Rattle.ffm_model.proofs.RangeLemmas.{holds_at}
 
 or_then : (a b : Bool) (P : Type 0) → (a || b) ≡ true → (a ≡ true → P) → (b ≡ true → P) → P
 or_then true b P h first second = first refl

@@ -1,23 +1,17 @@
 -- What an image needs to know of a system's regions, for callers that have a system.
-use Rattle.std.proofs.Common.{ℕ, ◌≡◌, ◌+◌, ◌<◌, ◌^◌, nat_lt, ltb-true, Bool, true, false, ◌&&◌, ◌||◌, List, [], ◌∷◌, length, ◌∙◌, ap, sym, refl}
+use Rattle.std.proofs.Common.{ℕ, ◌≡◌, ◌+◌, Bool, true, false, ◌&&◌, ◌||◌, List, [], ◌∷◌, length, refl}
 use Rattle.std.specs.Prelude.{◌==◌, nat_le, fold, sum_by}
 use Rattle.std.specs.List.{list_any, list_all}
-use Rattle.std.proofs.lemmas.List.{length-map}
-use Rattle.std.proofs.lemmas.List.Folds.{list_all-map}
 use Rattle.std.proofs.lemmas.Bool.{and_from, and_parts}
-use Rattle.ffm_model.specs.declared.scenario.Bytes.{Bytes}
 use Rattle.ffm_model.specs.declared.system.System.{System}
 use Rattle.ffm_model.specs.declared.system.Region.{Region}
 use Rattle.ffm_model.specs.Memory.{lies_in, is_ram_of, is_mmio_of, is_writable_mmio_of, valid_buffer, may_read, may_write}
-use Rattle.ffm_model.specs.WellFormed.{each_pair, apart, owner_below, regions_fit}
+use Rattle.ffm_model.specs.WellFormed.{owner_below, regions_fit}
 use Rattle.ffm_model.proofs.WellFormedLemmas.{regions_hold}
-use Rattle.memory_image.specs.Pieces.{range_of, regions_of, ranges_of, share_no_byte, fit_an_image, is_inside}
+use Rattle.ffm_model.proofs.RangeLemmas.{apart_ranges}
+use Rattle.ffm_model.specs.Ranges.{ranges_of}
+use Rattle.memory_image.specs.Pieces.{fit_an_image, is_inside}
 use Rattle.memory_image.proofs.Opened.{is_inside-lies}
-
-apart-ranges : (rs : List Region) → each_pair apart rs ≡ true → each_pair share_no_byte (ranges_of rs) ≡ true
-apart-ranges [] h = refl
-apart-ranges (r ∷ rs) h =
-    and_from _ _ (list_all-map (share_no_byte (r.base, r.size)) (λ (q : Region). (q.base, q.size)) rs ∙ (and_parts _ _ h).0) (apart-ranges rs (and_parts _ _ h).1)
 
 ends-ranges : (n : ℕ) (rs : List Region) → list_all (λ r. owner_below n r.class && nat_le r.size 1048576 && nat_le (r.base + r.size) 4294967296) rs ≡ true
     → list_all (λ e. nat_le (e.0 + e.1) 4294967296) (ranges_of rs) ≡ true
@@ -35,19 +29,11 @@ regions_fit-image : (n : ℕ) (rs : List Region) → regions_fit n rs ≡ true �
 unfolding fit_an_image
 regions_fit-image n rs h =
     let most : nat_le (sum_by (λ e. e.1) (ranges_of rs)) 16777216 ≡ true = rw (total-ranges rs) (and_parts _ _ (and_parts _ _ h).0).1 in
-    and_from _ _ (and_from _ _ (apart-ranges rs (and_parts _ _ h).1) (ends-ranges n rs (and_parts _ _ (and_parts _ _ (and_parts _ _ h).0).0).1)) most
+    and_from _ _ (and_from _ _ (apart_ranges rs (and_parts _ _ h).1) (ends-ranges n rs (and_parts _ _ (and_parts _ _ (and_parts _ _ h).0).0).1)) most
 
 -- a system's regions fit an image
 pub system_fits : (s : System) → fit_an_image (ranges_of s.regions) ≡ true
 system_fits s = regions_fit-image (length s.partitions) s.regions (regions_hold s)
-
--- there are fewer than 2^31
-pub system_few : (s : System) → length s.regions < 2 ^ 31
-system_few s = ltb-true _ _ (and_parts (nat_lt (length s.services) (2 ^ 31)) (nat_lt (length s.regions) (2 ^ 31)) s.counted).1
-
--- and they share no byte
-pub regions_apart : (s : System) → each_pair share_no_byte (ranges_of s.regions) ≡ true
-regions_apart s = apart-ranges s.regions (and_parts _ _ (regions_hold s)).1
 
 either : (a b c d : Bool) → ((a && b) || c) ≡ true → (c ≡ true → d ≡ true) → (b || d) ≡ true
 either true true c d h rest = refl

@@ -3,7 +3,8 @@ use Rattle.std.proofs.Common.{ℕ, zero, suc, ◌≡◌, ◌<◌, ◌≤◌, ◌
 use Rattle.std.proofs.lemmas.Bool.Decides.{nat_tests}
 use Rattle.std.proofs.lemmas.List.{get_or-map, length-map}
 use Rattle.ffm_model.specs.declared.scenario.Bytes.{Bytes}
-use Rattle.memory_image.specs.Pieces.{range_of, has_range, regions_of, no_piece, fit_an_image, is_inside}
+use Rattle.ffm_model.specs.Ranges.{has_range}
+use Rattle.memory_image.specs.Pieces.{range_of, regions_of, no_piece, fit_an_image, is_inside}
 use Rattle.memory_image.proofs.Stored.{ends_below}
 
 pub as-many : (ps qs : List Bytes) → regions_of ps ≡ regions_of qs → length ps ≡ length qs

@@ -7,6 +7,7 @@ use Rattle.ffm_model.specs.declared.constants.TheConstants.{MAX_IMAGE_BYTES}
 use Rattle.ffm_model.specs.declared.scenario.Bytes.{Bytes}
 use Rattle.ffm_model.specs.declared.system.Region.{Region}
 use Rattle.ffm_model.specs.Memory.{write_bytes, lies_in}
+use Rattle.ffm_model.specs.Ranges.{has_range, share_no_byte}
 use Rattle.ffm_model.specs.WellFormed.{each_pair}
 
 -- where a piece begins, and how many bytes it has
@@ -17,18 +18,10 @@ range_of piece = (piece.address, length piece.content)
 abbrev pub regions_of : List Bytes → List (ℕ × ℕ)
 regions_of pieces = map range_of pieces
 
--- the regions of a system
-abbrev pub ranges_of : List Region → List (ℕ × ℕ)
-ranges_of regions = map (λ (r : Region). (r.base, r.size)) regions
-
 -- the byte at an address, and 0 where no region has the address
 abbrev pub byte_at : List Bytes → ℕ → ℕ
 byte_at [] x = 0
 byte_at (p ∷ ps) x = if range_covers (range_of p) x then slice_index p.content (x - p.address) else byte_at ps x
-
--- the range lies whole in this one
-abbrev pub has_range : ℕ → ℕ → ℕ × ℕ → Bool
-has_range at len e = nat_le e.0 at && nat_le (at + len) (e.0 + e.1)
 
 -- the range is empty, or lies whole in one of the regions
 abbrev pub is_inside : ℕ → ℕ → List (ℕ × ℕ) → Bool
@@ -37,10 +30,6 @@ is_inside at len regions = (len == 0) || list_any (has_range at len) regions
 -- the place of an address: the number of the region that has it, and its offset there
 abbrev pub IsPlaceOf : ℕ → ℕ × ℕ → List (ℕ × ℕ) → Type 0
 IsPlaceOf address place regions = IsSomeAnd (slice_get regions place.0) (λ r. (r.0 + place.1 ≡ address) × (place.1 < r.1))
-
--- an empty region shares none
-abbrev pub share_no_byte : ℕ × ℕ → ℕ × ℕ → Bool
-share_no_byte r q = (r.1 == 0) || ((q.1 == 0) || (nat_le (r.0 + r.1) q.0 || nat_le (q.0 + q.1) r.0))
 
 -- no two regions share a byte, each ends by 2^32, and all together have at most 16 MiB
 unfoldable pub fit_an_image : List (ℕ × ℕ) → Bool

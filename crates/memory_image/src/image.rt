@@ -3,13 +3,14 @@ ghost use Rattle.std.specs.Prelude.{◌≡◌, ◌<◌, ◌≤◌, ◌*◌, ◌^
 ghost use Rattle.std.specs.List.{list_any};
 ghost use Rattle.ffm_model.specs.Accesses.{is_access_size};
 ghost use Rattle.ffm_model.specs.Memory.{bytes_at, write_bytes, copy_bytes, number_of, load_number, store_number, words_stored, opening_memory};
-ghost use Rattle.memory_image.specs.Pieces.{byte_at, regions_of, ranges_of, has_range, is_inside, fit_an_image, open_within, zero_piece, HasRangeAt, IsPlaceOf};
+ghost use Rattle.ffm_model.specs.Ranges.{ranges_of, has_range};
+ghost use Rattle.memory_image.specs.Pieces.{byte_at, regions_of, is_inside, fit_an_image, open_within, zero_piece, HasRangeAt, IsPlaceOf};
 
-use crate::index::{Start, index_of, piece_with};
+use crate::index::piece_with;
 use crate::pieces::{
     bytes_among, copy_among, copy_pieces, store_among, store_words_among, zero_pieces,
 };
-use ffm_model::{Bytes, List, Memory, Region};
+use ffm_model::{Bytes, List, Memory, Region, Start, starts_by_address};
 use std::alloc::Global;
 use std::marker::Model;
 
@@ -65,7 +66,7 @@ impl Image {
         ensures { IfOk result (λ image. image ≡ map zero_piece regions.now) }
     {
         let pieces = zero_pieces(alloc, regions)?;
-        let starts = index_of(alloc, regions)?;
+        let starts = starts_by_address(alloc, regions)?;
         Ok(Image { pieces, starts })
     }
 

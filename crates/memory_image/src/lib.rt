@@ -7,9 +7,7 @@ mod image;
 mod index;
 mod pieces;
 mod ranges;
-mod region_index;
 
 pub use differences::{count_differences, first_difference, first_difference_outside};
 pub use image::Image;
 pub use ranges::{may_read, may_write, open_within, valid_buffer};
-pub use region_index::RegionIndex;

@@ -2,7 +2,8 @@
 ghost use Rattle.std.specs.Prelude.{◌≡◌, ◌≢◌, ℕ, ◌<◌, ◌≤◌, ◌+◌, ◌-◌, ◌*◌, ◌^◌, length, slice_index, true, get_or, map, take, drop, IfOk};
 ghost use Rattle.ffm_model.specs.Memory.{write_bytes, bytes_at, copy_bytes, store_number, words_stored};
 ghost use Rattle.ffm_model.specs.WellFormed.{each_pair};
-ghost use Rattle.memory_image.specs.Pieces.{byte_at, range_of, has_range, share_no_byte, no_piece, zero_piece, IsPut, regions_of};
+ghost use Rattle.ffm_model.specs.Ranges.{has_range, share_no_byte};
+ghost use Rattle.memory_image.specs.Pieces.{byte_at, range_of, no_piece, zero_piece, IsPut, regions_of};
 
 use ffm_model::{Bytes, List, Memory, Region};
 use std::alloc::Global;

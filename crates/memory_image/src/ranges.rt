@@ -6,21 +6,9 @@ ghost use Rattle.ffm_model.specs.declared.system.Class.{Class as ClassSeen};
 ghost use Rattle.ffm_model.specs.declared.system.Class.TheVariants.{Ram};
 ghost use Rattle.ffm_model.specs.Actors.{kind_of, is_client};
 ghost use Rattle.ffm_model.specs.Memory.{lies_in, is_ram_of, is_mmio_of, is_writable_mmio_of, valid_buffer, may_read, may_write};
-ghost use Rattle.memory_image.specs.Pieces.{open_within, regions_of, ranges_of};
+ghost use Rattle.memory_image.specs.Pieces.{open_within};
 
-use crate::image::Image;
 use ffm_model::{ActorId, Bytes, Class, Region, System};
-
-/// Whether the whole range lies in the region.
-pub(crate) fn lies_in(base: u32, len: usize, region: &Region) -> bool
-    ensures { result ≡ lies_in base len region.now }
-{
-    if len == 0 {
-        return true;
-    }
-    let size = region.size as usize;
-    region.base <= base && len <= size && (base - region.base) as usize <= size - len
-}
 
 fn is_client(system: &System, actor: ActorId) -> bool
     ensures { result ≡ is_client (kind_of system.now actor.0) }
@@ -79,14 +67,12 @@ fn is_writable_by(system: &System, actor: ActorId, class: Class) -> bool
 }
 
 // The class of the region that has the whole range. At most one has it, since the range isn't empty.
-fn class_of(system: &System, image: &Image, base: u32, len: u32) -> Option<Class>
-    requires regions { regions_of image.now ≡ ranges_of system.now.regions }
-    requires some { 0 < len }
+fn class_of(system: &System, base: u32, len: u32) -> Option<Class>
+    requires { 0 < len }
     ensures { (p : ClassSeen → Bool) → list_any (λ r. p r.class && lies_in base len r) system.now.regions ≡ option_map_or p result false }
 {
-    image.keeps_its_limits();
     let regions = system.regions.as_slice();
-    match image.place_with(base, len as usize) {
+    match system.regions.place_with(base, len as usize) {
         Some(place) => Some(regions[place].class),
         None => None,
     }
@@ -95,15 +81,14 @@ fn class_of(system: &System, image: &Image, base: u32, len: u32) -> Option<Class
 /// Whether an actor may hand a range of `len` bytes to a call of `psa/client.h` or
 /// `psa/service.h`: it is empty, or lies whole in one RAM region of the actor's domain. A client's
 /// domain is the non-secure region. No range that isn't empty lies in MMIO, and the device has
-/// none. The image is one of the system's regions, and finds the region by its address.
-pub fn valid_buffer(system: &System, image: &Image, actor: ActorId, base: u32, len: u32) -> bool
-    requires { regions_of image.now ≡ ranges_of system.now.regions }
+/// none.
+pub fn valid_buffer(system: &System, actor: ActorId, base: u32, len: u32) -> bool
     ensures { result ≡ valid_buffer system.now actor.0 base len }
 {
     if len == 0 {
         return true;
     }
-    match class_of(system, image, base, len) {
+    match class_of(system, base, len) {
         Some(class) => is_ram_of(system, actor, class),
         None => false,
     }
@@ -111,28 +96,26 @@ pub fn valid_buffer(system: &System, image: &Image, actor: ActorId, base: u32, l
 
 /// Whether an actor may read the range by itself: it is a valid buffer, or lies whole in one MMIO
 /// region of that partition.
-pub fn may_read(system: &System, image: &Image, actor: ActorId, base: u32, len: u32) -> bool
-    requires { regions_of image.now ≡ ranges_of system.now.regions }
+pub fn may_read(system: &System, actor: ActorId, base: u32, len: u32) -> bool
     ensures { result ≡ may_read system.now actor.0 base len }
 {
     if len == 0 {
         return true;
     }
-    match class_of(system, image, base, len) {
+    match class_of(system, base, len) {
         Some(class) => is_readable_by(system, actor, class),
         None => false,
     }
 }
 
 /// Whether an actor may write the range by itself: as for reading, with the MMIO region writable.
-pub fn may_write(system: &System, image: &Image, actor: ActorId, base: u32, len: u32) -> bool
-    requires { regions_of image.now ≡ ranges_of system.now.regions }
+pub fn may_write(system: &System, actor: ActorId, base: u32, len: u32) -> bool
     ensures { result ≡ may_write system.now actor.0 base len }
 {
     if len == 0 {
         return true;
     }
-    match class_of(system, image, base, len) {
+    match class_of(system, base, len) {
         Some(class) => is_writable_by(system, actor, class),
         None => false,
     }
@@ -142,7 +125,7 @@ fn is_in_region(regions: &[Region], bytes: &Bytes) -> bool
     ensures { result ≡ list_any (lies_in bytes.now.address (length bytes.now.content)) regions.now }
 {
     let len = bytes.content.len();
-    regions.iter().any(|r| lies_in(bytes.address, len, r))
+    regions.iter().any(|r| r.holds(bytes.address, len))
 }
 
 /// Whether each piece of an opening memory lies whole in one region.

@@ -8,8 +8,9 @@ use Rattle.ffm_model.specs.declared.objects.Span.{Span}
 use Rattle.ffm_model.specs.declared.objects.Vectors.{Vectors}
 use Rattle.ffm_model.specs.Memory.{ByteMap, span_at, spans_at, vectors_read, no_span, valid_buffer, lengths_written, store_number}
 use Rattle.ffm_model.specs.ServiceCalls.{moved_by, rest_of, input_of, output_of, with_input_moved, with_output_moved}
-use Rattle.memory_image.specs.Pieces.{is_inside, ranges_of}
-use Rattle.memory_image.proofs.Places.{holds_at}
+use Rattle.ffm_model.specs.Ranges.{ranges_of}
+use Rattle.memory_image.specs.Pieces.{is_inside}
+use Rattle.ffm_model.proofs.RangeLemmas.{holds_at}
 use Rattle.memory_image.proofs.Stored.{part_inside}
 use Rattle.memory_image.proofs.Systems.{buffer_inside}
 use Rattle.message_vectors.specs.Vectors.{AreWithin}

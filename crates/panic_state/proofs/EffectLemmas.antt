@@ -31,11 +31,12 @@ use Rattle.counting_law.proofs.Rooms.{panic-room}
 use Rattle.spm_tables.specs.TablesView.{TablesView, Shape, MadeFor, spm_of, shape_of, held_message, service_signal}
 use Rattle.slot_names.specs.Named.{KeepsNames}
 use Rattle.slot_names.specs.Changes.{PairsOff, KeepsConnectionNames, TakesOn, names_of}
+use Rattle.slot_names.proofs.Given.{All-left}
 use Rattle.slot_names.proofs.Moves.{relinks-some}
 use Rattle.slot_names.proofs.Panics.{names-panicked, takes-first}
 use Rattle.slot_names.proofs.Removals.{fitting-pairs-off}
 use Rattle.panic_state.specs.Losses.{left_by, in_slot, held_without_service, held_without_client, as_client, disconnect_messages}
-use Rattle.panic_state.proofs.Lists.{map-left, map-kept, All-left}
+use Rattle.panic_state.proofs.Lists.{map-left, map-kept}
 use Rattle.panic_state.proofs.ServiceLemmas.{services-known}
 use Rattle.panic_state.proofs.Walks.{items}
 use Rattle.counting_law.proofs.Owed.{set-twice}
@@ -99,6 +100,17 @@ room-of s p d made inside fits =
 
 -- ---- the services of the connections
 
+-- of one slot, serial number, handle and service
+abbrev IsSameAs : Held OpenConnection → Held OpenConnection → Type 0
+IsSameAs x y = (y.slot ≡ x.slot) × (y.item.serial ≡ x.item.serial) × (y.item.handle ≡ x.item.handle) × (y.item.service ≡ x.item.service)
+
+-- a connection that stays is so
+stays-same : (x y : Held OpenConnection) (b : Bool) (l : Option ConnPhase) → in_slot x (if b then option_map (λ f. record x.item { phase = f }) l else Some x.item) ≡ Some y
+    → IsSameAs x y
+stays-same x y true None f = cc
+stays-same x y true (Some ph) f = let it : record x { item = record x.item { phase = ph } } ≡ y = cc in subst (IsSameAs x) it (refl, refl, refl, refl)
+stays-same x y false l f = let it : x ≡ y = cc in subst (IsSameAs x) it (refl, refl, refl, refl)
+
 pub services-of : (s : System) (p : ℕ) (d : TablesView) → MadeFor d s → ObjectsFit s (with_phase (spm_of d) p Running) → All (λ h. h.item.service < length (as_client s p d).services) (as_client s p d).connections.held
 services-of s p d made fit =
     let count : length d.services ≡ length s.services = ap (λ (x : Shape). length x.services) made ∙ length-map s.services service_signal in
@@ -108,13 +120,8 @@ services-of s p d made fit =
     let here : (get_or (connections d.connections) k h.item).service < length s.services =
     services-known s (with_phase (spm_of d) p Running) fit.budgets k h.item (omega (arith, lt, length-map d.connections.held (λ (x : Held OpenConnection). x.item))) in
     omega (arith, here, count, ap (λ (c : OpenConnection). c.service) at) in
-    All-left (λ h. h.item.service < length d.services) (held_without_service s p) same_service d.connections.held all where
-      same_service : (x y : Held OpenConnection) → held_without_service s p x ≡ Some y → x.item.service < length d.services → y.item.service < length d.services
-      same_service x y e below = omega (arith, below, same_one x y (is_service_of s p x.item.service) (lost x.item.phase) e) where
-        same_one : (x y : Held OpenConnection) (b : Bool) (l : Option ConnPhase) → in_slot x (if b then option_map (λ f. record x.item { phase = f }) l else Some x.item) ≡ Some y → x.item.service ≡ y.item.service
-        same_one x y true None f = cc
-        same_one x y true (Some ph) f = let it : record x { item = record x.item { phase = ph } } ≡ y = cc in ap (λ (h : Held OpenConnection). h.item.service) it
-        same_one x y false l f = let it : x ≡ y = cc in ap (λ (h : Held OpenConnection). h.item.service) it
+    All-left (λ h. h.item.service < length d.services) (held_without_service s p)
+    (λ x y e below. omega (arith, below, (stays-same x y (is_service_of s p x.item.service) (lost x.item.phase) e).3)) d.connections.held all
 
 -- ---- the shape
 
@@ -180,20 +187,11 @@ names-are s p d mid new made fit before effect more =
     let kept : List SlotName = names_of (λ h. not (is_service_of s p h.item.service)) d.messages in
     let size : length mid.messages.generations ≡ message_capacity s = ap (λ (x : TablesView). length x.messages.generations) before ∙ ap (λ (x : Shape). x.messages) made in
     let linked : KeepsConnectionNames d.connections (as_client s p d).connections =
-    relinks-some d.connections (held_without_service s p) (λ h g e. (same_slot h g (is_service_of s p h.item.service) (lost h.item.phase) e, same_serial h g (is_service_of s p h.item.service) (lost h.item.phase) e)) in
+    relinks-some d.connections (held_without_service s p) (λ h g e. let it = stays-same h g (is_service_of s p h.item.service) (lost h.item.phase) e in (it.0, it.1, it.2)) in
     let gone : TakesOn (message_capacity s) d kept 0 (as_client s p d) = takes-first (message_capacity s) d (as_client s p d) (λ h. not (is_service_of s p h.item.service)) linked refl in
     let there : TakesOn (length mid.messages.generations) d kept 0 mid = subst (λ (n : ℕ). TakesOn n d kept 0 mid) (sym size) (subst (λ (x : TablesView). TakesOn (message_capacity s) d kept 0 x) (sym before) gone) in
     let all : TakesOn (message_capacity s) d kept (length (disconnect_messages p mid.connections)) new = subst (λ (n : ℕ). TakesOn n d kept (length (disconnect_messages p mid.connections)) new) size (more d kept there) in
-    names-panicked s d new p kept (length (disconnect_messages p mid.connections)) pairs effect refl all where
-      same_slot : (x y : Held OpenConnection) (b : Bool) (l : Option ConnPhase) → in_slot x (if b then option_map (λ f. record x.item { phase = f }) l else Some x.item) ≡ Some y → y.slot ≡ x.slot
-      same_slot x y true None f = cc
-      same_slot x y true (Some ph) f = let it : record x { item = record x.item { phase = ph } } ≡ y = cc in ap (λ (h : Held OpenConnection). h.slot) (sym it)
-      same_slot x y false l f = let it : x ≡ y = cc in ap (λ (h : Held OpenConnection). h.slot) (sym it)
-
-      same_serial : (x y : Held OpenConnection) (b : Bool) (l : Option ConnPhase) → in_slot x (if b then option_map (λ f. record x.item { phase = f }) l else Some x.item) ≡ Some y → y.item.serial ≡ x.item.serial
-      same_serial x y true None f = cc
-      same_serial x y true (Some ph) f = let it : record x { item = record x.item { phase = ph } } ≡ y = cc in ap (λ (h : Held OpenConnection). h.item.serial) (sym it)
-      same_serial x y false l f = let it : x ≡ y = cc in ap (λ (h : Held OpenConnection). h.item.serial) (sym it)
+    names-panicked s d new p kept (length (disconnect_messages p mid.connections)) pairs effect refl all
 
 -- ---- the objects
 

@@ -197,6 +197,6 @@ leaves-closing p n old d new h place m l k here live free own alive sent after =
       takes = omega (arith, l.takes);
       names = λ first kept so_far.
           takes-more (length old.messages.generations) first d (record d { connections = with_item d.connections h.slot (record h.item { phase = Closing }); messages = taken d.messages place m })
-          kept l.sent place m (l.names first kept so_far) l.size free (relinks-item 256 d.connections h.slot h.item (record h.item { phase = Closing }) k live refl) refl;
+          kept l.sent place m (l.names first kept so_far) l.size free (relinks-item 256 d.connections h.slot h.item (record h.item { phase = Closing }) k live refl (λ e. e)) refl;
       services = subst (λ (hs : List (Held OpenConnection)). All (IsServed old) hs) (sym tail) (served-next n old d h here l.services).1;
     })

@@ -1,9 +1,8 @@
 -- A list that is changed from its front on, item by item: an item is kept, changed or gone.
 use Rattle.std.proofs.Common.{ℕ, zero, suc, ◌≡◌, ◌≤◌, ◌+◌, Bool, true, false, cond, not, List, [], ◌∷◌, length, map, filter, drop, set, arith, ◌∙◌, ap, sym, refl}
-use Rattle.std.specs.Prelude.{count_by, Option, Some, None, if◌then◌else◌, slice_get, All}
+use Rattle.std.specs.Prelude.{count_by, Option, Some, None, if◌then◌else◌, slice_get}
 use Rattle.std.specs.List.{filter_map, cons_option}
 use Rattle.std.specs.Option.{option_map}
-use Rattle.std.proofs.lemmas.List.Elements.{All-nil, All-cons, All-head, All-tail}
 use Rattle.list_laws.proofs.Counts.{count-nth, filter-none, map-none, bit, count-cons}
 
 -- the item at a place is gone
@@ -116,12 +115,3 @@ map-kept {X = X} {Y = Y} v p (x ∷ xs) =
     let go : (b : Bool) → map v (cond {A = List X} b (x ∷ filter (λ y. p (v y)) xs) (filter (λ y. p (v y)) xs)) ≡ cond b (v x ∷ filter p (map v xs)) (filter p (map v xs)) =
     elim [ true ↦ ap (λ (ys : List Y). v x ∷ ys) (map-kept v p xs) | false ↦ map-kept v p xs ] in
     go (p (v x))
-
--- what each item keeps as long as it is there, all that are left keep
-pub All-left : {X : Type 0} (P : X → Type 0) (f : X → Option X) → ((x y : X) → f x ≡ Some y → P x → P y) → (xs : List X) → All P xs → All P (filter_map f xs)
-All-left P f keeps [] a = All-nil P
-All-left {X = X} P f keeps (x ∷ xs) a =
-    let rest : All P (filter_map f xs) = All-left P f keeps xs (All-tail P x xs a) in
-    let go : (o : Option X) → f x ≡ o → All P (cons_option o (filter_map f xs)) =
-    elim [ None ↦ λ e. rest | Some y ↦ λ e. All-cons P y (filter_map f xs) (keeps x y e (All-head P x xs a)) rest ] in
-    go (f x) refl

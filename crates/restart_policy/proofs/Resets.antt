@@ -15,7 +15,8 @@ use Rattle.ffm_model.specs.Memory.{ByteMap, bytes_at, write_bytes}
 use Rattle.ffm_model.specs.Reach.{covers}
 use Rattle.ffm_model.specs.Restarts.{is_mmio}
 use Rattle.ffm_model.specs.State.{State}
-use Rattle.memory_image.specs.Pieces.{has_range, is_inside, ranges_of}
+use Rattle.ffm_model.specs.Ranges.{has_range, ranges_of}
+use Rattle.memory_image.specs.Pieces.{is_inside}
 
 -- the last bytes in the MMIO regions among these, and else the first ones
 abbrev pub reset_in : List Region → ByteMap → ByteMap → ByteMap

@@ -5,7 +5,8 @@ ghost use Rattle.std.specs.Option.{option_map_or};
 ghost use Rattle.ffm_model.specs.Restarts.{is_ended, is_mmio, memory_behind, memory_reset, some_panicked};
 ghost use Rattle.ffm_model.specs.Signals.{is_panicked};
 ghost use Rattle.ffm_model.specs.State.{phase_of};
-ghost use Rattle.memory_image.specs.Pieces.{byte_at, ranges_of, regions_of};
+ghost use Rattle.ffm_model.specs.Ranges.{ranges_of};
+ghost use Rattle.memory_image.specs.Pieces.{byte_at, regions_of};
 ghost use Rattle.spm_core.specs.Manager.{state_of};
 ghost use Rattle.restart_policy.specs.Policy.{runs_again};
 

@@ -5,7 +5,8 @@ ghost use Rattle.std.specs.List.{All};
 ghost use Rattle.ffm_model.specs.Actors.{actor_count};
 ghost use Rattle.ffm_model.specs.Scenarios.{IsScenarioOf};
 ghost use Rattle.ffm_model.specs.Memory.{opening_memory};
-ghost use Rattle.memory_image.specs.Pieces.{byte_at, regions_of, ranges_of};
+ghost use Rattle.ffm_model.specs.Ranges.{ranges_of};
+ghost use Rattle.memory_image.specs.Pieces.{byte_at, regions_of};
 ghost use Rattle.actor_programs.specs.Programs.{ArePrograms};
 ghost use Rattle.actor_programs.specs.declared.program.Program.TheVariants.{Plain};
 ghost use Rattle.partition_sim.specs.Driving.{HaveContexts};
@@ -27,13 +28,13 @@ pub struct Ran {
 }
 
 /// The memory that a run begins with. Err where no memory was found.
-#[tactic(auto, using(memory_image::proofs::Systems::system_fits, memory_image::proofs::Systems::system_few))]
+#[tactic(auto, using(memory_image::proofs::Systems::system_fits, ffm_model::proofs::RangeLemmas::regions_few))]
 pub fn opening_image(alloc: Global, system: &System, scenario: &Scenario) -> Result<Image, Memory>
     requires { IsScenarioOf system.now scenario.now }
     ensures regions { IfOk result (λ image. regions_of image ≡ ranges_of system.now.regions) }
     ensures bytes { IfOk result (λ image. byte_at image ≡ opening_memory scenario.now.memory) }
 {
-    Image::new(alloc, &system.regions, &scenario.memory)
+    Image::new(alloc, system.regions.list(), &scenario.memory)
 }
 
 /// The run of scripts, one for each actor, over a system from this memory, in the turns of the

@@ -1,6 +1,6 @@
 -- What each call keeps: the condition on the vectors of messages, and the names of slots.
 use Rattle.std.proofs.Common.{ℕ, ◌≡◌, ◌==◌, Bool, true, false, cond, not, List, [], ◌∷◌, map, filter, ◌∙◌, ap, sym, refl, subst, inl, inr}
-use Rattle.std.specs.Prelude.{Option, Some, None, IsSome, IfSome, All, IsSomeAnd, find}
+use Rattle.std.specs.Prelude.{Option, Some, None, IsSome, IfSome, All, IsSomeAnd, find, is_some}
 use Rattle.std.proofs.lemmas.List.Elements.{All-cons, All-head, All-tail}
 use Rattle.ffm_model.specs.declared.objects.OpenConnection.{OpenConnection}
 use Rattle.ffm_model.specs.declared.objects.ActorPhase.{ActorPhase}
@@ -69,7 +69,7 @@ moved-all P d new t v it own all = all-put P d new t (record it.item { vectors =
 
 pub moved-names : (s : System) (d new : TablesView) (t : Slot) (v : Vectors) → IsKept 304 d.messages → IsMoved d new t v → KeepsNames s d new
 moved-names s d new t v kept it =
-    names-message s d new t it.item (record it.item { vectors = v }) kept it.live refl refl refl (ap (λ (e : TablesView). e.connections) it.after) (ap (λ (e : TablesView). e.messages) it.after)
+    names-message s d new t it.item (record it.item { vectors = v }) kept it.live refl refl refl (λ e. e) (ap (λ (e : TablesView). e.connections) it.after) (ap (λ (e : TablesView). e.messages) it.after)
 
 -- ---- names where a call changes no message
 
@@ -86,7 +86,7 @@ rhandle-names s d new u m r kept own after =
     let go : (o : Option OpenConnection) → item_at d.connections u ≡ o → IsSomeAnd o Own → IfSome o (λ c. new ≡ record d { connections = with_item d.connections u (record c { rhandle = r }) }) → KeepsNames s d new =
     elim [
       | None ↦ λ e x f. absurd x
-      | Some c ↦ λ e x f. names-connection s d new u c (record c { rhandle = r }) kept e refl (ap (λ (y : TablesView). y.connections) f) (ap (λ (y : TablesView). y.messages) f)
+      | Some c ↦ λ e x f. names-connection s d new u c (record c { rhandle = r }) kept e refl (λ g. g) (ap (λ (y : TablesView). y.connections) f) (ap (λ (y : TablesView). y.messages) f)
     ] in
     go (item_at d.connections u) refl own after
 
@@ -100,7 +100,7 @@ reply-names s d mid new t link fit kept dropped changes same =
     let waiting : new.messages ≡ without d.messages t = same ∙ ap (λ (e : TablesView). e.messages) dropped in
     let at : (u : Slot) → ChangesAt u d.connections new.connections → KeepsNames s d new =
     λ u. elim [
-      | inl x ↦ names-answered s d new t u x.0 x.1 one kept x.2 x.3 x.4 waiting
+      | inl x ↦ names-answered s d new t u x.0 x.1 one kept x.2 x.3 (λ e. ap is_some (sym x.4) ∙ e) x.5 waiting
       | inr gone ↦ names-ended s d new t u one gone waiting
     ] in
     let go : (o : Option Slot) → ChangesWhere o d.connections new.connections → KeepsNames s d new = elim [ None ↦ λ e. names-replied s d new t one e waiting | Some u ↦ at u ] in

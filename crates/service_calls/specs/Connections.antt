@@ -16,9 +16,9 @@ abbrev pub IsLinkOf : Places OpenConnection → QueuedMessage → Option Slot �
 IsLinkOf linked m None = m.serial ≡ None
 IsLinkOf linked m (Some slot) = IsConnectionOf linked m slot
 
--- the connection of a slot is another one with the same serial number, or it is gone; all else is as it was
+-- the connection of a slot is another one with the same serial number and handle, or it is gone; all else is as it was
 abbrev pub ChangesAt : Slot → Places OpenConnection → Places OpenConnection → Type 0
-ChangesAt slot old new = ((c changed : OpenConnection) × (item_at old slot ≡ Some c) × (changed.serial ≡ c.serial) × (new ≡ with_item old slot changed)) ⊎ (new ≡ without old slot)
+ChangesAt slot old new = ((c changed : OpenConnection) × (item_at old slot ≡ Some c) × (changed.serial ≡ c.serial) × (changed.handle ≡ c.handle) × (new ≡ with_item old slot changed)) ⊎ (new ≡ without old slot)
 
 -- the same where there is a slot; else nothing changed
 abbrev pub ChangesWhere : Option Slot → Places OpenConnection → Places OpenConnection → Type 0

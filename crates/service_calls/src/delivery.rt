@@ -145,7 +145,7 @@ pub fn get(
     let Some(service) = service_of_signal(system, actor, signal) else {
         return Err(Fault);
     };
-    if !valid_buffer(system, image, actor, msg, MESSAGE_SIZE) {
+    if !valid_buffer(system, actor, msg, MESSAGE_SIZE) {
         return Err(Fault);
     }
     let Some(slot) = tables.dequeue(service) else {

@@ -105,7 +105,7 @@ pub fn read(
     let Some(slot) = request(tables, actor, handle, index) else {
         return Err(Fault);
     };
-    if !valid_buffer(system, image, actor, buffer, len) {
+    if !valid_buffer(system, actor, buffer, len) {
         return Err(Fault);
     }
     let mut vectors = tables.queued(slot).vectors;
@@ -139,7 +139,7 @@ pub fn write(
     let Some(slot) = request(tables, actor, handle, index) else {
         return Err(Fault);
     };
-    if !valid_buffer(system, image, actor, buffer, len) {
+    if !valid_buffer(system, actor, buffer, len) {
         return Err(Fault);
     }
     let mut vectors = tables.queued(slot).vectors;

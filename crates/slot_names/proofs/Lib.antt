@@ -1,3 +1,4 @@
+pub mod Given
 pub mod Kept
 pub mod Moves
 pub mod Changes

@@ -5,7 +5,8 @@ use Rattle.ffm_model.specs.declared.scenario.Bytes.{Bytes}
 use Rattle.ffm_model.specs.declared.system.System.{System}
 use Rattle.counting_law.specs.Objects.{ObjectsFit}
 use Rattle.counting_law.specs.Takes.{last_generation}
-use Rattle.memory_image.specs.Pieces.{ranges_of, regions_of}
+use Rattle.ffm_model.specs.Ranges.{ranges_of}
+use Rattle.memory_image.specs.Pieces.{regions_of}
 use Rattle.message_vectors.specs.Vectors.{AreWithin}
 use Rattle.spm_tables.specs.TablesView.{MadeFor, TablesView, spm_of}
 

@@ -4,7 +4,7 @@
 //! `ffm_model`. The modules of `proofs/` offer the same laws, change by change, to the crates above.
 #![tactic(auto)]
 
-ghost use Rattle.std.specs.Prelude.{◌≡◌, ℕ, ℤ, ◌+◌, Bool, false, not, List, length, Some, find, filter, All};
+ghost use Rattle.std.specs.Prelude.{◌≡◌, ℕ, ℤ, ◌+◌, Bool, false, not, is_some, List, length, Some, find, filter, All};
 ghost use Rattle.ffm_model.specs.declared.system.System.{System};
 ghost use Rattle.ffm_model.specs.declared.machine.Call.TheVariants as call;
 ghost use Rattle.ffm_model.specs.declared.machine.Handle.{Handle};
@@ -32,13 +32,15 @@ ghost use Rattle.slot_names.specs.Named.{KeepsNames, NamesAre};
 ghost use Rattle.slot_names.specs.Changes.{OneMessageEach, PairsOff, KeepsConnectionNames, TakesOn, names_of};
 
 /// Tables whose slots have the machine's names keep them through each change that a call makes: a connection or
-/// a message stays in its slot, is taken in, or goes.
+/// a message stays in its slot, is taken in, or goes. And if no handle given so far is that of a generation to come,
+/// or of a connection or message that has none yet, none is behind the change: no connection's handle and no message's
+/// delivery is taken back.
 pub fn slots_follow_names()
     ensures untouched { (s : System) (old new : TablesView) → new.connections ≡ old.connections → new.messages ≡ old.messages → KeepsNames s old new }
     ensures connection_changes { (s : System) (old new : TablesView) (slot : Slot) (c changed : OpenConnection) → IsKept 256 old.connections → item_at old.connections slot ≡ Some c → changed.serial ≡ c.serial
-        → new.connections ≡ with_item old.connections slot changed → new.messages ≡ old.messages → KeepsNames s old new }
+        → (is_some changed.handle ≡ false → is_some c.handle ≡ false) → new.connections ≡ with_item old.connections slot changed → new.messages ≡ old.messages → KeepsNames s old new }
     ensures message_changes { (s : System) (old new : TablesView) (place : Slot) (m changed : QueuedMessage) → IsKept 304 old.messages → item_at old.messages place ≡ Some m → changed.serial ≡ m.serial → changed.client ≡ m.client → changed.kind ≡ m.kind
-        → new.connections ≡ old.connections → new.messages ≡ with_item old.messages place changed → KeepsNames s old new }
+        → (changed.delivered ≡ false → m.delivered ≡ false) → new.connections ≡ old.connections → new.messages ≡ with_item old.messages place changed → KeepsNames s old new }
 
     // psa_connect
     ensures connection_is_made { (s : System) (old new : TablesView) (slot place : Slot) (c : OpenConnection) (m : QueuedMessage) → MadeFor old s → IsTable old.connections
@@ -47,7 +49,7 @@ pub fn slots_follow_names()
 
     // psa_call, and psa_close of a connection that isn't dead
     ensures message_is_sent { (s : System) (old new : TablesView) (slot place : Slot) (c changed : OpenConnection) (m : QueuedMessage) → MadeFor old s → IsKept 256 old.connections
-        → item_at old.connections slot ≡ Some c → changed.serial ≡ c.serial → new.connections ≡ with_item old.connections slot changed
+        → item_at old.connections slot ≡ Some c → changed.serial ≡ c.serial → (is_some changed.handle ≡ false → is_some c.handle ≡ false) → new.connections ≡ with_item old.connections slot changed
         → free_slot old.messages ≡ Some place → new.messages ≡ taken old.messages place m → KeepsNames s old new }
 
     // psa_close of a dead connection
@@ -56,12 +58,12 @@ pub fn slots_follow_names()
     // psa_reply
     ensures message_goes { (s : System) (old new : TablesView) (place : Slot) → OneMessageEach (spm_of old) → new.connections ≡ old.connections → new.messages ≡ without old.messages place → KeepsNames s old new }
     ensures message_is_answered { (s : System) (old new : TablesView) (place slot : Slot) (c changed : OpenConnection) → OneMessageEach (spm_of old) → IsKept 256 old.connections → item_at old.connections slot ≡ Some c → changed.serial ≡ c.serial
-        → new.connections ≡ with_item old.connections slot changed → new.messages ≡ without old.messages place → KeepsNames s old new }
+        → (is_some changed.handle ≡ false → is_some c.handle ≡ false) → new.connections ≡ with_item old.connections slot changed → new.messages ≡ without old.messages place → KeepsNames s old new }
     ensures both_go { (s : System) (old new : TablesView) (place slot : Slot) → OneMessageEach (spm_of old) → new.connections ≡ without old.connections slot → new.messages ≡ without old.messages place → KeepsNames s old new }
 {}
 
 /// An event that first removes connections and messages and then takes messages in, one after another, keeps the
-/// names: so does a panic. A reply and the panic that it owes are one event.
+/// names, and what is said of the handles given: so does a panic. A reply and the panic that it owes are one event.
 pub fn panics_follow_names()
     ensures messages_go { (size : ℕ) (old new : TablesView) (stay : Held QueuedMessage → Bool) → KeepsConnectionNames old.connections new.connections → new.messages ≡ record old.messages { held = filter stay old.messages.held }
         → TakesOn size old (names_of stay old.messages) 0 new }

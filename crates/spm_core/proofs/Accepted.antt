@@ -122,7 +122,7 @@ told-names s old mid new slot n h kept linked waiting live told =
     let go : (o : Option OpenConnection) → item_at mid.connections slot ≡ o → IsSomeAnd o (λ c. c.serial ≡ n) → IfSome o (λ c. new ≡ record mid { connections = with_item mid.connections slot (record c { handle = Some h }) }) → KeepsNames s old new = elim [
       | None ↦ λ is l t. absurd l
       | Some c ↦ λ is l t.
-          names-connection s old new slot c (record c { handle = Some h }) (subst (IsKept 256) linked kept) (sym (ap (λ (p : Places OpenConnection). item_at p slot) linked) ∙ is) refl
+          names-connection s old new slot c (record c { handle = Some h }) (subst (IsKept 256) linked kept) (sym (ap (λ (p : Places OpenConnection). item_at p slot) linked) ∙ is) refl (λ e. cc)
           (ap (λ (d : TablesView). d.connections) t ∙ ap (λ (p : Places OpenConnection). with_item p slot (record c { handle = Some h })) linked) (ap (λ (d : TablesView). d.messages) t ∙ waiting)
     ] in
     go (item_at mid.connections slot) refl live told

@@ -38,7 +38,8 @@ use Rattle.counting_law.proofs.Slots.{named-step-is}
 use Rattle.isolation_law.specs.Vectors.{HaveFour}
 use Rattle.isolation_law.proofs.Changed.{effect-outside}
 use Rattle.isolation_law.proofs.Within.{run-four, run-vectors}
-use Rattle.memory_image.specs.Pieces.{byte_at, regions_of, ranges_of}
+use Rattle.ffm_model.specs.Ranges.{ranges_of}
+use Rattle.memory_image.specs.Pieces.{byte_at, regions_of}
 use Rattle.message_vectors.specs.Vectors.{AreWithin}
 use Rattle.slot_names.specs.Named.{NamesAre}
 use Rattle.slot_names.specs.Premises.{LeavesTakes, PremisesWithMemory}

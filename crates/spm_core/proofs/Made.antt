@@ -129,7 +129,7 @@ named-made s es d new bytes after a c o given k fit are few called =
     let leaves : Leaves new after (record { state = left; names = names_after s (spm_of d) left.spm k }) = record {
       spm = effect.spm;
       memory = effect.memory;
-      names = subst (λ (b : SpmState). NamesAre new (names_after s (spm_of d) b k)) (sym effect.spm) (called.names k are);
+      names = subst (λ (b : SpmState). NamesAre new (names_after s (spm_of d) b k)) (sym effect.spm) (called.names.names k are);
     } in
     rw (shows, stepped) leaves
 

@@ -18,7 +18,8 @@ use Rattle.ffm_model.specs.Accesses.{load, store}
 use Rattle.ffm_model.specs.Calls.{call_case, effect_of, error_effect}
 use Rattle.ffm_model.specs.Step.{handle_shown}
 use Rattle.ffm_model.specs.Names.{NamedState, NamesSoFar, named_after, shows_name}
-use Rattle.memory_image.specs.Pieces.{byte_at, regions_of, ranges_of}
+use Rattle.ffm_model.specs.Ranges.{ranges_of}
+use Rattle.memory_image.specs.Pieces.{byte_at, regions_of}
 use Rattle.slot_names.specs.Named.{NamesAre}
 use Rattle.slot_names.specs.Stands.{Stands}
 use Rattle.spm_tables.specs.Answers.{state_with}

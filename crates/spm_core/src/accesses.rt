@@ -4,7 +4,8 @@ ghost use Rattle.ffm_model.specs.declared.machine.Handle.{Handle as HandleSeen};
 ghost use Rattle.ffm_model.specs.declared.machine.Outcome.TheVariants as outcome;
 ghost use Rattle.ffm_model.specs.Accesses.{is_access_size, load, store};
 ghost use Rattle.ffm_model.specs.ClientCalls.{effect};
-ghost use Rattle.memory_image.specs.Pieces.{byte_at, regions_of, ranges_of};
+ghost use Rattle.ffm_model.specs.Ranges.{ranges_of};
+ghost use Rattle.memory_image.specs.Pieces.{byte_at, regions_of};
 ghost use Rattle.spm_core.specs.Performed.{Loads, Stores};
 
 use ffm_model::{ActorId, Fault, System};
@@ -27,7 +28,7 @@ pub(crate) fn load(
     requires { regions_of image.now ≡ ranges_of system.now.regions }
     ensures { Loads system.now actor.0 address size image.now result }
 {
-    if !is_access_size(size) || !may_read(system, image, actor, address, size) {
+    if !is_access_size(size) || !may_read(system, actor, address, size) {
         return Err(Fault);
     }
     Ok(image.load(address, size))
@@ -46,7 +47,7 @@ pub(crate) fn store(
     ensures stores { Stores system.now actor.0 address size value image.old result image.new }
     ensures regions { regions_of image.new ≡ regions_of image.old }
 {
-    if !is_access_size(size) || !may_write(system, image, actor, address, size) {
+    if !is_access_size(size) || !may_write(system, actor, address, size) {
         return Err(Fault);
     }
     image.store(address, size, value);

@@ -24,8 +24,7 @@ pub struct Spm {
     opening: Snapshot<Image>,
     memory: Image,
     history: Vec<Entry>,
-    // On the heap, since the pools are large.
-    tables: Box<Tables>,
+    tables: Tables,
 }
 
 impl Model for Spm {
@@ -37,7 +36,7 @@ impl Model for Spm {
 
     ghost view = { λ m. record { opening = record { system = m.system; memory = m.opening.value; limit = m.limit }; history = m.history.items; bytes = m.memory } };
 
-    ghost invariant = { λ m. Keeps (record { system = m.system; memory = m.opening.value; limit = m.limit }) m.history.items m.memory m.tables.value (vec_capacity m.history) };
+    ghost invariant = { λ m. Keeps (record { system = m.system; memory = m.opening.value; limit = m.limit }) m.history.items m.memory m.tables (vec_capacity m.history) };
 }
 
 impl Spm {
@@ -46,7 +45,8 @@ impl Spm {
     ghost use Rattle.ffm_model.specs.Step.{Run};
     ghost use Rattle.ffm_model.specs.Names.{names};
     ghost use Rattle.ffm_model.specs.Verdicts.{verdict_of};
-    ghost use Rattle.memory_image.specs.Pieces.{byte_at, regions_of, ranges_of};
+    ghost use Rattle.ffm_model.specs.Ranges.{ranges_of};
+    ghost use Rattle.memory_image.specs.Pieces.{byte_at, regions_of};
     ghost use Rattle.spm_core.specs.Manager.{StepAnswers, CallDue, refusal, is_actor_gone, awaits_return, state_of};
     ghost use Rattle.ffm_model.specs.Reach.{write_reach};
     ghost use Rattle.spm_core.specs.Views.{phase_in, pending_in, enabled_in, memory_in};
@@ -62,7 +62,6 @@ impl Spm {
     {
         let tables = Tables::new(alloc, &system)?;
         tables.law();
-        let tables = Box::new(alloc, tables)?;
         let history = Vec::with_capacity(alloc, limit as usize)?;
         let opening = Snapshot::of(&memory);
         Ok(Spm {

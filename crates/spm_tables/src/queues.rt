@@ -48,7 +48,7 @@ impl MessageQueues {
         let links = vec![in alloc; NO_LINK; size as usize]?;
         let ends = vec![in alloc; NO_ENDS; services]?;
         Ok(MessageQueues {
-            messages: Pool::new(size),
+            messages: Pool::new(alloc, size)?,
             links: links.into_boxed_slice(),
             ends: ends.into_boxed_slice(),
         })

@@ -20,20 +20,19 @@ use ffm_model::{
 use manifest_json::{
     ListAfter, PartError, WholeReader, object, optional, optional_list, placed, read_tree,
 };
-use memory_image::RegionIndex;
 use serde_json::Value;
 use std::alloc::Global;
 
 const DEFAULT_EVENTS: u32 = 4096;
 
 /// The bytes that the memory begins with.
-#[tactic(auto, using(memory_image::proofs::Systems::regions_apart))]
 fn opening_memory(alloc: Global, system: &System, tree: &Value) -> Result<List<Bytes>, PartError>
     ensures given { Gives result (optional (list_of (bytes_of system.now.regions)) [] key.Memory (view tree.now)) }
     ensures kept { IfOk result (AllByRecursion (λ bytes. IsTrue (list_any (lies_in bytes.address (length bytes.content)) system.now.regions))) }
 {
-    let regions = RegionIndex::of(alloc, system.regions.as_slice())?;
-    let bytes = BytesReader { regions: &regions };
+    let bytes = BytesReader {
+        regions: &system.regions,
+    };
     optional_list(alloc, bytes, tree, Key::Memory)
 }
 

@@ -5,9 +5,8 @@ ghost use Rattle.std.specs.Option.{option_map};
 ghost use Rattle.ffm_model.specs.Memory.{lies_in};
 ghost use Rattle.ffm_model.specs.Scenarios.{hex_byte, hex_bytes, bytes_of};
 
-use ffm_model::{BAD_VALUE, Bytes, Key, List, PathStep, WRONG_TYPE};
+use ffm_model::{BAD_VALUE, Bytes, Key, List, PathStep, Regions, WRONG_TYPE};
 use manifest_json::{NumberReader, PartError, Reader, object, refused, refused_at, required};
-use memory_image::RegionIndex;
 use serde_json::Value;
 use std::alloc::{AllocError, Global};
 
@@ -64,7 +63,7 @@ impl Reader for HexReader {
 /// Bytes at an address. Their range lies whole in one of the regions.
 #[derive(Clone, Copy)]
 pub(crate) struct BytesReader<'a> {
-    pub regions: &'a RegionIndex<'a>,
+    pub regions: &'a Regions,
 }
 
 impl Reader for BytesReader<'_> {

@@ -1,7 +1,8 @@
 //! Where two images differ, and in how many places: what the comparing calls say of worked bytes.
 ghost use Rattle.std.specs.Prelude.{◌≡◌, IfOk};
 ghost use Rattle.std.specs.List.{list_any};
-ghost use Rattle.memory_image.specs.Pieces.{regions_of, ranges_of, has_range, is_inside};
+ghost use Rattle.ffm_model.specs.Ranges.{ranges_of, has_range};
+ghost use Rattle.memory_image.specs.Pieces.{regions_of, is_inside};
 
 use crate::parts::{add_pieces, image_with, region, system_of};
 use ffm_model::{Class, List, Region, System};

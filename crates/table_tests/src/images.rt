@@ -1,6 +1,7 @@
 //! What no clause says: the answers of the calls that take memory, and ranges and bytes at edges.
 ghost use Rattle.std.specs.Prelude.{◌≡◌};
-ghost use Rattle.memory_image.specs.Pieces.{regions_of, ranges_of};
+ghost use Rattle.ffm_model.specs.Ranges.{ranges_of};
+ghost use Rattle.memory_image.specs.Pieces.{regions_of};
 
 use crate::parts::{Sample, region, sample_of, system_of};
 use ffm_model::{ActorId, Class, Memory, System};
@@ -95,9 +96,9 @@ const RANGES: [RangeRow; 19] = [
 fn answers_of(sample: &Sample, row: &RangeRow) -> (bool, bool, bool) {
     let RangeRow(actor, base, len, ..) = *row;
     (
-        valid_buffer(&sample.system, &sample.image, actor, base, len),
-        may_read(&sample.system, &sample.image, actor, base, len),
-        may_write(&sample.system, &sample.image, actor, base, len),
+        valid_buffer(&sample.system, actor, base, len),
+        may_read(&sample.system, actor, base, len),
+        may_write(&sample.system, actor, base, len),
     )
 }
 
@@ -123,7 +124,7 @@ fn assert_shared(rt: &impl Abort, sample: &Sample) {
         (SPY, 0x4000_0000, false),
         (CLIENT, 0x3000_0000, false),
     ] {
-        let found = may_read(&sample.system, &sample.image, actor, base, 4);
+        let found = may_read(&sample.system, actor, base, 4);
         assert_eq!(rt; found, read, "{actor:?} {base:#x}");
     }
 }
@@ -137,7 +138,7 @@ fn load_as(system: &System, image: &Image, actor: ActorId, address: u32, size: u
     requires { regions_of image.now ≡ ranges_of system.now.regions }
 {
     let is_size = size == 1 || (size == 2 || size == 4);
-    if is_size && may_read(system, image, actor, address, size) {
+    if is_size && may_read(system, actor, address, size) {
         return Some(image.load(address, size));
     }
     None
@@ -200,7 +201,7 @@ fn store_as(system: &System, image: &mut Image, address: u32, size: u32, value: 
     ensures { regions_of image.new ≡ ranges_of system.now.regions }
 {
     let is_size = size == 1 || (size == 2 || size == 4);
-    if is_size && may_write(system, image, CLIENT, address, size) {
+    if is_size && may_write(system, CLIENT, address, size) {
         image.store(address, size, value);
         return true;
     }
@@ -260,9 +261,7 @@ fn copy_as(system: &System, image: &mut Image, row: &CopyRow) -> bool
     ensures { regions_of image.new ≡ ranges_of system.now.regions }
 {
     let CopyRow(reader, from, writer, to, len) = *row;
-    if valid_buffer(system, image, reader, from, len)
-        && valid_buffer(system, image, writer, to, len)
-    {
+    if valid_buffer(system, reader, from, len) && valid_buffer(system, writer, to, len) {
         image.copy(from, to, len);
         return true;
     }
@@ -337,7 +336,7 @@ fn bytes_are_copied(rt: HostRuntime) -> Result<(), Fail> {
 }
 
 fn store_three(rt: &impl Abort, sample: &mut Sample) {
-    assert!(rt; valid_buffer(&sample.system, &sample.image, VAULT, 0x3000_03f4, 12));
+    assert!(rt; valid_buffer(&sample.system, VAULT, 0x3000_03f4, 12));
     let words = [0x1234_5678, 0xffff_ffff, 3];
     sample.image.store_words(0x3000_03f4, &words);
 }

@@ -1,6 +1,7 @@
 //! Parts that systems and images of several tests are made of.
 ghost use Rattle.std.specs.Prelude.{◌≡◌, ◌<◌, ◌^◌, length, IfOk};
-ghost use Rattle.memory_image.specs.Pieces.{regions_of, ranges_of};
+ghost use Rattle.ffm_model.specs.Ranges.{ranges_of};
+ghost use Rattle.memory_image.specs.Pieces.{regions_of};
 
 use ffm_model::{Bytes, Class, List, Name, Partition, Priority, Region, RotType, System};
 use memory_image::{Image, open_within};
@@ -77,7 +78,7 @@ pub(crate) fn add_pieces(
 }
 
 /// The image of a system that opens with these bytes.
-#[tactic(auto, using(memory_image::proofs::Systems::system_fits, memory_image::proofs::Systems::system_few))]
+#[tactic(auto, using(memory_image::proofs::Systems::system_fits, ffm_model::proofs::RangeLemmas::regions_few))]
 pub(crate) fn image_with(
     rt: &impl Abort,
     alloc: Global,
@@ -87,7 +88,7 @@ pub(crate) fn image_with(
     ensures { IfOk result (λ image. regions_of image ≡ ranges_of system.now.regions) }
 {
     assert!(rt; open_within(system.regions.as_slice(), opening.as_slice()));
-    Ok(Image::new(alloc, &system.regions, opening)?)
+    Ok(Image::new(alloc, system.regions.list(), opening)?)
 }
 
 /// A system, and an image of its regions.

@@ -1,6 +1,7 @@
 //! Worked requests: vectors at edges, moves in a row, and what the client is told.
 ghost use Rattle.std.specs.Prelude.{◌≡◌, IfSome};
-ghost use Rattle.memory_image.specs.Pieces.{regions_of, ranges_of};
+ghost use Rattle.ffm_model.specs.Ranges.{ranges_of};
+ghost use Rattle.memory_image.specs.Pieces.{regions_of};
 ghost use Rattle.message_vectors.specs.Vectors.{AreWithin};
 
 use crate::parts::{Sample, region, sample_of, system_of};
@@ -119,14 +120,14 @@ fn moved(system: &System, image: &mut Image, vectors: &mut Vectors, row: Move) -
 {
     match row {
         Move::Read { index, buffer, len } if index < 4 => {
-            if !valid_buffer(system, image, VAULT, buffer, len) {
+            if !valid_buffer(system, VAULT, buffer, len) {
                 return None;
             }
             Some(read(image, vectors, index, buffer, len))
         }
         Move::Skip { index, len } if index < 4 => Some(skip(vectors, index, len)),
         Move::Write { index, buffer, len } if index < 4 => {
-            if !valid_buffer(system, image, VAULT, buffer, len) {
+            if !valid_buffer(system, VAULT, buffer, len) {
                 return None;
             }
             write(image, vectors, index, buffer, len).ok()?;
@@ -139,7 +140,7 @@ fn moved(system: &System, image: &mut Image, vectors: &mut Vectors, row: Move) -
 fn load_as(system: &System, image: &Image, actor: ActorId, address: u32) -> Option<u32>
     requires { regions_of image.now ≡ ranges_of system.now.regions }
 {
-    if valid_buffer(system, image, actor, address, 4) {
+    if valid_buffer(system, actor, address, 4) {
         return Some(image.load(address, 4));
     }
     None

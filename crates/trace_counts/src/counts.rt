@@ -1,6 +1,7 @@
 //! Counts of a trace: calls, bytes moved, waits and live objects.
 ghost use Rattle.std.specs.Prelude.{◌≡◌, ◌<◌, ◌^◌, IfOk, length};
-ghost use Rattle.memory_image.specs.Pieces.{byte_at, ranges_of, regions_of};
+ghost use Rattle.ffm_model.specs.Ranges.{ranges_of};
+ghost use Rattle.memory_image.specs.Pieces.{byte_at, regions_of};
 ghost use Rattle.trace_counts.specs.Counted.{IsCounted};
 
 use ffm_model::{ActorId, Call, Entry, Handle, Memory, Outcome, System, Trace};

@@ -1,6 +1,7 @@
 //! What a diagram shows, and its text.
 ghost use Rattle.std.specs.Prelude.{◌≡◌, ◌<◌, ◌^◌, IfOk, length};
-ghost use Rattle.memory_image.specs.Pieces.{byte_at, ranges_of, regions_of};
+ghost use Rattle.ffm_model.specs.Ranges.{ranges_of};
+ghost use Rattle.memory_image.specs.Pieces.{byte_at, regions_of};
 ghost use Rattle.trace_diagram.specs.Diagrams.{IsDiagram};
 
 use crate::gathering::{Part, PlacedArrow, gather};

@@ -1,7 +1,8 @@
 //! The arrows of a part of a trace.
 ghost use Rattle.std.specs.Prelude.{◌≡◌, ◌<◌, ◌+◌, ◌^◌, IfOk, get_or, length, map, replicate, slice_set};
 ghost use Rattle.ffm_model.specs.Actors.{actor_count};
-ghost use Rattle.memory_image.specs.Pieces.{byte_at, ranges_of, regions_of};
+ghost use Rattle.ffm_model.specs.Ranges.{ranges_of};
+ghost use Rattle.memory_image.specs.Pieces.{byte_at, regions_of};
 ghost use Rattle.machine_calls.specs.Machine.{spm_of_objects};
 ghost use Rattle.trace_diagram.specs.Gathering.{answered_place, arrows_at, arrows_in, is_answer, is_in_part, placed};
 

@@ -1,6 +1,7 @@
 //! The state behind a part of a trace.
 ghost use Rattle.std.specs.Prelude.{◌≡◌, ◌<◌, ◌^◌, IfOk, length, slice_set};
-ghost use Rattle.memory_image.specs.Pieces.{byte_at, ranges_of, regions_of};
+ghost use Rattle.ffm_model.specs.Ranges.{ranges_of};
+ghost use Rattle.memory_image.specs.Pieces.{byte_at, regions_of};
 ghost use Rattle.trace_view.specs.Showing.{AreLastPlaces, IsPlace, IsLastLegal};
 
 use ffm_model::{Entry, Memory, System, Trace};

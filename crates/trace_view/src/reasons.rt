@@ -8,7 +8,8 @@ ghost use Rattle.ffm_model.specs.Step.{handle_shown, may_call, outcome_eq, retur
 ghost use Rattle.ffm_model.specs.Verdicts.{verdict_eq};
 ghost use Rattle.machine_calls.specs.Machine.{state_of, IsMachineOf};
 ghost use Rattle.machine_check.specs.Performed.{Knows, gave_handle};
-ghost use Rattle.memory_image.specs.Pieces.{byte_at, ranges_of, regions_of};
+ghost use Rattle.ffm_model.specs.Ranges.{ranges_of};
+ghost use Rattle.memory_image.specs.Pieces.{byte_at, regions_of};
 ghost use Rattle.trace_view.specs.Why.{BreaksRule, IsFinding, IsIllegal, IsRule, is_refusal, refusal_shown, with_handle};
 
 use crate::state::put_phase;

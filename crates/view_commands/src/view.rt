@@ -1,7 +1,8 @@
 //! What is shown of a trace.
 ghost use Rattle.std.specs.Prelude.{◌≡◌, IfOk, length, string_bytes};
 ghost use Rattle.ffm_model.specs.Memory.{opening_memory};
-ghost use Rattle.memory_image.specs.Pieces.{byte_at, ranges_of, regions_of};
+ghost use Rattle.ffm_model.specs.Ranges.{ranges_of};
+ghost use Rattle.memory_image.specs.Pieces.{byte_at, regions_of};
 ghost use Rattle.view_commands.specs.Files.{AreTraceFiles};
 ghost use Rattle.view_commands.specs.Views.{IsView, IsViewText, memory_of, no_place_line, no_state_line, status_of};
 

@@ -1,14 +1,12 @@
 use Rattle.std.proofs.Common.{◌<◌, rules, sym, length, ◌∙◌}
-use Rattle.std.specs.Prelude.{Some, None}
+use Rattle.std.specs.Prelude.{Some}
 use Rattle.memory_image.specs.Pieces.{regions_of}
-use Rattle.memory_image.specs.Index.{IsOnlyPlace}
-use Rattle.memory_image.proofs.Indexed.{found_there, piece_below, piece_range}
+use Rattle.ffm_model.specs.Ranges.{IsOnlyPlace}
+use Rattle.memory_image.proofs.Indexed.{found_there, piece_below, lacked_piece, had_piece, no_piece_has}
 use Rattle.memory_image.proofs.index.piece_with.Goals as goal
 
 pub returns-in-None-clause-exact : goal.returns-in-None-clause-exact
-returns-in-None-clause-exact c some =
-    let only : IsOnlyPlace (regions_of c.args.pieces.now) c.args.address None = c.in-None.ensures _ c.requires.index c.requires.apart in
-    sym (only.only c.args.len some)
+returns-in-None-clause-exact c some = no_piece_has c.args.pieces.now c.args.address c.args.len some (c.in-None.ensures _ c.requires.index c.requires.apart)
 
 pub bounds-pieces-place : goal.bounds-pieces-place
 bounds-pieces-place c =
@@ -29,12 +27,8 @@ returns-then-has_range-clause-found c =
 
 pub returns-then-has_range-clause-exact : goal.returns-then-has_range-clause-exact
 returns-then-has_range-clause-exact c some =
-    let only : IsOnlyPlace (regions_of c.args.pieces.now) c.args.address (Some c.in-Some.place) = c.in-Some.ensures _ c.requires.index c.requires.apart in
-    let below : c.in-Some.place < length c.args.pieces.now = piece_below c.args.pieces.now c.in-Some.place only.below in
-    sym (only.only c.args.len some ∙ piece_range _ _ _ _ c.index-pieces-place.result below c.index-pieces-place.is ∙ sym c.has_range.ensures ∙ c.if-has_range.true)
+    had_piece _ _ _ _ c.index-pieces-place.result (c.in-Some.ensures _ c.requires.index c.requires.apart) c.index-pieces-place.is (sym c.has_range.ensures ∙ c.if-has_range.true)
 
 pub returns-else-has_range-clause-exact : goal.returns-else-has_range-clause-exact
 returns-else-has_range-clause-exact c some =
-    let only : IsOnlyPlace (regions_of c.args.pieces.now) c.args.address (Some c.in-Some.place) = c.in-Some.ensures _ c.requires.index c.requires.apart in
-    let below : c.in-Some.place < length c.args.pieces.now = piece_below c.args.pieces.now c.in-Some.place only.below in
-    sym (only.only c.args.len some ∙ piece_range _ _ _ _ c.index-pieces-place.result below c.index-pieces-place.is ∙ sym c.has_range.ensures ∙ c.if-has_range.false)
+    lacked_piece _ _ _ _ c.index-pieces-place.result some (c.in-Some.ensures _ c.requires.index c.requires.apart) c.index-pieces-place.is (sym c.has_range.ensures ∙ c.if-has_range.false)

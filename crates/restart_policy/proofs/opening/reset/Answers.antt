@@ -5,7 +5,8 @@ use Rattle.ffm_model.specs.declared.system.Class.TheVariants.{Ram}
 use Rattle.ffm_model.specs.declared.system.Region.{Region}
 use Rattle.ffm_model.specs.Memory.{ByteMap, write_bytes}
 use Rattle.ffm_model.specs.Restarts.{memory_behind}
-use Rattle.memory_image.specs.Pieces.{byte_at, ranges_of, regions_of}
+use Rattle.ffm_model.specs.Ranges.{ranges_of}
+use Rattle.memory_image.specs.Pieces.{byte_at, regions_of}
 use Rattle.spm_core.specs.Manager.{state_of}
 use Rattle.restart_policy.proofs.Resets.{memory_left, mmio_more, other_more, region_inside, reset_in}
 use Rattle.restart_policy.proofs.opening.reset.Goals as goal

@@ -1,5 +1,6 @@
 use Rattle.std.proofs.Common.{◌≡◌, take}
-use Rattle.memory_image.specs.Pieces.{byte_at, ranges_of, regions_of}
+use Rattle.ffm_model.specs.Ranges.{ranges_of}
+use Rattle.memory_image.specs.Pieces.{byte_at, regions_of}
 use Rattle.restart_policy.proofs.Resets.{reset_in}
 use Rattle.restart_policy.proofs.opening.reset.Given as goal
 

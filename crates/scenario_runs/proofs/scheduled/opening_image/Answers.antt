@@ -2,12 +2,12 @@
 use Rattle.std.proofs.Common.{length}
 use Rattle.std.specs.List.{list_any}
 use Rattle.ffm_model.specs.Memory.{lies_in}
-use Rattle.memory_image.proofs.Systems.{system_few}
+use Rattle.ffm_model.proofs.RangeLemmas.{regions_few}
 use Rattle.scenario_runs.proofs.Tested.{list_all-each}
 use Rattle.scenario_runs.proofs.scheduled.opening_image.Goals as goal
 
 pub new-requires-clause-few : goal.new-requires-clause-few
-new-requires-clause-few c = system_few c.args.system.now
+new-requires-clause-few c = rw c.list.ensures (regions_few c.args.system.now)
 
 pub new-requires-clause-opening : goal.new-requires-clause-opening
-new-requires-clause-opening c = list_all-each (λ b. list_any (lies_in b.address (length b.content)) c.args.system.now.regions) c.args.scenario.now.memory c.requires.memory
+new-requires-clause-opening c = rw c.list.ensures (list_all-each (λ b. list_any (lies_in b.address (length b.content)) c.args.system.now.regions) c.args.scenario.now.memory c.requires.memory)

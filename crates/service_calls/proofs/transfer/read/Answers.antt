@@ -38,6 +38,9 @@ returns-in_default-clause-names c = unchanged-names c.args.system.now c.args.tab
 pub returns-then-not-valid_buffer-clause-names : goal.returns-then-not-valid_buffer-clause-names
 returns-then-not-valid_buffer-clause-names c = unchanged-names c.args.system.now c.args.tables.now c.args.tables.now refl
 
+pub returns-clause-names : goal.returns-clause-names
+returns-clause-names c = c.set_vectors.ensures.names c.args.system.now
+
 pub returns-clause-vectors : goal.returns-clause-vectors
 returns-clause-vectors c =
     c.set_vectors.ensures.within (regions_of c.read-count.new.image) c.read-count.ensures.within (subst (λ rs. All (λ m. AreWithin rs m.vectors) (spm_of c.args.tables.now).messages) (sym c.read-count.ensures.regions) c.requires.premises.vectors)

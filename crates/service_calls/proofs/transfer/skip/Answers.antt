@@ -23,6 +23,9 @@ returns-clause-answer c =
 pub returns-in_default-clause-names : goal.returns-in_default-clause-names
 returns-in_default-clause-names c = λ s made. unchanged-names s c.args.tables.now c.args.tables.now refl
 
+pub returns-clause-names : goal.returns-clause-names
+returns-clause-names c = λ s made. c.set_vectors.ensures.names s
+
 pub returns-clause-moved : goal.returns-clause-moved
 returns-clause-moved c = c.set_vectors.ensures.moved c.skip-count.ensures.moved c.requires.moved
 

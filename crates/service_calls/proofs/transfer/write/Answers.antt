@@ -41,6 +41,9 @@ returns-then-not-valid_buffer-clause-names c = unchanged-names c.args.system.now
 pub returns-in_err-write-clause-names : goal.returns-in_err-write-clause-names
 returns-in_err-write-clause-names c = unchanged-names c.args.system.now c.args.tables.now c.args.tables.now refl
 
+pub returns-clause-names : goal.returns-clause-names
+returns-clause-names c = c.set_vectors.ensures.names c.args.system.now
+
 pub returns-clause-vectors : goal.returns-clause-vectors
 returns-clause-vectors c =
     c.set_vectors.ensures.within (regions_of c.write.new.image) c.in_ok-write.ensures.within (subst (λ rs. All (λ m. AreWithin rs m.vectors) (spm_of c.args.tables.now).messages) (sym c.in_ok-write.ensures.regions) c.requires.premises.vectors)

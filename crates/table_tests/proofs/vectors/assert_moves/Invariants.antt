@@ -1,5 +1,6 @@
 use Rattle.std.proofs.Common.{◌≡◌}
-use Rattle.memory_image.specs.Pieces.{regions_of, ranges_of}
+use Rattle.ffm_model.specs.Ranges.{ranges_of}
+use Rattle.memory_image.specs.Pieces.{regions_of}
 use Rattle.message_vectors.specs.Vectors.{AreWithin}
 use Rattle.table_tests.proofs.vectors.assert_moves.Given as goal
 

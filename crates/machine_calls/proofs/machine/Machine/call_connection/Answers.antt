@@ -1,4 +1,4 @@
-use Rattle.memory_image.specs.Pieces.{ranges_of}
+use Rattle.ffm_model.specs.Ranges.{ranges_of}
 use Rattle.machine_calls.proofs.machine.Machine.call_connection.Goals as goal
 
 pub returns-clause-kept : goal.returns-clause-kept

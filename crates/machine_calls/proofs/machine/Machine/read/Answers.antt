@@ -1,6 +1,6 @@
 use Rattle.std.proofs.Common.{◌<◌, ◌≤◌, length, arith, rules, sym}
 use Rattle.ffm_model.specs.Memory.{no_span}
-use Rattle.memory_image.specs.Pieces.{ranges_of}
+use Rattle.ffm_model.specs.Ranges.{ranges_of}
 use Rattle.memory_image.proofs.Stored.{part_inside}
 use Rattle.memory_image.proofs.Systems.{buffer_inside}
 use Rattle.ffm_model.specs.ServiceCalls.{input_of}

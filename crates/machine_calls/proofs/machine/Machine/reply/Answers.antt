@@ -1,5 +1,5 @@
 use Rattle.std.proofs.Common.{refl, to_z, of_z, w32}
-use Rattle.memory_image.specs.Pieces.{ranges_of}
+use Rattle.ffm_model.specs.Ranges.{ranges_of}
 use Rattle.machine_calls.proofs.MessageLemmas.{kept_messages, reply_fits}
 use Rattle.machine_calls.proofs.machine.Machine.reply.Goals as goal
 

@@ -1,6 +1,6 @@
 use Rattle.std.proofs.Common.{◌<◌, length, rules, refl}
 use Rattle.ffm_model.specs.Memory.{no_span}
-use Rattle.memory_image.specs.Pieces.{ranges_of}
+use Rattle.ffm_model.specs.Ranges.{ranges_of}
 use Rattle.machine_calls.proofs.MessageLemmas.{kept_vectors, request_fits}
 use Rattle.machine_calls.proofs.machine.Machine.skip.Goals as goal
 

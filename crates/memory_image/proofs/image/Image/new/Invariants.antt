@@ -1,6 +1,7 @@
 use Rattle.std.proofs.Common.{◌≡◌, take}
 use Rattle.ffm_model.specs.Memory.{opening_memory}
-use Rattle.memory_image.specs.Pieces.{byte_at, regions_of, ranges_of}
+use Rattle.ffm_model.specs.Ranges.{ranges_of}
+use Rattle.memory_image.specs.Pieces.{byte_at, regions_of}
 use Rattle.memory_image.proofs.image.Image.new.Given as goal
 
 -- the pieces so far are stored

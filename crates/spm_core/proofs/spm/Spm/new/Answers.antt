@@ -16,5 +16,4 @@ invariant_of-result c =
     let made : MadeFor c.in_ok-tables.tables c.args.system = search rules in
     let opens : spm_of c.in_ok-tables.tables ≡ opening_spm c.args.system = search rules in
     let none_waits : c.in_ok-tables.tables.messages ≡ empty (message_capacity c.args.system) = search rules in
-    let boxed : c.in_ok-tables-2.tables.value ≡ c.in_ok-tables.tables = search rules in
-    rw (boxed, none, same) (keeps-first _ c.in_ok-tables.tables _ c.requires.limited room c.requires.regions made c.law.ensures.connections c.law.ensures.messages opens (ap (λ (p : Places QueuedMessage). p.takes) none_waits))
+    rw (none, same) (keeps-first _ c.in_ok-tables.tables _ c.requires.limited room c.requires.regions made c.law.ensures.connections c.law.ensures.messages opens (ap (λ (p : Places QueuedMessage). p.takes) none_waits))

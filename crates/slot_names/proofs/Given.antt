@@ -1,0 +1,77 @@
+-- What changes of a pool leave of the handles that were given.
+use Rattle.std.proofs.Common.{ℕ, ◌≡◌, ◌<◌, ◌≤◌, ◌+◌, Bool, false, not, List, [], ◌∷◌, length, filter, get_or, arith, ◌∙◌, sym, refl, subst}
+use Rattle.std.specs.Prelude.{All, Option, Some, None, slice_set}
+use Rattle.std.specs.List.{cons_option, filter_map, list_any}
+use Rattle.std.proofs.Math.ListN.{length-set}
+use Rattle.std.proofs.lemmas.Grind.{common_steps}
+use Rattle.std.proofs.lemmas.List.Elements.{All-cons, All-filter, All-head, All-nil, All-push, All-tail}
+use Rattle.ffm_model.specs.declared.machine.Handle.{Handle}
+use Rattle.object_pools.specs.declared.slot.Slot.{Slot}
+use Rattle.object_pools.specs.declared.slot.Held.{Held}
+use Rattle.object_pools.specs.Pool.{Places, free_slot, is_at, item_at, taken, with_item}
+use Rattle.object_pools.proofs.Pigeons.{index-below}
+use Rattle.handle_table.specs.declared.handles.Family.{Family}
+use Rattle.handle_table.specs.declared.handles.Family.TheVariants.{Message}
+use Rattle.handle_table.proofs.FreshLemmas.{GivesFresh-put, IsUntold}
+use Rattle.handle_table.proofs.NameLemmas.{free-parts}
+use Rattle.spm_tables.specs.declared.item.QueuedMessage.{QueuedMessage}
+use Rattle.spm_tables.specs.TablesView.{TablesView}
+use Rattle.slot_names.specs.Named.{KeepsFresh, KeepsFreshMessages, KeepsGiven}
+
+-- what each item keeps as long as it is there, all that are left keep
+pub All-left : {X : Type 0} (P : X → Type 0) (f : X → Option X) → ((x y : X) → f x ≡ Some y → P x → P y) → (xs : List X) → All P xs → All P (filter_map f xs)
+All-left P f keeps [] a = All-nil P
+All-left {X = X} P f keeps (x ∷ xs) a =
+    let rest : All P (filter_map f xs) = All-left P f keeps xs (All-tail P x xs a) in
+    let go : (o : Option X) → f x ≡ o → All P (cons_option o (filter_map f xs)) =
+    elim [ None ↦ λ e. rest | Some y ↦ λ e. All-cons P y (filter_map f xs) (keeps x y e (All-head P x xs a)) rest ] in
+    go (f x) refl
+
+risen : (generations : List ℕ) (i g k : ℕ) → g ≡ get_or generations i 0 + 1 → get_or generations k 0 ≤ get_or (slice_set generations i g) k 0
+risen generations i g k e = grind (arith, common_steps)
+
+module _ {T : Type 0} (f : Family) (told : T → Bool) where
+  pub given-then : (a b c : Places T) → KeepsFresh f told a b → KeepsFresh f told b c → KeepsFresh f told a c
+  given-then a b c h k = record {
+    size = k.size ∙ h.size;
+    generations = λ i. omega (arith, h.generations i, k.generations i);
+    fresh = λ few given v. k.fresh (omega (arith, few, h.size)) given (h.fresh few given v);
+  }
+
+  -- no slot is taken
+  pub given-held : (p : Places T) (held : List (Held T)) → ((given : List Handle) → All (IsUntold f told given) p.held → All (IsUntold f told given) held) → KeepsFresh f told p (record p { held = held })
+  given-held p held untold = record { size = refl; generations = λ i. omega arith; fresh = λ few given v. record { future = v.future; untold = untold given v.untold } }
+
+  pub given-same : (p : Places T) → KeepsFresh f told p p
+  given-same p = given-held p p.held (λ given a. a)
+
+  pub given-filter : (p : Places T) (q : Held T → Bool) → KeepsFresh f told p (record p { held = filter q p.held })
+  given-filter p q = given-held p (filter q p.held) (λ given a. All-filter q (IsUntold f told given) p.held a)
+
+  pub given-put : (p : Places T) (s : Slot) (x y : T) → item_at p s ≡ Some x → (told y ≡ false → told x ≡ false) → KeepsFresh f told p (with_item p s y)
+  given-put p s x y live stays = record { size = refl; generations = λ i. omega arith; fresh = λ few given v. GivesFresh-put f told p given s x y v live stays }
+
+  pub given-taken : (p : Places T) (s : Slot) (x : T) → free_slot p ≡ Some s → KeepsFresh f told p (taken p s x)
+  given-taken p s x free =
+      let parts = free-parts p s free in
+      let inside : s.index < length p.generations = index-below (λ i. not (list_any (is_at i) p.held)) (length p.generations) s.index parts.0 in
+      let rises : (i : ℕ) → get_or p.generations i 0 ≤ get_or (slice_set p.generations s.index s.generation) i 0 = λ i. risen p.generations s.index s.generation i parts.1 in
+      record {
+        size = length-set p.generations s.index s.generation;
+        generations = rises;
+        fresh = λ few given v. record {
+          future = λ a below later. v.future a below (omega (arith, later, rises a.index));
+          untold = All-push (IsUntold f told given) p.held (record { slot = s; item = x }) v.untold (λ e. v.future s (omega (arith, few, inside)) (omega (arith, parts.1)));
+        };
+      }
+
+-- a message is taken in
+pub given-message : (old new : Places QueuedMessage) (slot : Slot) (x : QueuedMessage) → free_slot old ≡ Some slot → new ≡ taken old slot x → KeepsFreshMessages old new
+given-message old new slot x free waiting = subst (KeepsFreshMessages old) (sym waiting) (given-taken Message (λ m. m.delivered) old slot x free)
+
+-- one change after another
+pub given-on : (a b c : TablesView) → KeepsGiven a b → KeepsGiven b c → KeepsGiven a c
+given-on a b c h k = record {
+  connections = given-then _ _ a.connections b.connections c.connections h.connections k.connections;
+  messages = given-then _ _ a.messages b.messages c.messages h.messages k.messages;
+}
