@@ -1,6 +1,6 @@
 //! The connections of a manager.
 
-ghost use Rattle.std.specs.Prelude.{◌≡◌, ◌<◌, ◌≤◌, ◌==◌, ◌&&◌, ◌↔◌, length, IsTrue, IsSome, IfSome, IfOk, Some, find, All, option_and_then, nat_le, slice_get};
+ghost use Rattle.std.specs.Prelude.{◌≡◌, ◌<◌, ◌≤◌, ◌==◌, ◌&&◌, ◌↔◌, length, IsTrue, IsSome, IfSome, Some, find, All, option_and_then, nat_le, slice_get};
 ghost use Rattle.ffm_model.specs.State.{connection_held, in_use, has_handle, with_connection_phase, with_rhandle, with_connection_handle, without_connection};
 ghost use Rattle.ffm_model.specs.ClientCalls.{new_connection};
 ghost use Rattle.object_pools.specs.Pool.{Places, most_takes, empty, taken, free_slot, item_at, without, with_item, IsKept};
@@ -13,7 +13,6 @@ ghost use Rattle.handle_table.specs.Table.{connections, spm_of_connections, with
 use crate::handles::{Family, handle_of, slot_of};
 use ffm_model::{ActorId, ConnPhase, Handle, OpenConnection};
 use object_pools::{Held, Pool, Slot};
-use std::alloc::{AllocError, Global};
 use std::marker::Model;
 
 /// What is told of a connection.
@@ -91,14 +90,14 @@ fn connection_slot(handle: Handle) -> Option<Slot>
 }
 
 impl Connections {
-    /// No connection yet, and room for `size`, at most 256. `AllocError` where memory is wanting.
-    pub fn new(alloc: Global, size: u32) -> Result<Connections, AllocError>
+    /// No connection yet, and room for `size`, at most 256.
+    pub fn new(size: u32) -> Connections
         requires { size ≤ 256 }
-        ensures { IfOk result (λ c. c ≡ empty size) }
+        ensures { result ≡ empty size }
     {
-        Ok(Connections {
-            pool: Pool::new(alloc, size)?,
-        })
+        Connections {
+            pool: Pool::new(size),
+        }
     }
 
     /// How many connections there are.

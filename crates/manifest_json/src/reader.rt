@@ -184,7 +184,7 @@ fn items_after<R: ReaderAfter>(
     ensures given { Gives result (items_after (R.gives reader.now) [] 0 (items_view items.now)) }
     ensures kept { IfOk result (AllByRecursion (R.keeps reader.now)) }
 {
-    let mut found = Vec::new(alloc);
+    let mut found = Vec::with_capacity(alloc, items.len())?;
     for (i, item) in items.iter().enumerate() {
         let step = step_to(i)?;
         let value = under(step, reader.read_after(alloc, &found, item))?;

@@ -1,14 +1,12 @@
 //! The places of a pool. An item stays in the cell of its index from its take until it is put back.
 
-ghost use Rattle.std.specs.Prelude.{◌≡◌, ◌<◌, length, slice_set, find, filter, not, is_none, ◌==◌};
+ghost use Rattle.std.specs.Prelude.{◌≡◌, ◌<◌, ◌≤◌, ◌+◌, length, replicate, slice_set, find, filter, not, None, is_none, slice_get, ◌==◌};
 ghost use Rattle.std.specs.List.{range_with_len};
-ghost use Rattle.std.specs.Box.{boxed_slice_items};
 ghost use Rattle.std.specs.Option.{option_copied};
 ghost use Rattle.object_pools.specs.Cells.{held_at, item_in, generation_at};
 
 use crate::slot::{Held, Slot};
 use arrayvec::ArrayVec;
-use std::boxed::BoxedSlice;
 
 /// A place of a pool.
 #[derive(Clone, Copy)]
@@ -17,6 +15,17 @@ pub(crate) struct Cell<T> {
     pub(crate) generation: u32,
     // None where the place is free
     pub(crate) item: Option<T>,
+}
+
+impl<T> Default for Cell<T> {
+    ghost is_default = { λ c. c ≡ record { generation = 0; item = None } };
+
+    fn default() -> Self {
+        Cell {
+            generation: 0,
+            item: None,
+        }
+    }
 }
 
 // The live item at an index, with its slot.
@@ -66,12 +75,28 @@ pub(crate) fn lowest_free<T>(cells: &[Cell<T>], size: u32) -> Option<u32>
 }
 
 // Writes over the cell of a slot.
-pub(crate) fn put<T: Copy>(cells: &mut BoxedSlice<Cell<T>>, slot: Slot, item: Option<T>)
-    requires { slot.index < length (boxed_slice_items cells.old) }
-    ensures { boxed_slice_items cells.new ≡ slice_set (boxed_slice_items cells.old) slot.index (record { generation = slot.generation; item = item }) }
+pub(crate) fn put<T: Copy, const CAP: usize>(
+    cells: &mut ArrayVec<Cell<T>, CAP>,
+    slot: Slot,
+    item: Option<T>,
+)
+    requires { slot.index < length cells.old.items }
+    ensures { cells.new.items ≡ slice_set cells.old.items slot.index (record { generation = slot.generation; item = item }) }
 {
     let generation = slot.generation;
-    cells[slot.index as usize] = Cell { generation, item };
+    cells.as_mut_slice()[slot.index as usize] = Cell { generation, item };
+}
+
+pub(crate) fn free_cells<T: Copy, const CAP: usize>(size: u32) -> ArrayVec<Cell<T>, CAP>
+    requires { size ≤ CAP }
+    ensures items { result.items ≡ replicate size (record { generation = 0; item = None }) }
+    ensures count { length result.items ≡ size }
+{
+    let mut cells = ArrayVec::new();
+    for _i in 0..size {
+        cells.push(Cell::default());
+    }
+    cells
 }
 
 pub(crate) fn leave_out<const CAP: usize>(order: &mut ArrayVec<u32, CAP>, index: u32)

@@ -1,4 +1,4 @@
-//! Pools of a fixed size, whose live items have slots. Memory is taken where a pool is made, and by no other call.
+//! Pools of a fixed size, whose live items have slots. No call takes memory.
 #![tactic(auto)]
 
 mod cells;

@@ -1,14 +1,12 @@
 //! The pool.
 
-ghost use Rattle.std.specs.Prelude.{◌≡◌, ◌<◌, ◌≤◌, ◌+◌, ◌↔◌, length, IsSome, IsErr, IfOk, Some, find, slice_get};
+ghost use Rattle.std.specs.Prelude.{◌≡◌, ◌<◌, ◌≤◌, ◌+◌, ◌↔◌, length, IsSome, IsErr, Some, find, slice_get};
 ghost use Rattle.std.specs.Option.{option_copied, option_copied_mut};
 ghost use Rattle.object_pools.specs.Pool.{Places, most_takes, is_at, empty, taken, item_at, without, with_item, Takes, IsKept};
 
 use crate::cells::{self, Cell};
 use crate::slot::{Held, Slot};
 use arrayvec::ArrayVec;
-use std::alloc::{AllocError, Global};
-use std::boxed::BoxedSlice;
 use std::marker::Model;
 
 /// At most `CAP` items, each under a slot. An item's slot and its place in memory stay from its take until it is put back.
@@ -17,7 +15,7 @@ use std::marker::Model;
 /// and the number of takes.
 #[derive(Drop)]
 pub struct Pool<T, const CAP: usize> {
-    cells: BoxedSlice<Cell<T>>,
+    cells: ArrayVec<Cell<T>, CAP>,
     // the indices of the live items, in the order of their takes
     order: ArrayVec<u32, CAP>,
     takes: u32,
@@ -28,33 +26,27 @@ impl<T, const CAP: usize> Model for Pool<T, CAP> {
 
     ghost Value = { Places T };
 
-    ghost use Rattle.std.specs.Box.{boxed_slice_items};
     ghost use Rattle.object_pools.specs.Cells.{places_of, Stored};
 
-    ghost view = { λ p. places_of (boxed_slice_items p.cells) p.order.items p.takes };
+    ghost view = { λ p. places_of p.cells.items p.order.items p.takes };
 
-    ghost invariant = { λ p. Stored CAP (boxed_slice_items p.cells) p.order.items p.takes };
+    ghost invariant = { λ p. Stored CAP p.cells.items p.order.items p.takes };
 }
 
 impl<T: Copy, const CAP: usize> Pool<T, CAP> {
     ghost use Rattle.std.specs.Borrow.{sem};
     ghost use Rattle.object_pools.specs.Lends.{lends_item};
 
-    /// A pool for at most `size` live items. `AllocError` where memory is wanting.
-    pub fn new(alloc: Global, size: u32) -> Result<Self, AllocError>
+    /// A pool for at most `size` live items.
+    pub fn new(size: u32) -> Self
         requires { size ≤ CAP }
-        ensures { IfOk result (λ p. p ≡ empty size) }
+        ensures { result ≡ empty size }
     {
-        let free = Cell {
-            generation: 0,
-            item: None,
-        };
-        let cells = vec![in alloc; free; size as usize]?;
-        Ok(Pool {
-            cells: cells.into_boxed_slice(),
+        Pool {
+            cells: cells::free_cells(size),
             order: ArrayVec::new(),
             takes: 0,
-        })
+        }
     }
 
     /// How many items are live.
@@ -130,16 +122,13 @@ impl<T: Copy, const CAP: usize> Pool<T, CAP> {
         ensures* writes_back { sem 𝓛 (lends_item T.row CAP.row self.entry slot result) }
         ensures value { option_copied_mut result ≡ item_at self.old slot }
     {
-        if slot.index as usize >= self.cells.len() {
-            return None;
-        }
-        let cell = &mut self.cells[slot.index as usize];
-        if cell.generation != slot.generation {
-            return None;
-        }
-        match &mut cell.item {
-            Some(item) => Some(item),
+        match self.cells.get_mut(slot.index as usize) {
             None => None,
+            Some(cell) if cell.generation != slot.generation => None,
+            Some(cell) => match &mut cell.item {
+                Some(item) => Some(item),
+                None => None,
+            },
         }
     }
 

@@ -1,6 +1,6 @@
 -- The messages of a pool, as the machine's state has them.
 use Rattle.std.proofs.Common.{ℕ, ◌≡◌, ◌≤◌, ◌<◌, ◌+◌, ◌*◌, ◌==◌, nat_lt, length, Bool, true, false, cond, ◌&&◌, List, [], ◌∷◌, arith, ◌∙◌, ap, sym, refl, subst}
-use Rattle.std.specs.Prelude.{ℤ, pos, count_by, find, Option, Some, None, map, if◌then◌else◌, All, IfSome, option_and_then, slice_get}
+use Rattle.std.specs.Prelude.{ℤ, pos, count_by, find, Option, Some, None, map, All, IfSome, option_and_then, slice_get}
 use Rattle.std.specs.Option.{option_map, option_map_or}
 use Rattle.std.proofs.lemmas.Bool.Decides.{Decides-int_eq, nat_tests}
 use Rattle.std.proofs.lemmas.List.Elements.{All-nil, All-cons, All-head, All-tail, All-weaker, All-map}

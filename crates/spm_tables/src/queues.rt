@@ -20,7 +20,8 @@ use std::marker::Model;
 /// Contracts see the pool of the messages, and how many services there are.
 #[derive(Drop)]
 pub(crate) struct MessageQueues {
-    messages: Pool<QueuedMessage, 304>,
+    // in a box, so that no move of the tables copies it
+    messages: Box<Pool<QueuedMessage, 304>>,
     // by the index of a message, those before and after it in its service's queue
     links: BoxedSlice<Link>,
     // by service
@@ -34,9 +35,9 @@ impl Model for MessageQueues {
 
     ghost Value = { QueuesView };
 
-    ghost view = { λ q. record { messages = q.messages; services = length (boxed_slice_items q.ends) } };
+    ghost view = { λ q. record { messages = q.messages.value; services = length (boxed_slice_items q.ends) } };
 
-    ghost invariant = { λ q. KeepsQueues q.messages (boxed_slice_items q.links) (boxed_slice_items q.ends) };
+    ghost invariant = { λ q. KeepsQueues q.messages.value (boxed_slice_items q.links) (boxed_slice_items q.ends) };
 }
 
 impl MessageQueues {
@@ -48,7 +49,7 @@ impl MessageQueues {
         let links = vec![in alloc; NO_LINK; size as usize]?;
         let ends = vec![in alloc; NO_ENDS; services]?;
         Ok(MessageQueues {
-            messages: Pool::new(alloc, size)?,
+            messages: Box::new(alloc, Pool::new(size))?,
             links: links.into_boxed_slice(),
             ends: ends.into_boxed_slice(),
         })
@@ -88,8 +89,9 @@ impl MessageQueues {
         ensures after { self.new ≡ record self.old { messages = taken self.old.messages result message } }
         ensures others { OthersWaitAsBefore message.service self.old.messages self.new.messages }
     {
-        self.messages.law();
-        match self.messages.take(message) {
+        let messages = &mut *self.messages;
+        messages.law();
+        match messages.take(message) {
             Ok(slot) => {
                 join(
                     self.links.as_mut_slice(),
@@ -109,11 +111,12 @@ impl MessageQueues {
         ensures after { MatchOption result (self.new ≡ self.old) (λ slot. IfSome (item_at self.old.messages slot) (λ m. self.new ≡ record self.old { messages = with_item self.old.messages slot (record m { delivered = true }) })) }
         ensures others { OthersWaitAsBefore service self.old.messages self.new.messages }
     {
-        self.messages.law();
-        let Some(slot) = oldest(&self.messages, self.ends.as_slice(), service as usize) else {
+        let messages = &mut *self.messages;
+        messages.law();
+        let Some(slot) = oldest(messages, self.ends.as_slice(), service as usize) else {
             return None;
         };
-        let mut message = live_item(&self.messages, slot);
+        let mut message = live_item(messages, slot);
         unlink(
             self.links.as_mut_slice(),
             self.ends.as_mut_slice(),
@@ -121,7 +124,7 @@ impl MessageQueues {
             slot.index,
         );
         message.delivered = true;
-        self.messages.set(slot, message);
+        messages.set(slot, message);
         Some(slot)
     }
 
@@ -131,10 +134,11 @@ impl MessageQueues {
         ensures after { IfSome (item_at self.old.messages slot) (λ m. self.new ≡ record self.old { messages = with_item self.old.messages slot (record m { vectors = vectors }) }) }
         ensures all { AllWaitAsBefore self.old.messages self.new.messages }
     {
-        self.messages.law();
-        let mut message = live_item(&self.messages, slot);
+        let messages = &mut *self.messages;
+        messages.law();
+        let mut message = live_item(messages, slot);
         message.vectors = vectors;
-        self.messages.set(slot, message);
+        messages.set(slot, message);
     }
 
     /// Gives a message up, delivered or not; its slot is free.
@@ -144,8 +148,9 @@ impl MessageQueues {
         ensures after { self.new ≡ record self.old { messages = without self.old.messages slot } }
         ensures others { OthersWaitAsBefore result.service self.old.messages self.new.messages }
     {
-        self.messages.law();
-        let message = self.messages.put_back(slot);
+        let messages = &mut *self.messages;
+        messages.law();
+        let message = messages.put_back(slot);
         leave(
             self.links.as_mut_slice(),
             self.ends.as_mut_slice(),

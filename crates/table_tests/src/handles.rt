@@ -5,7 +5,6 @@ use handle_table::{
     Connection, Connections, Family, handle_of, slot_of, stateless_handle, stateless_index,
 };
 use object_pools::Slot;
-use std::alloc::AllocError;
 use std::process::Abort;
 
 fn slot(index: u32, generation: u32) -> Slot {
@@ -116,8 +115,8 @@ fn assert_first(rt: &impl Abort, table: &Connections, owner: u32, from: u32, slo
 }
 
 #[test]
-fn connections_of_two_clients(rt: HostRuntime) -> Result<(), AllocError> {
-    let mut table = Connections::new(rt.alloc(), 2)?;
+fn connections_of_two_clients(rt: HostRuntime) {
+    let mut table = Connections::new(2);
     let first = start(&rt, &mut table, 4, 7);
     let second = start(&rt, &mut table, 5, 7);
     assert_found(&rt, &table, 4, 1024, None);
@@ -135,12 +134,11 @@ fn connections_of_two_clients(rt: HostRuntime) -> Result<(), AllocError> {
     assert_first(&rt, &table, 4, 0, Some(third));
     assert_first(&rt, &table, 5, 0, Some(second));
     assert_first(&rt, &table, 5, 2, None);
-    Ok(())
 }
 
 #[test]
-fn a_connection_changes(rt: HostRuntime) -> Result<(), AllocError> {
-    let mut table = Connections::new(rt.alloc(), 1)?;
+fn a_connection_changes(rt: HostRuntime) {
+    let mut table = Connections::new(1);
     let slot = start(&rt, &mut table, 4, 7);
     assert!(rt; table.is_live(slot));
     table.set_phase(slot, ConnPhase::Idle);
@@ -155,5 +153,4 @@ fn a_connection_changes(rt: HostRuntime) -> Result<(), AllocError> {
         serial: 0,
     };
     assert_eq!(rt; table.connection(slot), shown);
-    Ok(())
 }

@@ -18,8 +18,8 @@ fn put_back<const CAP: usize>(rt: &impl Abort, pool: &mut Pool<u32, CAP>, slot: 
 }
 
 #[test]
-fn reuses_the_lowest_index(rt: HostRuntime) -> Result<(), AllocError> {
-    let mut pool = Pool::<u32, 4>::new(rt.alloc(), 2)?;
+fn reuses_the_lowest_index(rt: HostRuntime) {
+    let mut pool = Pool::<u32, 4>::new(2);
     let first = Slot {
         index: 0,
         generation: 1,
@@ -41,14 +41,12 @@ fn reuses_the_lowest_index(rt: HostRuntime) -> Result<(), AllocError> {
     assert_eq!(rt; pool.get(first).copied(), None);
     assert_eq!(rt; pool.get(third).copied(), Some(40));
     assert_eq!(rt; pool.takes(), 3);
-    Ok(())
 }
 
 #[test]
-fn hands_a_refused_item_back(rt: HostRuntime) -> Result<(), AllocError> {
-    let mut pool = Pool::<u32, 4>::new(rt.alloc(), 0)?;
+fn hands_a_refused_item_back(rt: HostRuntime) {
+    let mut pool = Pool::<u32, 4>::new(0);
     assert_eq!(rt; pool.take(30), Err(30));
-    Ok(())
 }
 
 fn taken(rt: &impl Abort, pool: &mut Pool<u32, 4>, item: u32) -> Slot {
@@ -70,8 +68,8 @@ fn assert_at(rt: &impl Abort, pool: &Pool<u32, 4>, index: u32, held: Option<Held
 }
 
 #[test]
-fn changes_one_item(rt: HostRuntime) -> Result<(), AllocError> {
-    let mut pool = Pool::<u32, 4>::new(rt.alloc(), 3)?;
+fn changes_one_item(rt: HostRuntime) {
+    let mut pool = Pool::<u32, 4>::new(3);
     let first = taken(&rt, &mut pool, 10);
     let second = taken(&rt, &mut pool, 20);
     write_eleven(&rt, &mut pool, first);
@@ -84,7 +82,6 @@ fn changes_one_item(rt: HostRuntime) -> Result<(), AllocError> {
     assert!(rt; pool.get(second).is_some());
     write_seven(&mut pool, second);
     assert_eq!(rt; pool.get(second).copied(), Some(7));
-    Ok(())
 }
 
 fn write_seven(pool: &mut Pool<u32, 4>, slot: Slot)
@@ -161,7 +158,7 @@ fn assert_alike(rt: &impl Abort, pool: &Pool<u32, 8>, plain: &Plain) {
 
 #[test]
 fn does_what_a_plain_list_does(rt: HostRuntime) -> Result<(), AllocError> {
-    let mut pool = Pool::<u32, 8>::new(rt.alloc(), 4)?;
+    let mut pool = Pool::<u32, 8>::new(4);
     let mut plain = Plain {
         generations: [0; 4],
         held: Vec::new(rt.alloc()),

@@ -1,4 +1,4 @@
-use Rattle.std.proofs.Common.{sym, ◌∙◌}
+use Rattle.std.proofs.Common.{rules, sym, ◌∙◌}
 use Rattle.object_pools.proofs.Stores.{at-slot}
 use Rattle.object_pools.proofs.Updates.{live-item, live-within, Stored-out, places-out}
 use Rattle.object_pools.proofs.pool.Pool.put_back.Goals as goal
@@ -6,7 +6,7 @@ use Rattle.object_pools.proofs.pool.Pool.put_back.Goals as goal
 pub put-requires : goal.put-requires
 put-requires g c =
     let live = live-item _ _ _ _ _ c.self.invariant (rw (← c.self.view_is) at c.requires) in
-    live-within _ _ _ live.1
+    (search rules, live-within _ _ _ live.1)
 
 pub invariant_of-self : goal.invariant_of-self
 invariant_of-self g c =
