@@ -1,7 +1,7 @@
 -- An entry that was printed is read again.
-use Rattle.std.proofs.Common.{◌≡◌, ℕ, ◌+◌, ◌-◌, ◌<◌, ◌≤◌, Bool, true, false, ◌&&◌, cond, nat_lt, List, [], ◌∷◌, ◌++◌, None, Some, refl, sym, ap, ◌∙◌, arith, inl, inr, lit<}
+use Rattle.std.proofs.Common.{◌≡◌, ℕ, ◌+◌, ◌-◌, ◌<◌, ◌≤◌, Bool, true, false, cond, nat_lt, List, [], ◌∷◌, ◌++◌, None, Some, refl, sym, ap, ◌∙◌, arith, inl, inr, lit<}
 use Rattle.std.specs.Prelude.{codes, decimal, nat_le}
-use Rattle.std.specs.List.{flat_map}
+use Rattle.std.specs.List.{flat_map, list_all}
 use Rattle.std.proofs.lemmas.List.Concat.{flat_map-append}
 use Rattle.std.proofs.lemmas.List.{append-nil}
 use Rattle.std.proofs.lemmas.Bool.{lt-ltb, le-ltb, cases_lt}
@@ -12,51 +12,24 @@ use Rattle.ffm_model.specs.declared.machine.Call.TheVariants as call
 use Rattle.ffm_model.specs.declared.machine.Entry.{Entry}
 use Rattle.ffm_model.specs.declared.machine.Outcome.{Outcome}
 use Rattle.ffm_model.specs.declared.machine.Outcome.TheVariants as outcome
-use Rattle.ffm_model.specs.TraceText.{Word, call_phrase, outcome_phrase, message_phrase, actor_word, entry_text, EntryFits, OutcomeFits, IsActorOf, spaced}
+use Rattle.ffm_model.specs.TraceText.{Word, call_phrase, outcome_phrase, message_phrase, actor_word, entry_text, EntryFits, IsActorOf, spaced}
 use Rattle.trace_print.specs.View.{parts}
 use Rattle.trace_print.specs.Lines.{IsEntryText}
 use Rattle.trace_print.specs.Reading.{outcome_at, place_of, actor_of, entry_at, entry_of}
+use Rattle.trace_print.proofs.Options.{chosen}
 use Rattle.trace_print.proofs.Numbers.{unsigned_again}
 use Rattle.trace_print.proofs.Again.{phrase_words, call_again, outcome_again}
-use Rattle.trace_print.proofs.Plain.{IsText, text_append, text_from_plain, text_spaced, IsPlain, AllPlain, plain_tests, plain_from_test, plain_decimal_word, plain_phrase, all_plain_append, all_plain_cons, split_words, spaced_phrase_is}
+use Rattle.trace_print.proofs.Plain.{IsText, text_from_plain, text_spaced, IsPlain, AllPlain, plain_test, plain_from_test, plain_decimal, plain_phrase, all_append, split_words, spaced_phrase_is}
 
-call_names : (c : Call) → plain_tests (call_phrase c).names ≡ true
-call_names call.FrameworkVersion = refl
-call_names (call.Version sid) = refl
-call_names (call.Connect sid version) = refl
-call_names (call.Invoke handle kind in_vec in_len out_vec out_len) = refl
-call_names (call.Close handle) = refl
-call_names (call.Wait mask timeout) = refl
-call_names (call.Get signal msg) = refl
-call_names (call.SetRhandle handle rhandle) = refl
-call_names (call.Read handle index buffer len) = refl
-call_names (call.Skip handle index len) = refl
-call_names (call.Write handle index buffer len) = refl
-call_names (call.Reply handle status) = refl
-call_names (call.Notify partition) = refl
-call_names call.Clear = refl
-call_names (call.Eoi signal) = refl
-call_names (call.IrqEnable signal) = refl
-call_names (call.IrqDisable signal) = refl
-call_names (call.ResetSignal signal) = refl
-call_names call.Panic = refl
-call_names (call.Load address size) = refl
-call_names (call.Store address size value) = refl
-call_names (call.Raise source) = refl
-call_names (call.Fire source result) = refl
+call_names : (c : Call) → list_all plain_test (call_phrase c).names ≡ true
 call_names (call.Stop false) = refl
 call_names (call.Stop true) = refl
-call_names call.Resume = refl
+call_names _ = refl
 
-outcome_names : (o : Outcome) → plain_tests (outcome_phrase o).names ≡ true
+outcome_names : (o : Outcome) → list_all plain_test (outcome_phrase o).names ≡ true
 unfolding message_phrase
 outcome_names (outcome.Value z) = refl
-outcome_names (outcome.Number n) = refl
-outcome_names (outcome.Signals n) = refl
-outcome_names (outcome.Got m) = refl
-outcome_names outcome.Blocked = refl
-outcome_names outcome.Done = refl
-outcome_names outcome.Panicked = refl
+outcome_names _ = refl
 
 unfoldable pub entry_words : ActorCounts → Entry → List Word
 entry_words counts e = phrase_words (call_phrase e.call) ++ (codes "->" ∷ phrase_words (outcome_phrase e.outcome))
@@ -69,19 +42,14 @@ text_is counts e =
 plain_words : (counts : ActorCounts) (e : Entry) → AllPlain (entry_words counts e)
 unfolding entry_words
 plain_words counts e =
-    all_plain_append (phrase_words (call_phrase e.call)) (codes "->" ∷ phrase_words (outcome_phrase e.outcome)) (plain_phrase (call_phrase e.call) (call_names e.call))
-    (all_plain_cons (codes "->") (phrase_words (outcome_phrase e.outcome)) (plain_from_test (codes "->") refl) (plain_phrase (outcome_phrase e.outcome) (outcome_names e.outcome)))
+    all_append IsPlain (phrase_words (call_phrase e.call)) (codes "->" ∷ phrase_words (outcome_phrase e.outcome)) (plain_phrase (call_phrase e.call) (call_names e.call))
+    (plain_from_test (codes "->") refl, plain_phrase (outcome_phrase e.outcome) (outcome_names e.outcome))
 
 plain_actor : (counts : ActorCounts) (a : ℕ) → IsPlain (actor_word counts a)
 unfolding actor_word
 plain_actor counts a =
-    elim (nat_lt a counts.partitions) as (λ t. IsPlain (cond t (112 ∷ decimal (a + 1)) (cond (nat_lt a (counts.partitions + counts.clients)) (110 ∷ decimal (a - counts.partitions + 1)) (codes "dev")))) [
-      | true ↦ plain_decimal_word 112 (a + 1) (lit< tt)
-      | false ↦ elim (nat_lt a (counts.partitions + counts.clients)) as (λ t. IsPlain (cond t (110 ∷ decimal (a - counts.partitions + 1)) (codes "dev"))) [
-        | true ↦ plain_decimal_word 110 (a - counts.partitions + 1) (lit< tt)
-        | false ↦ plain_from_test (codes "dev") refl
-      ]
-    ]
+    chosen IsPlain (nat_lt a counts.partitions) _ _ (λ _. (lit< tt, plain_decimal (a + 1))) (λ _.
+    chosen IsPlain (nat_lt a (counts.partitions + counts.clients)) _ _ (λ _. (lit< tt, plain_decimal (a - counts.partitions + 1))) (λ _. plain_from_test (codes "dev") refl))
 
 pub split_again : (counts : ActorCounts) (e : Entry) → parts 32 (entry_text counts e) ≡ actor_word counts e.actor.0 ∷ entry_words counts e
 split_again counts e = rw text_is (split_words (actor_word counts e.actor.0) (entry_words counts e) (plain_actor counts e.actor.0) (plain_words counts e))
@@ -104,10 +72,8 @@ last_actor n a false lt le = absurd (omega arith)
 actor_again : (counts : ActorCounts) (a : ℕ) → FewActors counts → IsActorOf counts a → actor_of counts (actor_word counts a) ≡ Some a
 unfolding actor_word actor_of
 actor_again counts a few named =
-    let few_partitions : counts.partitions ≤ 32 = few.0 in
-    let few_clients : counts.clients ≤ 16 = few.1 in
     elim (cases_lt a counts.partitions) [
-      | inl lt ↦ rw (lt-ltb a counts.partitions lt, place_again counts.partitions a lt few_partitions) refl
+      | inl lt ↦ rw (lt-ltb a counts.partitions lt, place_again counts.partitions a lt few.0) refl
       | inr le ↦ elim (cases_lt a (counts.partitions + counts.clients)) [
         | inl lt ↦
             let e : counts.partitions + (a - counts.partitions) ≡ a = omega arith in
@@ -118,34 +84,25 @@ actor_again counts a few named =
       ]
     ]
 
-ended : (e : Entry) → OutcomeFits e.outcome → outcome_at (phrase_words (outcome_phrase e.outcome)) ≡ Some (e.outcome, [])
-ended e fits = ap outcome_at (sym (append-nil (phrase_words (outcome_phrase e.outcome)))) ∙ outcome_again e.outcome [] fits
-
 read_words : (counts : ActorCounts) (e : Entry) → FewActors counts → EntryFits counts e → entry_at counts (actor_word counts e.actor.0 ∷ entry_words counts e) ≡ Some e
 unfolding entry_at entry_words
 read_words counts e few fits =
-    rw (actor_again counts e.actor.0 few fits.actor, call_again e.call (codes "->" ∷ phrase_words (outcome_phrase e.outcome)) fits.call, ended e fits.outcome) refl
+    let ended : outcome_at (phrase_words (outcome_phrase e.outcome)) ≡ Some (e.outcome, []) = rw append-nil at (outcome_again e.outcome [] fits.outcome) in
+    rw (actor_again counts e.actor.0 few fits.actor, call_again e.call (codes "->" ∷ phrase_words (outcome_phrase e.outcome)) fits.call, ended) refl
 
 pub entry_again : (counts : ActorCounts) (e : Entry) → FewActors counts → EntryFits counts e → entry_of counts (entry_text counts e) ≡ Some e
 unfolding entry_of
 entry_again counts e few fits = rw (split_again counts e) (read_words counts e few fits)
 
-pub and_true : (a b : Bool) → (a && b) ≡ true → (a ≡ true) × (b ≡ true)
-and_true true b e = (refl, e)
-and_true false b e = absurd cc
-
 -- where nothing is read, it is no entry's text
 pub no_entry : (counts : ActorCounts) (text : List ℕ) → FewActors counts → entry_of counts text ≡ None → IsEntryText counts text → ⊥
 no_entry counts text few none (e, fits, same) = let some = ap (entry_of counts) same ∙ entry_again counts e few fits in absurd cc
 
-some_is : (d e : Entry) → Some d ≡ Some e → d ≡ e
-some_is d e h = cc
-
 -- different entries have different texts
 pub same_entry : (counts : ActorCounts) (d e : Entry) → FewActors counts → EntryFits counts d → EntryFits counts e → entry_text counts d ≡ entry_text counts e → d ≡ e
-same_entry counts d e few p q same = some_is d e (sym (entry_again counts d few p) ∙ (ap (entry_of counts) same ∙ entry_again counts e few q))
+same_entry counts d e few p q same = let read : Some d ≡ Some e = sym (entry_again counts d few p) ∙ (ap (entry_of counts) same ∙ entry_again counts e few q) in cc
 
 -- an entry's text holds no line feed
 pub text_of_entry : (counts : ActorCounts) (e : Entry) → IsText (entry_text counts e)
 text_of_entry counts e =
-    rw text_is (text_append (actor_word counts e.actor.0) (flat_map spaced (entry_words counts e)) (text_from_plain (actor_word counts e.actor.0) (plain_actor counts e.actor.0)) (text_spaced (entry_words counts e) (plain_words counts e)))
+    rw text_is (all_append (λ b. 31 < b) (actor_word counts e.actor.0) _ (text_from_plain (actor_word counts e.actor.0) (plain_actor counts e.actor.0)) (text_spaced (entry_words counts e) (plain_words counts e)))

@@ -2,6 +2,7 @@
 use Rattle.std.proofs.Common.{◌≡◌, ℕ, suc, ◌+◌, ◌<◌, ◌≤◌, ◌==◌, List, [], ◌∷◌, ◌++◌, None, Some, length, drop, refl, sym, ap, ◌∙◌, append_assoc, arith, length-append}
 use Rattle.std.specs.List.{join_with_byte}
 use Rattle.std.proofs.Math.Seq.{drop-append-add}
+use Rattle.std.proofs.lemmas.List.{nil_from_length}
 use Rattle.std.proofs.lemmas.List.Splits.{join_with_byte-slice_split, length-slice_split}
 use Rattle.ffm_model.specs.Counts.{ActorCounts}
 use Rattle.ffm_model.specs.declared.machine.Entry.{Entry}
@@ -38,12 +39,8 @@ begins_with_entry counts n text first rest e joined read fits room =
 pub wrong_room : (counts : ActorCounts) (n : ℕ) (text first : List ℕ) (others : List Word) (e : Entry) → parts 10 text ≡ first ∷ others → entry_of counts first ≡ Some e → EntryFits counts e → MAX_ENTRIES ≤ n → IsWrong counts n (parts 10 text) (n + 1)
 wrong_room counts n text first others e cut read fits full = rw cut (one_too_many first others (e, fits, text_of counts first e read) full)
 
-none_is : (xs : List ℕ) → length xs ≡ 0 → xs ≡ []
-none_is [] e = refl
-none_is (x ∷ xs) e = absurd (omega (arith, e))
-
 pub ends_with_verdict : (n : ℕ) (text first rest : List ℕ) (v : Verdict) → text ≡ first ++ 10 ∷ rest → verdict_of n first ≡ Some v → length rest ≡ 0 → text ≡ line (verdict_text v n)
-ends_with_verdict n text first rest v joined read none = joined ∙ (ap (λ (r : List ℕ). first ++ 10 ∷ r) (none_is rest none) ∙ ap line (text_of_verdict n first v read))
+ends_with_verdict n text first rest v joined read none = joined ∙ (ap (λ (r : List ℕ). first ++ 10 ∷ r) (nil_from_length rest none) ∙ ap line (text_of_verdict n first v read))
 
 no_parts : (text : List ℕ) → parts 10 text ≡ [] ∷ [] → text ≡ []
 no_parts text e = sym (join_with_byte-slice_split 10 text) ∙ ap (join_with_byte 10) e

@@ -1,11 +1,11 @@
 -- Which calls of a run give a message, and with which handle.
-use Rattle.std.proofs.Common.{ℕ, ◌≡◌, Bool, true, false, not, ◌&&◌, ◌||◌, List, [], ◌∷◌, refl, ap, sym, ◌∙◌, arith}
+use Rattle.std.proofs.Common.{ℕ, ◌≡◌, Bool, true, false, not, ◌&&◌, ◌||◌, List, [], ◌∷◌, refl, ap, sym, ◌∙◌}
 use Rattle.std.specs.Prelude.{ℤ, pos, int_le, Option, Some, None, IsSome, fold, option_and_then, is_none, if◌then◌else◌}
 use Rattle.std.specs.List.{list_any, AllByRecursion}
 use Rattle.std.specs.Option.{option_map, option_map_or}
 use Rattle.ffm_model.specs.declared.system.System.{System}
 use Rattle.ffm_model.specs.declared.system.ActorKind.{ActorKind}
-use Rattle.ffm_model.specs.declared.system.ActorKind.TheVariants.{Partition, Client, Device}
+use Rattle.ffm_model.specs.declared.system.ActorKind.TheVariants.{Client}
 use Rattle.ffm_model.specs.declared.machine.Call.{Call}
 use Rattle.ffm_model.specs.declared.machine.Call.TheVariants as call
 use Rattle.ffm_model.specs.declared.machine.Entry.{Entry}
@@ -13,12 +13,13 @@ use Rattle.ffm_model.specs.declared.machine.Handle.{Handle}
 use Rattle.ffm_model.specs.declared.machine.Message.{Message}
 use Rattle.ffm_model.specs.declared.machine.Outcome.{Outcome}
 use Rattle.ffm_model.specs.declared.machine.Outcome.TheVariants as outcome
-use Rattle.ffm_model.specs.Actors.{kind_of, stateless_index}
+use Rattle.ffm_model.specs.Actors.{kind_of}
 use Rattle.ffm_model.specs.Calls.{call_case, case_of, effect_of, effect_or_error, error_effect, has_call, programmer_error, refusal_of}
-use Rattle.ffm_model.specs.ClientCalls.{Move, Effect, in_state, psa_call, connection_called, service_called}
+use Rattle.ffm_model.specs.ClientCalls.{Move, Effect, in_state}
 use Rattle.ffm_model.specs.ServiceCalls.{psa_get}
 use Rattle.ffm_model.specs.State.{State, fresh, handle_eq}
 use Rattle.ffm_model.specs.Step.{step, step_on, handle_allowed, handle_shown, outcome_eq}
+use Rattle.trace_print.proofs.Options.{Gives, done, nothing, either, when}
 use Rattle.ffm_model.proofs.RunLemmas.{none-stays, some-is}
 
 abbrev pub is_message : Outcome → Bool
@@ -29,10 +30,6 @@ is_message _ = false
 NoMessage : {T : Type 0} → (T → Outcome) → T → Type 0
 NoMessage answer x = is_message (answer x) ≡ false
 
--- the same, where there is an answer
-NeverMessage : {T : Type 0} → (T → Outcome) → Option T → Type 0
-NeverMessage answer o = option_map_or (λ x. is_message (answer x)) o false ≡ false
-
 other : {T : Type 0} (answer : T → Outcome) (x : T) → is_message (answer x) ≡ false → NoMessage answer x
 unfolding NoMessage
 other answer x h = h
@@ -41,24 +38,18 @@ one_of : {T : Type 0} (answer : T → Outcome) (c : Bool) (x y : T) → NoMessag
 one_of answer true x y h k = h
 one_of answer false x y h k = k
 
-some : {T : Type 0} (answer : T → Outcome) (x : T) → NoMessage answer x → NeverMessage answer (Some x)
-unfolding NoMessage NeverMessage
-some answer x h = h
-
-none : {T : Type 0} (answer : T → Outcome) → NeverMessage answer None
-unfolding NeverMessage
-none answer = refl
-
-either : {T : Type 0} (answer : T → Outcome) (c : Bool) (p q : Option T) → NeverMessage answer p → NeverMessage answer q → NeverMessage answer (if c then p else q)
-either answer true p q h k = h
-either answer false p q h k = k
-
-next : {A T : Type 0} (answer : T → Outcome) (o : Option A) (f : A → Option T) → ((x : A) → NeverMessage answer (f x)) → NeverMessage answer (option_and_then f o)
-unfolding NeverMessage
+next : {A T : Type 0} (answer : T → Outcome) (o : Option A) (f : A → Option T) → ((x : A) → Gives (f x) (NoMessage answer)) → Gives (option_and_then f o) (NoMessage answer)
+unfolding Gives
 next answer (Some x) f h = h x
-next answer None f h = refl
+next answer None f h = tt
 
-by_place : {A T : Type 0} (answer : T → Outcome) (o : Option A) (f : A → Option T) (p : Option T) → ((x : A) → NeverMessage answer (f x)) → NeverMessage answer p → NeverMessage answer (option_map_or f o p)
+mapped : {A T : Type 0} (answer : T → Outcome) (o : Option A) (f : A → T) → ((x : A) → NoMessage answer (f x)) → Gives (option_map f o) (NoMessage answer)
+unfolding Gives
+mapped answer (Some x) f h = h x
+mapped answer None f h = tt
+
+by_place : {A T : Type 0} (answer : T → Outcome) (o : Option A) (f : A → Option T) (p : Option T) → ((x : A) → Gives (f x) (NoMessage answer)) → Gives p (NoMessage answer)
+    → Gives (option_map_or f o p) (NoMessage answer)
 by_place answer (Some x) f p h k = h x
 by_place answer None f p h k = k
 
@@ -68,10 +59,10 @@ of_move m = m.outcome
 abbrev of_effect : Effect → Outcome
 of_effect e = e.outcome
 
-moved : (st : State) (o : Option Move) → NeverMessage of_move o → NeverMessage of_effect (option_map (in_state st) o)
-unfolding NeverMessage
+moved : (st : State) (o : Option Move) → Gives o (NoMessage of_move) → Gives (option_map (in_state st) o) (NoMessage of_effect)
+unfolding Gives NoMessage
 moved st (Some m) h = h
-moved st None h = refl
+moved st None h = tt
 
 -- psa_get, and the return of a call that waited
 abbrev is_giving : Call → Bool
@@ -79,57 +70,23 @@ is_giving (call.Get signal msg) = true
 is_giving call.Resume = true
 is_giving _ = false
 
--- psa_call on a connection, and by a stateless handle
-on_connection : (s : System) (st : State) (a : ℕ) (c : Handle) (kind : ℤ) (in_vec in_len out_vec out_len : ℕ) → NeverMessage of_move (connection_called s st a c kind in_vec in_len out_vec out_len)
-on_connection s st a c kind in_vec in_len out_vec out_len = search (next, either, some, none, one_of, other) depth 9
-
-by_index : (s : System) (st : State) (a index : ℕ) (kind : ℤ) (in_vec in_len out_vec out_len : ℕ) → NeverMessage of_move (service_called s st a index kind in_vec in_len out_vec out_len)
-by_index s st a index kind in_vec in_len out_vec out_len = search (next, either, some, none, one_of, other) depth 9
-
 -- no other call has a message for an answer
-no_message : (s : System) (st : State) (a : ℕ) (c : Call) (h : Handle) → is_giving c ≡ false → NeverMessage of_effect (call_case s st a c h)
-unfolding NeverMessage
-no_message s st a call.FrameworkVersion h k = grind arith
-no_message s st a (call.Version sid) h k = grind arith
-no_message s st a (call.Connect sid version) h k = grind arith
-no_message s st a (call.Invoke c kind in_vec in_len out_vec out_len) h k =
-    moved st (psa_call s st a c kind in_vec in_len out_vec out_len) (by_place of_move (stateless_index c) (λ index. service_called s st a index kind in_vec in_len out_vec out_len) (connection_called s st a c kind in_vec in_len out_vec out_len)
-    (λ index. by_index s st a index kind in_vec in_len out_vec out_len) (on_connection s st a c kind in_vec in_len out_vec out_len))
-no_message s st a (call.Close c) h k = grind arith
-no_message s st a (call.Wait mask timeout) h k = grind arith
+no_message : (s : System) (st : State) (a : ℕ) (c : Call) (h : Handle) → is_giving c ≡ false → Gives (call_case s st a c h) (NoMessage of_effect)
 no_message s st a (call.Get signal msg) h k = cc
-no_message s st a (call.SetRhandle m rhandle) h k = grind arith
-no_message s st a (call.Read m index buffer len) h k = grind arith
-no_message s st a (call.Skip m index len) h k = grind arith
-no_message s st a (call.Write m index buffer len) h k = grind arith
-no_message s st a (call.Reply m status) h k = grind arith
-no_message s st a (call.Notify partition) h k = grind arith
-no_message s st a call.Clear h k = grind arith
-no_message s st a (call.Eoi signal) h k = grind arith
-no_message s st a (call.IrqEnable signal) h k = grind arith
-no_message s st a (call.IrqDisable signal) h k = grind arith
-no_message s st a (call.ResetSignal signal) h k = grind arith
-no_message s st a call.Panic h k = grind arith
-no_message s st a (call.Load address size) h k = grind arith
-no_message s st a (call.Store address size value) h k = grind arith
-no_message s st a (call.Raise source) h k = grind arith
-no_message s st a (call.Fire source result) h k = grind arith
-no_message s st a (call.Stop spent) h k = grind arith
 no_message s st a call.Resume h k = cc
+no_message s st a c h k = search (moved, mapped, next, by_place, either, done, nothing, one_of, other) depth 14
 
 refused : (c : Call) → is_message (refusal_of c) ≡ false
 refused (call.Connect sid version) = refl
-refused (call.Close h) = refl
 refused _ = refl
 
 -- nor has a PROGRAMMER ERROR
 no_error_message : (k : ActorKind) (s : System) (st : State) (a : ℕ) (c : Call) → is_message (error_effect k s st a c).outcome ≡ false
-no_error_message Partition s st a c = refl
 no_error_message Client s st a c = refused c
-no_error_message Device s st a c = refl
+no_error_message _ s st a c = refl
 
-no_effect_message : (o : Option Effect) (k : ActorKind) (s : System) (st : State) (a : ℕ) (c : Call) → NeverMessage of_effect o → is_message (effect_or_error o k s st a c).outcome ≡ false
-unfolding NeverMessage
+no_effect_message : (o : Option Effect) (k : ActorKind) (s : System) (st : State) (a : ℕ) (c : Call) → Gives o (NoMessage of_effect) → is_message (effect_or_error o k s st a c).outcome ≡ false
+unfolding Gives NoMessage
 no_effect_message (Some e) k s st a c h = h
 no_effect_message None k s st a c h = no_error_message k s st a c
 
@@ -174,8 +131,7 @@ second false y e h = h
 
 first_two : (x y z : Bool) → (x && y && z) ≡ true → (x && y) ≡ true
 first_two true true z h = refl
-first_two true false z h = cc
-first_two false y z h = cc
+first_two x y z h = cc
 
 -- from 1 to 0x3fffffff
 abbrev pub is_small : ℤ → Bool
@@ -201,7 +157,7 @@ given : (s : System) (st : State) (a : ℕ) (c : Call) (m : Message) → handle_
 given s st a (call.Get signal msg) m allowed due = get_small s st a signal msg m allowed due
 given s st a call.Resume m allowed due = refl
 given s st a c m allowed due =
-    let never : NeverMessage of_effect (case_of s st a c m.handle) = either of_effect (has_call (kind_of s a) c) _ _ (no_message s st a c m.handle refl) (none of_effect) in
+    let never : Gives (case_of s st a c m.handle) (NoMessage of_effect) = when (has_call (kind_of s a) c) _ _ (λ _. no_message s st a c m.handle refl) in
     sym (differs _ m (no_effect_message (case_of s st a c m.handle) (kind_of s a) s st a c never)) ∙ due
 
 -- a message is an answer that its call may give
@@ -215,9 +171,7 @@ answered s st a c _ allowed due = refl
 
 last_tests : {X : Type 0} (p q r : Bool) (x : X) → IsSome (if p && q && r then Some x else None) → (q ≡ true) × (r ≡ true)
 last_tests true true true x h = (refl, refl)
-last_tests true true false x h = cc
-last_tests true false r x h = cc
-last_tests false q r x h = cc
+last_tests p q r x h = cc
 
 step_gives : (s : System) (st : State) (e : Entry) → IsSome (step s st e) → gives_rightly e.call e.outcome ≡ true
 unfolding step

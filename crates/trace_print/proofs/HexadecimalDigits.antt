@@ -1,47 +1,32 @@
 -- Digits in base 16 that were read are those that are printed.
-use Rattle.std.proofs.Common.{◌≡◌, ℕ, suc, ◌+◌, ◌/◌, ◌%◌, List, [], ◌∷◌, ◌++◌, length, Option, None, Some, refl, sym, ◌∙◌, arith, append_assoc, drop, get_or}
+use Rattle.std.proofs.Common.{◌≡◌, ℕ, suc, ◌+◌, ◌/◌, ◌%◌, List, [], ◌∷◌, ◌++◌, length, Some, refl, sym, ◌∙◌, arith, append_assoc}
 use Rattle.std.proofs.lemmas.List.{append-nil}
 use Rattle.std.proofs.lemmas.Bool.Decides.{nat_tests}
-use Rattle.ffm_model.specs.TraceText.{hexadecimal_digit, hexadecimal_digits, hexadecimal_word}
-use Rattle.trace_print.specs.Numbers.{◌>>=◌, with_digit, number_after}
+use Rattle.ffm_model.specs.TraceText.{Word, IsU32, hexadecimal_digit, hexadecimal_digits, hexadecimal_word}
+use Rattle.trace_print.specs.Numbers.{with_digit, number_after, is_hexadecimal, hexadecimal_of}
+use Rattle.trace_print.proofs.Options.{Gives, done, nothing, when, after, weaker, given}
 
--- what one more digit says
-record Digit (n b m : ℕ) : Type 0 where
-  pub digit : b ≡ hexadecimal_digit (m % 16)
-  pub front : m / 16 ≡ n
+digit_read : (n b m : ℕ) → with_digit 16 n b ≡ Some m → (b ≡ hexadecimal_digit (m % 16)) × (m / 16 ≡ n) × IsU32 m
+digit_read n b m e = (grind (arith, nat_tests), grind (arith, nat_tests), grind (arith, nat_tests))
 
-one_more : (n b m : ℕ) → with_digit 16 n b ≡ Some m → Digit n b m
-one_more n b m e = record { digit = grind (arith, nat_tests); front = grind (arith, nat_tests) }
-
-same : (n m : ℕ) → Some n ≡ Some m → n ≡ m
-same n m e = cc e
-
-step : (j k n m b : ℕ) (bs : List ℕ) (o : Option ℕ) → ((p : ℕ) → o ≡ Some p → Digit n b p) → ((p : ℕ) → number_after 16 p bs ≡ Some m → hexadecimal_digits j m ≡ hexadecimal_digits (suc k) p ++ bs)
-    → (o >>= λ p. number_after 16 p bs) ≡ Some m → hexadecimal_digits j m ≡ hexadecimal_digits k n ++ b ∷ bs
-unfolding hexadecimal_digits
-step j k n m b bs None digit rest e = absurd (cc e)
-step j k n m b bs (Some p) digit rest e =
-    let d = digit p refl in
-    rest p e ∙ rw (d.front, d.digit, append_assoc) refl
-
-printed_from : (j k n m : ℕ) (ds : List ℕ) → j ≡ length ds + k → number_after 16 n ds ≡ Some m → hexadecimal_digits j m ≡ hexadecimal_digits k n ++ ds
-unfolding number_after
-printed_from j k n m [] len e =
-    let short : j ≡ k = omega (arith, len) in
-    rw (short, same n m e) (sym (append-nil _))
-printed_from j k n m (b ∷ bs) len e =
-    let shorter : j ≡ length bs + suc k = omega (arith, len) in
-    step j k n m b bs (with_digit 16 n b) (λ p. one_more n b p) (λ p. printed_from j (suc k) p m bs shorter) e
+printed_from : (j k n : ℕ) (ds : List ℕ) → j ≡ length ds + k → IsU32 n → Gives (number_after 16 n ds) (λ m. (hexadecimal_digits j m ≡ hexadecimal_digits k n ++ ds) × IsU32 m)
+unfolding number_after hexadecimal_digits
+printed_from j k n [] len lt = let short : j ≡ k = omega (arith, len) in done n _ (rw short (sym (append-nil _)), lt)
+printed_from j k n (b ∷ bs) len lt =
+    after (with_digit 16 n b) _ _ _ (given _ _ (digit_read n b)) (λ p d.
+    weaker _ _ _ (λ m is. (is.0 ∙ rw (d.1, d.0, append_assoc) refl, is.1)) (printed_from j (suc k) p bs (omega (arith, len)) d.2))
 
 none_at_all : (n : ℕ) → hexadecimal_digits 0 n ≡ []
 unfolding hexadecimal_digits
 none_at_all n = refl
 
-pub hexadecimal_printed : (n : ℕ) (w : List ℕ) → length w ≡ 10 → get_or w 0 0 ≡ 48 → get_or w 1 0 ≡ 120 → number_after 16 0 (drop 2 w) ≡ Some n → w ≡ hexadecimal_word n
+pub hexadecimal_number : (w : Word) → Gives (hexadecimal_of w) (λ n. (w ≡ hexadecimal_word n) × IsU32 n)
 unfolding hexadecimal_word
-hexadecimal_printed n [] len zero_is x_is e = absurd (omega (arith, len))
-hexadecimal_printed n (a ∷ []) len zero_is x_is e = absurd (omega (arith, len))
-hexadecimal_printed n (a ∷ b ∷ ds) len zero_is x_is e =
-    let eight : 8 ≡ length ds + 0 = omega (arith, len) in
-    let digits : hexadecimal_digits 8 n ≡ ds = printed_from 8 0 0 n ds eight e ∙ rw (none_at_all 0) refl in
-    rw (zero_is, x_is, digits) refl
+hexadecimal_number [] = nothing _
+hexadecimal_number (a ∷ []) = nothing _
+hexadecimal_number (a ∷ b ∷ ds) =
+    when (is_hexadecimal (a ∷ b ∷ ds)) (number_after 16 0 ds) _ (λ is.
+    let eight : 8 ≡ length ds + 0 = grind (arith, nat_tests, is) in
+    let zero_is : a ≡ 48 = grind (arith, nat_tests, is) in
+    let x_is : b ≡ 120 = grind (arith, nat_tests, is) in
+    weaker _ _ _ (λ n is. (rw (zero_is, x_is, is.0, none_at_all 0) refl, is.1)) (printed_from 8 0 0 ds eight (omega arith)))

@@ -2,6 +2,7 @@ pub mod Messages
 pub mod Counting
 pub mod Decimals
 pub mod Parts
+pub mod Options
 pub mod DecimalDigits
 pub mod HexadecimalDigits
 pub mod Numbers

@@ -1,6 +1,6 @@
 -- How long the lines of a run are.
-use Rattle.std.proofs.Common.{ℕ, suc, ◌≡◌, ◌+◌, ◌-◌, ◌^◌, ◌<◌, ◌≤◌, Bool, true, false, List, [], ◌∷◌, ◌++◌, length, refl, arith, length-append}
-use Rattle.std.specs.Prelude.{ℤ, pos, negsuc, nat_lt, nat_le, decimal, Some, codes, if◌then◌else◌}
+use Rattle.std.proofs.Common.{ℕ, suc, ◌≡◌, ◌+◌, ◌-◌, ◌^◌, ◌<◌, ◌≤◌, true, false, List, [], ◌∷◌, ◌++◌, length, refl, arith, length-append}
+use Rattle.std.specs.Prelude.{ℤ, pos, negsuc, nat_lt, nat_le, decimal, Some, codes}
 use Rattle.std.specs.Fmt.{signed_decimal}
 use Rattle.std.specs.List.{flat_map, sum_by, AllByRecursion}
 use Rattle.std.proofs.lemmas.Fmt.{length-decimal-le}
@@ -22,6 +22,7 @@ use Rattle.ffm_model.specs.TraceText.{Field, hexadecimal, unsigned, signed, hexa
 use Rattle.ffm_model.proofs.ActorLemmas.{few_partitions, few_clients}
 use Rattle.trace_print.specs.Fields.{width_of}
 use Rattle.trace_print.specs.RunLines.{AreShortLines, RunsHaveShortLines}
+use Rattle.trace_print.proofs.Options.{chosen}
 use Rattle.trace_print.proofs.Decimals.{short}
 use Rattle.trace_print.proofs.Gives.{is_message, is_small, may_give, gives_rightly, each_gives}
 
@@ -79,15 +80,8 @@ outcome_long _ h fits = omega arith
 -- ---- messages
 
 sizes_long : (s : List ℕ) → AreFourSizes s → length (flat_map spaced_field (size_fields s)) ≤ 44
-sizes_long [] fits = absurd (omega (arith, fits.0))
-sizes_long (a ∷ []) fits = absurd (omega (arith, fits.0))
-sizes_long (a ∷ b ∷ []) fits = absurd (omega (arith, fits.0))
-sizes_long (a ∷ b ∷ c ∷ []) fits = absurd (omega (arith, fits.0))
 sizes_long (a ∷ b ∷ c ∷ d ∷ []) fits = fields_long (size_fields (a ∷ b ∷ c ∷ d ∷ [])) (fits.1, (fits.2, (fits.3, (fits.4, tt))))
-sizes_long (a ∷ b ∷ c ∷ d ∷ e ∷ es) fits = absurd (omega (arith, fits.0))
-
-front_long : (m : Message) → AllByRecursion FieldFits (message_front m) → length (flat_map spaced_field (message_front m)) ≤ 47
-front_long m fits = fields_long (message_front m) fits
+sizes_long s fits = absurd (omega (arith, fits.0))
 
 front_short : (m : Message) → AllByRecursion FieldFits (message_front m) → is_small m.handle.0 ≡ true → length (flat_map spaced_field (message_front m)) ≤ 46
 front_short m fits small =
@@ -120,7 +114,7 @@ with_message (call.Get signal msg) m fits message h =
       sizes_long m.in_size message.1,
       sizes_long m.out_size message.2,
     )
-with_message call.Resume m fits message h = omega (arith, message_parts m, front_long m message.0, sizes_long m.in_size message.1, sizes_long m.out_size message.2)
+with_message call.Resume m fits message h = omega (arith, message_parts m, fields_long (message_front m) message.0, sizes_long m.in_size message.1, sizes_long m.out_size message.2)
 with_message _ m fits message h = cc
 
 both_long : (c : Call) (o : Outcome) → CallFits c → OutcomeFits o → gives_rightly c o ≡ true → length (spaced_phrase (call_phrase c)) + length (spaced_phrase (outcome_phrase o)) ≤ 168
@@ -129,30 +123,18 @@ both_long c o call_fits fits h = omega (arith, call_long c call_fits, outcome_lo
 
 -- ---- lines
 
-either_word : (x y : Bool) (u v : List ℕ) → (x ≡ true → length u ≤ 2) → (y ≡ true → length v ≤ 2) → length (if x then codes "p" ++ u else (if y then codes "n" ++ v else codes "dev")) ≤ 3
-either_word true y u v h k = omega (arith, h refl)
-either_word false true u v h k = omega (arith, k refl)
-either_word false false u v h k = omega arith
-
 actor_long : (counts : ActorCounts) (a : ℕ) → counts.partitions ≤ 32 → counts.clients ≤ 16 → length (actor_word counts a) ≤ 3
 unfolding actor_word
 actor_long counts a few_p few_n =
-    either_word (nat_lt a counts.partitions) (nat_lt a (counts.partitions + counts.clients)) (decimal (a + 1)) (decimal (a - counts.partitions + 1))
-    (λ e. let lt : a < counts.partitions = grind (arith, nat_tests) in short (a + 1) (omega arith))
-    (λ e. let lt : a < counts.partitions + counts.clients = grind (arith, nat_tests) in short (a - counts.partitions + 1) (omega arith))
-
-four_parts : (actor words arrow answer : List ℕ) → length (line (actor ++ (words ++ (arrow ++ answer)))) ≡ length actor + (length words + (length arrow + (length answer + 1)))
-four_parts actor words arrow answer = simp length-append (omega arith)
+    let P : List ℕ → Type 0 = λ w. length w ≤ 3 in
+    chosen P (nat_lt a counts.partitions) (codes "p" ++ decimal (a + 1)) _ (λ t. let lt : a < counts.partitions = grind (arith, nat_tests) in omega (arith, short (a + 1) (omega arith))) (λ _.
+    chosen P (nat_lt a (counts.partitions + counts.clients)) (codes "n" ++ decimal (a - counts.partitions + 1)) (codes "dev")
+    (λ t. let lt : a < counts.partitions + counts.clients = grind (arith, nat_tests) in omega (arith, short (a - counts.partitions + 1) (omega arith))) (λ _. omega arith))
 
 entry_long : (counts : ActorCounts) (e : Entry) → counts.partitions ≤ 32 → counts.clients ≤ 16 → EntryFits counts e → gives_rightly e.call e.outcome ≡ true → length (line (entry_text counts e)) ≤ 175
 unfolding entry_text
 entry_long counts e few_p few_n fits h =
-    omega (
-      arith,
-      four_parts (actor_word counts e.actor.0) (spaced_phrase (call_phrase e.call)) (codes " ->") (spaced_phrase (outcome_phrase e.outcome)),
-      actor_long counts e.actor.0 few_p few_n,
-      both_long e.call e.outcome fits.call fits.outcome h,
-    )
+    omega (arith, length-append {A = ℕ}, actor_long counts e.actor.0 few_p few_n, both_long e.call e.outcome fits.call fits.outcome h)
 
 each_long : (s : System) (es : List Entry) → AllByRecursion (λ e. gives_rightly e.call e.outcome ≡ true) es → AllByRecursion (EntryFits (counts_of s)) es → AreShortLines s es
 each_long s [] h fits = tt

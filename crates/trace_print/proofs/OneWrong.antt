@@ -16,9 +16,7 @@ entry_is_right counts n (past_end other next others is_verdict more) text rest i
 
 nothing_wrong : (counts : ActorCounts) (n : ℕ) {texts : List Word} {k : ℕ} → IsWrong counts n texts k → texts ≡ [] → ⊥
 nothing_wrong counts n (unended text) e = absurd cc
-nothing_wrong counts n (neither text rest no_entry no_verdict) e = absurd cc
-nothing_wrong counts n (one_too_many text rest is_entry full) e = absurd cc
-nothing_wrong counts n (past_end text next rest is_verdict more) e = absurd cc
+nothing_wrong counts n w e = absurd cc
 
 no_first : (counts : ActorCounts) {n : ℕ} {texts : List Word} {k : ℕ} → IsFirstWrong counts n texts k → texts ≡ [] → ⊥
 no_first counts (here n texts k w) e = nothing_wrong counts n w e
@@ -33,18 +31,8 @@ past_is counts n (past_end other after others also more) text next rest is_verdi
 
 one_wrong : (counts : ActorCounts) (n : ℕ) {xs ys : List Word} {j k : ℕ} → IsWrong counts n xs j → IsWrong counts n ys k → xs ≡ ys → j ≡ k
 one_wrong counts n (past_end text next rest is_verdict more) w e = sym (past_is counts n w text next rest is_verdict (sym e))
-one_wrong counts n (unended x) (past_end text next rest is_verdict more) e = past_is counts n (unended x) text next rest is_verdict e
-one_wrong counts n (unended x) (unended y) e = refl
-one_wrong counts n (unended x) (neither y ys no_entry no_verdict) e = refl
-one_wrong counts n (unended x) (one_too_many y ys is_entry full) e = refl
-one_wrong counts n (neither x xs no_entry no_verdict) (past_end text next rest is_verdict more) e = past_is counts n (neither x xs no_entry no_verdict) text next rest is_verdict e
-one_wrong counts n (neither x xs no_entry no_verdict) (unended y) e = refl
-one_wrong counts n (neither x xs no_entry no_verdict) (neither y ys none nor) e = refl
-one_wrong counts n (neither x xs no_entry no_verdict) (one_too_many y ys is_entry full) e = refl
-one_wrong counts n (one_too_many x xs is_entry full) (past_end text next rest is_verdict more) e = past_is counts n (one_too_many x xs is_entry full) text next rest is_verdict e
-one_wrong counts n (one_too_many x xs is_entry full) (unended y) e = refl
-one_wrong counts n (one_too_many x xs is_entry full) (neither y ys none nor) e = refl
-one_wrong counts n (one_too_many x xs is_entry full) (one_too_many y ys also too) e = refl
+one_wrong counts n w (past_end text next rest is_verdict more) e = past_is counts n w text next rest is_verdict e
+one_wrong counts n w v e = refl
 
 pub one_first_wrong : (counts : ActorCounts) {n : ℕ} {xs : List Word} {j : ℕ} → IsFirstWrong counts n xs j → {ys : List Word} {k : ℕ} → IsFirstWrong counts n ys k → xs ≡ ys → j ≡ k
 one_first_wrong counts (here n xs j w) (here _ ys k v) e = one_wrong counts n w v e

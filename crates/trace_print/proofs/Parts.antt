@@ -1,5 +1,5 @@
 -- The parts of a text between separators.
-use Rattle.std.proofs.Common.{◌≡◌, ◌≢◌, ℕ, ◌+◌, ◌<◌, ◌==◌, false, true, List, [], ◌∷◌, take, drop, length, get_or, arith}
+use Rattle.std.proofs.Common.{◌≡◌, ◌≢◌, ℕ, ◌+◌, ◌<◌, ◌==◌, false, List, [], ◌∷◌, take, drop, length, get_or, arith}
 use Rattle.std.specs.List.{All, position_or_len, before_first, after_first}
 use Rattle.std.proofs.lemmas.Bool.{ne_eqb, eq-eqb}
 use Rattle.std.proofs.lemmas.List.Sums.{position_or_len_is}
@@ -21,12 +21,9 @@ cut_at s xs i inside here before =
 pub not_cut : (s : ℕ) (xs : List ℕ) → All (λ b. (b == s) ≡ false) xs → parts s xs ≡ xs ∷ []
 not_cut s xs none = slice_split_none (λ b. b == s) xs none
 
-is_at : (s b : ℕ) → (b == s) ≡ true → b ≡ s
-is_at s b e = grind (arith, nat_tests, e)
-
 -- the first separator was found by a search
 pub found_at : (s : ℕ) (xs : List ℕ) (i : ℕ) → NoneBefore (Passes (is_byte s) xs) 0 (length xs) i → Passes (is_byte s) xs i → parts s xs ≡ take i xs ∷ parts s (drop (i + 1) xs)
-found_at s xs i first here = cut_at s xs i first.high (is_at s (get_or xs i 0) here) (λ k lt is. first.before k (omega arith) lt (eq-eqb (get_or xs k 0) s is))
+found_at s xs i first here = cut_at s xs i first.high (grind (arith, nat_tests, here)) (λ k lt is. first.before k (omega arith) lt (eq-eqb (get_or xs k 0) s is))
 
 -- a search found no separator
 pub found_nowhere : (s : ℕ) (xs : List ℕ) → Nowhere (Passes (is_byte s) xs) 0 (length xs) → parts s xs ≡ xs ∷ []

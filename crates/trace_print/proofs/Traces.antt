@@ -1,5 +1,5 @@
 -- The texts of whole traces: their lines, their first wrong line, and that different traces have different ones.
-use Rattle.std.proofs.Common.{◌≡◌, ℕ, suc, ◌+◌, ◌≤◌, List, [], ◌∷◌, ◌++◌, length, map, refl, sym, ap, ◌∙◌, append_assoc, arith, subst}
+use Rattle.std.proofs.Common.{◌≡◌, ℕ, suc, ◌+◌, ◌≤◌, List, [], ◌∷◌, ◌++◌, length, map, refl, sym, ap, ◌∙◌, append_assoc, arith, subst, lit≤, length-append}
 use Rattle.std.specs.List.{flat_map, AllByRecursion}
 use Rattle.ffm_model.specs.Counts.{ActorCounts}
 use Rattle.ffm_model.specs.declared.machine.Entry.{Entry}
@@ -8,7 +8,7 @@ use Rattle.ffm_model.specs.declared.constants.TheConstants.{MAX_ENTRIES}
 use Rattle.ffm_model.specs.TraceText.{Word, line, entry_text, verdict_text, trace_text, EntryFits}
 use Rattle.trace_print.specs.View.{parts}
 use Rattle.trace_print.specs.Lines.{IsEntryText, IsVerdictText, IsWrong, unended, neither, one_too_many, past_end, IsFirstWrong, here, later}
-use Rattle.trace_print.proofs.Plain.{split_line, plain_verdict}
+use Rattle.trace_print.proofs.Plain.{split_word, plain_verdict}
 use Rattle.trace_print.proofs.Entries.{FewActors, same_entry, text_of_entry}
 use Rattle.trace_print.proofs.Verdicts.{not_both, same_verdict}
 
@@ -23,12 +23,8 @@ pub parts_behind : (counts : ActorCounts) (es : List Entry) (rest : List ℕ) �
 parts_behind counts [] rest = refl
 parts_behind counts (e ∷ es) rest =
     let regrouped : lines_of counts (e ∷ es) ++ rest ≡ entry_text counts e ++ 10 ∷ (lines_of counts es ++ rest) = simp append_assoc in
-    ap (parts 10) regrouped ∙ (split_line (entry_text counts e) (lines_of counts es ++ rest) (text_of_entry counts e) ∙ ap (λ (ws : List Word). entry_text counts e ∷ ws) (parts_behind counts es rest))
-
--- the parts of a trace's text
-pub parts_of_trace : (counts : ActorCounts) (es : List Entry) (v : Verdict) → parts 10 (trace_text counts es v) ≡ texts_of counts es ++ (verdict_text v (length es) ∷ [] ∷ [])
-parts_of_trace counts es v =
-    parts_behind counts es (line (verdict_text v (length es))) ∙ ap (λ (ws : List Word). texts_of counts es ++ ws) (split_line (verdict_text v (length es)) [] (plain_verdict v (length es)))
+    let first = split_word 10 31 (entry_text counts e) (lines_of counts es ++ rest) (lit≤ tt) (text_of_entry counts e) in
+    ap (parts 10) regrouped ∙ (first ∙ ap (λ (ws : List Word). entry_text counts e ∷ ws) (parts_behind counts es rest))
 
 -- the first wrong line behind lines of entries
 pub wrong_behind : (counts : ActorCounts) (n : ℕ) (es : List Entry) (texts : List Word) (k : ℕ) → AllByRecursion (EntryFits counts) es → n + length es ≤ MAX_ENTRIES
@@ -46,11 +42,6 @@ left counts n es v = texts_of counts es ++ (verdict_text v (n + length es) ∷ [
 pub head_is : (x y : Word) (xs ys : List Word) → x ∷ xs ≡ y ∷ ys → (x ≡ y) × (xs ≡ ys)
 head_is x y xs ys e = (cc, cc)
 
-one_is_not : (counts : ActorCounts) (n : ℕ) (es : List Entry) (v : Verdict) (text : Word) → text ∷ [] ≡ left counts n es v → ⊥
-one_is_not counts n [] v text e = absurd cc
-one_is_not counts n (d ∷ []) v text e = absurd cc
-one_is_not counts n (d ∷ f ∷ es) v text e = absurd cc
-
 verdict_left : (counts : ActorCounts) (n : ℕ) (v : Verdict) (text : Word) (rest : List Word) → text ∷ rest ≡ left counts n [] v → IsVerdictText n text × (rest ≡ [] ∷ [])
 verdict_left counts n v text rest e =
     let same = head_is text (verdict_text v (n + 0)) rest ([] ∷ []) e in
@@ -65,7 +56,7 @@ entry_left counts n d es v text rest fits e =
 
 -- no part of a trace's text is wrong
 not_wrong : (counts : ActorCounts) (n : ℕ) {texts : List Word} {k : ℕ} → IsWrong counts n texts k → (es : List Entry) (v : Verdict) → AllByRecursion (EntryFits counts) es → n + length es ≤ MAX_ENTRIES → texts ≡ left counts n es v → ⊥
-not_wrong counts n (unended text) es v fits le e = one_is_not counts n es v text e
+not_wrong counts n (unended text) es v fits le e = absurd (omega (arith, ap length e, length-append (texts_of counts es) (verdict_text v (n + length es) ∷ [] ∷ [])))
 not_wrong counts n (neither text rest no_entry no_verdict) [] v fits le e = no_verdict (verdict_left counts n v text rest e).0
 not_wrong counts n (neither text rest no_entry no_verdict) (d ∷ es) v fits le e = no_entry (entry_left counts n d es v text rest fits.0 e).0
 not_wrong counts n (one_too_many text rest is_entry full) [] v fits le e = not_both counts n text is_entry (verdict_left counts n v text rest e).0
@@ -99,11 +90,12 @@ same_left counts n (d ∷ ds) (f ∷ es) v w few p q e =
     let first = same_entry counts d f few p.0 q.0 same.0 in
     (ap (λ (x : Entry). x ∷ ds) first ∙ ap (λ (xs : List Entry). f ∷ xs) others.0, others.1)
 
-at_zero : (counts : ActorCounts) (es : List Entry) (v : Verdict) → texts_of counts es ++ (verdict_text v (length es) ∷ [] ∷ []) ≡ left counts 0 es v
-at_zero counts es v = let e : length es ≡ 0 + length es = omega arith in ap (λ (m : ℕ). texts_of counts es ++ (verdict_text v m ∷ [] ∷ [])) e
-
+-- the parts of a trace's text
 pub left_of_trace : (counts : ActorCounts) (es : List Entry) (v : Verdict) → parts 10 (trace_text counts es v) ≡ left counts 0 es v
-left_of_trace counts es v = parts_of_trace counts es v ∙ at_zero counts es v
+left_of_trace counts es v =
+    let last : parts 10 (line (verdict_text v (length es))) ≡ verdict_text v (length es) ∷ [] ∷ [] = split_word 10 31 (verdict_text v (length es)) [] (lit≤ tt) (plain_verdict v (length es)) in
+    let zero : length es ≡ 0 + length es = omega arith in
+    parts_behind counts es (line (verdict_text v (length es))) ∙ ap (λ (ws : List Word). texts_of counts es ++ ws) (last ∙ ap (λ (m : ℕ). verdict_text v m ∷ [] ∷ []) zero)
 
 pub same_trace : (counts : ActorCounts) → FewActors counts → (ds es : List Entry) (v w : Verdict) → AllByRecursion (EntryFits counts) ds → AllByRecursion (EntryFits counts) es → trace_text counts ds v ≡ trace_text counts es w → (ds ≡ es) × (v ≡ w)
 same_trace counts few ds es v w p q e = same_left counts 0 ds es v w few p q (sym (left_of_trace counts ds v) ∙ (ap (parts 10) e ∙ left_of_trace counts es w))

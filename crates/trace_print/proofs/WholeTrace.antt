@@ -9,14 +9,10 @@ use Rattle.ffm_model.specs.declared.constants.TheConstants.{MAX_ENTRIES}
 use Rattle.ffm_model.specs.TraceText.{Word, line, verdict_text, trace_text, EntryFits}
 use Rattle.trace_print.specs.View.{parts}
 use Rattle.trace_print.specs.Lines.{IsWrong, unended, IsFirstWrong, here}
-use Rattle.trace_print.proofs.Entries.{FewActors}
-use Rattle.trace_print.proofs.Traces.{texts_of, lines_of, parts_behind, wrong_behind, no_wrong_line, left_of_trace, same_trace}
+use Rattle.trace_print.proofs.Traces.{texts_of, lines_of, parts_behind, wrong_behind, no_wrong_line, left_of_trace}
 
 pub found_by : (counts : ActorCounts) (n : ℕ) (bytes rest : List ℕ) (es : List Entry) (v : Verdict) → bytes ≡ lines_of counts es ++ rest → n ≡ length es → rest ≡ line (verdict_text v n) → bytes ≡ trace_text counts es v
 found_by counts n bytes rest es v so_far count last = so_far ∙ ap (λ (r : List ℕ). lines_of counts es ++ r) (last ∙ ap (λ (m : ℕ). line (verdict_text v m)) count)
-
-pub only_by : (counts : ActorCounts) (bytes : List ℕ) (ds es : List Entry) (w v : Verdict) → FewActors counts → bytes ≡ trace_text counts ds w → AllByRecursion (EntryFits counts) ds → AllByRecursion (EntryFits counts) es → bytes ≡ trace_text counts es v → (ds ≡ es) × (w ≡ v)
-only_by counts bytes ds es w v few found p q e = same_trace counts few ds es w v p q (sym found ∙ e)
 
 pub told : (counts : ActorCounts) (n : ℕ) (bytes rest : List ℕ) (es : List Entry) (k : ℕ) → bytes ≡ lines_of counts es ++ rest → n ≡ length es → n ≤ MAX_ENTRIES → AllByRecursion (EntryFits counts) es → IsWrong counts n (parts 10 rest) k
     → IsFirstWrong counts 0 (parts 10 bytes) k

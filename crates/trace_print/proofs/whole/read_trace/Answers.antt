@@ -1,7 +1,8 @@
-use Rattle.std.proofs.Common.{◌≡◌, length, rules}
+use Rattle.std.proofs.Common.{◌≡◌, ◌∙◌, length, sym, rules}
 use Rattle.std.proofs.lemmas.List.{take_rest}
 use Rattle.trace_print.proofs.Entries.{FewActors}
-use Rattle.trace_print.proofs.WholeTrace.{found_by, only_by, told, cut_off, never}
+use Rattle.trace_print.proofs.Traces.{same_trace}
+use Rattle.trace_print.proofs.WholeTrace.{found_by, told, cut_off, never}
 use Rattle.trace_print.proofs.whole.read_trace.Goals as goal
 
 pub returns-in-Ok-Verdict-clause-only : goal.returns-in-Ok-Verdict-clause-only
@@ -10,7 +11,7 @@ returns-in-Ok-Verdict-clause-only c =
     let count : c.loop-start.count ≡ length c.loop-start.entries.items = search rules in
     let last = rw (c.in-Ok-Verdict.is, c.in-Ok-Verdict.field-0-is, take_rest) at c.first_line.ensures in
     let found = found_by c.args.counts c.loop-start.count c.args.bytes.now _ c.loop-start.entries.items c.in-Ok-Verdict.verdict c.loop-start.invariant.text count last in
-    λ es v fits limit e. rw c.of-entries.ensures (only_by c.args.counts c.args.bytes.now c.loop-start.entries.items es c.in-Ok-Verdict.verdict v few found c.loop-start.invariant.fits fits e)
+    λ es v fits limit e. rw c.of-entries.ensures (same_trace c.args.counts few c.loop-start.entries.items es c.in-Ok-Verdict.verdict v c.loop-start.invariant.fits fits (sym found ∙ e))
 
 pub returns-in-Err-clause-wrong : goal.returns-in-Err-clause-wrong
 returns-in-Err-clause-wrong c =
