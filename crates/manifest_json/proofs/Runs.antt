@@ -164,3 +164,10 @@ nothing_more = refl
 
 pub all_written : (rest out all : List ℕ) → length rest ≡ 0 → out ++ quote rest ≡ all → out ≡ all
 all_written rest out all none so_far = sym (append-nil out) ∙ ap (λ x. out ++ x) (sym (ap quote (nil_from_length rest none) ∙ nothing_more)) ∙ so_far
+
+-- bytes that stay to their end
+pub all_plain : (n : ℕ) (bytes : List ℕ) → n ≡ length bytes → Leads outside n outside bytes → quote bytes ≡ bytes
+all_plain n bytes all plain =
+    let none : length (drop n bytes) ≡ 0 = let long = length-drop n bytes in omega arith in
+    plain.1 ∙ ap (λ t. take n bytes ++ quote t) (nil_from_length (drop n bytes) none) ∙ ap (λ t. take n bytes ++ t) nothing_more
+    ∙ ap (λ t. take n bytes ++ t) (sym (nil_from_length (drop n bytes) none)) ∙ take-append-drop n bytes

@@ -141,6 +141,13 @@ fn plain_len(bytes: &[u8]) -> usize
     at
 }
 
+/// Whether the bytes have no decimal outside strings, so that none gets marks.
+pub(crate) fn has_no_decimal(bytes: &[u8]) -> bool
+    ensures { result ≡ true → quote bytes.now ≡ bytes.now }
+{
+    plain_len(bytes) == bytes.len()
+}
+
 /// The bytes of a JSON file with each decimal outside strings put between quotation marks, so
 /// that `1.0` and `"1.0"` read alike.
 ///

@@ -1,13 +1,8 @@
-use Rattle.std.proofs.Common.{◌∙◌, sym, refl}
-use Rattle.std.proofs.lemmas.Bool.{false≢true}
-use Rattle.serde_json.specs.Errors.{IsMemory}
-use Rattle.manifest_json.proofs.Spelled.{tree_is, no_tree}
+use Rattle.std.proofs.Common.{◌∙◌, sym}
 use Rattle.manifest_json.proofs.trees.read_tree.Goals as goal
 
-pub returns-in-Ok : goal.returns-in-Ok
-returns-in-Ok c = tree_is c.args.bytes.now c.deref.result.now _ (c.deref.ensures.value ∙ c.in_ok-quoted.ensures) c.in-Ok.ensures.ok.0 c.in-Ok.ensures.ok.1
+pub returns-then-has_no_decimal : goal.returns-then-has_no_decimal
+returns-then-has_no_decimal c = c.tree_spelled.ensures c.args.bytes.now (sym (c.has_no_decimal.ensures c.if-has_no_decimal.true))
 
-pub returns-else-is_memory : goal.returns-else-is_memory
-returns-else-is_memory c =
-    let other : IsMemory c.in-Err.e → ⊥ = λ m. false≢true (sym c.if-is_memory.false ∙ c.is_memory.ensures.1 m) in
-    (no_tree c.args.bytes.now c.deref.result.now (c.deref.ensures.value ∙ c.in_ok-quoted.ensures) (c.in-Err.ensures.err other), rw (c.of.ensures, c.new.ensures.items) refl)
+pub returns : goal.returns
+returns c = c.tree_spelled-2.ensures c.args.bytes.now (c.deref.ensures.value ∙ c.in_ok-quoted.ensures)
