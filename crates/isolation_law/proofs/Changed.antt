@@ -1,38 +1,38 @@
 -- No call changes a byte outside of its actor's reach.
-use Rattle.std.proofs.Common.{ℕ, zero, suc, ◌≡◌, ◌≤◌, ◌+◌, ◌*◌, Bool, true, false, cond, ◌&&◌, ◌||◌, not, ◌++◌, length, arith, ◌∙◌, ap, sym, refl}
-use Rattle.std.specs.Prelude.{ℤ, int_lt, nat_le, nat_lt, min, find, Option, Some, None, IfSome, option_and_then, if◌then◌else◌}
+use Rattle.std.proofs.Common.{ℕ, zero, suc, ◌≡◌, ◌≤◌, ◌+◌, ◌*◌, Bool, true, false, cond, ◌&&◌, ◌||◌, ◌++◌, length, arith, ◌∙◌, ap, sym, refl}
+use Rattle.std.specs.Prelude.{ℤ, int_lt, nat_le, nat_lt, min, find, Option, Some, IfSome}
 use Rattle.std.specs.Option.{option_map}
-use Rattle.std.specs.Ordering.{int_eq}
 use Rattle.std.proofs.lemmas.List.{length-append, length-map, length-take}
 use Rattle.std.proofs.lemmas.Bool.{and_parts}
 use Rattle.std.proofs.lemmas.Bool.Decides.{nat_tests}
 use Rattle.list_laws.proofs.Tests.{fails, find-all}
 use Rattle.list_laws.proofs.Bools.{if_passes}
-use Rattle.ffm_model.specs.declared.constants.TheConstants.{PSA_IPC_CALL, PSA_IPC_CONNECT}
+use Rattle.ffm_model.specs.declared.constants.TheConstants.{PSA_IPC_CALL}
 use Rattle.ffm_model.specs.declared.system.System.{System}
 use Rattle.ffm_model.specs.declared.system.ActorKind.{ActorKind}
-use Rattle.ffm_model.specs.declared.system.ActorKind.TheVariants.{Partition, Client, Device}
+use Rattle.ffm_model.specs.declared.system.ActorKind.TheVariants.{Partition}
 use Rattle.ffm_model.specs.declared.machine.Call.{Call}
 use Rattle.ffm_model.specs.declared.machine.Call.TheVariants as call
 use Rattle.ffm_model.specs.declared.machine.Entry.{Entry}
 use Rattle.ffm_model.specs.declared.machine.Handle.{Handle}
 use Rattle.ffm_model.specs.declared.objects.ActorPhase.{ActorPhase}
-use Rattle.ffm_model.specs.declared.objects.ActorPhase.TheVariants.{Ready, Connected, Waiting}
+use Rattle.ffm_model.specs.declared.objects.ActorPhase.TheVariants.{Ready}
 use Rattle.ffm_model.specs.declared.objects.PendingMessage.{PendingMessage}
 use Rattle.ffm_model.specs.declared.objects.Span.{Span}
 use Rattle.ffm_model.specs.Memory.{ByteMap, valid_buffer, may_write, store_number, lengths_written}
 use Rattle.ffm_model.specs.State.{State, SpmState, phase_of, message_held, is_undelivered}
-use Rattle.ffm_model.specs.ClientCalls.{Move, Effect, effect, in_state, psa_connect, psa_call, psa_close, returned}
-use Rattle.ffm_model.specs.ServiceCalls.{psa_wait, psa_get, psa_set_rhandle, psa_skip, psa_read, psa_write, psa_reply, request_held, service_of_signal, message_size, message_words, shown_message, sizes_of, get_of, read_of, write_of, reply_of, rest_of, input_at, output_at, outputs_given, is_connect_status}
-use Rattle.ffm_model.specs.SignalCalls.{psa_notify, psa_clear, psa_eoi, psa_irq_enable, psa_irq_disable, psa_reset_signal, raise, fire}
+use Rattle.ffm_model.specs.ClientCalls.{Move, Effect, effect, in_state, returned}
+use Rattle.ffm_model.specs.ServiceCalls.{psa_get, psa_read, psa_write, psa_reply, request_held, service_of_signal, message_size, message_words, shown_message, sizes_of, get_of, read_of, write_of, reply_of, reply_to, rest_of, input_at, output_at, outputs_given}
 use Rattle.ffm_model.specs.Accesses.{store, is_access_size}
 use Rattle.ffm_model.specs.Calls.{call_case, error_effect, effect_of}
 use Rattle.ffm_model.specs.Step.{step}
 use Rattle.ffm_model.specs.Reach.{length_word_has, write_reach}
 use Rattle.byte_lanes.specs.Differences.{range_covers}
-use Rattle.message_vectors.proofs.Reached.{store_number-outside, words_stored-outside, copy_bytes-outside, lengths_written-outside, range-part}
+use Rattle.memory_image.proofs.Effects.{each_made, each_mapped, effect-has}
+use Rattle.memory_image.proofs.Messages.{reply_is}
+use Rattle.memory_image.proofs.Outside.{copy_bytes-outside, store_number-outside, words_stored-outside}
+use Rattle.message_vectors.proofs.Reached.{lengths_written-outside, range-part}
 use Rattle.isolation_law.specs.Vectors.{AreFour, HaveFour}
-use Rattle.isolation_law.proofs.Effects.{effect-has}
 use Rattle.isolation_law.proofs.Reached.{buffer-written, range-written, rest-inside, output-written, length_word-written, request-held, request-kind}
 use Rattle.isolation_law.proofs.Steps.{step-leaves}
 
@@ -41,8 +41,7 @@ abbrev Stays : State → ℕ → Effect → Type 0
 Stays st x e = e.state.memory x ≡ st.memory x
 
 moves : (st : State) (x : ℕ) (o : Option Move) → IfSome (option_map (in_state st) o) (Stays st x)
-moves st x None = tt
-moves st x (Some m) = refl
+moves st x o = each_mapped (Stays st x) (in_state st) o (λ m made. refl)
 
 -- a valid buffer lies outside where the address does
 buffer-outside : (s : System) (b : SpmState) (a base len x : ℕ) → valid_buffer s a base len ≡ true → write_reach s b a x ≡ false → range_covers (base, len) x ≡ false
@@ -63,27 +62,16 @@ got-outside s st a msg x i h m four out valid =
 
 gets : (s : System) (st : State) (a signal msg x : ℕ) (h : Handle) → HaveFour st.spm → write_reach s st.spm a x ≡ false → IfSome (psa_get s st a signal msg h) (Stays st x)
 gets s st a signal msg x h four out =
-    let of : ℕ → PendingMessage → Option Effect = λ i m. if valid_buffer s a msg message_size then Some (get_of s st i msg h m) else None in
-    let on : (i : ℕ) (o : Option PendingMessage) → find (is_undelivered i) st.spm.messages ≡ o → IfSome (option_and_then (of i) o) (Stays st x) =
-    λ i. elim [
-      | None ↦ λ e. tt
-      | Some m ↦ λ e. if_passes (Stays st x) (valid_buffer s a msg message_size) (get_of s st i msg h m)
-          (got-outside s st a msg x i h m (find-all (λ (p : PendingMessage). AreFour p.vectors) (is_undelivered i) st.spm.messages m e four) out)
-    ] in
-    elim (service_of_signal s a signal) as (λ (o : Option ℕ). IfSome (option_and_then (λ i. option_and_then (of i) (find (is_undelivered i) st.spm.messages)) o) (Stays st x)) [
-      | None ↦ tt
-      | Some i ↦ on i (find (is_undelivered i) st.spm.messages) refl
-    ]
+    each_made (Stays st x) _ (service_of_signal s a signal) (λ i owned. each_made (Stays st x) _ (find (is_undelivered i) st.spm.messages) (λ m found.
+    if_passes (Stays st x) (valid_buffer s a msg message_size) (get_of s st i msg h m)
+    (got-outside s st a msg x i h m (find-all (λ (p : PendingMessage). AreFour p.vectors) (is_undelivered i) st.spm.messages m found four) out)))
 
 -- psa_read
 reads : (s : System) (st : State) (a index buffer len x : ℕ) (h : Handle) → write_reach s st.spm a x ≡ false → IfSome (psa_read s st a h index buffer len) (Stays st x)
 reads s st a index buffer len x h out =
-    elim (request_held s st.spm a h index) as (λ (o : Option PendingMessage). IfSome (option_and_then (λ m. if valid_buffer s a buffer len then Some (read_of st h index buffer len m) else None) o) (Stays st x)) [
-      | None ↦ tt
-      | Some m ↦ if_passes (Stays st x) (valid_buffer s a buffer len) (read_of st h index buffer len m) (λ valid.
-          copy_bytes-outside st.memory _ buffer (min len (rest_of (input_at m index))) x
-          (range-part x buffer len (min len (rest_of (input_at m index))) (omega arith) (buffer-outside s st.spm a buffer len x valid out)))
-    ]
+    each_made (Stays st x) _ (request_held s st.spm a h index) (λ m held. if_passes (Stays st x) (valid_buffer s a buffer len) (read_of st h index buffer len m) (λ valid.
+    copy_bytes-outside st.memory _ buffer (min len (rest_of (input_at m index))) x
+    (range-part x buffer len (min len (rest_of (input_at m index))) (omega arith) (buffer-outside s st.spm a buffer len x valid out))))
 
 -- psa_write
 written-outside : (s : System) (st : State) (a index buffer len x : ℕ) (h : Handle) (m : PendingMessage) → request_held s st.spm a h index ≡ Some m → write_reach s st.spm a x ≡ false
@@ -96,13 +84,8 @@ written-outside s st a index buffer len x h m held out may =
 
 writes : (s : System) (st : State) (a index buffer len x : ℕ) (h : Handle) → write_reach s st.spm a x ≡ false → IfSome (psa_write s st a h index buffer len) (Stays st x)
 writes s st a index buffer len x h out =
-    let go : (o : Option PendingMessage) → request_held s st.spm a h index ≡ o
-    → IfSome (option_and_then (λ m. if valid_buffer s a buffer len && nat_le len (rest_of (output_at m index)) then Some (write_of st h index buffer len m) else None) o) (Stays st x) =
-    elim [
-      | None ↦ λ e. tt
-      | Some m ↦ λ e. if_passes (Stays st x) (valid_buffer s a buffer len && nat_le len (rest_of (output_at m index))) (write_of st h index buffer len m) (written-outside s st a index buffer len x h m e out)
-    ] in
-    go (request_held s st.spm a h index) refl
+    each_made (Stays st x) _ (request_held s st.spm a h index) (λ m held.
+    if_passes (Stays st x) (valid_buffer s a buffer len && nat_le len (rest_of (output_at m index))) (write_of st h index buffer len m) (written-outside s st a index buffer len x h m held out))
 
 -- fewer descriptors have fewer length words
 length_word-fewer : (x at k n : ℕ) → k ≤ n → length_word_has x at k ≡ true → length_word_has x at n ≡ true
@@ -127,17 +110,7 @@ replied-outside s st a x h status m held out =
     go (int_lt m.kind PSA_IPC_CALL) refl
 
 replies : (s : System) (st : State) (a x : ℕ) (h : Handle) (status : ℤ) → write_reach s st.spm a x ≡ false → IfSome (psa_reply s st a h status) (Stays st x)
-replies s st a x h status out =
-    let go : (o : Option PendingMessage) → message_held s st.spm a h ≡ o
-    → IfSome (option_map (reply_of s st h status) (option_and_then (λ m. if int_eq m.kind PSA_IPC_CONNECT && not (is_connect_status status) then None else Some m) o)) (Stays st x) =
-    elim [
-      | None ↦ λ e. tt
-      | Some m ↦ λ e. elim (int_eq m.kind PSA_IPC_CONNECT && not (is_connect_status status)) as (λ (b : Bool). IfSome (option_map (reply_of s st h status) (if b then None else Some m)) (Stays st x)) [
-        | true ↦ tt
-        | false ↦ replied-outside s st a x h status m e out
-      ]
-    ] in
-    go (message_held s st.spm a h) refl
+replies s st a x h status out = each_mapped (Stays st x) (reply_of s st h status) (reply_to s st.spm a h status) (λ m told. replied-outside s st a x h status m (reply_is s st.spm a h status m told) out)
 
 -- a load changes none, and a store no other
 stores : (s : System) (st : State) (a at size value x : ℕ) → write_reach s st.spm a x ≡ false → IfSome (store s st a at size value) (Stays st x)
@@ -147,41 +120,25 @@ stores s st a at size value x out =
 
 returns : (s : System) (st : State) (a x : ℕ) (p : ActorPhase) (h : Handle) → Stays st x (returned s st a p h)
 returns s st a x (Ready o) h = refl
-returns s st a x (Connected c) h = refl
-returns s st a x (Waiting mask) h = refl
 returns s st a x _ h = refl
 
 call-outside : (s : System) (st : State) (a : ℕ) (c : Call) (h : Handle) (x : ℕ) → HaveFour st.spm → write_reach s st.spm a x ≡ false → IfSome (call_case s st a c h) (Stays st x)
 call-outside s st a call.FrameworkVersion h x four out = refl
 call-outside s st a (call.Version sid) h x four out = refl
-call-outside s st a (call.Connect sid version) h x four out = moves st x (psa_connect s st.spm a sid version)
-call-outside s st a (call.Invoke c kind iv il ov ol) h x four out = moves st x (psa_call s st a c kind iv il ov ol)
-call-outside s st a (call.Close c) h x four out = moves st x (psa_close st.spm a c)
-call-outside s st a (call.Wait mask timeout) h x four out = moves st x (psa_wait s st.spm a mask timeout)
 call-outside s st a (call.Get signal msg) h x four out = gets s st a signal msg x h four out
-call-outside s st a (call.SetRhandle m r) h x four out = moves st x (psa_set_rhandle s st.spm a m r)
 call-outside s st a (call.Read m index buffer len) h x four out = reads s st a index buffer len x m out
-call-outside s st a (call.Skip m index len) h x four out = moves st x (psa_skip s st.spm a m index len)
 call-outside s st a (call.Write m index buffer len) h x four out = writes s st a index buffer len x m out
 call-outside s st a (call.Reply m status) h x four out = replies s st a x m status.0 out
-call-outside s st a (call.Notify id) h x four out = moves st x (psa_notify s st.spm id)
-call-outside s st a call.Clear h x four out = moves st x (psa_clear st.spm a)
-call-outside s st a (call.Eoi signal) h x four out = moves st x (psa_eoi s st.spm a signal)
-call-outside s st a (call.IrqEnable signal) h x four out = moves st x (psa_irq_enable s st.spm a signal)
-call-outside s st a (call.IrqDisable signal) h x four out = moves st x (psa_irq_disable s st.spm a signal)
-call-outside s st a (call.ResetSignal signal) h x four out = moves st x (psa_reset_signal s st.spm a signal)
 call-outside s st a call.Panic h x four out = tt
 call-outside s st a (call.Load at size) h x four out = if_passes (Stays st x) _ _ (λ may. refl)
 call-outside s st a (call.Store at size value) h x four out = stores s st a at size value x out
-call-outside s st a (call.Raise source) h x four out = moves st x (raise s st.spm source)
-call-outside s st a (call.Fire source result) h x four out = moves st x (fire s st.spm source result)
 call-outside s st a (call.Stop spent) h x four out = refl
 call-outside s st a call.Resume h x four out = returns s st a x (phase_of st.spm a) h
+call-outside s st a c h x four out = moves st x _
 
 errors : (s : System) (st : State) (a x : ℕ) (c : Call) (k : ActorKind) → Stays st x (error_effect k s st a c)
 errors s st a x c Partition = refl
-errors s st a x c Client = refl
-errors s st a x c Device = refl
+errors s st a x c k = refl
 
 -- what an actor's call changes lies in the actor's reach
 pub effect-outside : (s : System) (st : State) → HaveFour st.spm → (a : ℕ) (c : Call) (h : Handle) (x : ℕ) → write_reach s st.spm a x ≡ false → (effect_of s st a c h).state.memory x ≡ st.memory x

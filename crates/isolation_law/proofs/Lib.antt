@@ -1,4 +1,3 @@
-mod Effects
 pub mod Reached
 pub mod Steps
 pub mod Changed

@@ -1,13 +1,12 @@
 -- What an actor's calls name lies in its reach.
 use Rattle.std.proofs.Common.{ℕ, zero, suc, ◌≡◌, ◌≤◌, ◌+◌, Bool, true, false, ◌&&◌, ◌||◌, List, [], ◌∷◌, get_or, arith, refl, inl, inr}
-use Rattle.std.specs.Prelude.{ℤ, pos, negsuc, int_lt, int_le, nat_lt, is_some, Option, Some, None, option_and_then, if◌then◌else◌}
+use Rattle.std.specs.Prelude.{ℤ, pos, negsuc, int_lt, int_le, is_some, Option, Some, None}
 use Rattle.std.specs.List.{list_any}
 use Rattle.std.proofs.lemmas.Bool.{and_from, and_parts, or_cases, or_left, or_right}
 use Rattle.std.proofs.lemmas.Bool.Decides.{nat_tests}
 use Rattle.list_laws.proofs.Tests.{find-any, find-passes, list_any-more}
-use Rattle.ffm_model.specs.declared.constants.TheConstants.{PSA_IPC_CALL, PSA_MAX_IOVEC}
+use Rattle.ffm_model.specs.declared.constants.TheConstants.{PSA_IPC_CALL}
 use Rattle.ffm_model.specs.declared.system.System.{System}
-use Rattle.ffm_model.specs.declared.system.Region.{Region}
 use Rattle.ffm_model.specs.declared.machine.Handle.{Handle}
 use Rattle.ffm_model.specs.declared.objects.Span.{Span}
 use Rattle.ffm_model.specs.declared.objects.PendingMessage.{PendingMessage}
@@ -17,14 +16,12 @@ use Rattle.ffm_model.specs.State.{SpmState, message_held, has_handle}
 use Rattle.ffm_model.specs.Reach.{covers, span_has, length_word_has, is_request_to, read_reach, write_reach}
 use Rattle.ffm_model.specs.ServiceCalls.{request_held, rest_of, input_at, output_at}
 use Rattle.byte_lanes.specs.Differences.{range_covers}
+use Rattle.memory_image.proofs.Messages.{request_is}
+use Rattle.memory_image.proofs.Systems.{lies-covers}
 use Rattle.message_vectors.specs.Bytes.{ram_has}
 use Rattle.message_vectors.proofs.Reached.{buffer-ram}
 
 -- ---- regions
-
--- an address of a range in a region is the region's
-lies-covers : (base len x : ℕ) (r : Region) → range_covers (base, len) x ≡ true → lies_in base len r ≡ true → covers r x ≡ true
-lies-covers base len x r inside lies = grind (arith, nat_tests)
 
 ram_class : (a b c : Bool) → (a && c) ≡ true → ((a || b) && c) ≡ true
 ram_class true b c h = h
@@ -115,19 +112,8 @@ pub length_word-written : (s : System) (b : SpmState) (a : ℕ) (h : Handle) (x 
 length_word-written s b a h x m it inside = request-written s b a h x m it (or_right (list_any (span_has x) m.vectors.output) _ inside)
 
 -- the request of a call on vectors
-request_from : (s : System) (b : SpmState) (a : ℕ) (h : Handle) (index : ℕ) (m : PendingMessage) (o : Option PendingMessage) → message_held s b a h ≡ o
-    → option_and_then (λ m. if int_le PSA_IPC_CALL m.kind && nat_lt index PSA_MAX_IOVEC then Some m else None) o ≡ Some m → IsHeld s b a h m
-request_from s b a h index m None e k = absurd (cc)
-request_from s b a h index m (Some n) e k =
-    let go : (c d : Bool) → int_le PSA_IPC_CALL n.kind ≡ c → (if c && d then Some n else None) ≡ Some m → IsHeld s b a h m =
-    elim [
-      | true ↦ elim [ true ↦ λ f g. (let it : n ≡ m = cc in record { held = rw it at e; request = rw it at f }) | false ↦ λ f g. absurd (cc) ]
-      | false ↦ λ d f g. absurd (cc)
-    ] in
-    go (int_le PSA_IPC_CALL n.kind) (nat_lt index PSA_MAX_IOVEC) refl k
-
 pub request-held : (s : System) (b : SpmState) (a : ℕ) (h : Handle) (index : ℕ) (m : PendingMessage) → request_held s b a h index ≡ Some m → IsHeld s b a h m
-request-held s b a h index m e = request_from s b a h index m (message_held s b a h) refl e
+request-held s b a h index m e = let it = request_is s b a h index m e in record { held = it.0; request = it.1 }
 
 -- a kind that isn't below a request's is a request's
 pub request-kind : (kind : ℤ) → int_lt kind PSA_IPC_CALL ≡ false → int_le PSA_IPC_CALL kind ≡ true

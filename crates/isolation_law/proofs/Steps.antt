@@ -1,6 +1,7 @@
 -- What a step leaves.
-use Rattle.std.proofs.Common.{◌≡◌, Bool, true, false, ◌&&◌, List, [], ◌∷◌, refl, subst}
-use Rattle.std.specs.Prelude.{Option, Some, None, fold, if◌then◌else◌}
+use Rattle.std.proofs.Common.{◌≡◌, ◌&&◌, List, [], ◌∷◌, refl, subst}
+use Rattle.std.specs.Prelude.{Option, Some, None, fold}
+use Rattle.std.proofs.lemmas.Option.{cond_some}
 use Rattle.ffm_model.specs.declared.system.System.{System}
 use Rattle.ffm_model.specs.declared.machine.Call.{Call}
 use Rattle.ffm_model.specs.declared.machine.Entry.{Entry}
@@ -10,16 +11,12 @@ use Rattle.ffm_model.specs.Memory.{ByteMap}
 use Rattle.ffm_model.specs.State.{State, opening}
 use Rattle.ffm_model.specs.Step.{step, step_on, after, may_call, handle_allowed, handle_shown, outcome_eq}
 
-taken : (b : Bool) (x y : State) → (if b then Some x else None) ≡ Some y → x ≡ y
-taken true x y h = cc
-taken false x y h = cc
-
 -- a step leaves what its call leaves
 pub step-leaves : (s : System) (st new : State) (e : Entry) → step s st e ≡ Some new → (effect_of s st e.actor.0 e.call (handle_shown e.outcome)).state ≡ new
 unfolding step
 step-leaves s st new e h =
     let due = effect_of s st e.actor.0 e.call (handle_shown e.outcome) in
-    taken (may_call s st.spm e.actor.0 e.call && handle_allowed s st e.actor.0 e.call (handle_shown e.outcome) && outcome_eq due.outcome e.outcome) due.state new h
+    (cond_some (may_call s st.spm e.actor.0 e.call && handle_allowed s st e.actor.0 e.call (handle_shown e.outcome) && outcome_eq due.outcome e.outcome) due.state new h).1
 
 -- what holds of what each call leaves, holds of what a step leaves
 pub step-has : (P : State → Type 0) (s : System) (st new : State) (e : Entry) → step s st e ≡ Some new → ((c : Call) (h : Handle) → P (effect_of s st e.actor.0 c h).state) → P new

@@ -7,23 +7,22 @@ use Rattle.std.proofs.lemmas.Bool.{and_parts}
 use Rattle.ffm_model.specs.declared.constants.TheConstants.{PSA_IPC_CALL, PSA_IPC_CONNECT}
 use Rattle.ffm_model.specs.declared.system.System.{System}
 use Rattle.ffm_model.specs.declared.system.ActorKind.{ActorKind}
-use Rattle.ffm_model.specs.declared.system.ActorKind.TheVariants.{Partition, Client, Device}
+use Rattle.ffm_model.specs.declared.system.ActorKind.TheVariants.{Partition}
 use Rattle.ffm_model.specs.declared.machine.Call.{Call}
 use Rattle.ffm_model.specs.declared.machine.Call.TheVariants as call
 use Rattle.ffm_model.specs.declared.machine.Entry.{Entry}
 use Rattle.ffm_model.specs.declared.machine.Handle.{Handle}
 use Rattle.ffm_model.specs.declared.machine.Outcome.TheVariants.{Number}
 use Rattle.ffm_model.specs.declared.objects.ActorPhase.{ActorPhase}
-use Rattle.ffm_model.specs.declared.objects.ActorPhase.TheVariants.{Ready, Connected, Waiting}
+use Rattle.ffm_model.specs.declared.objects.ActorPhase.TheVariants.{Ready}
 use Rattle.ffm_model.specs.declared.objects.OpenConnection.{OpenConnection}
 use Rattle.ffm_model.specs.declared.objects.PendingMessage.{PendingMessage}
 use Rattle.ffm_model.specs.declared.objects.Vectors.{Vectors}
 use Rattle.ffm_model.specs.Actors.{kind_of, permits, stateless_at, stateless_index}
 use Rattle.ffm_model.specs.Memory.{ByteMap, valid_buffer, may_read, may_write, low_bytes, load_number, store_number, words_stored, lengths_written, vectors_of}
 use Rattle.ffm_model.specs.State.{State, SpmState, phase_of, connection_held, message_held, is_undelivered, fresh}
-use Rattle.ffm_model.specs.ClientCalls.{Move, Effect, effect, in_state, psa_connect, psa_call, psa_close, connection_called, service_called, call_to, call_on, refuses_requests, returned}
-use Rattle.ffm_model.specs.ServiceCalls.{psa_wait, psa_get, psa_set_rhandle, psa_skip, psa_read, psa_write, psa_reply, request_held, service_of_signal, message_size, message_words, shown_message, get_of, read_of, write_of, reply_of, rest_of, input_at, output_at, outputs_given, is_connect_status}
-use Rattle.ffm_model.specs.SignalCalls.{psa_notify, psa_clear, psa_eoi, psa_irq_enable, psa_irq_disable, psa_reset_signal, raise, fire}
+use Rattle.ffm_model.specs.ClientCalls.{Move, Effect, effect, in_state, psa_call, connection_called, service_called, call_to, call_on, refuses_requests, returned}
+use Rattle.ffm_model.specs.ServiceCalls.{psa_get, psa_read, psa_write, psa_reply, request_held, service_of_signal, message_size, message_words, shown_message, get_of, read_of, write_of, reply_of, rest_of, input_at, output_at, outputs_given, is_connect_status}
 use Rattle.ffm_model.specs.Accesses.{load, store, is_access_size}
 use Rattle.ffm_model.specs.Calls.{has_call, call_case, case_of, error_effect, effect_or_error, effect_of}
 use Rattle.ffm_model.specs.Step.{step, may_call, gives_handle, handle_allowed, handle_shown, outcome_eq}
@@ -57,31 +56,22 @@ if_alike : (one other : ByteMap) (b : Bool) (d e : Effect) → (b ≡ true → E
 if_alike one other true d e h = h refl
 if_alike one other false d e h = tt
 
+made_of : {X : Type 0} (one other : ByteMap) (f g : X → Option Effect) (o : Option X) → ((x : X) → o ≡ Some x → MadeAlike one other (f x) (g x)) → MadeAlike one other (option_and_then f o) (option_and_then g o)
+made_of one other f g None each = tt
+made_of one other f g (Some x) each = each x refl
+
 -- a move leaves both memories
 moves : (b : SpmState) (given : List Handle) (one other : ByteMap) (o : Option Move) → MadeAlike one other (option_map (in_state (with_memory b given one)) o) (option_map (in_state (with_memory b given other)) o)
 moves b given one other None = tt
 moves b given one other (Some m) = record { outcome = refl; spm = refl; handles = refl; bytes = λ x. inr (refl, refl) }
 
 -- psa_call reads descriptors
-on_connection : (s : System) (b : SpmState) (given : List Handle) (a : ℕ) (h : Handle) (kind : ℤ) (in_vec in_len out_vec out_len : ℕ) (one other : ByteMap) → AgreeIn s b a one other
-    → MadeAlike one other (option_map (in_state (with_memory b given one)) (connection_called s (with_memory b given one) a h kind in_vec in_len out_vec out_len))
-    (option_map (in_state (with_memory b given other)) (connection_called s (with_memory b given other) a h kind in_vec in_len out_vec out_len))
-on_connection s b given a h kind in_vec in_len out_vec out_len one other agree =
-    let of : Option Vectors → Option Move = λ vs. option_and_then (λ (c : OpenConnection). option_and_then (λ v. if refuses_requests c.phase || int_lt kind (pos 0) then None else Some (call_on b a c kind v)) vs) (connection_held b a h) in
-    let vectors : vectors_of s one a in_vec in_len out_vec out_len ≡ vectors_of s other a in_vec in_len out_vec out_len =
-    vectors_of-same s one other a in_vec in_len out_vec out_len (λ x in_ram. agree x (ram-read s b a x in_ram)) in
+on_vectors : (s : System) (b : SpmState) (given : List Handle) (a in_vec in_len out_vec out_len : ℕ) (one other : ByteMap) (of : Option Vectors → Option Move) → AgreeIn s b a one other
+    → MadeAlike one other (option_map (in_state (with_memory b given one)) (of (vectors_of s one a in_vec in_len out_vec out_len)))
+    (option_map (in_state (with_memory b given other)) (of (vectors_of s other a in_vec in_len out_vec out_len)))
+on_vectors s b given a in_vec in_len out_vec out_len one other of agree =
     subst (λ (vs : Option Vectors). MadeAlike one other (option_map (in_state (with_memory b given one)) (of (vectors_of s one a in_vec in_len out_vec out_len))) (option_map (in_state (with_memory b given other)) (of vs)))
-    vectors (moves b given one other (of (vectors_of s one a in_vec in_len out_vec out_len)))
-
-by_index : (s : System) (b : SpmState) (given : List Handle) (a index : ℕ) (kind : ℤ) (in_vec in_len out_vec out_len : ℕ) (one other : ByteMap) → AgreeIn s b a one other
-    → MadeAlike one other (option_map (in_state (with_memory b given one)) (service_called s (with_memory b given one) a index kind in_vec in_len out_vec out_len))
-    (option_map (in_state (with_memory b given other)) (service_called s (with_memory b given other) a index kind in_vec in_len out_vec out_len))
-by_index s b given a index kind in_vec in_len out_vec out_len one other agree =
-    let of : Option Vectors → Option Move = λ vs. option_and_then (λ (i : ℕ). option_and_then (λ v. if permits s a i && not (int_lt kind (pos 0)) then Some (call_to s b a i kind v) else None) vs) (stateless_at s index) in
-    let vectors : vectors_of s one a in_vec in_len out_vec out_len ≡ vectors_of s other a in_vec in_len out_vec out_len =
-    vectors_of-same s one other a in_vec in_len out_vec out_len (λ x in_ram. agree x (ram-read s b a x in_ram)) in
-    subst (λ (vs : Option Vectors). MadeAlike one other (option_map (in_state (with_memory b given one)) (of (vectors_of s one a in_vec in_len out_vec out_len))) (option_map (in_state (with_memory b given other)) (of vs)))
-    vectors (moves b given one other (of (vectors_of s one a in_vec in_len out_vec out_len)))
+    (vectors_of-same s one other a in_vec in_len out_vec out_len (λ x in_ram. agree x (ram-read s b a x in_ram))) (moves b given one other (of (vectors_of s one a in_vec in_len out_vec out_len)))
 
 calls : (s : System) (b : SpmState) (given : List Handle) (a : ℕ) (h : Handle) (kind : ℤ) (in_vec in_len out_vec out_len : ℕ) (one other : ByteMap) → AgreeIn s b a one other
     → MadeAlike one other (option_map (in_state (with_memory b given one)) (psa_call s (with_memory b given one) a h kind in_vec in_len out_vec out_len))
@@ -89,8 +79,10 @@ calls : (s : System) (b : SpmState) (given : List Handle) (a : ℕ) (h : Handle)
 calls s b given a h kind in_vec in_len out_vec out_len one other agree =
     let at : ByteMap → Option ℕ → Option Move = λ m o. option_map_or (λ index. service_called s (with_memory b given m) a index kind in_vec in_len out_vec out_len) o (connection_called s (with_memory b given m) a h kind in_vec in_len out_vec out_len) in
     elim (stateless_index h) as (λ (o : Option ℕ). MadeAlike one other (option_map (in_state (with_memory b given one)) (at one o)) (option_map (in_state (with_memory b given other)) (at other o))) [
-      | None ↦ on_connection s b given a h kind in_vec in_len out_vec out_len one other agree
-      | Some index ↦ by_index s b given a index kind in_vec in_len out_vec out_len one other agree
+      | None ↦ on_vectors s b given a in_vec in_len out_vec out_len one other
+          (λ vs. option_and_then (λ (c : OpenConnection). option_and_then (λ v. if refuses_requests c.phase || int_lt kind (pos 0) then None else Some (call_on b a c kind v)) vs) (connection_held b a h)) agree
+      | Some index ↦ on_vectors s b given a in_vec in_len out_vec out_len one other
+          (λ vs. option_and_then (λ (i : ℕ). option_and_then (λ v. if permits s a i && not (int_lt kind (pos 0)) then Some (call_to s b a i kind v) else None) vs) (stateless_at s index)) agree
     ]
 
 -- psa_get reads nothing
@@ -103,56 +95,37 @@ words_stored-tells one other at x (w ∷ ws) =
 gets : (s : System) (b : SpmState) (given : List Handle) (a signal msg : ℕ) (h : Handle) (one other : ByteMap)
     → MadeAlike one other (psa_get s (with_memory b given one) a signal msg h) (psa_get s (with_memory b given other) a signal msg h)
 gets s b given a signal msg h one other =
-    let at : ByteMap → ℕ → PendingMessage → Option Effect = λ m i p. if valid_buffer s a msg message_size then Some (get_of s (with_memory b given m) i msg h p) else None in
-    let on : (i : ℕ) (o : Option PendingMessage) → MadeAlike one other (option_and_then (at one i) o) (option_and_then (at other i) o) =
-    λ i. elim [
-      | None ↦ tt
-      | Some p ↦ if_alike one other (valid_buffer s a msg message_size) (get_of s (with_memory b given one) i msg h p) (get_of s (with_memory b given other) i msg h p)
-          (λ valid. record { outcome = refl; spm = refl; handles = refl; bytes = λ x. words_stored-tells one other msg x (message_words (shown_message s b p h)) })
-    ] in
-    elim (service_of_signal s a signal) as (λ (o : Option ℕ). MadeAlike one other (option_and_then (λ i. option_and_then (at one i) (find (is_undelivered i) b.messages)) o)
-    (option_and_then (λ i. option_and_then (at other i) (find (is_undelivered i) b.messages)) o)) [
-      | None ↦ tt
-      | Some i ↦ on i (find (is_undelivered i) b.messages)
-    ]
+    made_of one other _ _ (service_of_signal s a signal) (λ i owned. made_of one other _ _ (find (is_undelivered i) b.messages) (λ p found.
+    if_alike one other (valid_buffer s a msg message_size) (get_of s (with_memory b given one) i msg h p) (get_of s (with_memory b given other) i msg h p)
+    (λ valid. record { outcome = refl; spm = refl; handles = refl; bytes = λ x. words_stored-tells one other msg x (message_words (shown_message s b p h)) })))
 
 -- psa_read reads an input vector
 reads : (s : System) (b : SpmState) (given : List Handle) (a index buffer len : ℕ) (h : Handle) (one other : ByteMap) → AgreeIn s b a one other
     → MadeAlike one other (psa_read s (with_memory b given one) a h index buffer len) (psa_read s (with_memory b given other) a h index buffer len)
 reads s b given a index buffer len h one other agree =
-    let of : ByteMap → PendingMessage → Option Effect = λ m p. if valid_buffer s a buffer len then Some (read_of (with_memory b given m) h index buffer len p) else None in
-    let go : (o : Option PendingMessage) → request_held s b a h index ≡ o → MadeAlike one other (option_and_then (of one) o) (option_and_then (of other) o) =
-    elim [
-      | None ↦ λ e. tt
-      | Some p ↦ λ e. if_alike one other (valid_buffer s a buffer len) (read_of (with_memory b given one) h index buffer len p) (read_of (with_memory b given other) h index buffer len p) (λ valid.
-          let v = input_at p index in
-          let n = min len (rest_of v) in
-          record {
-            outcome = refl;
-            spm = refl;
-            handles = refl;
-            bytes = λ x. copy_bytes-tells one other (v.base + v.moved) buffer n x
-                (λ y inside. agree y (input-read s b a h index y p (request-held s b a h index p e) (rest-inside v n y (omega arith) inside)));
-          })
-    ] in
-    go (request_held s b a h index) refl
+    made_of one other _ _ (request_held s b a h index) (λ p held.
+    if_alike one other (valid_buffer s a buffer len) (read_of (with_memory b given one) h index buffer len p) (read_of (with_memory b given other) h index buffer len p) (λ valid.
+    let v = input_at p index in
+    let n = min len (rest_of v) in
+    record {
+      outcome = refl;
+      spm = refl;
+      handles = refl;
+      bytes = λ x. copy_bytes-tells one other (v.base + v.moved) buffer n x (λ y inside. agree y (input-read s b a h index y p (request-held s b a h index p held) (rest-inside v n y (omega arith) inside)));
+    }))
 
 -- psa_write reads a buffer
 writes : (s : System) (b : SpmState) (given : List Handle) (a index buffer len : ℕ) (h : Handle) (one other : ByteMap) → AgreeIn s b a one other
     → MadeAlike one other (psa_write s (with_memory b given one) a h index buffer len) (psa_write s (with_memory b given other) a h index buffer len)
 writes s b given a index buffer len h one other agree =
-    elim (request_held s b a h index) as (λ (o : Option PendingMessage). MadeAlike one other
-    (option_and_then (λ p. if valid_buffer s a buffer len && nat_le len (rest_of (output_at p index)) then Some (write_of (with_memory b given one) h index buffer len p) else None) o)
-    (option_and_then (λ p. if valid_buffer s a buffer len && nat_le len (rest_of (output_at p index)) then Some (write_of (with_memory b given other) h index buffer len p) else None) o)) [
-      | None ↦ tt
-      | Some p ↦ if_alike one other (valid_buffer s a buffer len && nat_le len (rest_of (output_at p index))) (write_of (with_memory b given one) h index buffer len p) (write_of (with_memory b given other) h index buffer len p)
-          (λ may. record {
-            outcome = refl;
-            spm = refl;
-            handles = refl;
-            bytes = λ x. copy_bytes-tells one other buffer ((output_at p index).base + (output_at p index).moved) len x (λ y inside. agree y (buffer-read s b a buffer len y (and_parts (valid_buffer s a buffer len) _ may).0 inside));
-          })
-    ]
+    made_of one other _ _ (request_held s b a h index) (λ p held.
+    if_alike one other (valid_buffer s a buffer len && nat_le len (rest_of (output_at p index))) (write_of (with_memory b given one) h index buffer len p) (write_of (with_memory b given other) h index buffer len p)
+    (λ may. record {
+      outcome = refl;
+      spm = refl;
+      handles = refl;
+      bytes = λ x. copy_bytes-tells one other buffer ((output_at p index).base + (output_at p index).moved) len x (λ y inside. agree y (buffer-read s b a buffer len y (and_parts (valid_buffer s a buffer len) _ may).0 inside));
+    }))
 
 -- psa_reply reads nothing
 replied-alike : (s : System) (b : SpmState) (given : List Handle) (h : Handle) (status : ℤ) (one other : ByteMap) (p : PendingMessage)
@@ -193,37 +166,23 @@ stores s b given a at size value one other =
 returns : (s : System) (b : SpmState) (given : List Handle) (a : ℕ) (p : ActorPhase) (h : Handle) (one other : ByteMap)
     → EffectsAlike one other (returned s (with_memory b given one) a p h) (returned s (with_memory b given other) a p h)
 returns s b given a (Ready o) h one other = record { outcome = refl; spm = refl; handles = refl; bytes = λ x. inr (refl, refl) }
-returns s b given a (Connected c) h one other = record { outcome = refl; spm = refl; handles = refl; bytes = λ x. inr (refl, refl) }
-returns s b given a (Waiting mask) h one other = record { outcome = refl; spm = refl; handles = refl; bytes = λ x. inr (refl, refl) }
 returns s b given a _ h one other = record { outcome = refl; spm = refl; handles = refl; bytes = λ x. inr (refl, refl) }
 
 call-alike : (s : System) (b : SpmState) (given : List Handle) (a : ℕ) (c : Call) (h : Handle) (one other : ByteMap) → AgreeIn s b a one other
     → MadeAlike one other (call_case s (with_memory b given one) a c h) (call_case s (with_memory b given other) a c h)
 call-alike s b given a call.FrameworkVersion h one other agree = record { outcome = refl; spm = refl; handles = refl; bytes = λ x. inr (refl, refl) }
 call-alike s b given a (call.Version sid) h one other agree = record { outcome = refl; spm = refl; handles = refl; bytes = λ x. inr (refl, refl) }
-call-alike s b given a (call.Connect sid version) h one other agree = moves b given one other (psa_connect s b a sid version)
 call-alike s b given a (call.Invoke c kind iv il ov ol) h one other agree = calls s b given a c kind iv il ov ol one other agree
-call-alike s b given a (call.Close c) h one other agree = moves b given one other (psa_close b a c)
-call-alike s b given a (call.Wait mask timeout) h one other agree = moves b given one other (psa_wait s b a mask timeout)
 call-alike s b given a (call.Get signal msg) h one other agree = gets s b given a signal msg h one other
-call-alike s b given a (call.SetRhandle m r) h one other agree = moves b given one other (psa_set_rhandle s b a m r)
 call-alike s b given a (call.Read m index buffer len) h one other agree = reads s b given a index buffer len m one other agree
-call-alike s b given a (call.Skip m index len) h one other agree = moves b given one other (psa_skip s b a m index len)
 call-alike s b given a (call.Write m index buffer len) h one other agree = writes s b given a index buffer len m one other agree
 call-alike s b given a (call.Reply m status) h one other agree = replies s b given a m status.0 one other
-call-alike s b given a (call.Notify id) h one other agree = moves b given one other (psa_notify s b id)
-call-alike s b given a call.Clear h one other agree = moves b given one other (psa_clear b a)
-call-alike s b given a (call.Eoi signal) h one other agree = moves b given one other (psa_eoi s b a signal)
-call-alike s b given a (call.IrqEnable signal) h one other agree = moves b given one other (psa_irq_enable s b a signal)
-call-alike s b given a (call.IrqDisable signal) h one other agree = moves b given one other (psa_irq_disable s b a signal)
-call-alike s b given a (call.ResetSignal signal) h one other agree = moves b given one other (psa_reset_signal s b a signal)
 call-alike s b given a call.Panic h one other agree = tt
 call-alike s b given a (call.Load at size) h one other agree = loads s b given a at size one other agree
 call-alike s b given a (call.Store at size value) h one other agree = stores s b given a at size value one other
-call-alike s b given a (call.Raise source) h one other agree = moves b given one other (raise s b source)
-call-alike s b given a (call.Fire source result) h one other agree = moves b given one other (fire s b source result)
 call-alike s b given a (call.Stop spent) h one other agree = record { outcome = refl; spm = refl; handles = refl; bytes = λ x. inr (refl, refl) }
 call-alike s b given a call.Resume h one other agree = returns s b given a (phase_of b a) h one other
+call-alike s b given a c h one other agree = moves b given one other _
 
 -- where the kind of actor has the call
 case-alike : (s : System) (b : SpmState) (given : List Handle) (a : ℕ) (c : Call) (h : Handle) (one other : ByteMap) → AgreeIn s b a one other
@@ -237,8 +196,7 @@ case-alike s b given a c h one other agree =
 error-alike : (s : System) (b : SpmState) (given : List Handle) (a : ℕ) (c : Call) (one other : ByteMap) (k : ActorKind)
     → EffectsAlike one other (error_effect k s (with_memory b given one) a c) (error_effect k s (with_memory b given other) a c)
 error-alike s b given a c one other Partition = record { outcome = refl; spm = refl; handles = refl; bytes = λ x. inr (refl, refl) }
-error-alike s b given a c one other Client = record { outcome = refl; spm = refl; handles = refl; bytes = λ x. inr (refl, refl) }
-error-alike s b given a c one other Device = record { outcome = refl; spm = refl; handles = refl; bytes = λ x. inr (refl, refl) }
+error-alike s b given a c one other k = record { outcome = refl; spm = refl; handles = refl; bytes = λ x. inr (refl, refl) }
 
 -- each call answers and leaves the same, but for memory that it does not tell
 pub effect-alike : (s : System) (b : SpmState) (given : List Handle) (a : ℕ) (c : Call) (h : Handle) (one other : ByteMap) → AgreeIn s b a one other

@@ -5,15 +5,14 @@ use Rattle.std.specs.List.{filter_map, cons_option, list_all}
 use Rattle.std.specs.Option.{option_map, option_map_or, unwrap_or}
 use Rattle.std.specs.Ordering.{int_eq}
 use Rattle.std.proofs.lemmas.List.{length-append, length-set, length-take, set_past}
-use Rattle.std.proofs.lemmas.List.Elements.{All-nil, All-cons, All-head, All-tail, All-replicate, All-append, All-push, All-weaker, All-map, All-filter}
+use Rattle.std.proofs.lemmas.List.Elements.{All-nil, All-cons, All-replicate, All-append, All-push, All-filter}
 use Rattle.std.proofs.lemmas.Bool.Decides.{nat_tests}
 use Rattle.std.proofs.lemmas.Bool.{and_parts, cases_lt}
-use Rattle.list_laws.proofs.Tests.{find-all}
 use Rattle.list_laws.proofs.Bools.{if_passes}
 use Rattle.ffm_model.specs.declared.constants.TheConstants.{PSA_IPC_CALL, PSA_IPC_CONNECT, PSA_IPC_DISCONNECT, PSA_MAX_IOVEC, PSA_BLOCK, PSA_SUCCESS, PSA_NULL_HANDLE, PSA_ERROR_CONNECTION_REFUSED, PSA_ERROR_CONNECTION_BUSY, PSA_ERROR_COMMUNICATION_FAILURE, PSA_ERROR_PROGRAMMER_ERROR}
 use Rattle.ffm_model.specs.declared.system.System.{System}
 use Rattle.ffm_model.specs.declared.system.ActorKind.{ActorKind}
-use Rattle.ffm_model.specs.declared.system.ActorKind.TheVariants.{Partition, Client, Device}
+use Rattle.ffm_model.specs.declared.system.ActorKind.TheVariants.{Partition}
 use Rattle.ffm_model.specs.declared.machine.Call.{Call}
 use Rattle.ffm_model.specs.declared.machine.Call.TheVariants as call
 use Rattle.ffm_model.specs.declared.machine.Entry.{Entry}
@@ -22,7 +21,7 @@ use Rattle.ffm_model.specs.declared.machine.Outcome.{Outcome}
 use Rattle.ffm_model.specs.declared.machine.Outcome.TheVariants as outcome
 use Rattle.ffm_model.specs.declared.machine.Sid.{Sid}
 use Rattle.ffm_model.specs.declared.objects.ActorPhase.{ActorPhase}
-use Rattle.ffm_model.specs.declared.objects.ActorPhase.TheVariants.{Blocked, Ready, Connected, Waiting}
+use Rattle.ffm_model.specs.declared.objects.ActorPhase.TheVariants.{Blocked, Ready, Waiting}
 use Rattle.ffm_model.specs.declared.objects.ConnPhase.{ConnPhase}
 use Rattle.ffm_model.specs.declared.objects.ConnPhase.TheVariants.{Idle, Busy, Error, Closing}
 use Rattle.ffm_model.specs.declared.objects.SourceFlags.{SourceFlags}
@@ -32,7 +31,7 @@ use Rattle.ffm_model.specs.declared.objects.Span.{Span}
 use Rattle.ffm_model.specs.declared.objects.Vectors.{Vectors}
 use Rattle.ffm_model.specs.Actors.{is_stateless, permits, service_at, stateless_at, stateless_index, budget_of, is_service_of, kind_of, is_partition}
 use Rattle.ffm_model.specs.Memory.{ByteMap, valid_buffer, no_span, spans_at, vectors_read, vectors_of, no_vectors}
-use Rattle.ffm_model.specs.State.{State, SpmState, phase_of, has_handle, with_rhandle, in_use, connection_held, message_held, is_undelivered, delivered, vectors_put, with_vectors, with_message, with_request, with_phase, with_connection_phase, without_connection, without_message}
+use Rattle.ffm_model.specs.State.{State, SpmState, phase_of, has_handle, with_rhandle, in_use, connection_held, message_held, is_undelivered, with_vectors, with_message, with_request, with_phase, with_connection_phase, without_connection, without_message}
 use Rattle.ffm_model.specs.Signals.{is_blocked, signals_of, assigned_to, has_signal_of}
 use Rattle.ffm_model.specs.Panic.{is_dead, without_service, disconnection, panic_effect}
 use Rattle.ffm_model.specs.ClientCalls.{Move, Effect, move, in_state, psa_connect, psa_call, psa_close, connection_called, service_called, call_to, connect_to, connect_issued, call_on, close_on, is_service_panicked, refuses_requests, is_busy, takes_version, returned}
@@ -42,11 +41,11 @@ use Rattle.ffm_model.specs.Calls.{call_case, error_effect, effect_of}
 use Rattle.ffm_model.specs.Step.{step, after}
 use Rattle.ffm_model.specs.Ranges.{ranges_of}
 use Rattle.memory_image.specs.Pieces.{is_inside}
+use Rattle.memory_image.proofs.Effects.{each_made, each_mapped, effect-has, if_fails}
+use Rattle.memory_image.proofs.Messages.{delivered_has, put_has, request_has}
 use Rattle.message_vectors.specs.Vectors.{AreWithin}
 use Rattle.message_vectors.proofs.Moved.{read_within, input_within, output_within}
 use Rattle.isolation_law.specs.Vectors.{AreFour, HaveFour, LieWithin}
-use Rattle.isolation_law.proofs.Effects.{effect-has}
-use Rattle.isolation_law.proofs.Reached.{request-held}
 use Rattle.isolation_law.proofs.Steps.{step-has, run-has}
 
 -- a rule of vectors that those of psa_call meet, and that each move keeps
@@ -65,24 +64,6 @@ AllMeet W b = All (λ p. W p.vectors) b.messages
 -- a message goes last
 pushed : (W : Vectors → Type 0) (b : SpmState) (c : OpenConnection) (kind : ℤ) (v : Vectors) → W v → AllMeet W b → AllMeet W (with_message b c kind v)
 pushed W b c kind v own all = All-push (λ (p : PendingMessage). W p.vectors) b.messages _ all own
-
-delivered-meet : (W : Vectors → Type 0) (service : ℕ) (h : Handle) (ms : List PendingMessage) → All (λ p. W p.vectors) ms → All (λ p. W p.vectors) (delivered service h ms)
-delivered-meet W service h [] all = all
-delivered-meet W service h (m ∷ ms) all =
-    let here : W m.vectors = All-head (λ (p : PendingMessage). W p.vectors) m ms all in
-    let rest : All (λ (p : PendingMessage). W p.vectors) ms = All-tail (λ (p : PendingMessage). W p.vectors) m ms all in
-    let later : All (λ (p : PendingMessage). W p.vectors) (delivered service h ms) = delivered-meet W service h ms rest in
-    elim (is_undelivered service m) as (λ (b : Bool). All (λ (p : PendingMessage). W p.vectors) (cond b (record m { handle = Some h } ∷ ms) (m ∷ delivered service h ms))) [
-      | true ↦ All-cons (λ (p : PendingMessage). W p.vectors) (record m { handle = Some h }) ms here rest
-      | false ↦ All-cons (λ (p : PendingMessage). W p.vectors) m (delivered service h ms) here later
-    ]
-
-put-meets : (W : Vectors → Type 0) (h : Handle) (v : Vectors) → W v → (m : PendingMessage) → W m.vectors → W (vectors_put h v m).vectors
-put-meets W h v own m old = elim (has_handle m.handle h) as (λ (b : Bool). W (cond {A = PendingMessage} b (record m { vectors = v }) m).vectors) [ true ↦ own | false ↦ old ]
-
-with_vectors-meet : (W : Vectors → Type 0) (b : SpmState) (h : Handle) (v : Vectors) → W v → AllMeet W b → AllMeet W (with_vectors b h v)
-with_vectors-meet W b h v own all =
-    All-map (λ (p : PendingMessage). W p.vectors) (vectors_put h v) b.messages (All-weaker (λ (p : PendingMessage). W p.vectors) (λ p. W (vectors_put h v p).vectors) (put-meets W h v own) b.messages all)
 
 -- ---- calls of clients
 
@@ -106,10 +87,8 @@ connect_to-meets W s b a service none all =
 
 pub connects : (W : Vectors → Type 0) (s : System) (b : SpmState) (a : ℕ) (sid : Sid) (version : ℕ) → W no_vectors → AllMeet W b → MovedMeets W (psa_connect s b a sid version)
 connects W s b a sid version none all =
-    elim (service_at s sid) as (λ (o : Option ℕ). MovedMeets W (option_and_then (λ i. if permits s a i && (not (is_stateless s i) && takes_version s i version) then Some (connect_to s b a i) else None) o)) [
-      | None ↦ tt
-      | Some i ↦ if_passes (λ (m : Move). AllMeet W m.spm) (permits s a i && (not (is_stateless s i) && takes_version s i version)) (connect_to s b a i) (λ may. connect_to-meets W s b a i none all)
-    ]
+    each_made (λ (m : Move). AllMeet W m.spm) _ (service_at s sid) (λ i there.
+    if_passes (λ (m : Move). AllMeet W m.spm) (permits s a i && (not (is_stateless s i) && takes_version s i version)) (connect_to s b a i) (λ may. connect_to-meets W s b a i none all))
 
 call_on-meets : (W : Vectors → Type 0) (b : SpmState) (a : ℕ) (c : OpenConnection) (kind : ℤ) (v : Vectors) → W v → AllMeet W b → AllMeet W (call_on b a c kind v).spm
 call_on-meets W b a c kind v own all =
@@ -121,20 +100,8 @@ call_on-meets W b a c kind v own all =
 on_connection : (W : Vectors → Type 0) (s : System) (st : State) (a : ℕ) (h : Handle) (kind : ℤ) (in_vec in_len out_vec out_len : ℕ)
     → ((v : Vectors) → vectors_of s st.memory a in_vec in_len out_vec out_len ≡ Some v → W v) → AllMeet W st.spm → MovedMeets W (connection_called s st a h kind in_vec in_len out_vec out_len)
 on_connection W s st a h kind in_vec in_len out_vec out_len own all =
-    let on : (c : OpenConnection) (vs : Option Vectors) → vectors_of s st.memory a in_vec in_len out_vec out_len ≡ vs
-    → MovedMeets W (option_and_then (λ v. if refuses_requests c.phase || int_lt kind (pos 0) then None else Some (call_on st.spm a c kind v)) vs) =
-    λ c. elim [
-      | None ↦ λ e. tt
-      | Some v ↦ λ e. elim (refuses_requests c.phase || int_lt kind (pos 0)) as (λ (x : Bool). MovedMeets W (if x then None else Some (call_on st.spm a c kind v))) [
-        | true ↦ tt
-        | false ↦ call_on-meets W st.spm a c kind v (own v e) all
-      ]
-    ] in
-    elim (connection_held st.spm a h) as (λ (o : Option OpenConnection).
-    MovedMeets W (option_and_then (λ c. option_and_then (λ v. if refuses_requests c.phase || int_lt kind (pos 0) then None else Some (call_on st.spm a c kind v)) (vectors_of s st.memory a in_vec in_len out_vec out_len)) o)) [
-      | None ↦ tt
-      | Some c ↦ on c (vectors_of s st.memory a in_vec in_len out_vec out_len) refl
-    ]
+    each_made (λ (m : Move). AllMeet W m.spm) _ (connection_held st.spm a h) (λ c held. each_made (λ (m : Move). AllMeet W m.spm) _ (vectors_of s st.memory a in_vec in_len out_vec out_len) (λ v given.
+    if_fails (λ (m : Move). AllMeet W m.spm) (refuses_requests c.phase || int_lt kind (pos 0)) (call_on st.spm a c kind v) (λ may. call_on-meets W st.spm a c kind v (own v given) all)))
 
 call_to-meets : (W : Vectors → Type 0) (s : System) (b : SpmState) (a service : ℕ) (kind : ℤ) (v : Vectors) → W v → AllMeet W b → AllMeet W (call_to s b a service kind v).spm
 call_to-meets W s b a service kind v own all =
@@ -146,17 +113,8 @@ call_to-meets W s b a service kind v own all =
 by_index : (W : Vectors → Type 0) (s : System) (st : State) (a index : ℕ) (kind : ℤ) (in_vec in_len out_vec out_len : ℕ)
     → ((v : Vectors) → vectors_of s st.memory a in_vec in_len out_vec out_len ≡ Some v → W v) → AllMeet W st.spm → MovedMeets W (service_called s st a index kind in_vec in_len out_vec out_len)
 by_index W s st a index kind in_vec in_len out_vec out_len own all =
-    let on : (i : ℕ) (vs : Option Vectors) → vectors_of s st.memory a in_vec in_len out_vec out_len ≡ vs
-    → MovedMeets W (option_and_then (λ v. if permits s a i && not (int_lt kind (pos 0)) then Some (call_to s st.spm a i kind v) else None) vs) =
-    λ i. elim [
-      | None ↦ λ e. tt
-      | Some v ↦ λ e. if_passes (λ (m : Move). AllMeet W m.spm) (permits s a i && not (int_lt kind (pos 0))) (call_to s st.spm a i kind v) (λ may. call_to-meets W s st.spm a i kind v (own v e) all)
-    ] in
-    elim (stateless_at s index) as (λ (o : Option ℕ).
-    MovedMeets W (option_and_then (λ i. option_and_then (λ v. if permits s a i && not (int_lt kind (pos 0)) then Some (call_to s st.spm a i kind v) else None) (vectors_of s st.memory a in_vec in_len out_vec out_len)) o)) [
-      | None ↦ tt
-      | Some i ↦ on i (vectors_of s st.memory a in_vec in_len out_vec out_len) refl
-    ]
+    each_made (λ (m : Move). AllMeet W m.spm) _ (stateless_at s index) (λ i there. each_made (λ (m : Move). AllMeet W m.spm) _ (vectors_of s st.memory a in_vec in_len out_vec out_len) (λ v given.
+    if_passes (λ (m : Move). AllMeet W m.spm) (permits s a i && not (int_lt kind (pos 0))) (call_to s st.spm a i kind v) (λ may. call_to-meets W s st.spm a i kind v (own v given) all)))
 
 pub calls : (W : Vectors → Type 0) (s : System) (st : State) (a : ℕ) (h : Handle) (kind : ℤ) (in_vec in_len out_vec out_len : ℕ)
     → ((v : Vectors) → vectors_of s st.memory a in_vec in_len out_vec out_len ≡ Some v → W v) → AllMeet W st.spm → MovedMeets W (psa_call s st a h kind in_vec in_len out_vec out_len)
@@ -175,20 +133,13 @@ close_on-meets W b a c none all =
 
 pub closes : (W : Vectors → Type 0) (b : SpmState) (a : ℕ) (h : Handle) → W no_vectors → AllMeet W b → MovedMeets W (psa_close b a h)
 closes W b a h none all =
-    let on : (o : Option OpenConnection) → MovedMeets W (option_and_then (λ c. if is_busy c.phase then None else Some (close_on b a c)) o) =
-    elim [
-      | None ↦ tt
-      | Some c ↦ elim (is_busy c.phase) as (λ (x : Bool). MovedMeets W (if x then None else Some (close_on b a c))) [ true ↦ tt | false ↦ close_on-meets W b a c none all ]
-    ] in
     elim (int_eq h.0 PSA_NULL_HANDLE) as (λ (x : Bool). MovedMeets W (if x then Some (move outcome.Done b) else option_and_then (λ c. if is_busy c.phase then None else Some (close_on b a c)) (connection_held b a h))) [
       | true ↦ all
-      | false ↦ on (connection_held b a h)
+      | false ↦ each_made (λ (m : Move). AllMeet W m.spm) _ (connection_held b a h) (λ c held. if_fails (λ (m : Move). AllMeet W m.spm) (is_busy c.phase) (close_on b a c) (λ idle. close_on-meets W b a c none all))
     ]
 
 returned-meets : (W : Vectors → Type 0) (s : System) (st : State) (a : ℕ) (p : ActorPhase) (h : Handle) → AllMeet W st.spm → AllMeet W (returned s st a p h).state.spm
 returned-meets W s st a (Ready o) h all = all
-returned-meets W s st a (Connected c) h all = all
-returned-meets W s st a (Waiting mask) h all = all
 returned-meets W s st a _ h all = all
 
 -- ---- calls of services
@@ -200,58 +151,31 @@ waits W s b a mask timeout all =
 
 gets : (W : Vectors → Type 0) (s : System) (st : State) (a signal msg : ℕ) (h : Handle) → AllMeet W st.spm → EffectMeets W (psa_get s st a signal msg h)
 gets W s st a signal msg h all =
-    let of : ℕ → PendingMessage → Option Effect = λ i m. if valid_buffer s a msg message_size then Some (get_of s st i msg h m) else None in
-    let on : (i : ℕ) (o : Option PendingMessage) → EffectMeets W (option_and_then (of i) o) =
-    λ i. elim [
-      | None ↦ tt
-      | Some m ↦ if_passes (λ (e : Effect). AllMeet W e.state.spm) (valid_buffer s a msg message_size) (get_of s st i msg h m) (λ valid. delivered-meet W i h st.spm.messages all)
-    ] in
-    elim (service_of_signal s a signal) as (λ (o : Option ℕ). EffectMeets W (option_and_then (λ i. option_and_then (of i) (find (is_undelivered i) st.spm.messages)) o)) [
-      | None ↦ tt
-      | Some i ↦ on i (find (is_undelivered i) st.spm.messages)
-    ]
+    each_made (λ (e : Effect). AllMeet W e.state.spm) _ (service_of_signal s a signal) (λ i owned. each_made (λ (e : Effect). AllMeet W e.state.spm) _ (find (is_undelivered i) st.spm.messages) (λ m found.
+    if_passes (λ (e : Effect). AllMeet W e.state.spm) (valid_buffer s a msg message_size) (get_of s st i msg h m) (λ valid. delivered_has W i h st.spm.messages all)))
 
 marks : (W : Vectors → Type 0) (s : System) (b : SpmState) (a : ℕ) (h : Handle) (rhandle : ℕ) → AllMeet W b → MovedMeets W (psa_set_rhandle s b a h rhandle)
 marks W s b a h rhandle all = elim (option_and_then (λ m. m.connection) (message_held s b a h)) as (λ (o : Option ℕ). MovedMeets W (option_map (λ n. move outcome.Done (with_rhandle b n rhandle)) o)) [ None ↦ tt | Some n ↦ all ]
 
--- the vectors of a request that is held
-held-meets : (W : Vectors → Type 0) (s : System) (b : SpmState) (a : ℕ) (h : Handle) (index : ℕ) (m : PendingMessage) → request_held s b a h index ≡ Some m → AllMeet W b → W m.vectors
-held-meets W s b a h index m e all =
-    find-all (λ (p : PendingMessage). W p.vectors) (λ p. is_service_of s a p.service && has_handle p.handle h) b.messages m (request-held s b a h index m e).held all
-
 input-moves : (W : Vectors → Type 0) (s : System) (b : SpmState) (a : ℕ) (h : Handle) (index len : ℕ) (m : PendingMessage) → IsKept s W → request_held s b a h index ≡ Some m → AllMeet W b
     → AllMeet W (with_vectors b h (input_moved m index (min len (rest_of (input_at m index)))))
 input-moves W s b a h index len m kept e all =
-    with_vectors-meet W b h _ (kept.input m.vectors index (min len (rest_of (input_at m index))) (omega arith) (held-meets W s b a h index m e all)) all
+    put_has W h _ b.messages (kept.input m.vectors index (min len (rest_of (input_at m index))) (omega arith) (request_has (λ (p : PendingMessage). W p.vectors) s b a h index m e all)) all
 
 skips : (W : Vectors → Type 0) (s : System) (b : SpmState) (a : ℕ) (h : Handle) (index len : ℕ) → IsKept s W → AllMeet W b → MovedMeets W (psa_skip s b a h index len)
-skips W s b a h index len kept all =
-    let go : (o : Option PendingMessage) → request_held s b a h index ≡ o → MovedMeets W (option_map (skip_of b h index len) o) =
-    elim [ None ↦ λ e. tt | Some m ↦ λ e. input-moves W s b a h index len m kept e all ] in
-    go (request_held s b a h index) refl
+skips W s b a h index len kept all = each_mapped (λ (m : Move). AllMeet W m.spm) (skip_of b h index len) (request_held s b a h index) (λ m held. input-moves W s b a h index len m kept held all)
 
 reads : (W : Vectors → Type 0) (s : System) (st : State) (a : ℕ) (h : Handle) (index buffer len : ℕ) → IsKept s W → AllMeet W st.spm → EffectMeets W (psa_read s st a h index buffer len)
 reads W s st a h index buffer len kept all =
-    let go : (o : Option PendingMessage) → request_held s st.spm a h index ≡ o → EffectMeets W (option_and_then (λ m. if valid_buffer s a buffer len then Some (read_of st h index buffer len m) else None) o) =
-    elim [
-      | None ↦ λ e. tt
-      | Some m ↦ λ e. if_passes (λ (x : Effect). AllMeet W x.state.spm) (valid_buffer s a buffer len) (read_of st h index buffer len m) (λ valid. input-moves W s st.spm a h index len m kept e all)
-    ] in
-    go (request_held s st.spm a h index) refl
+    each_made (λ (e : Effect). AllMeet W e.state.spm) _ (request_held s st.spm a h index) (λ m held.
+    if_passes (λ (e : Effect). AllMeet W e.state.spm) (valid_buffer s a buffer len) (read_of st h index buffer len m) (λ valid. input-moves W s st.spm a h index len m kept held all))
 
 writes : (W : Vectors → Type 0) (s : System) (st : State) (a : ℕ) (h : Handle) (index buffer len : ℕ) → IsKept s W → AllMeet W st.spm → EffectMeets W (psa_write s st a h index buffer len)
 writes W s st a h index buffer len kept all =
-    let wrote : (m : PendingMessage) → request_held s st.spm a h index ≡ Some m → (valid_buffer s a buffer len && nat_le len (rest_of (output_at m index))) ≡ true → AllMeet W (write_of st h index buffer len m).state.spm =
-    λ m e may.
+    each_made (λ (e : Effect). AllMeet W e.state.spm) _ (request_held s st.spm a h index) (λ m held.
+    if_passes (λ (e : Effect). AllMeet W e.state.spm) (valid_buffer s a buffer len && nat_le len (rest_of (output_at m index))) (write_of st h index buffer len m) (λ may.
     let fits : nat_le len (rest_of (output_at m index)) ≡ true = (and_parts (valid_buffer s a buffer len) _ may).1 in
-    with_vectors-meet W st.spm h _ (kept.output m.vectors index len (grind (arith, nat_tests)) (held-meets W s st.spm a h index m e all)) all in
-    let go : (o : Option PendingMessage) → request_held s st.spm a h index ≡ o
-    → EffectMeets W (option_and_then (λ m. if valid_buffer s a buffer len && nat_le len (rest_of (output_at m index)) then Some (write_of st h index buffer len m) else None) o) =
-    elim [
-      | None ↦ λ e. tt
-      | Some m ↦ λ e. if_passes (λ (x : Effect). AllMeet W x.state.spm) (valid_buffer s a buffer len && nat_le len (rest_of (output_at m index))) (write_of st h index buffer len m) (wrote m e)
-    ] in
-    go (request_held s st.spm a h index) refl
+    put_has W h _ st.spm.messages (kept.output m.vectors index len (grind (arith, nat_tests)) (request_has (λ (p : PendingMessage). W p.vectors) s st.spm a h index m held all)) all))
 
 -- ---- panics and replies
 
@@ -263,14 +187,10 @@ filter_map-all P f each (x ∷ xs) =
     go (f x) (each x)
 
 -- a message that a panic sends has no vectors
-disconnections-meet : (W : Vectors → Type 0) (p : ℕ) (o : Option OpenConnection) → W no_vectors → IfSome (option_and_then (disconnection p) o) (λ m. W m.vectors)
-disconnections-meet W p None none = tt
-disconnections-meet W p (Some c) none = if_passes (λ (m : PendingMessage). W m.vectors) ((c.client.0 == p) && not (is_dead c.phase)) _ (λ own. none)
-
 pub panics : (W : Vectors → Type 0) (s : System) (b : SpmState) (p : ℕ) → W no_vectors → AllMeet W b → AllMeet W (panic_effect s b p)
 panics W s b p none all =
     All-append (λ (m : PendingMessage). W m.vectors) _ _ (All-filter (λ (m : PendingMessage). not (is_service_of s p m.service)) (λ m. W m.vectors) b.messages all)
-    (filter_map-all (λ (m : PendingMessage). W m.vectors) (λ (c : OpenConnection). option_and_then (disconnection p) (without_service s p c)) (λ c. disconnections-meet W p (without_service s p c) none) b.connections)
+    (filter_map-all (λ (m : PendingMessage). W m.vectors) (λ (c : OpenConnection). option_and_then (disconnection p) (without_service s p c)) (λ c. each_made (λ (m : PendingMessage). W m.vectors) (disconnection p) (without_service s p c) (λ d left. if_passes (λ (m : PendingMessage). W m.vectors) ((d.client.0 == p) && not (is_dead d.phase)) _ (λ own. none))) b.connections)
 
 -- an answer leaves the other messages
 either : (W : Vectors → Type 0) (x : Bool) (b c : SpmState) → AllMeet W b → AllMeet W c → AllMeet W (if x then b else c)
@@ -299,21 +219,17 @@ reply_of-meets W s st h status m none all =
     either W (owes_panic s m status) (panic_effect s (replied s st.spm h status m) m.client.0) (replied s st.spm h status m) (panics W s (replied s st.spm h status m) m.client.0 none own) own
 
 replies : (W : Vectors → Type 0) (s : System) (st : State) (a : ℕ) (h : Handle) (status : ℤ) → W no_vectors → AllMeet W st.spm → EffectMeets W (psa_reply s st a h status)
-replies W s st a h status none all =
-    let of : (o : Option PendingMessage) → EffectMeets W (option_map (reply_of s st h status) o) = elim [ None ↦ tt | Some m ↦ reply_of-meets W s st h status m none all ] in
-    of (reply_to s st.spm a h status)
+replies W s st a h status none all = each_mapped (λ (e : Effect). AllMeet W e.state.spm) (reply_of s st h status) (reply_to s st.spm a h status) (λ m told. reply_of-meets W s st h status m none all)
 
 -- ---- each event
 
 -- whatever becomes of the flags of a source
 flagged : (W : Vectors → Type 0) (b : SpmState) (test : ℕ → Bool) (says : ℕ → Outcome) (flags : ℕ → List SourceFlags) (o : Option ℕ) → AllMeet W b
     → MovedMeets W (option_and_then (λ i. if test i then Some (move (says i) (record b { sources = flags i })) else None) o)
-flagged W b test says flags None all = tt
-flagged W b test says flags (Some i) all = if_passes (λ (m : Move). AllMeet W m.spm) (test i) _ (λ on. all)
+flagged W b test says flags o all = each_made (λ (m : Move). AllMeet W m.spm) _ o (λ i there. if_passes (λ (m : Move). AllMeet W m.spm) (test i) _ (λ on. all))
 
 flags_put : (W : Vectors → Type 0) (b : SpmState) (says : ℕ → Outcome) (flags : ℕ → List SourceFlags) (o : Option ℕ) → AllMeet W b → MovedMeets W (option_map (λ i. move (says i) (record b { sources = flags i })) o)
-flags_put W b says flags None all = tt
-flags_put W b says flags (Some i) all = all
+flags_put W b says flags o all = each_mapped (λ (m : Move). AllMeet W m.spm) _ o (λ i there. all)
 
 call-meets : (W : Vectors → Type 0) (s : System) (st : State) (a : ℕ) (c : Call) (h : Handle) → IsKept s W → AllMeet W st.spm → EffectMeets W (call_case s st a c h)
 call-meets W s st a call.FrameworkVersion h kept all = all
@@ -345,8 +261,7 @@ call-meets W s st a call.Resume h kept all = returned-meets W s st a (phase_of s
 
 errors : (W : Vectors → Type 0) (s : System) (st : State) (a : ℕ) (c : Call) → W no_vectors → AllMeet W st.spm → (k : ActorKind) → AllMeet W (error_effect k s st a c).state.spm
 errors W s st a c none all Partition = panics W s st.spm a none all
-errors W s st a c none all Client = all
-errors W s st a c none all Device = all
+errors W s st a c none all k = all
 
 -- a rule that psa_call and moves keep, each call keeps
 pub effect-meets : (W : Vectors → Type 0) (s : System) (st : State) (a : ℕ) (c : Call) (h : Handle) → IsKept s W → AllMeet W st.spm → AllMeet W (effect_of s st a c h).state.spm

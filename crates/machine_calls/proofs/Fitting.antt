@@ -1,13 +1,11 @@
 -- Messages whose vectors fit the memory's regions.
-use Rattle.std.proofs.Common.{ℕ, ◌≡◌, List, arith, refl}
+use Rattle.std.proofs.Common.{ℕ, ◌≡◌, List, arith}
 use Rattle.std.proofs.lemmas.List.Elements.{All-replicate}
 use Rattle.ffm_model.specs.Memory.{no_span, no_vectors}
 use Rattle.machine_rules.specs.Vectors.{SpanFits, VectorsFit}
+use Rattle.machine_rules.proofs.Fitting.{no_span_fits}
 use Rattle.machine_calls.specs.declared.machine.Objects.{Objects}
 use Rattle.machine_calls.specs.Machine.{MessagesFit}
-
-no_span_fits : (regions : List (ℕ × ℕ)) → SpanFits regions no_span
-no_span_fits regions = record { inside = refl; moved = omega arith }
 
 -- the vectors of a connection and of a disconnection
 pub none_fit : (regions : List (ℕ × ℕ)) → VectorsFit regions no_vectors

@@ -1,4 +1,4 @@
 mod Changed
 mod Fitting
 mod MessageLemmas
-mod Leaving
+pub mod Leaving

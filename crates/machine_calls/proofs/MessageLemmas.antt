@@ -1,10 +1,8 @@
 -- Messages that are found, delivered, changed and removed.
-use Rattle.std.proofs.Common.{ℕ, ℤ, ◌≡◌, ◌<◌, ◌+◌, ◌++◌, Bool, true, false, cond, List, [], ◌∷◌, length, set, take, drop, get_or, add-one, refl, ap, sym, subst, ◌∙◌, append_assoc, append-nil, ◌≤◌, not}
-use Rattle.std.specs.Prelude.{All, Option, Some, None, option_and_then, int_le, nat_lt, ◌&&◌, find, if◌then◌else◌}
-use Rattle.std.specs.Ordering.{int_eq}
+use Rattle.std.proofs.Common.{ℕ, ℤ, ◌≡◌, ◌<◌, ◌+◌, ◌++◌, true, false, List, [], ◌∷◌, length, set, take, drop, get_or, add-one, refl, ap, sym, subst, ◌∙◌, append_assoc, append-nil, ◌≤◌, not}
+use Rattle.std.specs.Prelude.{Some, None, option_and_then, find, if◌then◌else◌}
 use Rattle.std.proofs.lemmas.List.{set_split, drop_all, drop_more, take_all, take_more}
-use Rattle.std.proofs.lemmas.List.Elements.{All-cons, All-filter, All-head, All-map, All-same, All-tail, All-weaker}
-use Rattle.ffm_model.specs.declared.constants.TheConstants.{PSA_IPC_CALL, PSA_IPC_CONNECT, PSA_MAX_IOVEC}
+use Rattle.std.proofs.lemmas.List.Elements.{All-filter, All-same}
 use Rattle.ffm_model.specs.declared.system.System.{System}
 use Rattle.ffm_model.specs.declared.machine.Handle.{Handle}
 use Rattle.ffm_model.specs.declared.objects.PendingMessage.{PendingMessage}
@@ -13,12 +11,14 @@ use Rattle.ffm_model.specs.declared.machine.Message.{Message}
 use Rattle.ffm_model.specs.declared.machine.Outcome.TheVariants.{Got}
 use Rattle.ffm_model.specs.Memory.{valid_buffer, words_stored}
 use Rattle.ffm_model.specs.ClientCalls.{effect}
-use Rattle.ffm_model.specs.ServiceCalls.{get_of, message_size, is_connect_status, message_words, psa_get, reply_to, request_held, service_of_signal, shown_message}
-use Rattle.ffm_model.specs.State.{State, delivered, has_handle, is_undelivered, message_held, vectors_put, with_vectors, without_message}
+use Rattle.ffm_model.specs.ServiceCalls.{get_of, input_of, message_size, message_words, output_of, psa_get, reply_to, request_held, service_of_signal, shown_message}
+use Rattle.ffm_model.specs.State.{State, delivered, has_handle, is_undelivered, with_vectors, without_message}
 use Rattle.memory_image.specs.declared.image.Image.{Image}
 use Rattle.ffm_model.specs.Ranges.{ranges_of}
 use Rattle.memory_image.specs.Pieces.{byte_at, regions_of}
-use Rattle.machine_rules.specs.Vectors.{VectorsFit}
+use Rattle.memory_image.proofs.Messages.{delivered_has, held_has, put_has, reply_is, request_has}
+use Rattle.machine_rules.specs.Vectors.{SpanFits, VectorsFit}
+use Rattle.machine_rules.proofs.Fitting.{span_fits}
 use Rattle.machine_calls.specs.declared.machine.Machine.{Machine}
 use Rattle.machine_calls.specs.declared.machine.Objects.{Objects}
 use Rattle.machine_calls.specs.Machine.{spm_of_objects, state_of, IsMachineOf, MessagesFit}
@@ -56,32 +56,16 @@ deliver_none s h cs ms i same over so_far =
 
 -- ---- the vectors of messages
 
--- those of a message that is found
-pub found_fits : (regions : List (ℕ × ℕ)) (q : PendingMessage → Bool) (ms : List PendingMessage) (m : PendingMessage) → All (λ m. VectorsFit regions m.vectors) ms → find q ms ≡ Some m → VectorsFit regions m.vectors
-found_fits regions q [] m a is = cc
-found_fits regions q (y ∷ ys) m a is =
-    let go : (b : Bool) → cond b (Some y) (find q ys) ≡ Some m → VectorsFit regions m.vectors = elim [
-      | true ↦ λ g. subst (λ x. VectorsFit regions x.vectors) (some_same y m g) (All-head (λ m. VectorsFit regions m.vectors) y ys a)
-      | false ↦ λ g. found_fits regions q ys m (All-tail (λ m. VectorsFit regions m.vectors) y ys a) g
-    ] in
-    go (q y) is where
-      some_same : (x z : PendingMessage) → Some x ≡ Some z → x ≡ z
-      some_same x z g = cc
-
--- that of a partition's handle
-pub held_fits : (regions : List (ℕ × ℕ)) (s : System) (o : Objects) (a : ℕ) (h : Handle) (m : PendingMessage) → Some m ≡ message_held s (spm_of_objects o) a h → MessagesFit regions o → VectorsFit regions m.vectors
-held_fits regions s o a h m is k = found_fits regions _ o.messages.items m k (sym is)
-
-passed : (x : Option PendingMessage) (test : PendingMessage → Bool) (m : PendingMessage) → Some m ≡ option_and_then (λ y. if test y then Some y else None) x → x ≡ Some m
-passed None test m is = cc
-passed (Some y) test m is = go (test y) is where
-  go : (b : Bool) → Some m ≡ (if b then Some y else None) → Some y ≡ Some m
-  go true g = sym g
-  go false g = cc
-
--- that of a request
+-- those of a request
 pub request_fits : (regions : List (ℕ × ℕ)) (s : System) (o : Objects) (a : ℕ) (h : Handle) (index : ℕ) (m : PendingMessage) → Some m ≡ request_held s (spm_of_objects o) a h index → MessagesFit regions o → VectorsFit regions m.vectors
-request_fits regions s o a h index m is k = held_fits regions s o a h m (sym (passed (message_held s (spm_of_objects o) a h) (λ m. int_le PSA_IPC_CALL m.kind && nat_lt index PSA_MAX_IOVEC) m is)) k
+request_fits regions s o a h index m is k = request_has (λ x. VectorsFit regions x.vectors) s (spm_of_objects o) a h index m (sym is) k
+
+-- each of its vectors
+pub input_fits : (regions : List (ℕ × ℕ)) (s : System) (o : Objects) (a : ℕ) (h : Handle) (index : ℕ) (m : PendingMessage) → Some m ≡ request_held s (spm_of_objects o) a h index → MessagesFit regions o → SpanFits regions (input_of m.vectors index)
+input_fits regions s o a h index m is k = span_fits regions m.vectors.input index (request_fits regions s o a h index m is k).inputs
+
+pub output_fits : (regions : List (ℕ × ℕ)) (s : System) (o : Objects) (a : ℕ) (h : Handle) (index : ℕ) (m : PendingMessage) → Some m ≡ request_held s (spm_of_objects o) a h index → MessagesFit regions o → SpanFits regions (output_of m.vectors index)
+output_fits regions s o a h index m is k = span_fits regions m.vectors.output index (request_fits regions s o a h index m is k).outputs
 
 -- ---- the machine is still the system's
 
@@ -94,32 +78,14 @@ pub kept_vectors : (s : System) (m : Machine) (o : Objects) (image : Image) (h :
     → spm_of_objects o ≡ with_vectors (spm_of_objects m.objects) h v → VectorsFit (ranges_of s.regions) v → IsMachineOf s (record { objects = o; memory = image })
 kept_vectors s m o image h v k same is fits =
     kept_messages s m o image k same
-    (All-same fit _ _ (ap (λ b. b.messages) is) (All-map fit (vectors_put h v) m.objects.messages.items (All-weaker fit (λ x. fit (vectors_put h v x)) put m.objects.messages.items k.messages))) where
-      fit : PendingMessage → Type 0
-      fit x = VectorsFit (ranges_of s.regions) x.vectors
-
-      put : (x : PendingMessage) → fit x → fit (vectors_put h v x)
-      put x old = by (has_handle x.handle h) where
-        by : (b : Bool) → fit (if b then record x { vectors = v } else x)
-        by true = fits
-        by false = old
-
-delivered_fit : (regions : List (ℕ × ℕ)) (service : ℕ) (h : Handle) (ms : List PendingMessage) → All (λ m. VectorsFit regions m.vectors) ms → All (λ m. VectorsFit regions m.vectors) (delivered service h ms)
-delivered_fit regions service h [] a = a
-delivered_fit regions service h (m ∷ ms) a = by (is_undelivered service m) (delivered_fit regions service h ms (All-tail (λ x. VectorsFit regions x.vectors) m ms a)) where
-  fit : PendingMessage → Type 0
-  fit x = VectorsFit regions x.vectors
-
-  by : (b : Bool) → All fit (delivered service h ms) → All fit (if b then record m { handle = Some h } ∷ ms else m ∷ delivered service h ms)
-  by true rest = All-cons fit (record m { handle = Some h }) ms (All-head fit m ms a) (All-tail fit m ms a)
-  by false rest = All-cons fit m (delivered service h ms) (All-head fit m ms a) rest
+    (All-same (λ x. VectorsFit (ranges_of s.regions) x.vectors) _ _ (ap (λ b. b.messages) is) (put_has (VectorsFit (ranges_of s.regions)) h v m.objects.messages.items fits k.messages))
 
 -- where a message was delivered
 pub kept_delivered : (s : System) (m : Machine) (o : Objects) (image : Image) (service : ℕ) (h : Handle) → IsMachineOf s m → regions_of image ≡ regions_of m.memory
     → spm_of_objects o ≡ record (spm_of_objects m.objects) { messages = delivered service h m.objects.messages.items } → IsMachineOf s (record { objects = o; memory = image })
 kept_delivered s m o image service h k same is =
     kept_messages s m o image k same
-    (All-same (λ x. VectorsFit (ranges_of s.regions) x.vectors) _ _ (ap (λ b. b.messages) is) (delivered_fit (ranges_of s.regions) service h m.objects.messages.items k.messages))
+    (All-same (λ x. VectorsFit (ranges_of s.regions) x.vectors) _ _ (ap (λ b. b.messages) is) (delivered_has (VectorsFit (ranges_of s.regions)) service h m.objects.messages.items k.messages))
 
 -- ---- what psa_get answers and leaves
 
@@ -148,13 +114,6 @@ pub removed_fit : (regions : List (ℕ × ℕ)) (o n p : Objects) (h : Handle) �
 removed_fit regions o n p h is same fits =
     All-same (λ x. VectorsFit regions x.vectors) _ _ (ap (λ v. v.items) same ∙ ap (λ b. b.messages) is) (All-filter (λ m. not (has_handle m.handle h)) (λ x. VectorsFit regions x.vectors) o.messages.items fits)
 
-left_out : (x : Option PendingMessage) (test : PendingMessage → Bool) (m : PendingMessage) → Some m ≡ option_and_then (λ y. if test y then None else Some y) x → x ≡ Some m
-left_out None test m is = cc
-left_out (Some y) test m is = go (test y) is where
-  go : (b : Bool) → Some m ≡ (if b then None else Some y) → Some y ≡ Some m
-  go true g = cc
-  go false g = sym g
-
 -- the vectors of a message that may be answered
 pub reply_fits : (regions : List (ℕ × ℕ)) (s : System) (o : Objects) (a : ℕ) (h : Handle) (status : ℤ) (m : PendingMessage) → Some m ≡ reply_to s (spm_of_objects o) a h status → MessagesFit regions o → VectorsFit regions m.vectors
-reply_fits regions s o a h status m is k = held_fits regions s o a h m (sym (left_out (message_held s (spm_of_objects o) a h) (λ m. int_eq m.kind PSA_IPC_CONNECT && not (is_connect_status status)) m is)) k
+reply_fits regions s o a h status m is k = held_has (λ x. VectorsFit regions x.vectors) s (spm_of_objects o) a h m (reply_is s (spm_of_objects o) a h status m (sym is)) k

@@ -12,6 +12,7 @@ use Rattle.ffm_model.specs.declared.system.System.{System}
 use Rattle.ffm_model.specs.Memory.{ByteMap, bytes_at, write_bytes}
 use Rattle.ffm_model.specs.Ranges.{ranges_of}
 use Rattle.memory_image.specs.Pieces.{fit_an_image, is_inside}
+use Rattle.memory_image.proofs.Compared.{both}
 use Rattle.memory_image.proofs.Changed.{length-bytes_at}
 use Rattle.memory_image.proofs.Stored.{ends_below}
 use Rattle.machine_check.specs.declared.differences.Differences.{Differences}
@@ -31,25 +32,12 @@ one-count p a len =
     omega (arith, head)
 
 none_own : (d o c : Bool) → (c ≡ true → o ≡ true) → ((d && not o) && c) ≡ false
-none_own d o false own = by_left (d && not o) where
-  by_left : (b : Bool) → (b && false) ≡ false
-  by_left true = refl
-  by_left false = refl
-none_own d o true own = let is : o ≡ true = own refl in rw is (by_left d) where
-  by_left : (b : Bool) → ((b && false) && true) ≡ false
-  by_left true = refl
-  by_left false = refl
+none_own true false true own = let is : false ≡ true = own refl in cc
+none_own d o c own = refl
 
 all_other : (d o c : Bool) → (c ≡ true → o ≡ false) → (d && c) ≡ ((d && not o) && c)
-all_other true o false other = by_left (not o) where
-  by_left : (b : Bool) → false ≡ (b && false)
-  by_left true = refl
-  by_left false = refl
-all_other false o false other = refl
-all_other d o true other = let is : o ≡ false = other refl in rw is (by_left d) where
-  by_left : (b : Bool) → (b && true) ≡ ((b && true) && true)
-  by_left true = refl
-  by_left false = refl
+all_other true true true other = let is : true ≡ false = other refl in cc
+all_other d o c other = refl
 
 -- a range of own RAM has no difference outside of it
 pub own-outside : (s : System) (act a len : ℕ) (old new : ByteMap) → is_inside a len (ranges_of s.regions) ≡ true → own_ram s act a ≡ true
@@ -66,14 +54,10 @@ other-outside s act a len old new found inside other least =
 
 -- ---- one more range
 
-split : (b c d : Bool) → ((b && c) || (b && d)) ≡ (b && (c || d))
-split true c d = refl
-split false c d = refl
-
 least-more : (p : ℕ → Bool) (r : ℕ × ℕ) (rs : List (ℕ × ℕ)) (one others : Option ℕ) → IsLeast (λ x. p x && any_covers (r ∷ []) x) one → IsLeast (λ x. p x && any_covers rs x) others
     → IsLeast (λ x. p x && any_covers (r ∷ rs) x) (lesser one others)
 least-more p r rs one others first rest =
-    least_same _ _ (lesser one others) (λ x. split (p x) (any_covers (r ∷ []) x) (any_covers rs x) ∙ ap (λ b. p x && (b || any_covers rs x)) (or_false (range_covers r x)))
+    least_same _ _ (lesser one others) (λ x. both (p x) (any_covers (r ∷ []) x) (any_covers rs x) ∙ ap (λ b. p x && (b || any_covers rs x)) (or_false (range_covers r x)))
     (lesser_of (λ x. p x && any_covers (r ∷ []) x) (λ x. p x && any_covers rs x) one others first rest)
 
 count-more : (p : ℕ → Bool) (r : ℕ × ℕ) (rs : List (ℕ × ℕ)) → count_in p (r ∷ []) + count_in p rs ≡ count_in p (r ∷ rs)

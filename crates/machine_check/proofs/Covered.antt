@@ -1,16 +1,16 @@
 -- An entry that is a step changes no byte outside of the ranges that it may write, and these lie in the regions.
-use Rattle.std.proofs.Common.{ℕ, zero, suc, ◌≡◌, ◌≤◌, ◌<◌, ◌+◌, ◌*◌, ◌/◌, Bool, true, false, cond, ◌&&◌, ◌||◌, not, List, [], ◌∷◌, ◌++◌, length, get_or, arith, ◌∙◌, ap, sym, refl, subst, inl, inr}
-use Rattle.std.specs.Prelude.{ℤ, int_lt, int_le, nat_le, nat_lt, ◌==◌, min, find, All, Option, Some, None, IfSome, option_and_then, if◌then◌else◌}
+use Rattle.std.proofs.Common.{ℕ, zero, suc, ◌≡◌, ◌≤◌, ◌<◌, ◌+◌, ◌*◌, Bool, true, false, ◌&&◌, ◌||◌, List, [], ◌∷◌, ◌++◌, length, arith, ◌∙◌, ap, sym, refl, subst, inl, inr}
+use Rattle.std.specs.Prelude.{ℤ, int_lt, nat_le, nat_lt, ◌==◌, min, find, All, Option, Some, IfSome, if◌then◌else◌}
 use Rattle.std.specs.Option.{option_map, option_map_or}
 use Rattle.std.specs.Ordering.{int_eq}
 use Rattle.std.proofs.lemmas.Bool.{and_parts, or_parts}
 use Rattle.std.proofs.lemmas.Bool.Decides.{nat_tests}
-use Rattle.std.proofs.lemmas.List.{get_or_past, length-append, length-take}
-use Rattle.std.proofs.lemmas.List.Elements.{All-head, All-tail}
+use Rattle.std.proofs.lemmas.List.{length-append, length-take}
 use Rattle.std.proofs.lemmas.Slice.Eq.{bytes_eq-Decides}
+use Rattle.std.proofs.lemmas.Option.{cond_some}
 use Rattle.list_laws.proofs.Bools.{if_passes}
 use Rattle.byte_lanes.specs.Differences.{any_covers, range_covers}
-use Rattle.ffm_model.specs.declared.constants.TheConstants.{PSA_ERROR_PROGRAMMER_ERROR, PSA_FRAMEWORK_VERSION, PSA_IPC_CALL, PSA_IPC_CONNECT, PSA_MAX_IOVEC}
+use Rattle.ffm_model.specs.declared.constants.TheConstants.{PSA_ERROR_PROGRAMMER_ERROR, PSA_FRAMEWORK_VERSION, PSA_IPC_CALL}
 use Rattle.ffm_model.specs.declared.system.System.{System}
 use Rattle.ffm_model.specs.declared.system.ActorKind.{ActorKind}
 use Rattle.ffm_model.specs.declared.system.ActorKind.TheVariants.{Partition, Client, Device}
@@ -22,54 +22,36 @@ use Rattle.ffm_model.specs.declared.machine.Message.{Message}
 use Rattle.ffm_model.specs.declared.machine.Outcome.{Outcome}
 use Rattle.ffm_model.specs.declared.machine.Outcome.TheVariants.{Value, Number, Got, Done, Panicked}
 use Rattle.ffm_model.specs.declared.objects.ActorPhase.{ActorPhase}
-use Rattle.ffm_model.specs.declared.objects.ActorPhase.TheVariants.{Ended, Ready, Connected, Waiting}
+use Rattle.ffm_model.specs.declared.objects.ActorPhase.TheVariants.{Ended, Ready}
 use Rattle.ffm_model.specs.declared.objects.PendingMessage.{PendingMessage}
 use Rattle.ffm_model.specs.declared.objects.Span.{Span}
 use Rattle.ffm_model.specs.declared.objects.Vectors.{Vectors}
 use Rattle.ffm_model.specs.Accesses.{store, is_access_size}
-use Rattle.ffm_model.specs.Actors.{kind_of}
-use Rattle.ffm_model.specs.Calls.{call_case, effect_of, effect_or_error, error_effect, has_call, refusal_of}
-use Rattle.ffm_model.specs.ClientCalls.{Move, Effect, effect, in_state, psa_connect, psa_call, psa_close, returned, version_number}
-use Rattle.ffm_model.specs.Memory.{ByteMap, bytes_at, copy_bytes, lengths_written, load_number, low_bytes, may_read, may_write, no_span, store_number, valid_buffer, words_stored, write_bytes}
-use Rattle.ffm_model.specs.ServiceCalls.{psa_wait, psa_get, psa_set_rhandle, psa_skip, psa_read, psa_write, psa_reply, request_held, service_of_signal, message_size, message_words, shown_message, get_of, read_of, write_of, reply_of, rest_of, input_at, output_at, outputs_given, is_connect_status}
-use Rattle.ffm_model.specs.SignalCalls.{psa_notify, psa_clear, psa_eoi, psa_irq_enable, psa_irq_disable, psa_reset_signal, raise, fire}
+use Rattle.ffm_model.specs.Calls.{call_case, effect_of, error_effect, refusal_of}
+use Rattle.ffm_model.specs.ClientCalls.{Move, Effect, effect, in_state, returned, version_number}
+use Rattle.ffm_model.specs.Memory.{ByteMap, copy_bytes, lengths_written, load_number, may_read, may_write, store_number, valid_buffer}
+use Rattle.ffm_model.specs.ServiceCalls.{psa_get, psa_read, psa_write, psa_reply, request_held, service_of_signal, message_size, message_words, shown_message, get_of, read_of, write_of, reply_of, reply_to, rest_of, input_at, output_at, outputs_given}
 use Rattle.ffm_model.specs.State.{State, SpmState, phase_of, message_held, is_undelivered, with_phase}
 use Rattle.ffm_model.specs.Step.{step, may_call, handle_allowed, handle_shown, message_eq, outcome_eq}
 use Rattle.machine_rules.specs.Vectors.{SpanFits, VectorsFit}
 use Rattle.ffm_model.specs.Ranges.{ranges_of}
 use Rattle.memory_image.specs.Pieces.{is_inside}
-use Rattle.memory_image.proofs.Changed.{length-bytes_at}
+use Rattle.memory_image.proofs.Effects.{each_made, each_mapped, effect-has}
+use Rattle.memory_image.proofs.Messages.{held_has, reply_is, request_has}
+use Rattle.memory_image.proofs.Outside.{copy_bytes-outside, store_number-outside, words_stored-outside}
 use Rattle.memory_image.proofs.Stored.{part_inside}
 use Rattle.memory_image.proofs.Systems.{buffer_inside, writable_inside}
+use Rattle.machine_rules.proofs.Fitting.{span_fits}
 use Rattle.machine_check.specs.declared.written.Ranges.{Ranges}
 use Rattle.machine_check.specs.Written.{AreInside, HasFourSizes, length_words, next_bytes, nothing, one_range, ranges_from, ranges_in, written, written_by}
 
 -- ---- bytes that are put
 
-length-low_bytes : (n v : ℕ) → length (low_bytes n v) ≡ n
-length-low_bytes zero v = refl
-length-low_bytes (suc n) v = ap suc (length-low_bytes n (v / 256))
-
--- outside of the bytes that are put, memory stays
-write-outside : (m : ByteMap) (a : ℕ) (bs : List ℕ) (n x : ℕ) → length bs ≡ n → range_covers (a, n) x ≡ false → write_bytes m a bs x ≡ m x
-write-outside m a bs n x long out = grind (arith, nat_tests)
-
-store-outside : (m : ByteMap) (at size v x : ℕ) → range_covers (at, size) x ≡ false → store_number m at size v x ≡ m x
-store-outside m at size v x out = write-outside m at (low_bytes size v) size x (length-low_bytes size v) out
-
-words-outside : (m : ByteMap) (at x : ℕ) (ws : List ℕ) → range_covers (at, 4 * length ws) x ≡ false → words_stored m at ws x ≡ m x
-words-outside m at x [] out = refl
-words-outside m at x (w ∷ ws) out =
-    words-outside (store_number m at 4 w) (at + 4) x ws (grind (arith, nat_tests)) ∙ store-outside m at 4 w x (grind (arith, nat_tests))
-
-copy-outside : (m : ByteMap) (from to len x : ℕ) → range_covers (to, len) x ≡ false → copy_bytes m from to len x ≡ m x
-copy-outside m from to len x out = write-outside m to (bytes_at m from len) len x (length-bytes_at m from len) out
-
 lengths-outside : (m : ByteMap) (at x : ℕ) (vs : List Span) → ((k : ℕ) → k < length vs → range_covers ((at + 4) + 8 * k, 4) x ≡ false) → lengths_written m at vs x ≡ m x
 lengths-outside m at x [] out = refl
 lengths-outside m at x (v ∷ vs) out =
     lengths-outside (store_number m (at + 4) 4 v.moved) (at + 8) x vs (λ k below. let here = out (k + 1) (omega arith) in grind (arith, nat_tests))
-    ∙ store-outside m (at + 4) 4 v.moved x (let here = out 0 (omega arith) in grind (arith, nat_tests))
+    ∙ store_number-outside m (at + 4) 4 v.moved x (let here = out 0 (omega arith) in grind (arith, nat_tests))
 
 -- ---- ranges
 
@@ -117,42 +99,9 @@ one-covered s old new first len stays inside = by_test (len == 0) refl where
 
 -- ---- messages
 
-found-fits : (regions : List (ℕ × ℕ)) (p : PendingMessage → Bool) (ms : List PendingMessage) (m : PendingMessage) → find p ms ≡ Some m → All (λ m. VectorsFit regions m.vectors) ms → VectorsFit regions m.vectors
-found-fits regions p [] m is fit = absurd (cc)
-found-fits regions p (y ∷ ys) m is fit =
-    let go : (b : Bool) → cond b (Some y) (find p ys) ≡ Some m → VectorsFit regions m.vectors = elim [
-      | true ↦ λ here. let same : y ≡ m = cc in subst (λ (z : PendingMessage). VectorsFit regions z.vectors) same (All-head (λ (z : PendingMessage). VectorsFit regions z.vectors) y ys fit)
-      | false ↦ λ later. found-fits regions p ys m later (All-tail (λ (z : PendingMessage). VectorsFit regions z.vectors) y ys fit)
-    ] in
-    go (p y) is
-
 -- the vectors of all messages fit the system's regions
 abbrev pub AllFit : System → SpmState → Type 0
 AllFit s b = All (λ m. VectorsFit (ranges_of s.regions) m.vectors) b.messages
-
-pub held-fits : (s : System) (b : SpmState) (a : ℕ) (h : Handle) (m : PendingMessage) → message_held s b a h ≡ Some m → AllFit s b → VectorsFit (ranges_of s.regions) m.vectors
-held-fits s b a h m is fit = found-fits (ranges_of s.regions) _ b.messages m is fit
-
-pub request-fits : (s : System) (b : SpmState) (a : ℕ) (h : Handle) (index : ℕ) (m : PendingMessage) → request_held s b a h index ≡ Some m → AllFit s b → VectorsFit (ranges_of s.regions) m.vectors
-request-fits s b a h index m is fit = from (message_held s b a h) refl is where
-  from : (o : Option PendingMessage) → message_held s b a h ≡ o → option_and_then (λ y. if int_le PSA_IPC_CALL y.kind && nat_lt index PSA_MAX_IOVEC then Some y else None) o ≡ Some m → VectorsFit (ranges_of s.regions) m.vectors
-  from None held taken = absurd (cc)
-  from (Some y) held taken =
-      let go : (t : Bool) → (if t then Some y else None) ≡ Some m → VectorsFit (ranges_of s.regions) m.vectors = elim [
-        | true ↦ λ here. let same : y ≡ m = cc in subst (λ (z : PendingMessage). VectorsFit (ranges_of s.regions) z.vectors) same (held-fits s b a h y held fit)
-        | false ↦ λ none. absurd (cc)
-      ] in
-      go (int_le PSA_IPC_CALL y.kind && nat_lt index PSA_MAX_IOVEC) taken
-
--- the vector at a place, also where none is there
-pub span-fits : (regions : List (ℕ × ℕ)) (vs : List Span) (index : ℕ) → All (SpanFits regions) vs → SpanFits regions (get_or vs index no_span)
-span-fits regions vs index fit = by_test (nat_lt index (length vs)) refl where
-  none : SpanFits regions no_span
-  none = record { inside = refl; moved = omega arith }
-
-  by_test : (b : Bool) → nat_lt index (length vs) ≡ b → SpanFits regions (get_or vs index no_span)
-  by_test true less = fit index no_span (grind (arith, nat_tests))
-  by_test false more = subst (SpanFits regions) (sym (get_or_past vs index no_span (grind (arith, nat_tests)))) none
 
 -- ---- calls, by what their outcome is told as
 
@@ -186,34 +135,26 @@ got s st a signal msg i h m valid told same four =
     let shown = shown_message s st.spm m h in
     only_got shown (λ o. HasFourSizes o → IsCovered s st.memory (get_of s st i msg h m).state.memory (written_by s st.spm a o (call.Get signal msg)))
     (λ n eq sizes. one-covered s st.memory _ msg message_size
-    (λ x out. words-outside st.memory msg x (message_words shown) (ap (λ k. range_covers (msg, k) x) (sizes-told shown n eq sizes) ∙ out))
+    (λ x out. words_stored-outside st.memory msg x (message_words shown) (ap (λ k. range_covers (msg, k) x) (sizes-told shown n eq sizes) ∙ out))
     (buffer_inside s a msg message_size valid))
     told same four
 
 gets : (s : System) (st : State) (a signal msg : ℕ) (h : Handle) → IfSome (psa_get s st a signal msg h) (TellsCovered s st a (call.Get signal msg))
 gets s st a signal msg h =
-    let of : ℕ → PendingMessage → Option Effect = λ i m. if valid_buffer s a msg message_size then Some (get_of s st i msg h m) else None in
-    elim (service_of_signal s a signal) as (λ (o : Option ℕ). IfSome (option_and_then (λ i. option_and_then (of i) (find (is_undelivered i) st.spm.messages)) o) (TellsCovered s st a (call.Get signal msg))) [
-      | None ↦ tt
-      | Some i ↦ elim (find (is_undelivered i) st.spm.messages) as (λ (o : Option PendingMessage). IfSome (option_and_then (of i) o) (TellsCovered s st a (call.Get signal msg))) [
-        | None ↦ tt
-        | Some m ↦ if_passes (TellsCovered s st a (call.Get signal msg)) (valid_buffer s a msg message_size) (get_of s st i msg h m) (got s st a signal msg i h m)
-      ]
-    ]
+    each_made (TellsCovered s st a (call.Get signal msg)) _ (service_of_signal s a signal) (λ i owned. each_made (TellsCovered s st a (call.Get signal msg)) _ (find (is_undelivered i) st.spm.messages) (λ m found.
+    if_passes (TellsCovered s st a (call.Get signal msg)) (valid_buffer s a msg message_size) (get_of s st i msg h m) (got s st a signal msg i h m)))
 
 -- psa_read
 reads : (s : System) (st : State) (a : ℕ) (h : Handle) (index buffer len : ℕ) → IfSome (psa_read s st a h index buffer len) (TellsCovered s st a (call.Read h index buffer len))
 reads s st a h index buffer len =
-    elim (request_held s st.spm a h index) as (λ (o : Option PendingMessage). IfSome (option_and_then (λ m. if valid_buffer s a buffer len then Some (read_of st h index buffer len m) else None) o) (TellsCovered s st a (call.Read h index buffer len))) [
-      | None ↦ tt
-      | Some m ↦ if_passes (TellsCovered s st a (call.Read h index buffer len)) (valid_buffer s a buffer len) (read_of st h index buffer len m) (λ valid told same four.
-          let v = input_at m index in
-          let n = min len (rest_of v) in
-          only_number n (λ o. IsCovered s st.memory (copy_bytes st.memory (v.base + v.moved) buffer n) (written_by s st.spm a o (call.Read h index buffer len)))
-          (one-covered s st.memory _ buffer n (λ x out. copy-outside st.memory (v.base + v.moved) buffer n x out)
-          (part_inside buffer len buffer n (ranges_of s.regions) (omega arith) (omega arith) (buffer_inside s a buffer len valid)))
-          told same)
-    ]
+    each_made (TellsCovered s st a (call.Read h index buffer len)) _ (request_held s st.spm a h index) (λ m held.
+    if_passes (TellsCovered s st a (call.Read h index buffer len)) (valid_buffer s a buffer len) (read_of st h index buffer len m) (λ valid told same four.
+    let v = input_at m index in
+    let n = min len (rest_of v) in
+    only_number n (λ o. IsCovered s st.memory (copy_bytes st.memory (v.base + v.moved) buffer n) (written_by s st.spm a o (call.Read h index buffer len)))
+    (one-covered s st.memory _ buffer n (λ x out. copy_bytes-outside st.memory (v.base + v.moved) buffer n x out)
+    (part_inside buffer len buffer n (ranges_of s.regions) (omega arith) (omega arith) (buffer_inside s a buffer len valid)))
+    told same))
 
 -- psa_write
 wrote : (s : System) (st : State) (a : ℕ) (h : Handle) (index buffer len : ℕ) (m : PendingMessage) → request_held s st.spm a h index ≡ Some m → AllFit s st.spm
@@ -222,11 +163,11 @@ wrote s st a h index buffer len m held fit may told same four =
     let v : Span = output_at m index in
     let test : nat_le len (rest_of v) ≡ true = (and_parts (valid_buffer s a buffer len) _ may).1 in
     let all : len ≡ min len (rest_of v) = grind (arith, nat_tests) in
-    let span : SpanFits (ranges_of s.regions) v = span-fits (ranges_of s.regions) m.vectors.output index (request-fits s st.spm a h index m held fit).outputs in
+    let span : SpanFits (ranges_of s.regions) v = span_fits (ranges_of s.regions) m.vectors.output index (request_has (λ x. VectorsFit (ranges_of s.regions) x.vectors) s st.spm a h index m held fit).outputs in
     let new : ByteMap = copy_bytes st.memory buffer (v.base + v.moved) len in
     let moved : v.moved ≤ v.len = span.moved in
     let here : IsCovered s st.memory new (next_bytes v len) = one-covered s st.memory new (v.base + v.moved) (min len (rest_of v))
-    (λ x out. copy-outside st.memory buffer (v.base + v.moved) len x (ap (λ n. range_covers (v.base + v.moved, n) x) all ∙ out))
+    (λ x out. copy_bytes-outside st.memory buffer (v.base + v.moved) len x (ap (λ n. range_covers (v.base + v.moved, n) x) all ∙ out))
     (part_inside v.base v.len (v.base + v.moved) (min len (rest_of v)) (ranges_of s.regions) (omega arith) (omega arith) span.inside) in
     only_done (λ o. IsCovered s st.memory new (written_by s st.spm a o (call.Write h index buffer len)))
     (subst (λ (o : Option PendingMessage). IsCovered s st.memory new (option_map_or (λ y. next_bytes (output_at y index) len) o nothing)) (sym held) here)
@@ -234,13 +175,8 @@ wrote s st a h index buffer len m held fit may told same four =
 
 writes : (s : System) (st : State) (a : ℕ) (h : Handle) (index buffer len : ℕ) → AllFit s st.spm → IfSome (psa_write s st a h index buffer len) (TellsCovered s st a (call.Write h index buffer len))
 writes s st a h index buffer len fit =
-    let go : (o : Option PendingMessage) → request_held s st.spm a h index ≡ o
-    → IfSome (option_and_then (λ m. if valid_buffer s a buffer len && nat_le len (rest_of (output_at m index)) then Some (write_of st h index buffer len m) else None) o) (TellsCovered s st a (call.Write h index buffer len)) =
-    elim [
-      | None ↦ λ e. tt
-      | Some m ↦ λ e. if_passes (TellsCovered s st a (call.Write h index buffer len)) (valid_buffer s a buffer len && nat_le len (rest_of (output_at m index))) (write_of st h index buffer len m) (wrote s st a h index buffer len m e fit)
-    ] in
-    go (request_held s st.spm a h index) refl
+    each_made (TellsCovered s st a (call.Write h index buffer len)) _ (request_held s st.spm a h index) (λ m held.
+    if_passes (TellsCovered s st a (call.Write h index buffer len)) (valid_buffer s a buffer len && nat_le len (rest_of (output_at m index))) (write_of st h index buffer len m) (wrote s st a h index buffer len m held fit))
 
 -- psa_reply
 word-inside : (regions : List (ℕ × ℕ)) (vectors : Vectors) (k : ℕ) → VectorsFit regions vectors → k < vectors.out_len → is_inside ((vectors.out_vec + 4) + 8 * k) 4 regions ≡ true
@@ -267,25 +203,18 @@ words-covered s m p fit = by_tests (int_lt p.kind PSA_IPC_CALL) (p.vectors.out_l
 replies : (s : System) (st : State) (a : ℕ) (h : Handle) (status : ℤ) (c : Call) → AllFit s st.spm → written_by s st.spm a Done c ≡ option_map_or length_words (message_held s st.spm a h) nothing
     → IfSome (psa_reply s st a h status) (TellsCovered s st a c)
 replies s st a h status c fit is =
-    let go : (o : Option PendingMessage) → message_held s st.spm a h ≡ o
-    → IfSome (option_map (reply_of s st h status) (option_and_then (λ m. if int_eq m.kind PSA_IPC_CONNECT && not (is_connect_status status) then None else Some m) o)) (TellsCovered s st a c) =
-    elim [
-      | None ↦ λ e. tt
-      | Some m ↦ λ e. elim (int_eq m.kind PSA_IPC_CONNECT && not (is_connect_status status)) as (λ (b : Bool). IfSome (option_map (reply_of s st h status) (if b then None else Some m)) (TellsCovered s st a c)) [
-        | true ↦ tt
-        | false ↦ λ told same four. only_done (λ o. IsCovered s st.memory (reply_of s st h status m).state.memory (written_by s st.spm a o c))
-            (subst (IsCovered s st.memory (reply_of s st h status m).state.memory) (sym (is ∙ ap (λ o. option_map_or length_words o nothing) e)) (words-covered s st.memory m (held-fits s st.spm a h m e fit)))
-            told same
-      ]
-    ] in
-    go (message_held s st.spm a h) refl
+    each_mapped (TellsCovered s st a c) (reply_of s st h status) (reply_to s st.spm a h status) (λ m answers told same four.
+    let held = reply_is s st.spm a h status m answers in
+    only_done (λ o. IsCovered s st.memory (reply_of s st h status m).state.memory (written_by s st.spm a o c))
+    (subst (IsCovered s st.memory (reply_of s st h status m).state.memory) (sym (is ∙ ap (λ o. option_map_or length_words o nothing) held)) (words-covered s st.memory m (held_has (λ x. VectorsFit (ranges_of s.regions) x.vectors) s st.spm a h m held fit)))
+    told same)
 
 -- a store
 stores : (s : System) (st : State) (a at size value : ℕ) → IfSome (store s st a at size value) (TellsCovered s st a (call.Store at size value))
 stores s st a at size value =
     if_passes (TellsCovered s st a (call.Store at size value)) (is_access_size size && may_write s a at size) (effect Done (record st { memory = store_number st.memory at size value })) (λ may told same four.
     only_done (λ o. IsCovered s st.memory (store_number st.memory at size value) (written_by s st.spm a o (call.Store at size value)))
-    (one-covered s st.memory (store_number st.memory at size value) at size (λ x out. store-outside st.memory at size value x out) (writable_inside s a at size (and_parts (is_access_size size) _ may).1))
+    (one-covered s st.memory (store_number st.memory at size value) at size (λ x out. store_number-outside st.memory at size value x out) (writable_inside s a at size (and_parts (is_access_size size) _ may).1))
     told same)
 
 -- ---- all calls
@@ -317,41 +246,25 @@ quiet s st a c e none same told eq four =
     subst (IsCovered s st.memory e.state.memory) (sym (puts-none s st.spm a c none told)) here
 
 moves : (s : System) (st : State) (a : ℕ) (c : Call) → may_put c ≡ false → (o : Option Move) → IfSome (option_map (in_state st) o) (TellsCovered s st a c)
-moves s st a c none None = tt
-moves s st a c none (Some m) = quiet s st a c (in_state st m) none refl
+moves s st a c none o = each_mapped (TellsCovered s st a c) (in_state st) o (λ m made. quiet s st a c (in_state st m) none refl)
 
 returns : (s : System) (st : State) (a : ℕ) (p : ActorPhase) (h : Handle) → TellsCovered s st a call.Resume (returned s st a p h)
 returns s st a (Ready o) h = quiet s st a call.Resume (returned s st a (Ready o) h) refl refl
-returns s st a (Connected c) h = quiet s st a call.Resume (returned s st a (Connected c) h) refl refl
-returns s st a (Waiting mask) h = quiet s st a call.Resume (returned s st a (Waiting mask) h) refl refl
 returns s st a p h = quiet s st a call.Resume (returned s st a p h) refl refl
 
 call-covered : (s : System) (st : State) (a : ℕ) (c : Call) (h : Handle) → AllFit s st.spm → IfSome (call_case s st a c h) (TellsCovered s st a c)
 call-covered s st a call.FrameworkVersion h fit = quiet s st a call.FrameworkVersion (effect (Number PSA_FRAMEWORK_VERSION) st) refl refl
 call-covered s st a (call.Version sid) h fit = quiet s st a (call.Version sid) (effect (Number (version_number s a sid)) st) refl refl
-call-covered s st a (call.Connect sid version) h fit = moves s st a (call.Connect sid version) refl (psa_connect s st.spm a sid version)
-call-covered s st a (call.Invoke c kind iv il ov ol) h fit = moves s st a (call.Invoke c kind iv il ov ol) refl (psa_call s st a c kind iv il ov ol)
-call-covered s st a (call.Close c) h fit = moves s st a (call.Close c) refl (psa_close st.spm a c)
-call-covered s st a (call.Wait mask timeout) h fit = moves s st a (call.Wait mask timeout) refl (psa_wait s st.spm a mask timeout)
 call-covered s st a (call.Get signal msg) h fit = gets s st a signal msg h
-call-covered s st a (call.SetRhandle m r) h fit = moves s st a (call.SetRhandle m r) refl (psa_set_rhandle s st.spm a m r)
 call-covered s st a (call.Read m index buffer len) h fit = reads s st a m index buffer len
-call-covered s st a (call.Skip m index len) h fit = moves s st a (call.Skip m index len) refl (psa_skip s st.spm a m index len)
 call-covered s st a (call.Write m index buffer len) h fit = writes s st a m index buffer len fit
 call-covered s st a (call.Reply m status) h fit = replies s st a m status.0 (call.Reply m status) fit refl
-call-covered s st a (call.Notify id) h fit = moves s st a (call.Notify id) refl (psa_notify s st.spm id)
-call-covered s st a call.Clear h fit = moves s st a call.Clear refl (psa_clear st.spm a)
-call-covered s st a (call.Eoi signal) h fit = moves s st a (call.Eoi signal) refl (psa_eoi s st.spm a signal)
-call-covered s st a (call.IrqEnable signal) h fit = moves s st a (call.IrqEnable signal) refl (psa_irq_enable s st.spm a signal)
-call-covered s st a (call.IrqDisable signal) h fit = moves s st a (call.IrqDisable signal) refl (psa_irq_disable s st.spm a signal)
-call-covered s st a (call.ResetSignal signal) h fit = moves s st a (call.ResetSignal signal) refl (psa_reset_signal s st.spm a signal)
 call-covered s st a call.Panic h fit = tt
 call-covered s st a (call.Load at size) h fit = if_passes (TellsCovered s st a (call.Load at size)) (is_access_size size && may_read s a at size) (effect (Number (load_number st.memory at size)) st) (λ may. quiet s st a (call.Load at size) (effect (Number (load_number st.memory at size)) st) refl refl)
 call-covered s st a (call.Store at size value) h fit = stores s st a at size value
-call-covered s st a (call.Raise source) h fit = moves s st a (call.Raise source) refl (raise s st.spm source)
-call-covered s st a (call.Fire source result) h fit = moves s st a (call.Fire source result) refl (fire s st.spm source result)
 call-covered s st a (call.Stop spent) h fit = quiet s st a (call.Stop spent) (effect Done (record st { spm = with_phase st.spm a Ended })) refl refl
 call-covered s st a call.Resume h fit = returns s st a (phase_of st.spm a) h
+call-covered s st a c h fit = moves s st a c refl _
 
 -- a PROGRAMMER ERROR
 
@@ -374,22 +287,14 @@ errors s st a c Client told eq four = refusals s st a c told eq four
 errors s st a c Device told eq four = told-value s st a c PSA_ERROR_PROGRAMMER_ERROR told eq
 
 effect-covered : (s : System) (st : State) (a : ℕ) (c : Call) (h : Handle) → AllFit s st.spm → TellsCovered s st a c (effect_of s st a c h)
-effect-covered s st a c h fit =
-    let of_call : (o : Option Effect) → IfSome o (TellsCovered s st a c) → TellsCovered s st a c (effect_or_error o (kind_of s a) s st a c) = elim [ None ↦ λ m. errors s st a c (kind_of s a) | Some e ↦ λ m. m ] in
-    let go : (b : Bool) → TellsCovered s st a c (effect_or_error (cond {A = Option Effect} b (call_case s st a c h) None) (kind_of s a) s st a c) = elim [ true ↦ of_call (call_case s st a c h) (call-covered s st a c h fit) | false ↦ errors s st a c (kind_of s a) ] in
-    go (has_call (kind_of s a) c)
+effect-covered s st a c h fit = effect-has (TellsCovered s st a c) s st a c h (errors s st a c) (call-covered s st a c h fit)
 
 -- ---- the law
-
-taken : (b c : Bool) (P : Type 0) (x y : State) → (if b && c then Some x else None) ≡ Some y → (c ≡ true → x ≡ y → P) → P
-taken true true P x y h then_ = then_ refl (cc)
-taken true false P x y h then_ = absurd (cc)
-taken false c P x y h then_ = absurd (cc)
 
 pub step-covered : (s : System) (st new : State) (e : Entry) → AllFit s st.spm → HasFourSizes e.outcome → step s st e ≡ Some new → IsCovered s st.memory new.memory (written s st.spm e)
 unfolding step
 step-covered s st new e fit four h =
     let due = effect_of s st e.actor.0 e.call (handle_shown e.outcome) in
-    taken (may_call s st.spm e.actor.0 e.call && handle_allowed s st e.actor.0 e.call (handle_shown e.outcome)) (outcome_eq due.outcome e.outcome)
-    (IsCovered s st.memory new.memory (written s st.spm e)) due.state new h
-    (λ told left. subst (λ (x : State). IsCovered s st.memory x.memory (written s st.spm e)) left (effect-covered s st e.actor.0 e.call (handle_shown e.outcome) fit e.outcome told four))
+    let taken = cond_some _ due.state new h in
+    subst (λ (x : State). IsCovered s st.memory x.memory (written s st.spm e)) taken.1
+    (effect-covered s st e.actor.0 e.call (handle_shown e.outcome) fit e.outcome (and_parts (may_call s st.spm e.actor.0 e.call && handle_allowed s st e.actor.0 e.call (handle_shown e.outcome)) (outcome_eq due.outcome e.outcome) taken.0).1 four)

@@ -1,6 +1,6 @@
 -- What the machine answers to a call, by what the call makes of the state that is kept.
 use Rattle.std.proofs.Common.{ℕ, ℤ, pos, negsuc, ◌≡◌, ◌<◌, ◌≤◌, ◌+◌, ◌⊎◌, inl, inr, ⊎_elim, Bool, true, false, List, refl, ap, sym, subst, arith, ◌∙◌}
-use Rattle.std.specs.Prelude.{Option, Some, None, IsSome, MatchOption, Ok, is_some, option_and_then, find, int_le, ◌&&◌, ◌||◌, not, if◌then◌else◌}
+use Rattle.std.specs.Prelude.{Option, Some, None, MatchOption, Ok, is_some, int_le, ◌&&◌, ◌||◌, not, if◌then◌else◌}
 use Rattle.std.specs.Option.{unwrap_or}
 use Rattle.std.specs.BTreeSet.{BTreeSet, contains}
 use Rattle.std.specs.Ordering.{int_cmp}
@@ -15,12 +15,10 @@ use Rattle.ffm_model.specs.declared.machine.Handle.{Handle}
 use Rattle.ffm_model.specs.declared.machine.Outcome.{Outcome}
 use Rattle.ffm_model.specs.declared.objects.ActorPhase.{ActorPhase}
 use Rattle.ffm_model.specs.declared.objects.ActorPhase.TheVariants as phase
-use Rattle.ffm_model.specs.declared.objects.PendingMessage.{PendingMessage}
 use Rattle.ffm_model.specs.Actors.{kind_of}
-use Rattle.ffm_model.specs.Memory.{valid_buffer}
-use Rattle.ffm_model.specs.State.{State, phase_of, fresh, is_undelivered}
+use Rattle.ffm_model.specs.State.{State, phase_of, fresh}
 use Rattle.ffm_model.specs.ClientCalls.{Effect, effect, returned}
-use Rattle.ffm_model.specs.ServiceCalls.{get_of, service_of_signal, message_size}
+use Rattle.ffm_model.specs.ServiceCalls.{get_of}
 use Rattle.ffm_model.specs.Calls.{effect_of, effect_or_error, has_call, call_case, programmer_error}
 use Rattle.ffm_model.specs.Step.{may_call, gives_handle, handle_allowed, handle_shown}
 use Rattle.ffm_model.proofs.StepLemmas.{step-effect}
@@ -28,7 +26,8 @@ use Rattle.machine_calls.specs.declared.machine.Machine.{Machine}
 use Rattle.machine_calls.specs.Machine.{spm_of_objects, state_of}
 use Rattle.machine_check.specs.Performed.{gave_handle, given_after, is_left, phase_in, Knows, Performs}
 use Rattle.machine_check.specs.Reaching.{IsDue}
-use Rattle.machine_check.proofs.Allowed.{allowed_gave}
+use Rattle.machine_check.proofs.Allowed.{allowed_gave, error_gives_none, get_cases}
+use Rattle.machine_check.proofs.Followed.{there}
 use Rattle.machine_check.proofs.Steps.{left_fresh, none_by_handle}
 
 -- ---- the handle that an outcome shows
@@ -37,28 +36,13 @@ use Rattle.machine_check.proofs.Steps.{left_fresh, none_by_handle}
 abbrev Shows : System → State → State → ℕ → Call → ActorPhase → ActorKind → (Handle → Option Effect) → Handle → Outcome → Type 0
 Shows s st new a c p k due h o = (effect_or_error (due (handle_shown o)) k s st a c ≡ effect o new) × ((gave_handle p c o ≡ false) ⊎ (handle_shown o ≡ h))
 
--- what a message in the queue, or none, makes of psa_get of a partition
-by_message : (s : System) (st new : State) (a signal msg : ℕ) (h : Handle) (o : Outcome) (p : ActorPhase) (i : ℕ) (v : Bool) (y : Option PendingMessage)
-    → effect_or_error (option_and_then (λ m. if v then Some (get_of s st i msg h m) else None) y) Partition s st a (call.Get signal msg) ≡ effect o new
-    → Shows s st new a (call.Get signal msg) p Partition (λ k. option_and_then (λ m. if v then Some (get_of s st i msg k m) else None) y) h o
-by_message s st new a signal msg h o p i true (Some m) e =
-    let shown : handle_shown o ≡ h = sym (ap (λ x. handle_shown x.outcome) e) in
-    (subst (λ (k : Handle). get_of s st i msg k m ≡ effect o new) (sym shown) e, inr shown)
-by_message s st new a signal msg h o p i false (Some m) e = (e, inl (sym (ap (λ x. gave_handle p (call.Get signal msg) x.outcome) e)))
-by_message s st new a signal msg h o p i v None e = (e, inl (sym (ap (λ x. gave_handle p (call.Get signal msg) x.outcome) e)))
-
-by_service : (s : System) (st new : State) (a signal msg : ℕ) (h : Handle) (o : Outcome) (p : ActorPhase) (v : Bool) (f : ℕ → Option PendingMessage) (x : Option ℕ)
-    → effect_or_error (option_and_then (λ i. option_and_then (λ m. if v then Some (get_of s st i msg h m) else None) (f i)) x) Partition s st a (call.Get signal msg) ≡ effect o new
-    → Shows s st new a (call.Get signal msg) p Partition (λ k. option_and_then (λ i. option_and_then (λ m. if v then Some (get_of s st i msg k m) else None) (f i)) x) h o
-by_service s st new a signal msg h o p v f (Some i) e = by_message s st new a signal msg h o p i v (f i) e
-by_service s st new a signal msg h o p v f None e = (e, inl (sym (ap (λ x. gave_handle p (call.Get signal msg) x.outcome) e)))
-
-by_kind : (s : System) (st new : State) (a signal msg : ℕ) (h : Handle) (o : Outcome) (p : ActorPhase) (k : ActorKind)
+by_get : (s : System) (st new : State) (a signal msg : ℕ) (h : Handle) (o : Outcome) (p : ActorPhase) (k : ActorKind)
     → effect_or_error (if has_call k (call.Get signal msg) then call_case s st a (call.Get signal msg) h else None) k s st a (call.Get signal msg) ≡ effect o new
     → Shows s st new a (call.Get signal msg) p k (λ j. if has_call k (call.Get signal msg) then call_case s st a (call.Get signal msg) j else None) h o
-by_kind s st new a signal msg h o p Partition e = by_service s st new a signal msg h o p (valid_buffer s a msg message_size) (λ i. find (is_undelivered i) st.spm.messages) (service_of_signal s a signal) e
-by_kind s st new a signal msg h o p Client e = (e, inl (sym (ap (λ x. gave_handle p (call.Get signal msg) x.outcome) e)))
-by_kind s st new a signal msg h o p Device e = (e, inl (sym (ap (λ x. gave_handle p (call.Get signal msg) x.outcome) e)))
+by_get s st new a signal msg h o p k e =
+    get_cases s st a signal msg k (λ due. effect_or_error (due h) k s st a (call.Get signal msg) ≡ effect o new → Shows s st new a (call.Get signal msg) p k due h o)
+    (λ is. (is, inl (sym (ap (λ x. gave_handle p (call.Get signal msg) x.outcome) is) ∙ error_gives_none s st a signal msg p k)))
+    (λ i m is. let shown : handle_shown o ≡ h = sym (ap (λ x. handle_shown x.outcome) is) in (subst (λ (j : Handle). get_of s st i msg j m ≡ effect o new) (sym shown) is, inr shown)) e
 
 -- the return of psa_connect
 by_connected : (s : System) (st new : State) (a c : ℕ) (h : Handle) (o : Outcome) → returned s st a (phase.Connected c) h ≡ effect o new
@@ -77,7 +61,7 @@ by_return s st new a h o p k e = (e, inl refl)
 
 shows : (s : System) (st new : State) (a : ℕ) (c : Call) (h : Handle) (o : Outcome) → effect_of s st a c h ≡ effect o new
     → (effect_of s st a c (handle_shown o) ≡ effect o new) × ((gave_handle (phase_of st.spm a) c o ≡ false) ⊎ (handle_shown o ≡ h))
-shows s st new a (call.Get signal msg) h o e = by_kind s st new a signal msg h o (phase_of st.spm a) (kind_of s a) e
+shows s st new a (call.Get signal msg) h o e = by_get s st new a signal msg h o (phase_of st.spm a) (kind_of s a) e
 shows s st new a call.Resume h o e = by_return s st new a h o (phase_of st.spm a) (kind_of s a) e
 shows s st new a c h o e = (e, inl refl)
 
@@ -89,9 +73,6 @@ no_handle b f h = rw h refl
 fresh_handle : (b f : Bool) → (b ≡ true → f ≡ true) → (not b || f) ≡ true
 fresh_handle true f h = h refl
 fresh_handle false f h = refl
-
-there : {X : Type 0} (o : Option X) (x : X) → o ≡ Some x → IsSome o
-there o x e = rw e refl
 
 -- with the outcome that is due the call is a step, where a handle that it gives is a fresh one
 due_is_step : (s : System) (m n : Machine) (all : List Handle) (a : ℕ) (c : Call) (h : Handle) (o : Outcome) → may_call s (spm_of_objects m.objects) a c ≡ true

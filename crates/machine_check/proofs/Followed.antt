@@ -23,8 +23,8 @@ use Rattle.machine_check.proofs.Judged.{either, first, second}
 
 -- ---- entry by entry
 
-pub is_some : {X : Type 0} (o : Option X) (x : X) → o ≡ Some x → IsSome o
-is_some o x e = rw e refl
+pub there : {X : Type 0} (o : Option X) (x : X) → o ≡ Some x → IsSome o
+there o x e = rw e refl
 
 -- before the first entry
 pub behind_none : (s : System) (m : ByteMap) (c : Checker) → Starts s m c → IsBehind s m [] c
@@ -38,7 +38,7 @@ behind_none s m c start = record {
 }
 
 -- the entry is a step behind those before it, or none, as it is at their state
-one_more : (s : System) (m : ByteMap) (front : List Entry) (c : Checker) (k : IsBehind s m front c) (e : Entry) → after s m (front ++ e ∷ []) ≡ step s (state_of c.machine k.handles) e
+pub one_more : (s : System) (m : ByteMap) (front : List Entry) (c : Checker) (k : IsBehind s m front c) (e : Entry) → after s m (front ++ e ∷ []) ≡ step s (state_of c.machine k.handles) e
 one_more s m front c k e = after-push s m front e ∙ ap (option_and_then (λ x. step s x e)) k.state
 
 -- the entry was accepted
@@ -64,7 +64,7 @@ stopped s m limit front rest es old new k e false parts within accepts is = reco
   parts = parts;
   count = accepts.1 ∙ k.count;
   within = omega (arith, accepts.1);
-  run = is_some _ _ k.state;
+  run = there _ _ k.state;
   next = ⊎_elim (λ (over : limit ≤ old.count). inl (omega (arith, accepts.1))) (λ (none : step s (state_of old.machine k.handles) e ≡ None). inr (one_more s m front old k e ∙ none)) accepts.0;
 }
 
@@ -112,7 +112,7 @@ no_second_stop s m limit es n i k again =
 -- ---- the judgement
 
 -- the entries of a run within the limit leave it to those behind them
-judged_behind : (s : System) (limit : ℕ) (v : Verdict) (n : ℕ) (front back : List Entry) (st new : State) → fold (step_on s) (Some st) front ≡ Some new → n + length front ≤ limit
+pub judged_behind : (s : System) (limit : ℕ) (v : Verdict) (n : ℕ) (front back : List Entry) (st new : State) → fold (step_on s) (Some st) front ≡ Some new → n + length front ≤ limit
     → judged_from s limit v n (front ++ back) st ≡ judged_from s limit v (n + length front) back new
 judged_behind s limit v n [] back st new is within =
     let same : st ≡ new = cc in

@@ -1,6 +1,6 @@
 mod Kept
-mod Allowed
-mod Steps
+pub mod Allowed
+pub mod Steps
 mod Performed
 mod Due
 pub mod Judged

@@ -8,6 +8,7 @@ use Rattle.std.proofs.lemmas.Bool.Decides.{nat_tests}
 use Rattle.std.proofs.lemmas.List.Elements.{All-cons, All-head, All-nil, All-tail}
 use Rattle.std.proofs.lemmas.Option.{slice_get_cases}
 use Rattle.byte_lanes.specs.Differences.{range_covers}
+use Rattle.list_laws.proofs.Bools.{or_rest}
 use Rattle.ffm_model.specs.declared.system.Partition.{Partition}
 use Rattle.ffm_model.specs.declared.system.Region.{Region}
 use Rattle.ffm_model.specs.declared.system.System.{System}
@@ -94,11 +95,7 @@ own-alike s act a x alike = by_kind (is_partition (kind_of s act)) where
   by_kind true = own (slice_get s.partitions act)
   by_kind false = any_alike (λ r. is_ram_of s act r.class) a x s.regions alike
 
-in_one : (b c : Bool) → (b || c) ≡ true → b ≡ false → c ≡ true
-in_one true c h none = cc
-in_one false c h none = h
-
 pub own-whole : (s : System) (act a len x : ℕ) → is_inside a len (ranges_of s.regions) ≡ true → range_covers (a, len) x ≡ true → own_ram s act x ≡ own_ram s act a
 own-whole s act a len x inside here =
     let some : (len == 0) ≡ false = grind (arith, nat_tests) in
-    own-alike s act a x (all_alike a len x s.regions (regions_apart s) (in_one (len == 0) _ inside some) here)
+    own-alike s act a x (all_alike a len x s.regions (regions_apart s) (or_rest (len == 0) _ some inside) here)

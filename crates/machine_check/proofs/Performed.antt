@@ -1,9 +1,9 @@
 -- What the calls make of the checker's state, with what a PROGRAMMER ERROR does.
 use Rattle.std.proofs.Common.{ℕ, ◌≡◌, Bool, true, false, refl, ap, sym, subst, ◌∙◌}
-use Rattle.std.specs.Prelude.{Option, Some, None, Result, Ok, Err, if◌then◌else◌}
+use Rattle.std.specs.Prelude.{Option, None, Result, Ok, Err, if◌then◌else◌}
+use Rattle.std.proofs.lemmas.Option.{none-some}
 use Rattle.ffm_model.specs.declared.system.System.{System}
 use Rattle.ffm_model.specs.declared.system.ActorKind.{ActorKind}
-use Rattle.ffm_model.specs.declared.system.ActorKind.TheVariants.{Partition, Client, Device}
 use Rattle.ffm_model.specs.declared.machine.Call.{Call}
 use Rattle.ffm_model.specs.declared.machine.Call.TheVariants as call
 use Rattle.ffm_model.specs.declared.machine.Handle.{Handle}
@@ -17,48 +17,18 @@ use Rattle.ffm_model.specs.Calls.{call_case, effect_or_error, error_effect, has_
 use Rattle.machine_calls.specs.declared.machine.Machine.{Machine}
 use Rattle.machine_calls.specs.Machine.{state_of}
 use Rattle.machine_check.specs.Performed.{gave_handle, given_after, phase_in, Attempts, Performs, Refuses}
+use Rattle.machine_check.proofs.Allowed.{error_gives_none}
 
 -- nothing is due: the effect is the error's
 error_due : (x : Option Effect) (b : Bool) (k : ActorKind) (s : System) (st : State) (a : ℕ) (c : Call) → x ≡ None → effect_or_error (if b then x else None) k s st a c ≡ error_effect k s st a c
 error_due x true k s st a c h = rw h refl
 error_due x false k s st a c h = refl
 
-abbrev some_or_none : {X : Type 0} → Option X → Type 0
-some_or_none (Some x) = Unit {0}
-some_or_none None = ⊥
-
-not_none : {X : Type 0} (x : X) → Some x ≡ None → ⊥
-not_none x h = subst some_or_none h tt
-
 -- a PROGRAMMER ERROR gives no handle
 error_gave : (k : ActorKind) (s : System) (st new : State) (a : ℕ) (c : Call) (h : Handle) (o : Outcome) (p : ActorPhase) → call_case s st a c h ≡ None → error_effect k s st a c ≡ effect o new → gave_handle p c o ≡ false
-error_gave Partition s st new a (call.Get signal msg) h o p none e = ap (λ x. gave_handle p (call.Get signal msg) x) (sym (ap (λ x. x.outcome) e))
-error_gave Client s st new a (call.Get signal msg) h o p none e = ap (λ x. gave_handle p (call.Get signal msg) x) (sym (ap (λ x. x.outcome) e))
-error_gave Device s st new a (call.Get signal msg) h o p none e = ap (λ x. gave_handle p (call.Get signal msg) x) (sym (ap (λ x. x.outcome) e))
-error_gave k s st new a call.Resume h o p none e = absurd (not_none _ none)
-error_gave k s st new a call.FrameworkVersion h o p none e = refl
-error_gave k s st new a (call.Version sid) h o p none e = refl
-error_gave k s st new a (call.Connect sid v) h o p none e = refl
-error_gave k s st new a (call.Invoke c kind iv il ov ol) h o p none e = refl
-error_gave k s st new a (call.Close c) h o p none e = refl
-error_gave k s st new a (call.Wait m t) h o p none e = refl
-error_gave k s st new a (call.SetRhandle m r) h o p none e = refl
-error_gave k s st new a (call.Read m i b l) h o p none e = refl
-error_gave k s st new a (call.Skip m i l) h o p none e = refl
-error_gave k s st new a (call.Write m i b l) h o p none e = refl
-error_gave k s st new a (call.Reply m z) h o p none e = refl
-error_gave k s st new a (call.Notify q) h o p none e = refl
-error_gave k s st new a call.Clear h o p none e = refl
-error_gave k s st new a (call.Eoi w) h o p none e = refl
-error_gave k s st new a (call.IrqEnable w) h o p none e = refl
-error_gave k s st new a (call.IrqDisable w) h o p none e = refl
-error_gave k s st new a (call.ResetSignal w) h o p none e = refl
-error_gave k s st new a call.Panic h o p none e = refl
-error_gave k s st new a (call.Load x n) h o p none e = refl
-error_gave k s st new a (call.Store x n v) h o p none e = refl
-error_gave k s st new a (call.Raise n) h o p none e = refl
-error_gave k s st new a (call.Fire n r) h o p none e = refl
-error_gave k s st new a (call.Stop b) h o p none e = refl
+error_gave k s st new a (call.Get signal msg) h o p none e = sym (ap (λ x. gave_handle p (call.Get signal msg) x.outcome) e) ∙ error_gives_none s st a signal msg p k
+error_gave k s st new a call.Resume h o p none e = absurd (none-some _ (sym none))
+error_gave k s st new a c h o p none e = refl
 
 -- what a PROGRAMMER ERROR does is what is due, where the call's case says nothing
 pub by_refusal : (s : System) (k : ActorKind) (a : ℕ) (c : Call) (h : Handle) (old mid new : Machine) (r : Result Outcome Memory) → k ≡ kind_of s a

@@ -108,9 +108,7 @@ none_with s m n all e due is gave old =
 
 or_last : (a b : Bool) → (a || (b || false)) ≡ (b || a)
 or_last true true = refl
-or_last true false = refl
-or_last false true = refl
-or_last false false = refl
+or_last a b = refl
 
 -- one handle more
 knows_more : (set more : BTreeSet ℤ) (all : List Handle) (h : Handle) → Knows set all → ((k : ℤ) → contains int_cmp more k ≡ (int_eq k h.0 || contains int_cmp set k)) → Knows more (all ++ h ∷ [])

@@ -13,7 +13,7 @@ use Rattle.ffm_model.specs.declared.system.System.{System}
 use Rattle.ffm_model.specs.WellFormed.{each_pair}
 use Rattle.ffm_model.specs.Ranges.{ranges_of, share_no_byte}
 use Rattle.memory_image.specs.Pieces.{byte_at, fit_an_image, regions_of}
-use Rattle.memory_image.proofs.Compared.{same_outside}
+use Rattle.memory_image.proofs.Compared.{covered, same_outside}
 use Rattle.memory_image.proofs.Systems.{system_fits}
 use Rattle.machine_check.specs.declared.differences.Differences.{Differences}
 use Rattle.machine_check.specs.declared.written.Ranges.{Ranges}
@@ -82,11 +82,6 @@ true_or : (p q : Bool) → (q ≡ false → p ≡ false) → p ≡ true → q �
 true_or p true h k = refl
 true_or p false h k = let off : p ≡ false = h refl in cc
 
-within : (p q : Bool) → (q ≡ false → p ≡ false) → (p && q) ≡ p
-within true true h = refl
-within true false h = sym (h refl)
-within false q h = refl
-
 pub change-told : (s : System) (k a : ℕ) (old new : List Bytes) (w : Ranges) (d : Differences) → regions_of old ≡ ranges_of s.regions → regions_of new ≡ ranges_of s.regions
     → AreInside (ranges_of s.regions) w → ((x : ℕ) → any_covers (ranges_in w) x ≡ false → byte_at new x ≡ byte_at old x)
     → AreDifferences s a (byte_at old) (byte_at new) (ranges_in w) d → IsChangeOf s k a (byte_at old) (byte_at new) (change_of k d)
@@ -97,13 +92,13 @@ change-told s k a old new w d old_regions new_regions inside stays found =
     let off : (x : ℕ) → any_covers rs x ≡ false → differs m n x ≡ false = λ x out. same_byte (n x) (m x) (stays x out) in
     let off_regions : (x : ℕ) → any_covers (ranges_of s.regions) x ≡ false → differs m n x ≡ false =
     λ x out. same_outside old new (old_regions ∙ sym new_regions) x (ap (λ r. any_covers r x) old_regions ∙ out) in
-    let lowest : IsLeast (differs m n) d.lowest = least_same (λ x. differs m n x && any_covers rs x) (differs m n) d.lowest (λ x. within (differs m n x) (any_covers rs x) (off x)) found.lowest in
+    let lowest : IsLeast (differs m n) d.lowest = least_same (λ x. differs m n x && any_covers rs x) (differs m n) d.lowest (λ x. covered (differs m n x) (any_covers rs x) (off x)) found.lowest in
     let count : d.count ≡ count_in (differs m n) (ranges_of s.regions) =
     found.count ∙ count_in_ranges (differs m n) rs (ranges_of s.regions) 4294967296 (written-apart (ranges_of s.regions) w (system_fits s) inside) (system-apart s)
     (λ x h. true_or (differs m n x) (any_covers rs x) (off x) h) (λ x h. true_or (differs m n x) (any_covers (ranges_of s.regions) x) (off_regions x) h) in
     let outside : IsLeast (λ x. differs m n x && not (own_ram s a x)) d.outside =
     least_same (λ x. (differs m n x && not (own_ram s a x)) && any_covers rs x) (λ x. differs m n x && not (own_ram s a x)) d.outside
-    (λ x. within (differs m n x && not (own_ram s a x)) (any_covers rs x) (λ out. and_left (differs m n x) (not (own_ram s a x)) (off x out))) found.outside in
+    (λ x. covered (differs m n x && not (own_ram s a x)) (any_covers rs x) (λ out. and_left (differs m n x) (not (own_ram s a x)) (off x out))) found.outside in
     let told : (o : Option ℕ) → IsLeast (differs m n) o → IsChangeOf s k a m n (option_map (λ x. record { place = k; lowest = x; count = d.count; outside = d.outside }) o) =
     elim [ None ↦ λ least. least | Some x ↦ λ least. record { place = refl; lowest = least; count = count; outside = outside } ] in
     told d.lowest lowest

@@ -17,6 +17,10 @@ length-bytes_at m a (suc n) = let rest = length-bytes_at m (a + 1) n in omega (a
 abbrev pairs : ByteMap → ByteMap → ℕ → ℕ → List (ℕ × ℕ)
 pairs m k a n = zip (bytes_at m a n) (bytes_at k a n)
 
+-- slices that hold a range are of one length
+pub same_length : (m k : ByteMap) (a n : ℕ) (xs ys : List ℕ) → xs ≡ bytes_at m a n → ys ≡ bytes_at k a n → length xs ≡ length ys
+same_length m k a n xs ys one other = ap length one ∙ length-bytes_at m a n ∙ sym (ap length other ∙ length-bytes_at k a n)
+
 pub counted_at : (m k : ByteMap) (a n : ℕ) → count_by are_unequal (pairs m k a n) ≡ count_by (differs m k) (range_with_len a n)
 counted_at m k a zero = refl
 counted_at m k a (suc n) =
@@ -74,36 +78,36 @@ left_false true true h = h refl
 left_false true false h = refl
 left_false false c h = refl
 
-pub place_within : (m k : ByteMap) (a n i : ℕ) → Some i ≡ position are_unequal (pairs m k a n) → i < n
-place_within m k a n i e =
-    let t = told _ _ i e in
+-- what a search in two slices that hold a range found
+found_in : (m k : ByteMap) (a n : ℕ) (xs ys : List ℕ) (r : Option ℕ) → xs ≡ bytes_at m a n → ys ≡ bytes_at k a n
+    → r ≡ position are_unequal (zip xs ys) → r ≡ position are_unequal (pairs m k a n)
+found_in m k a n xs ys r one other e =
+    e ∙ (ap (λ l. position are_unequal (zip l ys)) one ∙ ap (λ l. position are_unequal (zip (bytes_at m a n) l)) other)
+
+pub place_within : (m k : ByteMap) (a n : ℕ) (xs ys : List ℕ) (i : ℕ) → xs ≡ bytes_at m a n → ys ≡ bytes_at k a n → Some i ≡ position are_unequal (zip xs ys) → i < n
+place_within m k a n xs ys i one other e =
+    let t = told _ _ i (found_in m k a n xs ys (Some i) one other e) in
     let long = length_of_pairs m k a n in
     grind (arith, nat_tests, t.0, t.1, long)
 
-pub least_at : (m k : ByteMap) (a n i : ℕ) → Some i ≡ position are_unequal (pairs m k a n)
+pub least_at : (m k : ByteMap) (a n : ℕ) (xs ys : List ℕ) (i : ℕ) → xs ≡ bytes_at m a n → ys ≡ bytes_at k a n → Some i ≡ position are_unequal (zip xs ys)
     → IsLeast (λ x. differs m k x && range_covers (a, n) x) (Some (a + i))
-least_at m k a n i e =
+least_at m k a n xs ys i one other e =
     let run = run_at m k a n in
-    let t = told _ _ i e in
-    let below = place_within m k a n i e in
+    let t = told _ _ i (found_in m k a n xs ys (Some i) one other e) in
+    let below = place_within m k a n xs ys i one other e in
     let there : differs m k (a + i) ≡ true = ap (λ d. differs m k (a + d)) t.1 ∙ run.stops (omega (arith, t.1, below)) in (
       and_from _ _ there (grind (arith, nat_tests, below)),
       λ x low. left_false (differs m k x) (range_covers (a, n) x)
           (λ c. let from : a ≤ x = grind (arith, nat_tests) in run.before x from (omega (arith, t.1, low))),
     )
 
-pub none_at : (m k : ByteMap) (a n : ℕ) → None ≡ position are_unequal (pairs m k a n)
+pub none_at : (m k : ByteMap) (a n : ℕ) (xs ys : List ℕ) → xs ≡ bytes_at m a n → ys ≡ bytes_at k a n → None ≡ position are_unequal (zip xs ys)
     → IsLeast (λ x. differs m k x && range_covers (a, n) x) None
-none_at m k a n e =
+none_at m k a n xs ys one other e =
     let run = run_at m k a n in
-    let t = told_none _ _ e in
+    let t = told_none _ _ (found_in m k a n xs ys None one other e) in
     let long = length_of_pairs m k a n in
     let whole : position_or_len are_unequal (pairs m k a n) ≡ n = grind (arith, nat_tests, t, long, run.within) in
     λ x. left_false (differs m k x) (range_covers (a, n) x)
     (λ c. let from : a ≤ x = grind (arith, nat_tests) in let to : x < a + n = grind (arith, nat_tests) in run.before x from (omega (arith, whole, to)))
-
--- what a search in two slices that hold a range found
-pub found_in : (m k : ByteMap) (a n : ℕ) (xs ys : List ℕ) (r : Option ℕ) → xs ≡ bytes_at m a n → ys ≡ bytes_at k a n
-    → r ≡ position are_unequal (zip xs ys) → r ≡ position are_unequal (pairs m k a n)
-found_in m k a n xs ys r one other e =
-    e ∙ (ap (λ l. position are_unequal (zip l ys)) one ∙ ap (λ l. position are_unequal (zip (bytes_at m a n) l)) other)

@@ -53,7 +53,7 @@ region_small rs k a n at fit =
 
 -- ---- the least, region by region
 
-both : (a b c : Bool) → ((a && b) || (a && c)) ≡ (a && (b || c))
+pub both : (a b c : Bool) → ((a && b) || (a && c)) ≡ (a && (b || c))
 both true b c = refl
 both false b c = refl
 
@@ -70,7 +70,8 @@ least_step p rs k a n least found at one other =
     (λ x. both (p x) (any_covers before x) (range_covers (a, n) x) ∙ ap (λ b. p x && b) (sym (more x)))
     (lesser_of (λ x. p x && any_covers before x) (λ x. p x && range_covers (a, n) x) least found one other)
 
-covered : (b c : Bool) → (c ≡ false → b ≡ false) → (b && c) ≡ b
+-- a test that the other one covers
+pub covered : (b c : Bool) → (c ≡ false → b ≡ false) → (b && c) ≡ b
 covered true true h = refl
 covered true false h = sym (h refl)
 covered false c h = refl

@@ -1,8 +1,9 @@
 -- The index of an image finds the piece that has a range.
-use Rattle.std.proofs.Common.{ℕ, ◌≡◌, ◌<◌, Bool, true, false, List, length, get_or, arith, ◌∙◌, ap, sym, refl, subst}
+use Rattle.std.proofs.Common.{ℕ, ◌≡◌, ◌<◌, true, false, List, length, get_or, arith, ◌∙◌, ap, sym, subst}
 use Rattle.std.specs.Prelude.{map, Some, None}
 use Rattle.std.specs.List.{list_any}
 use Rattle.std.proofs.lemmas.List.{get_or-map, get_or_default, length-map}
+use Rattle.std.proofs.lemmas.Bool.{false_from_ne_true}
 use Rattle.std.proofs.lemmas.List.Folds.{list_any_at, list_any_none}
 use Rattle.ffm_model.specs.declared.scenario.Bytes.{Bytes}
 use Rattle.ffm_model.specs.declared.starts.Start.{Start}
@@ -15,10 +16,7 @@ use Rattle.memory_image.proofs.Opened.{regions_of-zero}
 -- where no place has a region with the range, none has it
 none_has : (rs : List (ℕ × ℕ)) (at len : ℕ) → ((i : ℕ) → i < length rs → has_range at len (get_or rs i (0, 0)) ≡ true → ⊥) → list_any (has_range at len) rs ≡ false
 none_has rs at len none =
-    list_any_none (has_range at len) rs (λ k d below. ap (has_range at len) (get_or_default rs k d (0, 0) below) ∙ at_one k below (has_range at len (get_or rs k (0, 0))) refl) where
-      at_one : (k : ℕ) → k < length rs → (b : Bool) → has_range at len (get_or rs k (0, 0)) ≡ b → has_range at len (get_or rs k (0, 0)) ≡ false
-      at_one k below true is = absurd (none k below is)
-      at_one k below false is = is
+    list_any_none (has_range at len) rs (λ k d below. ap (has_range at len) (get_or_default rs k d (0, 0) below) ∙ false_from_ne_true _ (none k below))
 
 -- the piece at a place has the range
 pub found_there : (ps : List Bytes) (i at len : ℕ) (p : Bytes) → i < length ps → p ≡ get_or ps i p → has_range at len (range_of p) ≡ true → HasRangeAt ps i at len

@@ -8,3 +8,7 @@ pub mod Indexed
 pub mod Located
 pub mod Changed
 pub mod Compared
+pub mod Outside
+pub mod Vectors
+pub mod Effects
+pub mod Messages

@@ -7,7 +7,7 @@ use Rattle.std.proofs.lemmas.List.{get_or-map, length-map}
 use Rattle.std.proofs.lemmas.List.Folds.{list_any_none}
 use Rattle.std.proofs.lemmas.List.Quantifiers.{position-Some}
 use Rattle.std.proofs.lemmas.List.Sums.{fails_before_first}
-use Rattle.std.proofs.lemmas.Bool.{and_parts, or_from}
+use Rattle.std.proofs.lemmas.Bool.{and_parts, and_right, false_from_ne_true, or_from}
 use Rattle.ffm_model.specs.declared.system.Class.{Class}
 use Rattle.ffm_model.specs.declared.system.Region.{Region}
 use Rattle.ffm_model.specs.declared.system.System.{System}
@@ -25,16 +25,10 @@ lies : (base len : ℕ) (r : Region) → 0 < len → lies_in base len r ≡ has_
 lies base len r some = let filled : (len == 0) ≡ false = grind (arith, nat_tests) in rw filled refl
 
 hasnt : (p : Class → Bool) (base len : ℕ) (r : Region) → 0 < len → has_range base len (range_in r) ≡ false → has_it p base len r ≡ false
-hasnt p base len r some off = by (p r.class) _ (lies base len r some ∙ off) where
-  by : (a b : Bool) → b ≡ false → (a && b) ≡ false
-  by true b e = e
-  by false b e = refl
+hasnt p base len r some off = and_right (p r.class) _ (lies base len r some ∙ off)
 
 other : (base len : ℕ) (r q : ℕ × ℕ) → 0 < len → share_no_byte r q ≡ true → has_range base len r ≡ true → has_range base len q ≡ false
-other base len r q some apart has = by (has_range base len q) refl where
-  by : (b : Bool) → has_range base len q ≡ b → b ≡ false
-  by true e = absurd (grind (arith, nat_tests))
-  by false e = refl
+other base len r q some apart has = false_from_ne_true (has_range base len q) (λ e. grind (arith, nat_tests))
 
 others : (p : Class → Bool) (base len : ℕ) (r : Region) (rs : List Region) → 0 < len → list_all (share_no_byte (range_in r)) (ranges_of rs) ≡ true → has_range base len (range_in r) ≡ true
     → list_any (has_it p base len) rs ≡ false
@@ -62,10 +56,7 @@ one_of p (r ∷ rs) (suc i) base len d apart some below has =
       by a b c e f = rw e f
 
       off : share_no_byte (range_in r) (range_in (get_or rs i d)) ≡ true → has_range base len (range_in r) ≡ false
-      off here = again (has_range base len (range_in r)) refl where
-        again : (b : Bool) → has_range base len (range_in r) ≡ b → b ≡ false
-        again true e = absurd (let never = other base len (range_in r) (range_in (get_or rs i d)) some here e in cc)
-        again false e = refl
+      off here = false_from_ne_true _ (λ e. let never = other base len (range_in r) (range_in (get_or rs i d)) some here e in cc)
 
 -- ---- what a look-up says of the regions
 
@@ -77,10 +68,7 @@ class_found s i base len d some at p =
 pub class_missing : (s : System) (base len : ℕ) → position (lies_in base len) s.regions ≡ None → (p : Class → Bool) → list_any (has_it p base len) s.regions ≡ false
 class_missing s base len none p =
     let last = nowhere (lies_in base len) s.regions none in
-    list_any_none (has_it p base len) s.regions (λ k d below. by (p (get_or s.regions k d).class) _ (fails_before_first (lies_in base len) s.regions k d (omega arith))) where
-      by : (a b : Bool) → b ≡ false → (a && b) ≡ false
-      by true b e = e
-      by false b e = refl
+    list_any_none (has_it p base len) s.regions (λ k d below. and_right (p (get_or s.regions k d).class) _ (fails_before_first (lies_in base len) s.regions k d (omega arith)))
 
 -- ---- what actors may do with a range that isn't empty
 

@@ -1,11 +1,16 @@
 -- What an image needs to know of a system's regions, for callers that have a system.
-use Rattle.std.proofs.Common.{ℕ, ◌≡◌, ◌+◌, Bool, true, false, ◌&&◌, ◌||◌, List, [], ◌∷◌, length, refl}
+use Rattle.std.proofs.Common.{arith, ℕ, ◌≡◌, ◌+◌, Bool, true, false, ◌&&◌, ◌||◌, List, [], ◌∷◌, length, refl}
 use Rattle.std.specs.Prelude.{◌==◌, nat_le, fold, sum_by}
 use Rattle.std.specs.List.{list_any, list_all}
 use Rattle.std.proofs.lemmas.Bool.{and_from, and_parts}
+use Rattle.std.proofs.lemmas.Bool.Decides.{nat_tests}
+use Rattle.list_laws.proofs.Tests.{list_any-more}
+use Rattle.byte_lanes.specs.Differences.{range_covers}
+use Rattle.ffm_model.specs.declared.system.Class.{Class}
 use Rattle.ffm_model.specs.declared.system.System.{System}
 use Rattle.ffm_model.specs.declared.system.Region.{Region}
 use Rattle.ffm_model.specs.Memory.{lies_in, is_ram_of, is_mmio_of, is_writable_mmio_of, valid_buffer, may_read, may_write}
+use Rattle.ffm_model.specs.Reach.{covers}
 use Rattle.ffm_model.specs.WellFormed.{owner_below, regions_fit}
 use Rattle.ffm_model.proofs.WellFormedLemmas.{regions_hold}
 use Rattle.ffm_model.proofs.RangeLemmas.{apart_ranges}
@@ -35,16 +40,6 @@ regions_fit-image n rs h =
 pub system_fits : (s : System) → fit_an_image (ranges_of s.regions) ≡ true
 system_fits s = regions_fit-image (length s.partitions) s.regions (regions_hold s)
 
-either : (a b c d : Bool) → ((a && b) || c) ≡ true → (c ≡ true → d ≡ true) → (b || d) ≡ true
-either true true c d h rest = refl
-either true false c d h rest = rest h
-either false true c d h rest = refl
-either false false c d h rest = rest h
-
-lies_in-any : (class : Region → Bool) (base len : ℕ) (rs : List Region) → list_any (λ r. class r && lies_in base len r) rs ≡ true → list_any (lies_in base len) rs ≡ true
-lies_in-any class base len [] h = cc
-lies_in-any class base len (r ∷ rs) h = either (class r) (lies_in base len r) _ _ h (lies_in-any class base len rs)
-
 empty_or : (b c d : Bool) → (b || c) ≡ true → (c ≡ true → (b || d) ≡ true) → (b || d) ≡ true
 empty_or true c d h rest = refl
 empty_or false c d h rest = rest h
@@ -55,7 +50,7 @@ or_else false b c h first second = second h
 
 -- a range of a region of some class lies inside
 class_inside : (class : Region → Bool) (base len : ℕ) (rs : List Region) → list_any (λ r. class r && lies_in base len r) rs ≡ true → is_inside base len (ranges_of rs) ≡ true
-class_inside class base len rs h = is_inside-lies base len rs (lies_in-any class base len rs h)
+class_inside class base len rs h = is_inside-lies base len rs (list_any-more (λ r. class r && lies_in base len r) (lies_in base len) (λ r both. (and_parts (class r) _ both).1) rs h)
 
 -- a valid buffer lies inside of an image of the system's regions
 pub buffer_inside : (s : System) (a base len : ℕ) → valid_buffer s a base len ≡ true → is_inside base len (ranges_of s.regions) ≡ true
@@ -68,3 +63,14 @@ readable_inside s a base len h = or_else _ _ _ h (buffer_inside s a base len) (c
 -- and what it may write
 pub writable_inside : (s : System) (a base len : ℕ) → may_write s a base len ≡ true → is_inside base len (ranges_of s.regions) ≡ true
 writable_inside s a base len h = or_else _ _ _ h (buffer_inside s a base len) (class_inside (λ r. is_writable_mmio_of a r.class) base len s.regions)
+
+-- an address of a range that lies in a region is the region's
+pub lies-covers : (base len x : ℕ) (r : Region) → range_covers (base, len) x ≡ true → lies_in base len r ≡ true → covers r x ≡ true
+lies-covers base len x r inside lies = grind (arith, nat_tests)
+
+-- so it is one of a region of the same class
+pub class-covers : (class : Class → Bool) (base len x : ℕ) (rs : List Region) → range_covers (base, len) x ≡ true
+    → list_any (λ r. class r.class && lies_in base len r) rs ≡ true → list_any (λ r. class r.class && covers r x) rs ≡ true
+class-covers class base len x rs inside h =
+    list_any-more (λ r. class r.class && lies_in base len r) (λ r. class r.class && covers r x)
+    (λ r both. let parts = and_parts (class r.class) (lies_in base len r) both in and_from _ _ parts.0 (lies-covers base len x r inside parts.1)) rs h

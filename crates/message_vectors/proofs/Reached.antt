@@ -1,37 +1,19 @@
 -- Which bytes copies, lengths and descriptors read and change.
-use Rattle.std.proofs.Common.{ℕ, zero, suc, ◌≡◌, ◌≤◌, ◌+◌, ◌/◌, Bool, true, false, ◌&&◌, ◌||◌, List, [], ◌∷◌, length, arith, ◌∙◌, ap, sym, refl, inl, inr, ◌*◌, ◌++◌, take}
+use Rattle.std.proofs.Common.{ℕ, zero, suc, ◌≡◌, ◌≤◌, ◌+◌, Bool, true, false, ◌&&◌, ◌||◌, List, [], ◌∷◌, length, arith, ◌∙◌, ap, sym, refl, inl, inr, ◌*◌, ◌++◌, take}
 use Rattle.std.specs.Prelude.{nat_le, nat_lt, ◌==◌, min, replicate, if◌then◌else◌, Option, Some, None}
-use Rattle.std.specs.List.{list_any, list_all}
+use Rattle.std.specs.List.{list_all}
 use Rattle.std.proofs.lemmas.Bool.Decides.{nat_tests}
-use Rattle.memory_image.proofs.Changed.{length-bytes_at}
+use Rattle.memory_image.proofs.Outside.{store_number-outside, write_bytes-outside}
+use Rattle.memory_image.proofs.Systems.{class-covers}
 use Rattle.ffm_model.specs.declared.system.System.{System}
-use Rattle.ffm_model.specs.declared.system.Region.{Region}
 use Rattle.ffm_model.specs.declared.constants.TheConstants.{PSA_MAX_IOVEC}
 use Rattle.ffm_model.specs.declared.objects.Span.{Span}
 use Rattle.ffm_model.specs.declared.objects.Vectors.{Vectors}
-use Rattle.ffm_model.specs.Memory.{ByteMap, write_bytes, store_number, low_bytes, copy_bytes, bytes_at, span_at, spans_at, vectors_read, vectors_of, valid_buffer, lies_in, is_ram_of, lengths_written, no_span, number_of, load_number, words_stored}
-use Rattle.ffm_model.specs.Reach.{covers, span_has, length_word_has}
+use Rattle.ffm_model.specs.Memory.{ByteMap, write_bytes, store_number, low_bytes, copy_bytes, bytes_at, span_at, spans_at, vectors_read, vectors_of, valid_buffer, is_ram_of, lengths_written, no_span, number_of, load_number}
+use Rattle.ffm_model.specs.Reach.{span_has, length_word_has}
 use Rattle.ffm_model.specs.ServiceCalls.{rest_of}
 use Rattle.byte_lanes.specs.Differences.{range_covers}
 use Rattle.message_vectors.specs.Bytes.{ram_has, AgreeWhere, TellsNothingAt}
-
-length-low_bytes : (n v : ℕ) → length (low_bytes n v) ≡ n
-length-low_bytes zero v = refl
-length-low_bytes (suc n) v = ap suc (length-low_bytes n (v / 256))
-
--- outside of the bytes that are put, memory stays
-write_bytes-outside : (m : ByteMap) (a : ℕ) (bs : List ℕ) (n x : ℕ) → length bs ≡ n → range_covers (a, n) x ≡ false → write_bytes m a bs x ≡ m x
-write_bytes-outside m a bs n x long out = grind (arith, nat_tests)
-
--- a number changes its own bytes alone
-pub store_number-outside : (m : ByteMap) (at size v x : ℕ) → range_covers (at, size) x ≡ false → store_number m at size v x ≡ m x
-store_number-outside m at size v x out = write_bytes-outside m at (low_bytes size v) size x (length-low_bytes size v) out
-
--- and words theirs
-pub words_stored-outside : (m : ByteMap) (at x : ℕ) (ws : List ℕ) → range_covers (at, 4 * length ws) x ≡ false → words_stored m at ws x ≡ m x
-words_stored-outside m at x [] out = refl
-words_stored-outside m at x (w ∷ ws) out =
-    words_stored-outside (store_number m at 4 w) (at + 4) x ws (grind (arith, nat_tests)) ∙ store_number-outside m at 4 w x (grind (arith, nat_tests))
 
 -- where the same bytes are put
 pub write_bytes-tells : (one other : ByteMap) (a : ℕ) (bs : List ℕ) (x : ℕ) → TellsNothingAt x one other (write_bytes one a bs) (write_bytes other a bs)
@@ -39,10 +21,6 @@ write_bytes-tells one other a bs x = by_test (range_covers (a, length bs) x) ref
   by_test : (b : Bool) → range_covers (a, length bs) x ≡ b → TellsNothingAt x one other (write_bytes one a bs) (write_bytes other a bs)
   by_test true inside = inl (rw inside refl)
   by_test false outside = inr (write_bytes-outside one a bs _ x refl outside, write_bytes-outside other a bs _ x refl outside)
-
--- a copy changes its target alone
-pub copy_bytes-outside : (m : ByteMap) (from to len x : ℕ) → range_covers (to, len) x ≡ false → copy_bytes m from to len x ≡ m x
-copy_bytes-outside m from to len x out = write_bytes-outside m to (bytes_at m from len) len x (length-bytes_at m from len) out
 
 -- bytes of memories that agree there
 pub bytes_at-same : (one other : ByteMap) (a len : ℕ) → AgreeWhere (λ x. range_covers (a, len) x) one other → bytes_at one a len ≡ bytes_at other a len
@@ -88,30 +66,9 @@ lengths_written-tells one other at x (v ∷ vs) =
     (write_bytes-tells one other (at + 4) (low_bytes 4 v.moved) x)
     (lengths_written-tells (store_number one (at + 4) 4 v.moved) (store_number other (at + 4) 4 v.moved) (at + 8) x vs)
 
--- an address of a range that lies in a region is the region's
-lies-covers : (base len x : ℕ) (r : Region) → range_covers (base, len) x ≡ true → lies_in base len r ≡ true → covers r x ≡ true
-lies-covers base len x r inside lies = grind (arith, nat_tests)
-
-and_right_more : (a b c : Bool) → (b ≡ true → c ≡ true) → (a && b) ≡ true → (a && c) ≡ true
-and_right_more true b c more h = more h
-and_right_more false b c more h = h
-
-any_more : (a b c d : Bool) → (a ≡ true → b ≡ true) → (c ≡ true → d ≡ true) → (a || c) ≡ true → (b || d) ≡ true
-any_more true true c d first rest h = refl
-any_more true false c d first rest h = absurd (let no : false ≡ true = first refl in cc)
-any_more false true c d first rest h = refl
-any_more false false c d first rest h = rest h
-
-ram-covers : (s : System) (a base len x : ℕ) (rs : List Region) → range_covers (base, len) x ≡ true
-    → list_any (λ r. is_ram_of s a r.class && lies_in base len r) rs ≡ true → list_any (λ r. is_ram_of s a r.class && covers r x) rs ≡ true
-ram-covers s a base len x [] inside h = h
-ram-covers s a base len x (r ∷ rs) inside h =
-    any_more (is_ram_of s a r.class && lies_in base len r) (is_ram_of s a r.class && covers r x) _ _
-    (and_right_more (is_ram_of s a r.class) (lies_in base len r) (covers r x) (lies-covers base len x r inside)) (ram-covers s a base len x rs inside) h
-
 -- each byte of a valid buffer lies in the actor's RAM
 pub buffer-ram : (s : System) (a base len x : ℕ) → valid_buffer s a base len ≡ true → range_covers (base, len) x ≡ true → ram_has s a x ≡ true
-buffer-ram s a base len x valid inside = ram-covers s a base len x s.regions inside (second (len == 0) _ valid some) where
+buffer-ram s a base len x valid inside = class-covers (is_ram_of s a) base len x s.regions inside (second (len == 0) _ valid some) where
   some : (len == 0) ≡ false
   some = grind (arith, nat_tests)
 

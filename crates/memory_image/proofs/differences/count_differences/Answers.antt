@@ -11,14 +11,10 @@ overflow_cast-len c =
     let small = region_small _ _ _ _ at c.keeps_its_limits.ensures in
     search rules
 
-pub count_differences_in-total-requires-clause-one : goal.count_differences_in-total-requires-clause-one
-count_differences_in-total-requires-clause-one c =
-    region_inside _ _ _ _ (piece_at c.args.one.now _ _ c.len.result _ _ c.pieces-piece-items.ensures c.loop-piece-test.true c.piece-item.is c.len.ensures)
-
-pub count_differences_in-total-requires-clause-other : goal.count_differences_in-total-requires-clause-other
-count_differences_in-total-requires-clause-other c =
-    let at = piece_at c.args.one.now _ _ c.len.result _ _ c.pieces-piece-items.ensures c.loop-piece-test.true c.piece-item.is c.len.ensures in
-    ap (is_inside c.piece-item.result.address c.len.result) (sym c.requires) ∙ region_inside _ _ _ _ at
+pub count_differences_in-total-requires : goal.count_differences_in-total-requires
+count_differences_in-total-requires c =
+    let inside = region_inside _ _ _ _ (piece_at c.args.one.now _ _ c.len.result _ _ c.pieces-piece-items.ensures c.loop-piece-test.true c.piece-item.is c.len.ensures) in
+    record { one = inside; other = ap (is_inside c.piece-item.result.address c.len.result) (sym c.requires) ∙ inside }
 
 pub overflow_add-total : goal.overflow_add-total
 overflow_add-total c =

@@ -12,14 +12,10 @@ overflow_cast-len c =
     let small = region_small _ _ _ _ at c.keeps_its_limits.ensures in
     search rules
 
-pub first_difference_around-found-requires-clause-one : goal.first_difference_around-found-requires-clause-one
-first_difference_around-found-requires-clause-one c =
-    region_inside _ _ _ _ (piece_at c.args.one.now _ _ c.len-len.result _ _ c.pieces-piece-items.ensures c.loop-piece-test.true c.piece-item.is c.len-len.ensures)
-
-pub first_difference_around-found-requires-clause-other : goal.first_difference_around-found-requires-clause-other
-first_difference_around-found-requires-clause-other c =
-    let at = piece_at c.args.one.now _ _ c.len-len.result _ _ c.pieces-piece-items.ensures c.loop-piece-test.true c.piece-item.is c.len-len.ensures in
-    ap (is_inside c.piece-item.result.address c.len-len.result) (sym c.requires) ∙ region_inside _ _ _ _ at
+pub first_difference_around-found-requires : goal.first_difference_around-found-requires
+first_difference_around-found-requires c =
+    let inside = region_inside _ _ _ _ (piece_at c.args.one.now _ _ c.len-len.result _ _ c.pieces-piece-items.ensures c.loop-piece-test.true c.piece-item.is c.len-len.ensures) in
+    record { one = inside; other = ap (is_inside c.piece-item.result.address c.len-len.result) (sym c.requires) ∙ inside }
 
 pub loop-piece-preserved : goal.loop-piece-preserved
 loop-piece-preserved c =

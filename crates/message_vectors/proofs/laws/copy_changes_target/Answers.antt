@@ -1,4 +1,4 @@
-use Rattle.message_vectors.proofs.Reached.{copy_bytes-outside}
+use Rattle.memory_image.proofs.Outside.{copy_bytes-outside}
 use Rattle.message_vectors.proofs.laws.copy_changes_target.Goals as goal
 
 pub returns : goal.returns

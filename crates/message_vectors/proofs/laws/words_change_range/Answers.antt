@@ -1,4 +1,4 @@
-use Rattle.message_vectors.proofs.Reached.{words_stored-outside}
+use Rattle.memory_image.proofs.Outside.{words_stored-outside}
 use Rattle.message_vectors.proofs.laws.words_change_range.Goals as goal
 
 pub returns : goal.returns

@@ -1,27 +1,19 @@
-use Rattle.std.proofs.Common.{◌≤◌, ◌+◌, ◌*◌, arith, refl, ◌∙◌}
-use Rattle.memory_image.proofs.Stored.{ends_below, part_inside}
-use Rattle.message_vectors.proofs.Moved.{lengths_step}
+use Rattle.std.proofs.Common.{◌+◌, ◌*◌, arith, refl, ◌∙◌}
+use Rattle.memory_image.proofs.Stored.{part_inside}
+use Rattle.memory_image.proofs.Vectors.{descriptor_ends, lengths_step}
 use Rattle.message_vectors.proofs.moves.put_lengths.Goals as goal
 
 pub overflow_cast-k : goal.overflow_cast-k
-overflow_cast-k c =
-    let end : c.args.at + 8 * c.loop-k.k + 8 ≤ 4294967296 = ends_below (c.args.at + 8 * c.loop-k.k) 8 _ c.keeps_its_limits.ensures (c.requires c.loop-k.k c.loop-k-test.true) (omega arith) in
-    omega arith
+overflow_cast-k c = omega (arith, descriptor_ends c.args.at c.loop-k.k _ c.keeps_its_limits.ensures (c.requires c.loop-k.k c.loop-k-test.true))
 
 pub overflow_mul-k : goal.overflow_mul-k
-overflow_mul-k c =
-    let end : c.args.at + 8 * c.loop-k.k + 8 ≤ 4294967296 = ends_below (c.args.at + 8 * c.loop-k.k) 8 _ c.keeps_its_limits.ensures (c.requires c.loop-k.k c.loop-k-test.true) (omega arith) in
-    omega arith
+overflow_mul-k c = omega (arith, descriptor_ends c.args.at c.loop-k.k _ c.keeps_its_limits.ensures (c.requires c.loop-k.k c.loop-k-test.true))
 
 pub overflow_add-at : goal.overflow_add-at
-overflow_add-at c =
-    let end : c.args.at + 8 * c.loop-k.k + 8 ≤ 4294967296 = ends_below (c.args.at + 8 * c.loop-k.k) 8 _ c.keeps_its_limits.ensures (c.requires c.loop-k.k c.loop-k-test.true) (omega arith) in
-    omega arith
+overflow_add-at c = omega (arith, descriptor_ends c.args.at c.loop-k.k _ c.keeps_its_limits.ensures (c.requires c.loop-k.k c.loop-k-test.true))
 
 pub overflow_add-at-in-loop-k : goal.overflow_add-at-in-loop-k
-overflow_add-at-in-loop-k c =
-    let end : c.args.at + 8 * c.loop-k.k + 8 ≤ 4294967296 = ends_below (c.args.at + 8 * c.loop-k.k) 8 _ c.keeps_its_limits.ensures (c.requires c.loop-k.k c.loop-k-test.true) (omega arith) in
-    omega arith
+overflow_add-at-in-loop-k c = omega (arith, descriptor_ends c.args.at c.loop-k.k _ c.keeps_its_limits.ensures (c.requires c.loop-k.k c.loop-k-test.true))
 
 pub store-requires-clause-inside : goal.store-requires-clause-inside
 store-requires-clause-inside c =

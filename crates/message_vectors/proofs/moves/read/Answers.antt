@@ -2,14 +2,15 @@ use Rattle.std.proofs.Common.{arith, rules, ap, ◌∙◌}
 use Rattle.ffm_model.specs.Memory.{no_span}
 use Rattle.memory_image.proofs.Stored.{part_inside}
 use Rattle.ffm_model.specs.ServiceCalls.{input_of}
-use Rattle.message_vectors.proofs.Moved.{rest_inside}
-use Rattle.message_vectors.proofs.Reached.{copy_bytes-outside, range-part}
+use Rattle.memory_image.proofs.Outside.{copy_bytes-outside}
+use Rattle.memory_image.proofs.Vectors.{next_inside}
+use Rattle.message_vectors.proofs.Reached.{range-part}
 use Rattle.message_vectors.proofs.moves.read.Goals as goal
 
 pub copy-requires-clause-from : goal.copy-requires-clause-from
 copy-requires-clause-from c =
-    rest_inside _ (input_of c.args.vectors.now c.args.index) _ _ c.next_byte-from.ensures (omega arith) (c.requires.within.moved.inputs c.args.index no_span (search rules))
-    (c.requires.within.inputs c.args.index no_span (search rules))
+    let moved = c.requires.within.moved.inputs c.args.index no_span (search rules) in
+    next_inside _ (input_of c.args.vectors.now c.args.index) _ _ c.next_byte-from.ensures (omega arith) (c.requires.within.inputs c.args.index no_span (search rules))
 
 pub copy-requires-clause-to : goal.copy-requires-clause-to
 copy-requires-clause-to c = part_inside c.args.buffer c.args.len c.args.buffer c.skip-count.result _ (omega arith) (omega arith) c.requires.buffer

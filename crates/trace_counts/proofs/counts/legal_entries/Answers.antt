@@ -1,14 +1,16 @@
-use Rattle.std.proofs.Common.{arith, length, take, ◌∙◌}
+use Rattle.std.proofs.Common.{arith, ◌∙◌}
 use Rattle.std.proofs.lemmas.List.{length-take, take_more}
 use Rattle.memory_image.specs.Pieces.{byte_at}
-use Rattle.trace_counts.proofs.Followed.{accepted, all_counted, at_start, further, stopped}
+use Rattle.machine_check.proofs.Followed.{behind_none}
+use Rattle.machine_check.proofs.Judged.{was_accepted}
+use Rattle.trace_counts.proofs.Followed.{all_counted, further, stopped}
 use Rattle.trace_counts.proofs.counts.legal_entries.Goals as goal
 
 pub loop-entry-init : goal.loop-entry-init
 loop-entry-init c =
     let start = c.in_ok-checker.ensures.starts in
     record {
-      behind = at_start c.args.system.now (byte_at c.args.memory.now) c.in_ok-checker.checker start;
+      behind = behind_none c.args.system.now (byte_at c.args.memory.now) c.in_ok-checker.checker start;
       within = omega (arith, start.count);
       count = omega (arith, start.count, c.in_ok-counts.ensures.count);
       total = c.in_ok-counts.ensures.total;
@@ -28,10 +30,10 @@ returns-then-not-branch c =
 pub loop-entry-preserved : goal.loop-entry-preserved
 loop-entry-preserved c =
     let i = c.loop-entry.invariant in
-    let it = accepted c.args.system.now c.args.limit c.loop-entry.checker c.accept.new.self i.behind.handles _ _ (c.in_ok-accept.ensures.accepts i.behind.handles i.behind.knows) c.if-not-branch.false in
+    let it = was_accepted c.args.system.now c.args.limit c.loop-entry.checker c.accept.new.self i.behind.handles _ _ (c.in_ok-accept.ensures.accepts i.behind.handles i.behind.knows) c.if-not-branch.false in
     record {
       behind = further c.args.system.now (byte_at c.args.memory.now) c.args.limit c.args.entries.now c.loop-entry.entry-index _ c.loop-entry.checker c.accept.new.self i.behind
-          c.loop-entry-test.true (take_more c.args.entries.now c.loop-entry.entry-index _ c.loop-entry-test.true) it;
+          (take_more c.args.entries.now c.loop-entry.entry-index _ c.loop-entry-test.true) it;
       within = omega (arith, it.count, it.below);
       count = c.add.ensures.count;
       total = c.add.ensures.total ∙ i.total;

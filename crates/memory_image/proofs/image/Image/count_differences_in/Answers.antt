@@ -1,16 +1,13 @@
-use Rattle.std.proofs.Common.{rules, ◌≤◌, length, count_by, ap, sym, ◌∙◌, arith}
+use Rattle.std.proofs.Common.{rules, ◌≤◌, count_by, ap, ◌∙◌, arith}
 use Rattle.std.specs.List.{zip}
 use Rattle.byte_lanes.specs.Unequal.{are_unequal}
 use Rattle.ffm_model.specs.Memory.{bytes_at}
 use Rattle.memory_image.specs.Pieces.{byte_at}
-use Rattle.memory_image.proofs.Changed.{length-bytes_at, counted_at, counted_le}
+use Rattle.memory_image.proofs.Changed.{same_length, counted_at, counted_le}
 use Rattle.memory_image.proofs.image.Image.count_differences_in.Goals as goal
 
 pub count_unequal-requires : goal.count_unequal-requires
-count_unequal-requires c =
-    ap length c.bytes-before.ensures
-    ∙ (length-bytes_at (byte_at c.args.self.now) c.args.address c.args.len
-    ∙ sym (ap length c.bytes-after.ensures ∙ length-bytes_at (byte_at c.args.other.now) c.args.address c.args.len))
+count_unequal-requires c = same_length (byte_at c.args.self.now) (byte_at c.args.other.now) c.args.address c.args.len _ _ c.bytes-before.ensures c.bytes-after.ensures
 
 pub returns : goal.returns
 returns c =
