@@ -46,10 +46,10 @@ if_used P false x h = tt
 others : (client : ℕ) (found : Option Service) (v : Service) → found ≡ Some v → (v.owner ≡ client → ⊥) → option_map_or (λ w. not (w.owner == client)) found false ≡ true
 others client found v e h = rw e (not_from_false _ (ne_eqb _ _ h))
 
-abbrev permit : ℕ → List ℕ → ℕ × Located ServiceRecord → Permitted
+abbrev pub permit : ℕ → List ℕ → ℕ × Located ServiceRecord → Permitted
 permit client name e = record { client = client; client_name = name; service = e.0; service_name = e.1.value.name; connects = e.1.value.connection_based }
 
-abbrev permit_if : ℕ → List ℕ → (ServiceRecord → Bool) → ℕ × Located ServiceRecord → Option Permitted
+abbrev pub permit_if : ℕ → List ℕ → (ServiceRecord → Bool) → ℕ × Located ServiceRecord → Option Permitted
 permit_if client name may_use e = if may_use e.1.value then Some (permit client name e) else None
 
 permitted_allowed : (p : PartsRecord) (client : ℕ) (name : List ℕ) (may_use : ServiceRecord → Bool)

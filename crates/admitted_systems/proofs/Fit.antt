@@ -41,7 +41,7 @@ record Kept (p : PartsRecord) : Type 0 where
   indices : duplicate_indices p ≡ []
   stateless : too_many_stateless p ≡ []
 
-after : {A : Type 0} (xs ys : List A) → xs ++ ys ≡ [] → ys ≡ []
+pub after : {A : Type 0} (xs ys : List A) → xs ++ ys ≡ [] → ys ≡ []
 after xs ys e = (append_nil xs ys e).1
 
 before : {A : Type 0} (xs ys : List A) → xs ++ ys ≡ [] → xs ≡ []

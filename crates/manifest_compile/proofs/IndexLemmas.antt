@@ -39,9 +39,6 @@ free_past taken i below e =
     sym (ap (λ js. option_map_or (λ j. j) (find test js) 0) (rest_from i below)
     ∙ ap (λ b. chosen (not b) i (find test (range_with_len (i + 1) (33 - (i + 1))))) e)
 
-pub free_none : (taken : List ℕ) (i : ℕ) → 33 ≤ i → free_from taken i ≡ 0
-free_none taken i past = let none : 33 - i ≡ 0 = omega arith in ap (λ n. option_map_or (λ j. j) (find (λ j. not (list_any (λ t. t == j) taken)) (range_with_len i n)) 0) none
-
 -- ---- which are taken, in any order
 
 abbrev pub SameTaken : List ℕ → List ℕ → Type 0

@@ -42,59 +42,24 @@ first_more Memory rules more k = tt
 abbrev since_partitions : PartsRecord → List Refusal
 since_partitions p = too_many_partitions p ++ (too_many_connections p ++ (budgets_without_permission p ++ (duplicate_sources p ++ (memory_too_large p ++ (duplicate_indices p ++ too_many_stateless p)))))
 
-since_regions : (p : PartsRecord)
+pub since_regions : (p : PartsRecord)
     → duplicate_partitions p ≡ [] → duplicate_services p ≡ [] → duplicate_sids p ≡ [] → unknown_dependencies p ≡ [] → self_dependencies p ≡ [] → dependency_cycle p ≡ [] → too_many_signals p ≡ []
     → (unknown_regions p ++ overlapping_regions p) ++ since_partitions p ≡ broken p
 since_regions p a b c d e f g = append_assoc (unknown_regions p) (overlapping_regions p) (since_partitions p) ∙ sym (rw (a, b, c, d, e, f, g) refl)
 
-pub regions_refused : {A B : Type 0} (p : PartsRecord) (asked : Result A ReadError) (r : Result B ReadError) (e : ReadError) → asked ≡ Err e → IsErrAnd r (λ y. y ≡ e)
-    → Keeps asked (unknown_regions p ++ overlapping_regions p)
-    → duplicate_partitions p ≡ [] → duplicate_services p ≡ [] → duplicate_sids p ≡ [] → unknown_dependencies p ≡ [] → self_dependencies p ≡ [] → dependency_cycle p ≡ [] → too_many_signals p ≡ []
-    → Keeps r (broken p)
-regions_refused p asked r s was same k a b c d e f g =
-    let P : List Refusal → Type 0 = IsFirst s in
-    keeps_first r s (broken p) same
-    (subst P (since_regions p a b c d e f g)
-    (first_more s (unknown_regions p ++ overlapping_regions p) (since_partitions p) (first_by asked s (unknown_regions p ++ overlapping_regions p) was k)))
-
-pub partitions_refused : {A B : Type 0} (p : PartsRecord) (asked : Result A ReadError) (r : Result B ReadError) (e : ReadError) → asked ≡ Err e → IsErrAnd r (λ y. y ≡ e)
-    → Keeps asked (too_many_partitions p)
-    → duplicate_partitions p ≡ [] → duplicate_services p ≡ [] → duplicate_sids p ≡ [] → unknown_dependencies p ≡ [] → self_dependencies p ≡ [] → dependency_cycle p ≡ [] → too_many_signals p ≡ []
-    → unknown_regions p ++ overlapping_regions p ≡ []
-    → Keeps r (broken p)
-partitions_refused p asked r s was same k a b c d e f g h =
-    let P : List Refusal → Type 0 = IsFirst s in
-    let rest = too_many_connections p ++ (budgets_without_permission p ++ (duplicate_sources p ++ (memory_too_large p ++ (duplicate_indices p ++ too_many_stateless p)))) in
-    keeps_first r s (broken p) same
-    (subst P (ap (λ rules. rules ++ since_partitions p) (sym h) ∙ since_regions p a b c d e f g)
-    (first_more s (too_many_partitions p) rest (first_by asked s (too_many_partitions p) was k)))
-
 -- where no rule before those on indices is broken
-since_indices : (p : PartsRecord) → too_many_partitions p ≡ [] → too_many_connections p ≡ [] → budgets_without_permission p ≡ [] → duplicate_sources p ≡ [] → memory_too_large p ≡ []
+pub since_indices : (p : PartsRecord) → too_many_partitions p ≡ [] → too_many_connections p ≡ [] → budgets_without_permission p ≡ [] → duplicate_sources p ≡ [] → memory_too_large p ≡ []
     → duplicate_indices p ++ too_many_stateless p ≡ since_partitions p
 since_indices p a b c d e = sym (rw (a, b, c, d, e) refl)
 
-pub indices_refused : {A B : Type 0} (p : PartsRecord) (asked : Result A ReadError) (r : Result B ReadError) (e : ReadError) → asked ≡ Err e → IsErrAnd r (λ y. y ≡ e)
-    → Keeps asked (duplicate_indices p)
-    → duplicate_partitions p ≡ [] → duplicate_services p ≡ [] → duplicate_sids p ≡ [] → unknown_dependencies p ≡ [] → self_dependencies p ≡ [] → dependency_cycle p ≡ [] → too_many_signals p ≡ []
-    → unknown_regions p ++ overlapping_regions p ≡ [] → too_many_partitions p ≡ [] → too_many_connections p ≡ [] → budgets_without_permission p ≡ [] → duplicate_sources p ≡ [] → memory_too_large p ≡ []
-    → Keeps r (broken p)
-indices_refused p asked r s was same k a b c d e f g h i j l m n =
-    let P : List Refusal → Type 0 = IsFirst s in
-    keeps_first r s (broken p) same
-    (subst P (since_indices p i j l m n ∙ (ap (λ rules. rules ++ since_partitions p) (sym h) ∙ since_regions p a b c d e f g))
-    (first_more s (duplicate_indices p) (too_many_stateless p) (first_by asked s (duplicate_indices p) was k)))
+-- rules behind some of which none is broken
+pub behind : (front rest all : List Refusal) → front ≡ [] → front ++ rest ≡ all → rest ≡ all
+behind front rest all none is = ap (λ rules. rules ++ rest) (sym none) ∙ is
 
-pub stateless_refused : {A B : Type 0} (p : PartsRecord) (asked : Result A ReadError) (r : Result B ReadError) (e : ReadError) → asked ≡ Err e → IsErrAnd r (λ y. y ≡ e)
-    → Keeps asked (too_many_stateless p)
-    → duplicate_partitions p ≡ [] → duplicate_services p ≡ [] → duplicate_sids p ≡ [] → unknown_dependencies p ≡ [] → self_dependencies p ≡ [] → dependency_cycle p ≡ [] → too_many_signals p ≡ []
-    → unknown_regions p ++ overlapping_regions p ≡ [] → too_many_partitions p ≡ [] → too_many_connections p ≡ [] → budgets_without_permission p ≡ [] → duplicate_sources p ≡ [] → memory_too_large p ≡ []
-    → duplicate_indices p ≡ [] → Keeps r (broken p)
-stateless_refused p asked r s was same k a b c d e f g h i j l m n o =
-    let P : List Refusal → Type 0 = IsFirst s in
-    keeps_first r s (broken p) same
-    (subst P (ap (λ rules. rules ++ too_many_stateless p) (sym o) ∙ (since_indices p i j l m n ∙ (ap (λ rules. rules ++ since_partitions p) (sym h) ∙ since_regions p a b c d e f g)))
-    (first_by asked s (too_many_stateless p) was k))
+-- what a part of the rules refuses, they refuse where none in front of the part is broken
+pub part_refused : {A B : Type 0} (rules more all : List Refusal) (asked : Result A ReadError) (r : Result B ReadError) (e : ReadError) → asked ≡ Err e → IsErrAnd r (λ y. y ≡ e)
+    → Keeps asked rules → rules ++ more ≡ all → Keeps r all
+part_refused rules more all asked r e was same k is = keeps_first r e all same (subst (IsFirst e) is (first_more e rules more (first_by asked e rules was k)))
 
 -- what is refused is not compiled
 pub reads_refusal : {A : Type 0} (p : PartsRecord) (asked : Result A ReadError) (r : Result System ReadError) (e : ReadError) → asked ≡ Err e → IsErrAnd r (λ y. y ≡ e) → Keeps asked (broken p)

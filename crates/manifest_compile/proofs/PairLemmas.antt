@@ -10,10 +10,6 @@ use Rattle.ffm_model.specs.Rules.{too_many_signals, too_many_partitions}
 use Rattle.admitted_systems.proofs.Lists.{only_if_nil}
 use Rattle.admitted_systems.proofs.Services.{few_items}
 
--- the pair of an actor and a service, where the actor may use it
-abbrev pub pair_for : ℕ → List ℕ → (ServiceRecord → Bool) → ℕ × Located ServiceRecord → Option Permitted
-pair_for client name may_use e = if may_use e.1.value then Some (record { client = client; client_name = name; service = e.0; service_name = e.1.value.name; connects = e.1.value.connection_based }) else None
-
 -- ---- how many services there are
 
 pub services_few : (p : PartsRecord) → too_many_signals p ≡ [] → too_many_partitions p ≡ [] → length (services_in p) ≤ 896

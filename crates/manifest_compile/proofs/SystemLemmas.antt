@@ -18,12 +18,10 @@ use Rattle.ffm_model.specs.Repeats.{first}
 use Rattle.ffm_model.specs.declared.place.Refusal.{Refusal}
 use Rattle.ffm_model.specs.declared.system.System.{System}
 use Rattle.ffm_model.specs.Rules.{broken, duplicate_partitions, duplicate_services, duplicate_sids, unknown_dependencies, self_dependencies, dependency_cycle, too_many_signals}
+use Rattle.admitted_systems.proofs.Fit.{after}
 use Rattle.admitted_systems.proofs.Numbered.{each_unnumbered}
 use Rattle.admitted_systems.proofs.Signals.{few_signals}
 use Rattle.manifest_compile.proofs.GraphLemmas.{each_at}
-
-after : {A : Type 0} (xs ys : List A) → xs ++ ys ≡ [] → ys ≡ []
-after xs ys e = (append_nil xs ys e).1
 
 signals_are_few : (p : PartsRecord) → broken p ≡ [] → too_many_signals p ≡ []
 signals_are_few p none =

@@ -11,6 +11,7 @@ use Rattle.std.proofs.lemmas.Bool.{eq-eqb}
 use Rattle.list_laws.proofs.Tests.{list_any-more}
 use Rattle.ffm_model.specs.declared.system.Region.{Region}
 use Rattle.ffm_model.specs.WellFormed.{apart}
+use Rattle.manifest_items.proofs.RepeatLemmas.{is_at_number}
 use Rattle.region_map.specs.Overlaps.{IsDisjoint, MeetsSome, MeetsNone}
 
 -- each region's size stands at its base
@@ -26,9 +27,6 @@ pub record Holds (m : BTreeMap ℕ ℕ) (rs : List Region) : Type 0 where
   pub disjoint : IsDisjoint m
   pub there : AllThere m rs
   pub from : (base size : ℕ) → get nat_cmp m base ≡ Some size → list_any (has_range base size) rs ≡ true
-
-none_there : (m : BTreeMap ℕ ℕ) → m.entries ≡ [] → (base size : ℕ) → get nat_cmp m base ≡ Some size → ⊥
-none_there m empty base size there = let e : get nat_cmp m base ≡ None = ap (lookup (is_at (nat_cmp base))) empty in cc
 
 meets_here : (base size : ℕ) (x r : Region) → 0 < size → 0 < x.size → base < x.base + x.size → x.base < base + size → has_range base size r ≡ true → not (apart r x) ≡ true
 meets_here base size x r filled some before behind same = grind (arith, nat_tests)
@@ -54,9 +52,6 @@ meets_none m rs x holds none = none_meets m rs x holds.there none
 is_new : (m : BTreeMap ℕ ℕ) (x : Region) (base size : ℕ) → IsDisjoint m → 0 < x.size → MeetsNone m x → get nat_cmp m base ≡ Some size → (x.base == base) ≡ false
 is_new m x base size disjoint some none there =
     ⊎_elim (λ (h : base + size ≤ x.base). let f = disjoint.filled base size there in grind (arith, nat_tests)) (λ (h : x.base + x.size ≤ base). grind (arith, nat_tests)) (none base size there)
-
-is_at_number : (a b : ℕ) → is_at (nat_cmp a) b ≡ (a == b)
-is_at_number a b = grind (arith, nat_tests)
 
 -- what the new map has at a base
 new_get : (m n : BTreeMap ℕ ℕ) (x : Region) → Updates nat_cmp m n x.base (Some x.size) → (q : ℕ) → get nat_cmp n q ≡ cond (x.base == q) (Some x.size) (get nat_cmp m q)
