@@ -1,6 +1,6 @@
 -- At most one message for each connection, and one more for each actor that may use a stateless service.
 use Rattle.std.proofs.Common.{ℕ, zero, suc, ◌≡◌, ◌≤◌, ◌+◌, ◌==◌, Bool, true, false, cond, not, ◌&&◌, List, [], ◌∷◌, length, arith, ◌∙◌, ap, sym, refl}
-use Rattle.std.specs.Prelude.{count_by, find, nat_lt, nat_le, int_le, is_none, is_some, slice_get, sum_by, Option, Some, None}
+use Rattle.std.specs.Prelude.{count_by, find, nat_lt, int_le, is_none, is_some, Option, Some, None}
 use Rattle.std.specs.List.{list_all, range_with_len}
 use Rattle.std.specs.Option.{option_map, option_map_or}
 use Rattle.std.proofs.lemmas.Bool.Decides.{nat_tests}

@@ -1,5 +1,5 @@
 -- Each call of an actor keeps the fit of a state's objects.
-use Rattle.std.proofs.Common.{ℕ, ℤ, ◌≡◌, ◌+◌, Bool, true, false, ◌&&◌, ◌||◌, not, List, [], ◌∷◌, ◌++◌, arith, ap, sym, refl, subst}
+use Rattle.std.proofs.Common.{ℕ, ℤ, ◌≡◌, ◌+◌, Bool, true, false, ◌&&◌, List, [], ◌∷◌, ◌++◌, arith, ap, refl, subst}
 use Rattle.std.specs.Prelude.{count_by, nat_le, Option, Some, None, option_and_then, if◌then◌else◌}
 use Rattle.std.specs.List.{filter_map, cons_option, list_any}
 use Rattle.std.specs.Option.{option_map}

@@ -1,5 +1,5 @@
 -- The kinds of change that an event makes of a state, and that each event's effect is one of them; so a law that each kind keeps is one that each step keeps.
-use Rattle.std.proofs.Common.{ℕ, zero, suc, ◌≡◌, ◌<◌, ◌==◌, Bool, true, false, cond, not, ◌&&◌, ◌||◌, List, [], ◌∷◌, ◌++◌, length, get_or, arith, ◌∙◌, ap, sym, refl, subst}
+use Rattle.std.proofs.Common.{ℕ, ◌≡◌, ◌==◌, Bool, true, false, cond, not, ◌&&◌, ◌||◌, List, [], ◌∷◌, ◌++◌, ◌∙◌, ap, sym, refl, subst}
 use Rattle.std.proofs.lemmas.List.Quantifiers.{position-Some}
 use Rattle.std.specs.Prelude.{ℤ, pos, negsuc, int_lt, bit_and, nat_lt, nat_le, find, position, slice_get, Option, Some, None, option_and_then, is_none, if◌then◌else◌}
 use Rattle.std.specs.List.{list_any}
@@ -21,7 +21,7 @@ use Rattle.ffm_model.specs.declared.objects.SourceFlags.{SourceFlags}
 use Rattle.ffm_model.specs.declared.objects.OpenConnection.{OpenConnection}
 use Rattle.ffm_model.specs.declared.objects.PendingMessage.{PendingMessage}
 use Rattle.ffm_model.specs.declared.objects.ActorPhase.{ActorPhase}
-use Rattle.ffm_model.specs.declared.objects.ActorPhase.TheVariants.{Running, Blocked, Waiting, Ready, Connected, Ended, Panicked}
+use Rattle.ffm_model.specs.declared.objects.ActorPhase.TheVariants.{Running, Waiting, Ready, Connected, Ended}
 use Rattle.ffm_model.specs.Actors.{is_stateless, permits, service_at, stateless_at, stateless_index}
 use Rattle.ffm_model.specs.Memory.{vectors_of, valid_buffer}
 use Rattle.ffm_model.specs.State.{SpmState, State, handle_eq, phase_of, with_phase, in_use, connection_held, message_held, fresh, is_undelivered, delivered, with_vectors, with_rhandle, with_connection_handle}
@@ -37,6 +37,7 @@ use Rattle.counting_law.proofs.Parts.{is_plain}
 use Rattle.counting_law.proofs.Resume.{fresh-new}
 use Rattle.counting_law.proofs.Reply.{settled}
 use Rattle.counting_law.proofs.Owed.{replied-settled, owed-settled, owed-request}
+use Rattle.std.proofs.lemmas.Option.{slice_get-get_or}
 
 -- what Q says of an effect: its outcome, its state but for memory, and the handles given
 abbrev pub Says : (Outcome → SpmState → List Handle → Type 0) → Effect → Type 0
@@ -74,12 +75,7 @@ IfThere (Some e) P = P e
 -- an actor that makes a call, and not a return, is Running
 running-from : (p : ActorPhase) (word : ℕ) → can_go_on p word ≡ true → not (may_resume p) ≡ true → p ≡ Running
 running-from Running word e d = refl
-running-from Blocked word e d = cc
-running-from (Waiting mask) word e d = cc
-running-from (Ready o) word e d = cc
-running-from (Connected c) word e d = cc
-running-from Ended word e d = cc
-running-from Panicked word e d = cc
+running-from _ word e d = cc
 
 pub caller-running : (s : System) (b : SpmState) (a : ℕ) (c : Call) → ((p : ActorPhase) → returns_when_due c p ≡ not (may_resume p)) → may_call s b a c ≡ true → phase_of b a ≡ Running
 caller-running s b a c is_call may =
@@ -146,14 +142,11 @@ on_connection s st a h kind in_vec in_len out_vec out_len d Q k running =
     go _ refl
 
 -- the item at a place that was found passes
-passes-at : {X : Type 0} (q : X → Bool) (xs : List X) (i : ℕ) → i < length xs → ((d : X) → q (get_or xs i d) ≡ true) → option_map_or q (slice_get xs i) false ≡ true
-passes-at q [] i lt h = absurd (omega (arith, lt))
-passes-at q (x ∷ xs) zero lt h = h x
-passes-at q (x ∷ xs) (suc i) lt h = passes-at q xs i (omega (arith, lt)) h
-
-position-passes : {X : Type 0} (q : X → Bool) (xs : List X) (i : ℕ) → position q xs ≡ Some i → option_map_or q (slice_get xs i) false ≡ true
+pub position-passes : {X : Type 0} (q : X → Bool) (xs : List X) (i : ℕ) → position q xs ≡ Some i → option_map_or q (slice_get xs i) false ≡ true
 position-passes q [] i e = absurd (cc)
-position-passes q (x ∷ xs) i e = passes-at q (x ∷ xs) i (position-Some q (x ∷ xs) i x e).0 (λ d. (position-Some q (x ∷ xs) i d e).1)
+position-passes q (x ∷ xs) i e =
+    let it = position-Some q (x ∷ xs) i x e in
+    ap (λ o. option_map_or q o false) (slice_get-get_or (x ∷ xs) i x it.0) ∙ it.1
 
 -- an index is not 0
 other-index : (index : ℕ) → (index == 0) ≡ false → (o : Option Service) → option_map_or (λ x. x.stateless == index) o false ≡ true → option_map_or (λ x. not (x.stateless == 0)) o false ≡ true
@@ -218,10 +211,7 @@ returns : (s : System) (st : State) (a : ℕ) (h : Handle) (Q : Outcome → SpmS
 returns s st a h Q (Ready o) k e due new = k.returns o e
 returns s st a h Q (Connected n) k e due new = k.joins refl n h e (fresh-new st h (new refl))
 returns s st a h Q (Waiting mask) k e due new = k.wakes mask _ e
-returns s st a h Q Running k e due new = cc
-returns s st a h Q Blocked k e due new = cc
-returns s st a h Q Ended k e due new = cc
-returns s st a h Q Panicked k e due new = cc
+returns s st a h Q _ k e due new = cc
 
 -- psa_wait
 waits : (s : System) (b : SpmState) (given : List Handle) (a mask timeout : ℕ) (d : Call) (Q : Outcome → SpmState → List Handle → Type 0) → EachKind s b given a d Q → phase_of b a ≡ Running → IfMoved Q given (psa_wait s b a mask timeout)

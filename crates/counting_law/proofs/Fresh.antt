@@ -21,7 +21,7 @@ use Rattle.ffm_model.specs.declared.machine.Outcome.TheVariants as outcome
 use Rattle.ffm_model.specs.declared.objects.OpenConnection.{OpenConnection}
 use Rattle.ffm_model.specs.declared.objects.PendingMessage.{PendingMessage}
 use Rattle.ffm_model.specs.declared.objects.ActorPhase.{ActorPhase}
-use Rattle.ffm_model.specs.declared.objects.ActorPhase.TheVariants.{Running, Blocked, Waiting, Ready, Connected, Ended, Panicked}
+use Rattle.ffm_model.specs.declared.objects.ActorPhase.TheVariants.{Connected}
 use Rattle.ffm_model.specs.Memory.{ByteMap, no_vectors}
 use Rattle.ffm_model.specs.State.{SpmState, State, fresh, handle_eq, handle_put, is_undelivered, phase_of}
 use Rattle.ffm_model.specs.ServiceCalls.{service_of_signal}
@@ -43,7 +43,7 @@ use Rattle.counting_law.proofs.Steps.{Stepped, step-is, step-kind}
 use Rattle.counting_law.proofs.Runs.{step-keeps, folds-keep, opening-balanced}
 use Rattle.counting_law.proofs.Takes.{Spends, kinds-spend, length-filter, length-map, length-delivered, same_message}
 use Rattle.counting_law.proofs.Slots.{count-le-at, kept-length, named-step-is, names-lengths, stays-at}
-use Rattle.counting_law.proofs.SlotNames.{Taken, names-distinct, none-taken}
+use Rattle.counting_law.proofs.SlotNames.{Taken, names-distinct, none-taken, small_from, positive_from}
 use Rattle.counting_law.proofs.Shapes.{Got, Joined, Quiet, Shape, kinds-shape}
 use Rattle.counting_law.proofs.Walk.{Extends, Joins, extend, join, was_shown, kept-alike, count-kept, shown-push, slots-append, slots-delivered, slots-kept, slots-member, slots-right, slots-sum, with_slots, place-found, place-passes}
 use Rattle.counting_law.proofs.NameLemmas.{get-made, get-shows, names-still, resume-shows, shown-alike}
@@ -398,12 +398,6 @@ record Numbers (t : SlotName) : Type 0 where
   pub first : 1 ≤ t.generation
   pub last : t.generation < last_generation
 
-below-512 : (x : ℕ) → bit (not (nat_lt x 512)) ≤ 0 → x < 512
-below-512 x h = grind (arith, nat_tests)
-
-not-zero : (x : ℕ) → bit (x == 0) ≤ 0 → 1 ≤ x
-not-zero x h = grind arith
-
 at-most : (x n : ℕ) → bit (not (nat_le x n)) ≤ 0 → x ≤ n
 at-most x n h = grind (arith, nat_tests)
 
@@ -412,8 +406,8 @@ numbers : (ts all : List SlotName) (i : ℕ) → Taken all → ((p : SlotName �
 numbers ts all i h inside lt few =
     let t : SlotName = get_or ts i no_slot in
     record {
-      small = below-512 t.index (omega (arith, member-counts (λ u. not (nat_lt u.index 512)) ts i no_slot lt, inside (λ u. not (nat_lt u.index 512)), h.small));
-      first = not-zero t.generation (omega (arith, member-counts (λ u. u.generation == 0) ts i no_slot lt, inside (λ u. u.generation == 0), h.positive));
+      small = small_from t.index (omega (arith, member-counts (λ u. not (nat_lt u.index 512)) ts i no_slot lt, inside (λ u. not (nat_lt u.index 512)), h.small));
+      first = positive_from t.generation (omega (arith, member-counts (λ u. u.generation == 0) ts i no_slot lt, inside (λ u. u.generation == 0), h.positive));
       last =
           let bound : t.generation ≤ length all =
           at-most t.generation (length all) (omega (arith, member-counts (λ u. not (nat_le u.generation (length all))) ts i no_slot lt, inside (λ u. not (nat_le u.generation (length all))), h.bounded)) in
@@ -431,7 +425,7 @@ fresh-name st base t few n off =
     and_from (int_le (pos 1) (name_of base t).0 && int_le (name_of base t).0 (pos 0x3fffffff)) (not (was_shown base st.handles_given t))
     (in-range (t.generation * 1024 + t.index + base) (omega (arith, n.first)) (omega (arith, n.small, n.last, few))) (ap not off)
 
-off-second : (x y : Bool) → x ≡ true → bit (x && y) ≡ 0 → y ≡ false
+pub off-second : (x y : Bool) → x ≡ true → bit (x && y) ≡ 0 → y ≡ false
 off-second true y e h = off_from y h
 off-second false y e h = cc
 
@@ -476,12 +470,7 @@ due-at-return : (s : System) (es : List Entry) (w : NamedState) (a : ℕ) (h : H
 due-at-return s es w a h (Connected n) k limit phase e =
     let it : name_of 0 (get_or w.names.connections n no_slot) ≡ h = cc in
     subst (λ (x : Handle). fresh w.state x ≡ true) it (connection-due s es w a n k limit phase)
-due-at-return s es w a h Running k limit phase e = cc
-due-at-return s es w a h Blocked k limit phase e = cc
-due-at-return s es w a h (Waiting mask) k limit phase e = cc
-due-at-return s es w a h (Ready o) k limit phase e = cc
-due-at-return s es w a h Ended k limit phase e = cc
-due-at-return s es w a h Panicked k limit phase e = cc
+due-at-return s es w a h _ k limit phase e = cc
 
 due-at-get : (s : System) (es : List Entry) (w : NamedState) (o : Option ℕ) (h : Handle) → Named s es w → length es ≤ MAX_ENTRIES
     → option_map (λ j. name_of 512 (get_or w.names.messages j no_slot)) (option_and_then (λ i. position (is_undelivered i) w.state.spm.messages) o) ≡ Some h → fresh w.state h ≡ true

@@ -26,3 +26,7 @@ pub mod Shapes
 pub mod Walk
 pub mod NameLemmas
 pub mod Fresh
+pub mod Entries
+pub mod Outcomes
+pub mod Owners
+pub mod OwnSteps

@@ -8,7 +8,7 @@ use Rattle.ffm_model.specs.declared.system.System.{System}
 use Rattle.ffm_model.specs.declared.objects.OpenConnection.{OpenConnection}
 use Rattle.ffm_model.specs.declared.objects.PendingMessage.{PendingMessage}
 use Rattle.ffm_model.specs.declared.objects.ConnPhase.{ConnPhase}
-use Rattle.ffm_model.specs.declared.objects.ConnPhase.TheVariants.{Opening, Idle, Busy, Error, Closing, Dead}
+use Rattle.ffm_model.specs.declared.objects.ConnPhase.TheVariants.{Opening, Closing, Dead}
 use Rattle.ffm_model.specs.declared.objects.ActorPhase.TheVariants.{Panicked}
 use Rattle.ffm_model.specs.Actors.{is_service_of}
 use Rattle.ffm_model.specs.Memory.{no_vectors}
@@ -55,45 +55,15 @@ disconnect_in k d = if k && not (is_dead d.phase) then Some (disconnect_message 
 
 left-cases : (c : OpenConnection) (xs : List OpenConnection) (o k : Bool) (ph : ConnPhase) → cons_option (option_and_then (left_in k) (served o ph c)) xs ≡ left_as o k ph c ++ xs
 left-cases c xs true true Opening = refl
-left-cases c xs true true Idle = refl
-left-cases c xs true true Busy = refl
-left-cases c xs true true Error = refl
-left-cases c xs true true Closing = refl
-left-cases c xs true true Dead = refl
 left-cases c xs true false Opening = refl
-left-cases c xs true false Idle = refl
-left-cases c xs true false Busy = refl
-left-cases c xs true false Error = refl
-left-cases c xs true false Closing = refl
-left-cases c xs true false Dead = refl
 left-cases c xs false true Opening = refl
-left-cases c xs false true Idle = refl
-left-cases c xs false true Busy = refl
-left-cases c xs false true Error = refl
-left-cases c xs false true Closing = refl
-left-cases c xs false true Dead = refl
-left-cases c xs false false ph = refl
+left-cases c xs _ _ _ = refl
 
 disconnect-cases : (c : OpenConnection) (xs : List PendingMessage) (o k : Bool) (ph : ConnPhase) → cons_option (option_and_then (disconnect_in k) (served o ph c)) xs ≡ disconnect_as o k ph c ++ xs
 disconnect-cases c xs true true Opening = refl
-disconnect-cases c xs true true Idle = refl
-disconnect-cases c xs true true Busy = refl
-disconnect-cases c xs true true Error = refl
-disconnect-cases c xs true true Closing = refl
-disconnect-cases c xs true true Dead = refl
 disconnect-cases c xs true false Opening = refl
-disconnect-cases c xs true false Idle = refl
-disconnect-cases c xs true false Busy = refl
-disconnect-cases c xs true false Error = refl
-disconnect-cases c xs true false Closing = refl
-disconnect-cases c xs true false Dead = refl
 disconnect-cases c xs false true Opening = refl
-disconnect-cases c xs false true Idle = refl
-disconnect-cases c xs false true Busy = refl
-disconnect-cases c xs false true Error = refl
-disconnect-cases c xs false true Closing = refl
-disconnect-cases c xs false true Dead = refl
-disconnect-cases c xs false false ph = refl
+disconnect-cases c xs _ _ _ = refl
 
 left-one : (p : ℕ) (c : OpenConnection) (o : Bool) (l : Option ConnPhase)
     → option_and_then (without_client p) (if o then option_map (λ f. record c { phase = f }) l else Some c) ≡ option_and_then (left_in (c.client.0 == p)) (if o then option_map (λ f. record c { phase = f }) l else Some c)

@@ -32,6 +32,7 @@ use Rattle.counting_law.proofs.Takes.{same_message}
 use Rattle.counting_law.proofs.Slots.{stays-at}
 use Rattle.counting_law.proofs.Shapes.{all-stay}
 use Rattle.counting_law.proofs.Walk.{kept-alike, kept-all, place-found}
+use Rattle.counting_law.proofs.Outcomes.{same-kind}
 
 -- ---- outcomes that show handles
 
@@ -41,24 +42,10 @@ is_got _ = false
 
 got-alike : (o p : Outcome) → outcome_eq o p ≡ true → is_got o ≡ is_got p
 unfolding is_got
-got-alike (outcome.Value z) (outcome.Value w) e = refl
-got-alike (outcome.Number n) (outcome.Number k) e = refl
-got-alike (outcome.Signals n) (outcome.Signals k) e = refl
-got-alike (outcome.Got m) (outcome.Got n) e = refl
-got-alike outcome.Blocked outcome.Blocked e = refl
-got-alike outcome.Done outcome.Done e = refl
-got-alike outcome.Panicked outcome.Panicked e = refl
-got-alike _ _ e = cc
+got-alike = same-kind is_got (λ z w e. refl) (λ n k e. refl) (λ n k e. refl) (λ m n e. refl)
 
 pub shown-alike : (o p : Outcome) → outcome_eq o p ≡ true → (handle_shown o).0 ≡ (handle_shown p).0
-shown-alike (outcome.Value z) (outcome.Value w) e = int_same z w e
-shown-alike (outcome.Number n) (outcome.Number k) e = refl
-shown-alike (outcome.Signals n) (outcome.Signals k) e = refl
-shown-alike (outcome.Got m) (outcome.Got n) e = int_same m.handle.0 n.handle.0 (and_parts _ _ (and_parts (int_eq m.kind n.kind) _ e).1).0
-shown-alike outcome.Blocked outcome.Blocked e = refl
-shown-alike outcome.Done outcome.Done e = refl
-shown-alike outcome.Panicked outcome.Panicked e = refl
-shown-alike _ _ e = cc
+shown-alike = same-kind (λ o. (handle_shown o).0) int_same (λ n k e. refl) (λ n k e. refl) (λ m n e. int_same m.handle.0 n.handle.0 (and_parts _ _ (and_parts (int_eq m.kind n.kind) _ e).1).0)
 
 error-got : (kind : ActorKind) (s : System) (st : State) (a signal msg : ℕ) → is_got (error_effect kind s st a (call.Get signal msg)).outcome ≡ false
 unfolding is_got

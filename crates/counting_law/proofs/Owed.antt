@@ -34,24 +34,19 @@ not_low (negsuc n) e = cc
 -- the choices of a reply: k a connection, l a disconnection, g a request, f with PROGRAMMER ERROR, p to a partition
 same-answer : (k l g f p : Bool) (A C X Y Z : SpmState) → (l ≡ false → g ≡ true) → (g && (f && p)) ≡ false
     → (if k then A else (if l then C else (if f then (if p then X else Y) else Z))) ≡ (if k then A else (if l then C else (if f then Y else Z)))
-same-answer true l g f p A C X Y Z high e = refl
-same-answer false true g f p A C X Y Z high e = refl
-same-answer false false g false p A C X Y Z high e = refl
-same-answer false false g true false A C X Y Z high e = refl
 same-answer false false g true true A C X Y Z high e = let it : g ≡ true = high refl in let no : (g && true) ≡ true = ap (λ b. b && true) it in cc
+same-answer _ _ g _ _ A C X Y Z high e = refl
 
-same-panic : (s : System) (a : ℕ) (k l g f p : Bool) (A C X Y Z : SpmState) → (g ≡ true → (k ≡ false) × (l ≡ false)) → panic_effect s X a ≡ panic_effect s Y a → (g && (f && p)) ≡ true
-    → panic_effect s (if k then A else (if l then C else (if f then (if p then X else Y) else Z))) a ≡ panic_effect s (if k then A else (if l then C else (if f then Y else Z))) a
-same-panic s a k l false f p A C X Y Z high same e = cc
-same-panic s a k l true false p A C X Y Z high same e = cc
-same-panic s a k l true true false A C X Y Z high same e = cc
-same-panic s a true l true true true A C X Y Z high same e = let no : true ≡ false = (high refl).0 in cc
-same-panic s a false true true true true A C X Y Z high same e = let no : true ≡ false = (high refl).1 in cc
-same-panic s a false false true true true A C X Y Z high same e = same
+same-after : (F : SpmState → SpmState) (k l g f p : Bool) (A C X Y Z : SpmState) → (g ≡ true → (k ≡ false) × (l ≡ false)) → F X ≡ F Y → (g && (f && p)) ≡ true
+    → F (if k then A else (if l then C else (if f then (if p then X else Y) else Z))) ≡ F (if k then A else (if l then C else (if f then Y else Z)))
+same-after F false false true true true A C X Y Z high same e = same
+same-after F true l true true true A C X Y Z high same e = let no : true ≡ false = (high refl).0 in cc
+same-after F false true true true true A C X Y Z high same e = let no : true ≡ false = (high refl).1 in cc
+same-after F k l _ _ _ A C X Y Z high same e = cc
 
-high : (k : ℤ) → int_le (pos 0) k ≡ true → (int_eq k PSA_IPC_CONNECT ≡ false) × (int_lt k PSA_IPC_CALL ≡ false)
-high (pos n) e = (refl, not_negative n)
-high (negsuc n) e = cc
+request-kind : (k : ℤ) → int_le (pos 0) k ≡ true → (int_eq k PSA_IPC_CONNECT ≡ false) × (int_lt k PSA_IPC_CALL ≡ false)
+request-kind (pos n) e = (refl, not_negative n)
+request-kind (negsuc n) e = cc
 
 -- without a panic
 pub replied-settled : (s : System) (b : SpmState) (h : Handle) (status : ℤ) (m : PendingMessage) → owes_panic s m status ≡ false → replied s b h status m ≡ settled b h status m
@@ -64,17 +59,22 @@ replied-settled s b h status m e =
     A C failed (with_phase failed m.client.0 (Ready (Value PSA_ERROR_PROGRAMMER_ERROR)))
     (with_phase (with_request_phase rest m Idle) m.client.0 (Ready (Value status))) (not_low m.kind) e
 
--- with one
-pub owed-settled : (s : System) (b : SpmState) (h : Handle) (status : ℤ) (m : PendingMessage) → owes_panic s m status ≡ true
-    → panic_effect s (replied s b h status m) m.client.0 ≡ panic_effect s (settled b h status m) m.client.0
-owed-settled s b h status m e =
+-- with one, to what forgets the phase of the client
+pub owed-same : (s : System) (b : SpmState) (h : Handle) (status : ℤ) (m : PendingMessage) (F : SpmState → SpmState) → ((x : SpmState) (p : ActorPhase) → F x ≡ F (with_phase x m.client.0 p)) → owes_panic s m status ≡ true
+    → F (replied s b h status m) ≡ F (settled b h status m)
+owed-same s b h status m F forgets e =
     let rest : SpmState = without_message b h in
     let failed : SpmState = with_request_phase rest m Error in
     let A : SpmState = option_map_or (λ n. connect_answered rest n m status) m.connection rest in
     let C : SpmState = option_map_or (λ n. close_answered rest n m) m.connection rest in
-    same-panic s m.client.0 (int_eq m.kind PSA_IPC_CONNECT) (int_lt m.kind PSA_IPC_CALL) (int_le PSA_IPC_CALL m.kind) (int_eq status PSA_ERROR_PROGRAMMER_ERROR) (is_partition (kind_of s m.client.0))
+    same-after F (int_eq m.kind PSA_IPC_CONNECT) (int_lt m.kind PSA_IPC_CALL) (int_le PSA_IPC_CALL m.kind) (int_eq status PSA_ERROR_PROGRAMMER_ERROR) (is_partition (kind_of s m.client.0))
     A C failed (with_phase failed m.client.0 (Ready (Value PSA_ERROR_PROGRAMMER_ERROR)))
-    (with_phase (with_request_phase rest m Idle) m.client.0 (Ready (Value status))) (high m.kind) (panic-phase s failed m.client.0 (Ready (Value PSA_ERROR_PROGRAMMER_ERROR))) e
+    (with_phase (with_request_phase rest m Idle) m.client.0 (Ready (Value status))) (request-kind m.kind) (forgets failed (Ready (Value PSA_ERROR_PROGRAMMER_ERROR))) e
+
+-- and to the panic
+pub owed-settled : (s : System) (b : SpmState) (h : Handle) (status : ℤ) (m : PendingMessage) → owes_panic s m status ≡ true
+    → panic_effect s (replied s b h status m) m.client.0 ≡ panic_effect s (settled b h status m) m.client.0
+owed-settled s b h status m = owed-same s b h status m (λ x. panic_effect s x m.client.0) (λ x p. panic-phase s x m.client.0 p)
 
 -- a panic is owed to a request alone
 pub owed-request : (s : System) (m : PendingMessage) (status : ℤ) (P : Type 0) → owes_panic s m status ≡ true → ((n : ℕ) → m.kind ≡ pos n → P) → P

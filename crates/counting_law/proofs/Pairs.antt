@@ -11,9 +11,9 @@ use Rattle.ffm_model.specs.declared.system.System.{System}
 use Rattle.ffm_model.specs.declared.objects.OpenConnection.{OpenConnection}
 use Rattle.ffm_model.specs.declared.objects.PendingMessage.{PendingMessage}
 use Rattle.ffm_model.specs.declared.objects.ConnPhase.{ConnPhase}
-use Rattle.ffm_model.specs.declared.objects.ConnPhase.TheVariants.{Opening, Idle, Busy, Error, Closing, Dead}
+use Rattle.ffm_model.specs.declared.objects.ConnPhase.TheVariants.{Opening, Busy, Closing}
 use Rattle.ffm_model.specs.declared.objects.ActorPhase.{ActorPhase}
-use Rattle.ffm_model.specs.declared.objects.ActorPhase.TheVariants.{Running, Blocked, Waiting, Ready, Connected, Ended, Panicked}
+use Rattle.ffm_model.specs.declared.objects.ActorPhase.TheVariants.{Blocked, Connected, Panicked}
 use Rattle.ffm_model.specs.Actors.{is_stateless, permits}
 use Rattle.ffm_model.specs.State.{SpmState, phase_of}
 use Rattle.ffm_model.specs.Panic.{is_dead}
@@ -39,11 +39,7 @@ none-counts q off (x ∷ xs) = omega (arith, count-cons q x xs, ap bit (off x), 
 -- a kind that fits some phase fits the one that stands for it; no other kind has a message
 dead_unawaited : (p : ConnPhase) → (is_awaited p && is_dead p) ≡ false
 dead_unawaited Opening = refl
-dead_unawaited Idle = refl
-dead_unawaited Busy = refl
-dead_unawaited Error = refl
-dead_unawaited Closing = refl
-dead_unawaited Dead = refl
+dead_unawaited _ = refl
 
 fits_own : (kind : ℤ) → is_dead (phase_for kind) ≡ false → kind_fits (phase_for kind) kind ≡ true
 fits_own (pos n) e = grind arith
@@ -54,6 +50,10 @@ fits_own (negsuc (suc (suc n))) e = cc
 pub count-sum : {X : Type 0} (p q r : X → Bool) → ((x : X) → bit (p x) ≤ bit (q x) + bit (r x)) → (xs : List X) → count_by p xs ≤ count_by q xs + count_by r xs
 count-sum p q r le [] = omega arith
 count-sum p q r le (x ∷ xs) = omega (arith, count-cons p x xs, count-cons q x xs, count-cons r x xs, le x, count-sum p q r le xs)
+
+pub two-below : {X : Type 0} (p q r : X → Bool) → ((x : X) → bit (p x) + bit (q x) ≤ bit (r x)) → (xs : List X) → count_by p xs + count_by q xs ≤ count_by r xs
+two-below p q r le [] = omega arith
+two-below p q r le (x ∷ xs) = omega (arith, count-cons p x xs, count-cons q x xs, count-cons r x xs, le x, two-below p q r le xs)
 
 -- a kind that no message has
 dead-wrong : (s : System) (m : PendingMessage) → bit (is_dead (phase_for m.kind)) ≤ bit (message_marked (λ n a v ph. is_dead ph) m) + bit (wrongly_called s m)
@@ -84,21 +84,12 @@ no-dead s b h i d lt = off_from _ (omega (arith, member-counts (λ m. is_dead (p
 
 fitting_awaited : (p : ConnPhase) (kind : ℤ) (x : Bool) → (is_awaited p && (x && kind_fits p kind)) ≡ (x && kind_fits p kind)
 fitting_awaited Opening kind x = refl
-fitting_awaited Busy kind x = refl
-fitting_awaited Closing kind x = refl
-fitting_awaited Idle kind true = refl
-fitting_awaited Idle kind false = refl
-fitting_awaited Error kind true = refl
-fitting_awaited Error kind false = refl
-fitting_awaited Dead kind true = refl
-fitting_awaited Dead kind false = refl
+fitting_awaited _ kind true = refl
+fitting_awaited _ kind false = refl
 
 and_assoc4 : (w x y z k : Bool) → (w && ((x && (y && z)) && k)) ≡ ((x && (y && z)) && k) → (w && (x && (y && (z && k)))) ≡ (x && (y && (z && k)))
-and_assoc4 true x y z k e = refl
 and_assoc4 false true true true k e = e
-and_assoc4 false true true false k e = refl
-and_assoc4 false true false z k e = refl
-and_assoc4 false false y z k e = refl
+and_assoc4 _ _ _ _ k e = refl
 
 belongs : (s : System) (b : SpmState) → ObjectsFit s b → (i : ℕ) (d : PendingMessage) → i < length b.messages
     → count_by (λ c. is_message_of c (get_or b.messages i d)) b.connections ≡ (if is_none (get_or b.messages i d).connection then 0 else 1)
@@ -177,14 +168,9 @@ waits-by Blocked ph n k j h e one le = refl
 waits-by Panicked Opening n k j h e one le = absurd (omega (arith, le, h))
 waits-by Panicked Busy n k j h e one le = absurd (omega (arith, le, h))
 waits-by Panicked Closing n k j h e one le = refl
-waits-by Panicked Idle n k j h e one le = cc
-waits-by Panicked Error n k j h e one le = cc
-waits-by Panicked Dead n k j h e one le = cc
-waits-by Running ph n k j h e one le = absurd (omega (arith, one, h))
-waits-by (Waiting mask) ph n k j h e one le = absurd (omega (arith, one, h))
-waits-by (Ready o) ph n k j h e one le = absurd (omega (arith, one, h))
+waits-by Panicked _ n k j h e one le = cc
 waits-by (Connected c) ph n k j h e one le = absurd (omega (arith, one, h.0))
-waits-by Ended ph n k j h e one le = absurd (omega (arith, one, h))
+waits-by _ ph n k j h e one le = absurd (omega (arith, one, h))
 
 waits : (s : System) (b : SpmState) → ObjectsFit s b → (i : ℕ) (d : OpenConnection) → i < length b.connections → is_awaited (get_or b.connections i d).phase ≡ true
     → client_waits (get_or b.connections i d).phase (phase_of b (get_or b.connections i d).client.0) ≡ true
@@ -210,15 +196,8 @@ asking_kind (negsuc (suc (suc n))) e k = cc
 
 asking_awaited : (p : ConnPhase) (x : Bool) → (is_awaited p && (x && is_asking p)) ≡ (x && is_asking p)
 asking_awaited Opening x = refl
-asking_awaited Busy x = refl
-asking_awaited Closing true = refl
-asking_awaited Closing false = refl
-asking_awaited Idle true = refl
-asking_awaited Idle false = refl
-asking_awaited Error true = refl
-asking_awaited Error false = refl
-asking_awaited Dead true = refl
-asking_awaited Dead false = refl
+asking_awaited _ true = refl
+asking_awaited _ false = refl
 
 asks-count : (s : System) (b : SpmState) (a : ℕ) → ObjectsFit s b → count_by (λ m. (m.client.0 == a) && is_asking (phase_for m.kind)) b.messages ≤ asked_by b.connections b.messages a
 asks-count s b a h =
@@ -233,13 +212,8 @@ asks-count s b a h =
     )
 
 asking-few : (p : ActorPhase) (n k : ℕ) (j : ℕ → ℕ) → PhaseFits p n k j → k ≤ n → k ≤ 1
-asking-few Blocked n k j h le = omega (arith, h)
-asking-few Panicked n k j h le = omega (arith, h)
-asking-few Running n k j h le = omega (arith, h)
-asking-few (Waiting mask) n k j h le = omega (arith, h)
-asking-few (Ready o) n k j h le = omega (arith, h)
 asking-few (Connected c) n k j h le = omega (arith, h.0)
-asking-few Ended n k j h le = omega (arith, h)
+asking-few _ n k j h le = omega (arith, h)
 
 asked : (s : System) (b : SpmState) → ObjectsFit s b → (i : ℕ) (d : PendingMessage) → i < length b.messages → is_disconnection (get_or b.messages i d) ≡ false → phase_of b (get_or b.messages i d).client.0 ≡ Blocked
 asked s b h i d lt e =

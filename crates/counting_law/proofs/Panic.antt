@@ -13,7 +13,7 @@ use Rattle.ffm_model.specs.declared.objects.OpenConnection.{OpenConnection}
 use Rattle.ffm_model.specs.declared.objects.ConnPhase.{ConnPhase}
 use Rattle.ffm_model.specs.declared.objects.ConnPhase.TheVariants.{Opening, Idle, Busy, Error, Closing, Dead}
 use Rattle.ffm_model.specs.declared.objects.ActorPhase.{ActorPhase}
-use Rattle.ffm_model.specs.declared.objects.ActorPhase.TheVariants.{Running, Blocked, Waiting, Ready, Connected, Ended, Panicked}
+use Rattle.ffm_model.specs.declared.objects.ActorPhase.TheVariants.{Blocked, Ready, Connected, Ended, Panicked}
 use Rattle.ffm_model.specs.declared.machine.Outcome.{Outcome}
 use Rattle.ffm_model.specs.declared.machine.Outcome.TheVariants.{Value, Done}
 use Rattle.ffm_model.specs.Actors.{is_service_of}
@@ -60,40 +60,27 @@ rising-left s p lo hi (c ∷ cs) h =
     (rising-from (c.serial + 1) lo hi (all_left s p cs) (omega (arith, h.0)) rest) (λ ph. (h.0, rest)) (is_service_of s p c.service) (c.client.0 == p) c.phase
 
 -- messages and awaited connections
-abbrev kept_mark : System → ℕ → Mark → Mark
+abbrev pub kept_mark : System → ℕ → Mark → Mark
 kept_mark s p t n a v ph = not (is_service_of s p v) && t n a v ph
 
-mark-kept : (o : Bool) (f : ℕ → Bool) (k : Option ℕ) → (not o && option_map_or f k false) ≡ option_map_or (λ n. not o && f n) k false
+pub mark-kept : (o : Bool) (f : ℕ → Bool) (k : Option ℕ) → (not o && option_map_or f k false) ≡ option_map_or (λ n. not o && f n) k false
 mark-kept o f (Some n) = refl
 mark-kept true f None = refl
 mark-kept false f None = refl
 
 mark-step : (t : Mark) (c : OpenConnection) (o k : Bool) (ph : ConnPhase) → (k && is_awaited ph) ≡ false
     → count_by (connection_marked t) (left_as o k ph c) ≡ bit (is_awaited ph && (not o && t c.serial c.client.0 c.service ph)) + count_by (message_marked t) (disconnect_as o k ph c)
-mark-step t c true true Opening e = cc
-mark-step t c true true Busy e = cc
-mark-step t c true true Closing e = cc
-mark-step t c true true Idle e = refl
-mark-step t c true true Error e = refl
-mark-step t c true true Dead e = refl
-mark-step t c true false Opening e = refl
-mark-step t c true false Busy e = refl
-mark-step t c true false Closing e = refl
-mark-step t c true false Idle e = refl
-mark-step t c true false Error e = refl
-mark-step t c true false Dead e = refl
-mark-step t c false true Opening e = cc
-mark-step t c false true Busy e = cc
-mark-step t c false true Closing e = cc
-mark-step t c false true Idle e = omega (arith, count-cons (connection_marked t) (in_phase c Closing) [], count-cons (message_marked t) (disconnect_message c) [])
-mark-step t c false true Error e = omega (arith, count-cons (connection_marked t) (in_phase c Closing) [], count-cons (message_marked t) (disconnect_message c) [])
+mark-step t c o true Opening e = cc
+mark-step t c o true Busy e = cc
+mark-step t c o true Closing e = cc
 mark-step t c false true Dead e = refl
-mark-step t c false false Opening e = omega (arith, count-cons (connection_marked t) (in_phase c Opening) [])
-mark-step t c false false Busy e = omega (arith, count-cons (connection_marked t) (in_phase c Busy) [])
-mark-step t c false false Closing e = omega (arith, count-cons (connection_marked t) (in_phase c Closing) [])
+mark-step t c false true _ e = omega (arith, count-cons (connection_marked t) (in_phase c Closing) [], count-cons (message_marked t) (disconnect_message c) [])
+mark-step t c true false Opening e = refl
+mark-step t c true _ _ e = refl
 mark-step t c false false Idle e = refl
 mark-step t c false false Error e = refl
 mark-step t c false false Dead e = refl
+mark-step t c false false ph e = omega (arith, count-cons (connection_marked t) (in_phase c ph) [])
 
 marks-left : (s : System) (p : ℕ) (t : Mark) (cs : List OpenConnection) → count_by (awaited_of p) cs ≡ 0
     → count_by (connection_marked t) (all_left s p cs) ≡ count_by (connection_marked (kept_mark s p t)) cs + count_by (message_marked t) (disconnect_messages s p cs)
@@ -258,10 +245,7 @@ awaited-step a c o k false ph e x =
 awaited-step a c o true true ph e x = cc
 awaited-step a c true false true Opening e x = refl
 awaited-step a c true false true Closing e x = refl
-awaited-step a c true false true Busy e x = omega (arith, count-cons (awaited_of a) (in_phase c Dead) [], off_right (c.client.0 == a) false refl)
-awaited-step a c true false true Idle e x = omega (arith, count-cons (awaited_of a) (in_phase c Dead) [], off_right (c.client.0 == a) false refl)
-awaited-step a c true false true Error e x = omega (arith, count-cons (awaited_of a) (in_phase c Dead) [], off_right (c.client.0 == a) false refl)
-awaited-step a c true false true Dead e x = omega (arith, count-cons (awaited_of a) (in_phase c Dead) [], off_right (c.client.0 == a) false refl)
+awaited-step a c true false true _ e x = omega (arith, count-cons (awaited_of a) (in_phase c Dead) [], off_right (c.client.0 == a) false refl)
 awaited-step a c false false true ph e x = omega (arith, count-cons (awaited_of a) (in_phase c ph) [], on_left (c.client.0 == a) (is_awaited ph) e)
 
 apart_ids : (x p a : ℕ) → (a == p) ≡ false → ((x == p) && (x == a)) ≡ false
@@ -293,12 +277,9 @@ accepted-step : (a n : ℕ) (c : OpenConnection) (o k i : Bool) (ph : ConnPhase)
     → bit ((c.serial == n) && (i && is_accepted ph)) ≤ count_by (accepted_as a n) (left_as o k ph c)
 accepted-step a n c o k false ph e x = omega (arith, off_right (c.serial == n) false refl)
 accepted-step a n c o true true ph e x = cc
-accepted-step a n c true false true Opening e x = omega (arith, off_right (c.serial == n) false refl)
-accepted-step a n c true false true Closing e x = omega (arith, off_right (c.serial == n) false refl)
-accepted-step a n c true false true Busy e x = omega (arith, off_right (c.serial == n) false refl)
-accepted-step a n c true false true Error e x = omega (arith, off_right (c.serial == n) false refl)
 accepted-step a n c true false true Idle e x = omega (arith, count-cons (accepted_as a n) (in_phase c Dead) [], ap (λ b. bit ((c.serial == n) && (b && true))) e)
 accepted-step a n c true false true Dead e x = omega (arith, count-cons (accepted_as a n) (in_phase c Dead) [], ap (λ b. bit ((c.serial == n) && (b && true))) e)
+accepted-step a n c true false true _ e x = omega (arith, off_right (c.serial == n) false refl)
 accepted-step a n c false false true ph e x = omega (arith, count-cons (accepted_as a n) (in_phase c ph) [], ap (λ b. bit ((c.serial == n) && (b && is_accepted ph))) e)
 
 accepted-left : (s : System) (p a n : ℕ) (cs : List OpenConnection) → (a == p) ≡ false → count_by (accepted_as a n) cs ≤ count_by (accepted_as a n) (all_left s p cs)
@@ -319,17 +300,13 @@ told-other Busy ps x a e = phase_other ps x a (Ready (Value (negsuc 144))) (flip
 told-other Closing ps x a e =
     elim (is_blocked (get_or ps x Ended)) as (λ (b : Bool). get_or (if b then slice_set ps x (Ready Done) else ps) a Ended ≡ get_or ps a Ended)
     [ true ↦ phase_other ps x a (Ready Done) (flipped x a e) | false ↦ refl ]
-told-other Idle ps x a e = refl
-told-other Error ps x a e = refl
-told-other Dead ps x a e = refl
+told-other _ ps x a e = refl
 
 told-quiet : (ph : ConnPhase) (ps : List ActorPhase) (x a : ℕ) → bit (is_awaited ph) ≡ 0 → get_or (client_answered ph ps x) a Ended ≡ get_or ps a Ended
-told-quiet Opening ps x a e = absurd (omega (arith, e))
-told-quiet Busy ps x a e = absurd (omega (arith, e))
-told-quiet Closing ps x a e = absurd (omega (arith, e))
 told-quiet Idle ps x a e = refl
 told-quiet Error ps x a e = refl
 told-quiet Dead ps x a e = refl
+told-quiet _ ps x a e = absurd (omega (arith, e))
 
 told-step : (o i : Bool) (ph : ConnPhase) (ps : List ActorPhase) (x a : ℕ) → (x == a) ≡ i → bit (o && (i && is_awaited ph)) ≡ 0
     → get_or (if o then client_answered ph ps x else ps) a Ended ≡ get_or ps a Ended
@@ -349,9 +326,7 @@ told-lost Opening ps a e b = (Value (negsuc 129), phase_same ps a (Ready (Value 
 told-lost Busy ps a e b = (Value (negsuc 144), phase_same ps a (Ready (Value (negsuc 144))) (is_there ps a (λ z. cc)), refl)
 told-lost Closing ps a e b =
     (Done, ap (λ (q : ActorPhase). get_or (if is_blocked q then slice_set ps a (Ready Done) else ps) a Ended) b ∙ phase_same ps a (Ready Done) (is_there ps a (λ z. cc)), refl)
-told-lost Idle ps a e b = cc
-told-lost Error ps a e b = cc
-told-lost Dead ps a e b = cc
+told-lost _ ps a e b = cc
 
 told-ready : (s : System) (p a : ℕ) (cs : List OpenConnection) (ps : List ActorPhase) → get_or ps a Ended ≡ Blocked → count_by (lost_of s p a) cs ≡ 1
     → (o : Outcome) × (get_or (clients_answered s p cs ps) a Ended ≡ Ready o) × (is_plain o ≡ true)
@@ -386,9 +361,7 @@ told-panicked-step true true Busy ps x a e z h = absurd (omega (arith, z))
 told-panicked-step true true Closing ps x a e z h =
     let it : get_or ps x Ended ≡ Panicked = ap (λ n. get_or ps n Ended) (eqb-true x a e) ∙ h in
     ap (λ (q : ActorPhase). get_or (if is_blocked q then slice_set ps x (Ready Done) else ps) a Ended) it ∙ h
-told-panicked-step true true Idle ps x a e z h = h
-told-panicked-step true true Error ps x a e z h = h
-told-panicked-step true true Dead ps x a e z h = h
+told-panicked-step true true _ ps x a e z h = h
 
 told-panicked : (s : System) (p a : ℕ) (cs : List OpenConnection) (ps : List ActorPhase) → get_or ps a Ended ≡ Panicked → count_by (lost_asking s p a) cs ≡ 0
     → get_or (clients_answered s p cs ps) a Ended ≡ Panicked
@@ -457,40 +430,22 @@ phase_after s limit b p a P h e same ready panicked =
     go _ refl
 
 fits-kept : (ph : ActorPhase) (n n' k k' : ℕ) (j j' : ℕ → ℕ) → n' ≡ n → k' ≤ k → ((m : ℕ) → j m ≤ j' m) → ((m : ℕ) → j' m ≤ 1) → PhaseFits ph n k j → PhaseFits ph n' k' j'
-fits-kept Running n n' k k' j j' en ek ej one h = en ∙ h
-fits-kept Blocked n n' k k' j j' en ek ej one h = en ∙ h
-fits-kept (Waiting mask) n n' k k' j j' en ek ej one h = en ∙ h
-fits-kept (Ready o) n n' k k' j j' en ek ej one h = en ∙ h
 fits-kept (Connected c) n n' k k' j j' en ek ej one h = (en ∙ h.0, omega (arith, ej c, one c, h.1))
-fits-kept Ended n n' k k' j j' en ek ej one h = en ∙ h
 fits-kept Panicked n n' k k' j j' en ek ej one h = omega (arith, h)
+fits-kept _ n n' k k' j j' en ek ej one h = en ∙ h
 
 shown-step : (phases : List ActorPhase) (c : OpenConnection) (o k : Bool) (ph : ConnPhase) → (k && is_awaited ph) ≡ false
     → count_by (wrongly_shown phases) (left_as o k ph c) ≤ bit (not (same (is_none c.handle) (is_opening ph || is_joining (get_or phases c.client.0 Ended) c.serial)))
-shown-step phases c true true Opening e = cc
-shown-step phases c true true Busy e = cc
-shown-step phases c true true Closing e = cc
-shown-step phases c true true Idle e = omega arith
-shown-step phases c true true Error e = omega arith
-shown-step phases c true true Dead e = omega arith
+shown-step phases c o true Opening e = cc
+shown-step phases c o true Busy e = cc
+shown-step phases c o true Closing e = cc
+shown-step phases c true true _ e = omega arith
 shown-step phases c true false Opening e = omega arith
-shown-step phases c true false Busy e = omega (arith, count-cons (wrongly_shown phases) (in_phase c Dead) [])
 shown-step phases c true false Closing e = omega arith
-shown-step phases c true false Idle e = omega (arith, count-cons (wrongly_shown phases) (in_phase c Dead) [])
-shown-step phases c true false Error e = omega (arith, count-cons (wrongly_shown phases) (in_phase c Dead) [])
-shown-step phases c true false Dead e = omega (arith, count-cons (wrongly_shown phases) (in_phase c Dead) [])
-shown-step phases c false true Opening e = cc
-shown-step phases c false true Busy e = cc
-shown-step phases c false true Closing e = cc
-shown-step phases c false true Idle e = omega (arith, count-cons (wrongly_shown phases) (in_phase c Closing) [])
-shown-step phases c false true Error e = omega (arith, count-cons (wrongly_shown phases) (in_phase c Closing) [])
+shown-step phases c true false _ e = omega (arith, count-cons (wrongly_shown phases) (in_phase c Dead) [])
 shown-step phases c false true Dead e = omega arith
-shown-step phases c false false Opening e = omega (arith, count-cons (wrongly_shown phases) (in_phase c Opening) [])
-shown-step phases c false false Busy e = omega (arith, count-cons (wrongly_shown phases) (in_phase c Busy) [])
-shown-step phases c false false Closing e = omega (arith, count-cons (wrongly_shown phases) (in_phase c Closing) [])
-shown-step phases c false false Idle e = omega (arith, count-cons (wrongly_shown phases) (in_phase c Idle) [])
-shown-step phases c false false Error e = omega (arith, count-cons (wrongly_shown phases) (in_phase c Error) [])
-shown-step phases c false false Dead e = omega (arith, count-cons (wrongly_shown phases) (in_phase c Dead) [])
+shown-step phases c false true _ e = omega (arith, count-cons (wrongly_shown phases) (in_phase c Closing) [])
+shown-step phases c false false ph e = omega (arith, count-cons (wrongly_shown phases) (in_phase c ph) [])
 
 -- what is shown wrongly does not grow
 shown-left : (s : System) (p : ℕ) (phases : List ActorPhase) (cs : List OpenConnection) → count_by (awaited_of p) cs ≡ 0 → count_by (wrongly_shown phases) (all_left s p cs) ≤ count_by (wrongly_shown phases) cs

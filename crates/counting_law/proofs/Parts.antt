@@ -8,7 +8,7 @@ use Rattle.ffm_model.specs.declared.machine.Outcome.{Outcome}
 use Rattle.ffm_model.specs.declared.machine.Outcome.TheVariants as outcome
 use Rattle.ffm_model.specs.declared.objects.OpenConnection.{OpenConnection}
 use Rattle.ffm_model.specs.declared.objects.ActorPhase.{ActorPhase}
-use Rattle.ffm_model.specs.declared.objects.ActorPhase.TheVariants.{Running, Blocked, Waiting, Ready, Connected, Ended, Panicked}
+use Rattle.ffm_model.specs.declared.objects.ActorPhase.TheVariants.{Running, Blocked, Connected, Ended, Panicked}
 use Rattle.counting_law.specs.Objects.{PhaseFits, RisesTo, is_joining}
 
 -- an outcome that ends its call, and no panic
@@ -35,13 +35,9 @@ pub phase_other : (phases : List ActorPhase) (a x : ℕ) (p : ActorPhase) → (x
 phase_other phases a x p other = grind (arith, common_steps)
 
 pub fits_same : (p : ActorPhase) (n n' k k' : ℕ) (j j' : ℕ → ℕ) → n' ≡ n → k' ≡ k → ((m : ℕ) → j' m ≡ j m) → PhaseFits p n k j → PhaseFits p n' k' j'
-fits_same Running n n' k k' j j' en ek ej h = en ∙ h
-fits_same Blocked n n' k k' j j' en ek ej h = en ∙ h
-fits_same (Waiting mask) n n' k k' j j' en ek ej h = en ∙ h
-fits_same (Ready o) n n' k k' j j' en ek ej h = en ∙ h
 fits_same (Connected c) n n' k k' j j' en ek ej h = (en ∙ h.0, ej c ∙ h.1)
-fits_same Ended n n' k k' j j' en ek ej h = en ∙ h
 fits_same Panicked n n' k k' j j' en ek ej h = ek ∙ h
+fits_same _ n n' k k' j j' en ek ej h = en ∙ h
 
 -- one actor's phase changes, and only that actor's numbers
 pub fitting-set : (phases : List ActorPhase) (a : ℕ) (p : ActorPhase) (N N' K K' : ℕ → ℕ) (J J' : ℕ → ℕ → ℕ) → a < length phases
@@ -158,13 +154,9 @@ set_same (q ∷ qs) (suc a) p e = ap (λ (xs : List ActorPhase). q ∷ xs) (set_
 
 -- a client that asks is Blocked
 pub asking-blocked : (p : ActorPhase) (n k : ℕ) (j : ℕ → ℕ) → PhaseFits p n k j → 1 ≤ k → k ≤ n → p ≡ Blocked
-asking-blocked Running n k j h one le = absurd (omega (arith, h))
 asking-blocked Blocked n k j h one le = refl
-asking-blocked (Waiting mask) n k j h one le = absurd (omega (arith, h))
-asking-blocked (Ready o) n k j h one le = absurd (omega (arith, h))
 asking-blocked (Connected c) n k j h one le = absurd (omega (arith, h.0))
-asking-blocked Ended n k j h one le = absurd (omega (arith, h))
-asking-blocked Panicked n k j h one le = absurd (omega (arith, h))
+asking-blocked _ n k j h one le = absurd (omega (arith, h))
 
 -- only a Blocked or a Panicked actor is awaited
 pub running-quiet : (p : ActorPhase) (n k : ℕ) (j : ℕ → ℕ) → p ≡ Running → PhaseFits p n k j → n ≡ 0

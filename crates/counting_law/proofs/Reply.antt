@@ -1,5 +1,5 @@
 -- Reply keeps the balance.
-use Rattle.std.proofs.Common.{ℕ, zero, suc, ◌≡◌, ◌<◌, ◌≤◌, ◌+◌, ◌==◌, Bool, true, false, cond, not, ◌&&◌, ◌||◌, List, length, get_or, arith, ◌∙◌, ap, sym, refl, subst}
+use Rattle.std.proofs.Common.{ℕ, zero, suc, ◌≡◌, ◌≤◌, ◌+◌, ◌==◌, Bool, true, false, cond, not, ◌&&◌, ◌||◌, List, get_or, arith, ◌∙◌, ap, sym, refl, subst}
 use Rattle.std.specs.Prelude.{ℤ, pos, count_by, find, Some, map, filter, slice_set, is_none, negsuc, if◌then◌else◌}
 use Rattle.ffm_model.specs.declared.system.System.{System}
 use Rattle.ffm_model.specs.declared.machine.Handle.{Handle}
@@ -8,7 +8,7 @@ use Rattle.ffm_model.specs.declared.objects.PendingMessage.{PendingMessage}
 use Rattle.ffm_model.specs.declared.objects.ConnPhase.{ConnPhase}
 use Rattle.ffm_model.specs.declared.objects.ConnPhase.TheVariants.{Opening, Idle, Busy, Error, Closing, Dead}
 use Rattle.ffm_model.specs.declared.objects.ActorPhase.{ActorPhase}
-use Rattle.ffm_model.specs.declared.objects.ActorPhase.TheVariants.{Running, Blocked, Waiting, Ready, Connected, Ended, Panicked}
+use Rattle.ffm_model.specs.declared.objects.ActorPhase.TheVariants.{Blocked, Ready, Connected, Ended, Panicked}
 use Rattle.ffm_model.specs.declared.machine.Outcome.{Outcome}
 use Rattle.ffm_model.specs.Signals.{is_blocked}
 use Rattle.ffm_model.specs.Panic.{is_dead}
@@ -23,13 +23,13 @@ use Rattle.ffm_model.specs.declared.machine.Outcome.TheVariants.{Done, Value}
 use Rattle.ffm_model.specs.Actors.{is_service_of, is_stateless, permits}
 use Rattle.counting_law.specs.Objects.{same}
 use Rattle.ffm_model.specs.State.{SpmState, message_held, phase_of, has_handle, phase_put, without_message, with_connection_phase, with_phase}
-use Rattle.ffm_model.specs.declared.constants.TheConstants.{PSA_IPC_CALL, PSA_IPC_CONNECT, PSA_ERROR_PROGRAMMER_ERROR}
+use Rattle.ffm_model.specs.declared.constants.TheConstants.{PSA_IPC_CALL, PSA_IPC_CONNECT, PSA_ERROR_PROGRAMMER_ERROR, PSA_SUCCESS}
 use Rattle.ffm_model.specs.ClientCalls.{is_busy}
 use Rattle.ffm_model.specs.ServiceCalls.{connect_answered, close_answered, with_request_phase}
 use Rattle.counting_law.proofs.Balance.{Balanced}
 use Rattle.counting_law.specs.Objects.{PhaseFits, Mark, awaited_by, asked_by, called_by, wrongly_called, phase_for, is_joining, is_opening, is_awaited, is_asking, is_accepted, awaited_of, asking_of, accepted_as, wrongly_shown, message_marked, connection_marked}
 use Rattle.counting_law.proofs.Parts.{is_there, found-serial, off_left, off_right, on_left, flipped, is_itself, off_from, set_same, asking-blocked, rising-map, unique}
-use Rattle.counting_law.proofs.Updates.{serial-phase_put, put, out, moved-keeps, removed-keeps, sent-keeps}
+use Rattle.counting_law.proofs.Updates.{serial-phase_put, put, out, moved-keeps, removed-keeps, sent-keeps, Moves}
 
 -- the connection that a message belongs to, by its serial number n; u is a test that the phase for its kind passes
 pub record Partner (b : SpmState) (n : ℕ) (m : PendingMessage) (u : ConnPhase → Bool) (c : OpenConnection) : Type 0 where
@@ -89,11 +89,7 @@ message-out s limit b p h m balanced found q =
 
 asking_awaited : (p : ConnPhase) → bit (is_asking p) ≤ bit (is_awaited p)
 asking_awaited Opening = omega arith
-asking_awaited Busy = omega arith
-asking_awaited Closing = omega arith
-asking_awaited Idle = omega arith
-asking_awaited Error = omega arith
-asking_awaited Dead = omega arith
+asking_awaited _ = omega arith
 
 pub asking_le : (a : ℕ) (c : OpenConnection) → bit (asking_of a c) ≤ bit (awaited_of a c)
 asking_le a c =
@@ -114,19 +110,11 @@ blocked-one p n k j e h = subst (λ (q : ActorPhase). PhaseFits q n k j) e h
 
 pub opening_is : (p : ConnPhase) → is_opening p ≡ true → p ≡ Opening
 opening_is Opening e = refl
-opening_is Idle e = cc
-opening_is Busy e = cc
-opening_is Error e = cc
-opening_is Closing e = cc
-opening_is Dead e = cc
+opening_is _ e = cc
 
 pub busy_is : (p : ConnPhase) → is_busy p ≡ true → p ≡ Busy
 busy_is Busy e = refl
-busy_is Idle e = cc
-busy_is Opening e = cc
-busy_is Error e = cc
-busy_is Closing e = cc
-busy_is Dead e = cc
+busy_is _ e = cc
 
 -- a connection is shown rightly
 pub rightly : (s : System) (limit : Handle → ℕ) (b : SpmState) (c : OpenConnection) → Balanced s limit b → find (λ d. d.serial == c.serial) b.connections ≡ Some c → wrongly_shown b.phases c ≡ false
@@ -145,6 +133,21 @@ same_marks t n m c conn k a v ph awaited =
     let e : t c.serial c.client.0 c.service c.phase ≡ t n m.client.0 m.service (phase_for m.kind) = cc in
     on_left (is_awaited c.phase) (t c.serial c.client.0 c.service c.phase) awaited ∙ ap bit e ∙ sym (ap bit (marked_as m n t conn))
 
+-- the message with the handle goes, and its client gets a phase
+answered : (s : System) (limit : Handle → ℕ) (b : SpmState) (p : ℕ) (h : Handle) (n : ℕ) (m : PendingMessage) (c : OpenConnection) (q : ActorPhase) → Balanced s limit b
+    → find (λ n. is_service_of s p n.service && has_handle n.handle h) b.messages ≡ Some m → m.connection ≡ Some n → find (λ d. d.serial == c.serial) b.connections ≡ Some c → (phase_of b c.client.0 ≡ Ended → ⊥)
+    → ((k : ℕ) → is_joining (phase_of b c.client.0) k ≡ false) → ((k : ℕ) → (k == c.serial) ≡ false → is_joining q k ≡ false) → Moves s limit b c q (filter (λ n. not (has_handle n.handle h)) b.messages)
+answered s limit b p h n m c q balanced found conn here alive joined joins = record {
+  balanced = balanced;
+  here = here;
+  client = is_there b.phases c.client.0 alive;
+  joined = joined;
+  joins = joins;
+  handles = λ k. omega (arith, message-out s limit b p h m balanced found (λ n. has_handle n.handle k));
+  calls = λ x. omega (arith, message-out s limit b p h m balanced found (called_by x), uncalled m n (m.client.0 == x) conn);
+  called = omega (arith, message-out s limit b p h m balanced found (wrongly_called s), balanced.called);
+}
+
 -- Connect answered with 0
 accept-own : (s : System) (limit : Handle → ℕ) (b : SpmState) (p : ℕ) (h : Handle) (n : ℕ) (m : PendingMessage) (c : OpenConnection) → Balanced s limit b
     → find (λ n. is_service_of s p n.service && has_handle n.handle h) b.messages ≡ Some m → m.connection ≡ Some n → m.kind ≡ negsuc 0 → Partner b n m is_opening c
@@ -153,22 +156,12 @@ accept-own s limit b p h n m c balanced found conn kind it =
     let a : ℕ = c.client.0 in
     let opening : c.phase ≡ Opening = opening_is c.phase it.passes in
     let blocked : phase_of b a ≡ Blocked = client-blocked s limit b c balanced it.here (ap is_asking opening) in
-    let inside : a < length b.phases = is_there b.phases a (λ ended. cc) in
     let one : awaited_by b.connections b.messages a ≡ 1 = blocked-one (phase_of b a) _ _ (λ n. count_by (accepted_as a n) b.connections) blocked (balanced.fitting a) in
     let after : List OpenConnection = map (phase_put c.serial Idle) b.connections in
     let none : is_none c.handle ≡ true =
     both_same (is_none c.handle) true (ap (λ ph. not (same (is_none c.handle) (is_opening ph || is_joining (get_or b.phases a Ended) c.serial))) (sym opening) ∙ rightly s limit b c balanced it.here) in
     moved-keeps s limit b c Idle (Connected c.serial) (filter (λ n. not (has_handle n.handle h)) b.messages)
-    (record {
-      balanced = balanced;
-      here = it.here;
-      client = inside;
-      joined = λ k. ap (λ ph. is_joining ph k) blocked;
-      joins = λ k e. flipped k c.serial e;
-      handles = λ k. omega (arith, message-out s limit b p h m balanced found (λ n. has_handle n.handle k));
-      calls = λ x. omega (arith, message-out s limit b p h m balanced found (called_by x), uncalled m n (m.client.0 == x) conn);
-      called = omega (arith, message-out s limit b p h m balanced found (wrongly_called s), balanced.called);
-    })
+    (answered s limit b p h n m c (Connected c.serial) balanced found conn it.here (λ ended. cc) (λ k. ap (λ ph. is_joining ph k) blocked) (λ k e. flipped k c.serial e))
     (λ t. omega (arith, message-out s limit b p h m balanced found (message_marked t), same_marks t n m c conn it.serial it.client it.service (opening ∙ sym (ap phase_for kind)) it.awaited)) (
       omega (arith, one, message-out s limit b p h m balanced found (called_by a), uncalled m n (m.client.0 == a) conn, put b c Idle balanced.rising it.here (awaited_of a), on_left (a == a) (is_awaited c.phase) (is_itself a), ap bit it.awaited, off_right (a == a) false refl),
       omega (
@@ -191,19 +184,9 @@ refuse-own s limit b p h n m c status balanced found conn kind it =
     let a : ℕ = c.client.0 in
     let opening : c.phase ≡ Opening = opening_is c.phase it.passes in
     let blocked : phase_of b a ≡ Blocked = client-blocked s limit b c balanced it.here (ap is_asking opening) in
-    let inside : a < length b.phases = is_there b.phases a (λ ended. cc) in
     let one : awaited_by b.connections b.messages a ≡ 1 = blocked-one (phase_of b a) _ _ (λ n. count_by (accepted_as a n) b.connections) blocked (balanced.fitting a) in
     removed-keeps s limit b c (Ready (Value status)) (filter (λ n. not (has_handle n.handle h)) b.messages)
-    (record {
-      balanced = balanced;
-      here = it.here;
-      client = inside;
-      joined = λ k. ap (λ ph. is_joining ph k) blocked;
-      joins = λ k e. refl;
-      handles = λ k. omega (arith, message-out s limit b p h m balanced found (λ n. has_handle n.handle k));
-      calls = λ x. omega (arith, message-out s limit b p h m balanced found (called_by x), uncalled m n (m.client.0 == x) conn);
-      called = omega (arith, message-out s limit b p h m balanced found (wrongly_called s), balanced.called);
-    })
+    (answered s limit b p h n m c (Ready (Value status)) balanced found conn it.here (λ ended. cc) (λ k. ap (λ ph. is_joining ph k) blocked) (λ k e. refl))
     (λ t. omega (arith, message-out s limit b p h m balanced found (message_marked t), same_marks t n m c conn it.serial it.client it.service (opening ∙ sym (ap phase_for kind)) it.awaited))
     (omega (arith, one, message-out s limit b p h m balanced found (called_by a), uncalled m n (m.client.0 == a) conn, out b c balanced.rising it.here (awaited_of a), on_left (a == a) (is_awaited c.phase) (is_itself a), ap bit it.awaited))
 
@@ -215,21 +198,11 @@ request-own s limit b p h n m c ph o k balanced found conn kind it settled shut 
     let a : ℕ = c.client.0 in
     let busy : c.phase ≡ Busy = busy_is c.phase it.passes in
     let blocked : phase_of b a ≡ Blocked = client-blocked s limit b c balanced it.here (ap is_asking busy) in
-    let inside : a < length b.phases = is_there b.phases a (λ ended. cc) in
     let one : awaited_by b.connections b.messages a ≡ 1 = blocked-one (phase_of b a) _ _ (λ n. count_by (accepted_as a n) b.connections) blocked (balanced.fitting a) in
     let none : is_none c.handle ≡ false =
     both_same (is_none c.handle) false (ap (λ x. not (same (is_none c.handle) x)) (sym (ap (λ y. is_opening y || is_joining (get_or b.phases a Ended) c.serial) busy ∙ ap (λ y. is_joining y c.serial) blocked)) ∙ rightly s limit b c balanced it.here) in
     moved-keeps s limit b c ph (Ready o) (filter (λ n. not (has_handle n.handle h)) b.messages)
-    (record {
-      balanced = balanced;
-      here = it.here;
-      client = inside;
-      joined = λ n. ap (λ y. is_joining y n) blocked;
-      joins = λ n e. refl;
-      handles = λ n. omega (arith, message-out s limit b p h m balanced found (λ x. has_handle x.handle n));
-      calls = λ x. omega (arith, message-out s limit b p h m balanced found (called_by x), uncalled m n (m.client.0 == x) conn);
-      called = omega (arith, message-out s limit b p h m balanced found (wrongly_called s), balanced.called);
-    })
+    (answered s limit b p h n m c (Ready o) balanced found conn it.here (λ ended. cc) (λ k. ap (λ ph. is_joining ph k) blocked) (λ k e. refl))
     (λ t. omega (
       arith,
       message-out s limit b p h m balanced found (message_marked t),
@@ -241,32 +214,21 @@ request-own s limit b p h n m c ph o k balanced found conn kind it settled shut 
 
 -- an awaited client is Blocked or Panicked
 pub awaited_client : (p : ActorPhase) (n k : ℕ) (j : ℕ → ℕ) (P : Type 0) → PhaseFits p n k j → 1 ≤ n → (p ≡ Blocked → P) → (p ≡ Panicked → P) → P
-awaited_client Running n k j P h one b q = absurd (omega (arith, h))
 awaited_client Blocked n k j P h one b q = b refl
-awaited_client (Waiting mask) n k j P h one b q = absurd (omega (arith, h))
-awaited_client (Ready o) n k j P h one b q = absurd (omega (arith, h))
-awaited_client (Connected c) n k j P h one b q = absurd (omega (arith, h.0))
-awaited_client Ended n k j P h one b q = absurd (omega (arith, h))
 awaited_client Panicked n k j P h one b q = q refl
+awaited_client (Connected c) n k j P h one b q = absurd (omega (arith, h.0))
+awaited_client _ n k j P h one b q = absurd (omega (arith, h))
 
 pub panicked-none : (p : ActorPhase) (n k : ℕ) (j : ℕ → ℕ) → p ≡ Panicked → PhaseFits p n k j → k ≡ 0
 panicked-none p n k j e h = subst (λ (q : ActorPhase). PhaseFits q n k j) e h
 
 abbrev pub is_closing : ConnPhase → Bool
 is_closing Closing = true
-is_closing Opening = false
-is_closing Idle = false
-is_closing Busy = false
-is_closing Error = false
-is_closing Dead = false
+is_closing _ = false
 
 pub closing_is : (p : ConnPhase) → is_closing p ≡ true → p ≡ Closing
 closing_is Closing e = refl
-closing_is Idle e = cc
-closing_is Opening e = cc
-closing_is Error e = cc
-closing_is Busy e = cc
-closing_is Dead e = cc
+closing_is _ e = cc
 
 -- Close answered
 closed-own : (s : System) (limit : Handle → ℕ) (b : SpmState) (p : ℕ) (h : Handle) (n : ℕ) (m : PendingMessage) (c : OpenConnection) → Balanced s limit b
@@ -279,27 +241,23 @@ closed-own s limit b p h n m c balanced found conn kind it =
     let rest : List PendingMessage = filter (λ n. not (has_handle n.handle h)) b.messages in
     let some : 1 ≤ awaited_by b.connections b.messages a =
     omega (arith, count-found (λ d. d.serial == c.serial) (awaited_of a) b.connections c it.here, on_left (a == a) (is_awaited c.phase) (is_itself a), ap bit it.awaited) in
-    let fewer : (k : Handle) → count_by (λ x. has_handle x.handle k) rest ≤ count_by (λ x. has_handle x.handle k) b.messages = λ k. omega (arith, message-out s limit b p h m balanced found (λ n. has_handle n.handle k)) in
     let still : (x : ℕ) → count_by (called_by x) rest ≡ count_by (called_by x) b.messages = λ x. omega (arith, message-out s limit b p h m balanced found (called_by x), uncalled m n (m.client.0 == x) conn) in
-    let lawful : count_by (wrongly_called s) rest ≡ 0 = omega (arith, message-out s limit b p h m balanced found (wrongly_called s), balanced.called) in
     let marks : (t : Mark) → count_by (message_marked t) rest + bit (connection_marked t c) ≡ count_by (message_marked t) b.messages =
     λ t. omega (arith, message-out s limit b p h m balanced found (message_marked t), same_marks t n m c conn it.serial it.client it.service (closing ∙ sym (ap phase_for kind)) it.awaited) in
     awaited_client (phase_of b a) _ _ (λ n. count_by (accepted_as a n) b.connections) _ (balanced.fitting a) some
     (λ blocked.
-    let inside : a < length b.phases = is_there b.phases a (λ ended. cc) in
     let one : awaited_by b.connections b.messages a ≡ 1 = blocked-one (phase_of b a) _ _ (λ n. count_by (accepted_as a n) b.connections) blocked (balanced.fitting a) in
     subst (λ (x : ActorPhase). Balanced s limit (cond {A = SpmState} (is_blocked x) (record b { connections = left; messages = rest; phases = slice_set b.phases a (Ready Done) }) (record b { connections = left; messages = rest }))) (sym blocked)
     (removed-keeps s limit b c (Ready Done) rest
-    (record { balanced = balanced; here = it.here; client = inside; joined = λ k. ap (λ y. is_joining y k) blocked; joins = λ k e. refl; handles = fewer; calls = still; called = lawful })
+    (answered s limit b p h n m c (Ready Done) balanced found conn it.here (λ ended. cc) (λ k. ap (λ y. is_joining y k) blocked) (λ k e. refl))
     marks
     (omega (arith, one, message-out s limit b p h m balanced found (called_by a), uncalled m n (m.client.0 == a) conn, out b c balanced.rising it.here (awaited_of a), on_left (a == a) (is_awaited c.phase) (is_itself a), ap bit it.awaited))))
     (λ panicked.
-    let inside : a < length b.phases = is_there b.phases a (λ ended. cc) in
     let none : asked_by b.connections b.messages a ≡ 0 = panicked-none (phase_of b a) _ _ (λ n. count_by (accepted_as a n) b.connections) panicked (balanced.fitting a) in
     subst (λ (x : ActorPhase). Balanced s limit (cond {A = SpmState} (is_blocked x) (record b { connections = left; messages = rest; phases = slice_set b.phases a (Ready Done) }) (record b { connections = left; messages = rest }))) (sym panicked)
     (subst (λ (ps : List ActorPhase). Balanced s limit (record b { connections = left; messages = rest; phases = ps })) (set_same b.phases a Panicked panicked)
     (removed-keeps s limit b c Panicked rest
-    (record { balanced = balanced; here = it.here; client = inside; joined = λ k. ap (λ y. is_joining y k) panicked; joins = λ k e. refl; handles = fewer; calls = still; called = lawful })
+    (answered s limit b p h n m c Panicked balanced found conn it.here (λ ended. cc) (λ k. ap (λ y. is_joining y k) panicked) (λ k e. refl))
     marks
     (omega (arith, none, still a, out b c balanced.rising it.here (asking_of a))))))
 
@@ -312,11 +270,7 @@ not_negative n = grind arith
 
 not_both : (p : ConnPhase) → is_dead p ≡ true → is_awaited p ≡ true → ⊥
 not_both Dead e k = cc
-not_both Opening e k = cc
-not_both Idle e k = cc
-not_both Busy e k = cc
-not_both Error e k = cc
-not_both Closing e k = cc
+not_both _ e k = cc
 
 abbrev actor : ℕ → ActorId
 actor n = record { 0 = n }
@@ -483,3 +437,23 @@ pub request-phases : (b : SpmState) (m : PendingMessage) (ph : ConnPhase) → (w
 request-phases b m ph =
     let go : (o : Option ℕ) → (option_map_or (λ n. with_connection_phase b n ph) o b).phases ≡ b.phases = elim [ None ↦ refl | Some n ↦ refl ] in
     go m.connection
+
+-- ---- the messages are those without the one answered
+
+if-messages : (b : Bool) (x y : SpmState) (ms : List PendingMessage) → x.messages ≡ ms → y.messages ≡ ms → (if b then x else y).messages ≡ ms
+if-messages true x y ms e f = e
+if-messages false x y ms e f = f
+
+option-messages : (f : ℕ → SpmState) (o : Option ℕ) (b : SpmState) → ((n : ℕ) → (f n).messages ≡ b.messages) → (option_map_or f o b).messages ≡ b.messages
+option-messages f None b e = refl
+option-messages f (Some n) b e = e n
+
+pub settled-messages : (b : SpmState) (h : Handle) (status : ℤ) (m : PendingMessage) → (settled b h status m).messages ≡ (without_message b h).messages
+settled-messages b h status m =
+    let rest : SpmState = without_message b h in
+    let request : (ph : ConnPhase) → (with_request_phase rest m ph).messages ≡ rest.messages = λ ph. option-messages (λ n. with_connection_phase rest n ph) m.connection rest (λ n. refl) in
+    if-messages (int_eq m.kind PSA_IPC_CONNECT) _ _ rest.messages
+    (option-messages (λ n. connect_answered rest n m status) m.connection rest (λ n. if-messages (int_eq status PSA_SUCCESS) _ _ rest.messages refl refl))
+    (if-messages (int_lt m.kind PSA_IPC_CALL) _ _ rest.messages
+    (option-messages (λ n. close_answered rest n m) m.connection rest (λ n. if-messages (is_blocked (phase_of rest m.client.0)) _ _ rest.messages refl refl))
+    (if-messages (int_eq status PSA_ERROR_PROGRAMMER_ERROR) _ _ rest.messages (request Error) (request Idle)))

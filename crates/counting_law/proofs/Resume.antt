@@ -13,7 +13,7 @@ use Rattle.ffm_model.specs.declared.objects.Vectors.{Vectors}
 use Rattle.ffm_model.specs.declared.objects.OpenConnection.{OpenConnection}
 use Rattle.ffm_model.specs.declared.objects.PendingMessage.{PendingMessage}
 use Rattle.ffm_model.specs.declared.objects.ConnPhase.{ConnPhase}
-use Rattle.ffm_model.specs.declared.objects.ConnPhase.TheVariants.{Opening, Idle, Busy, Error, Closing, Dead}
+use Rattle.ffm_model.specs.declared.objects.ConnPhase.TheVariants.{Idle, Dead}
 use Rattle.ffm_model.specs.declared.objects.ActorPhase.{ActorPhase}
 use Rattle.ffm_model.specs.declared.objects.ActorPhase.TheVariants.{Running, Connected, Ended}
 use Rattle.counting_law.specs.Objects.{same}
@@ -63,10 +63,7 @@ connected-fits p n k m j e h = subst (λ (q : ActorPhase). PhaseFits q n k j) e 
 accepted_shut : (p : ConnPhase) → is_accepted p ≡ true → is_opening p ≡ false
 accepted_shut Idle e = refl
 accepted_shut Dead e = refl
-accepted_shut Opening e = cc
-accepted_shut Busy e = cc
-accepted_shut Error e = cc
-accepted_shut Closing e = cc
+accepted_shut _ e = cc
 
 -- the accepted connection gets its handle
 pub named-keeps : (s : System) (given : List Handle) (b : SpmState) (a n : ℕ) (h : Handle) → Balanced s (times given) b → phase_of b a ≡ Connected n → list_any (handle_eq h) given ≡ false

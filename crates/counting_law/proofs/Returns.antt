@@ -1,13 +1,13 @@
 -- In a run an actor's last entry is Blocked exactly where a call of it waits for its return, or where it panicked for another's reply.
-use Rattle.std.proofs.Common.{ℕ, zero, suc, ◌≡◌, ◌==◌, Bool, true, false, cond, not, ◌&&◌, ◌||◌, List, [], ◌∷◌, ◌++◌, get_or, inl, inr, arith, ◌∙◌, ap, sym, refl, subst}
+use Rattle.std.proofs.Common.{ℕ, zero, suc, ◌≡◌, ◌==◌, Bool, true, false, not, ◌&&◌, ◌||◌, List, [], ◌∷◌, ◌++◌, get_or, inl, inr, arith, ◌∙◌, ap, sym, refl, subst}
 use Rattle.std.specs.Prelude.{Some, replicate}
-use Rattle.ffm_model.proofs.RecordLemmas.{ends_blocked-nil, ends_blocked-push}
+use Rattle.ffm_model.proofs.RecordLemmas.{ends_blocked-nil, ends_blocked-push, entries_of-own, entries_of-other, outcomes_of-push}
 use Rattle.ffm_model.specs.declared.system.System.{System}
 use Rattle.ffm_model.specs.declared.machine.Entry.{Entry}
 use Rattle.ffm_model.specs.declared.machine.Outcome.{Outcome}
 use Rattle.ffm_model.specs.declared.machine.Outcome.TheVariants as outcome
 use Rattle.ffm_model.specs.declared.objects.ActorPhase.{ActorPhase}
-use Rattle.ffm_model.specs.declared.objects.ActorPhase.TheVariants.{Running, Blocked, Waiting, Ready, Connected, Ended, Panicked}
+use Rattle.ffm_model.specs.declared.objects.ActorPhase.TheVariants.{Running, Blocked, Ready, Connected, Ended, Panicked}
 use Rattle.ffm_model.specs.Actors.{actor_count}
 use Rattle.ffm_model.specs.Memory.{ByteMap}
 use Rattle.ffm_model.specs.State.{State, opening, phase_of}
@@ -21,6 +21,7 @@ use Rattle.counting_law.proofs.Resume.{times}
 use Rattle.counting_law.proofs.Steps.{step-kind}
 use Rattle.counting_law.proofs.Runs.{step-keeps, run-has, opening-balanced}
 use Rattle.counting_law.proofs.Turns.{Turned, Turns, is_told, is_sound, goes_with, kinds-turn}
+use Rattle.counting_law.proofs.Outcomes.{same-kind}
 
 ends_panicked-push : (os : List Outcome) (o : Outcome) → ends_panicked (os ++ o ∷ []) ≡ is_panicked_outcome o
 unfolding ends_panicked
@@ -29,13 +30,8 @@ ends_panicked-push (p ∷ []) o = refl
 ends_panicked-push (p ∷ q ∷ os) o = ends_panicked-push (q ∷ os) o
 
 blocked_not_panicked : (o : Outcome) → is_blocked_outcome o ≡ true → is_panicked_outcome o ≡ false
-blocked_not_panicked (outcome.Value z) e = refl
-blocked_not_panicked (outcome.Number n) e = refl
-blocked_not_panicked (outcome.Signals n) e = refl
-blocked_not_panicked (outcome.Got m) e = refl
-blocked_not_panicked outcome.Blocked e = refl
-blocked_not_panicked outcome.Done e = refl
 blocked_not_panicked outcome.Panicked e = cc
+blocked_not_panicked _ e = refl
 
 ends_apart : (os : List Outcome) → ends_blocked os ≡ true → ends_panicked os ≡ false
 unfolding ends_blocked ends_panicked
@@ -43,41 +39,11 @@ ends_apart [] e = refl
 ends_apart (p ∷ []) e = blocked_not_panicked p e
 ends_apart (p ∷ q ∷ os) e = ends_apart (q ∷ os) e
 
--- one entry more, of this actor or of another
-answers-here : (a : ℕ) (es : List Entry) (e : Entry) → (e.actor.0 == a) ≡ true → answers_to a (es ++ e ∷ []) ≡ answers_to a es ++ e.outcome ∷ []
-answers-here a [] e h = ap (λ (b : Bool). outcomes_of (cond {A = List Entry} b (e ∷ []) [])) h
-answers-here a (d ∷ es) e h =
-    let go : (b : Bool) → outcomes_of (cond {A = List Entry} b (d ∷ entries_of a (es ++ e ∷ [])) (entries_of a (es ++ e ∷ []))) ≡ outcomes_of (cond {A = List Entry} b (d ∷ entries_of a es) (entries_of a es)) ++ e.outcome ∷ [] =
-    elim [ true ↦ ap (λ (os : List Outcome). d.outcome ∷ os) (answers-here a es e h) | false ↦ answers-here a es e h ] in
-    go (d.actor.0 == a)
-
-answers-else : (a : ℕ) (es : List Entry) (e : Entry) → (e.actor.0 == a) ≡ false → answers_to a (es ++ e ∷ []) ≡ answers_to a es
-answers-else a [] e h = ap (λ (b : Bool). outcomes_of (cond {A = List Entry} b (e ∷ []) [])) h
-answers-else a (d ∷ es) e h =
-    let go : (b : Bool) → outcomes_of (cond {A = List Entry} b (d ∷ entries_of a (es ++ e ∷ [])) (entries_of a (es ++ e ∷ []))) ≡ outcomes_of (cond {A = List Entry} b (d ∷ entries_of a es) (entries_of a es)) =
-    elim [ true ↦ ap (λ (os : List Outcome). d.outcome ∷ os) (answers-else a es e h) | false ↦ answers-else a es e h ] in
-    go (d.actor.0 == a)
-
--- outcomes that are equal but for numbers
 blocked-alike : (o p : Outcome) → outcome_eq o p ≡ true → is_blocked_outcome o ≡ is_blocked_outcome p
-blocked-alike (outcome.Value z) (outcome.Value w) e = refl
-blocked-alike (outcome.Number n) (outcome.Number k) e = refl
-blocked-alike (outcome.Signals n) (outcome.Signals k) e = refl
-blocked-alike (outcome.Got m) (outcome.Got n) e = refl
-blocked-alike outcome.Blocked outcome.Blocked e = refl
-blocked-alike outcome.Done outcome.Done e = refl
-blocked-alike outcome.Panicked outcome.Panicked e = refl
-blocked-alike _ _ e = cc
+blocked-alike = same-kind is_blocked_outcome (λ z w e. refl) (λ n k e. refl) (λ n k e. refl) (λ m n e. refl)
 
-panicked-alike : (o p : Outcome) → outcome_eq o p ≡ true → is_panicked_outcome o ≡ is_panicked_outcome p
-panicked-alike (outcome.Value z) (outcome.Value w) e = refl
-panicked-alike (outcome.Number n) (outcome.Number k) e = refl
-panicked-alike (outcome.Signals n) (outcome.Signals k) e = refl
-panicked-alike (outcome.Got m) (outcome.Got n) e = refl
-panicked-alike outcome.Blocked outcome.Blocked e = refl
-panicked-alike outcome.Done outcome.Done e = refl
-panicked-alike outcome.Panicked outcome.Panicked e = refl
-panicked-alike _ _ e = cc
+pub panicked-alike : (o p : Outcome) → outcome_eq o p ≡ true → is_panicked_outcome o ≡ is_panicked_outcome p
+panicked-alike = same-kind is_panicked_outcome (λ z w e. refl) (λ n k e. refl) (λ n k e. refl) (λ m n e. refl)
 
 -- the phase that goes with the answers so far
 abbrev fits_answers : List Outcome → ActorPhase → Bool
@@ -92,20 +58,12 @@ pub record CallsWait (s : System) (es : List Entry) (st : State) : Type 0 where
 told_pending : (p : ActorPhase) → is_told p ≡ true → is_pending p ≡ true
 told_pending (Ready o) e = refl
 told_pending (Connected c) e = refl
-told_pending Running e = cc
-told_pending Blocked e = cc
-told_pending (Waiting mask) e = cc
-told_pending Ended e = cc
-told_pending Panicked e = cc
+told_pending _ e = cc
 
 pub told_sound : (p : ActorPhase) → is_told p ≡ true → is_sound p ≡ true
 told_sound (Ready o) e = e
 told_sound (Connected c) e = refl
-told_sound Running e = cc
-told_sound Blocked e = cc
-told_sound (Waiting mask) e = cc
-told_sound Ended e = cc
-told_sound Panicked e = cc
+told_sound _ e = cc
 
 -- another's phase
 pub turned-sound : (p q : ActorPhase) → Turned p q → is_sound p ≡ true → is_sound q ≡ true
@@ -136,12 +94,12 @@ step-waits s es st new e w h =
           let mine : (e.actor.0 == a) ≡ true = ap (λ (x : ℕ). e.actor.0 == x) k ∙ is_itself e.actor.0 in
           let os : List Outcome = answers_to a es in
           let own : is_blocked_outcome it.0 ≡ goes_with it.0 (phase_of new.spm a) = turns.own ∙ ap (λ (x : ℕ). goes_with it.0 (phase_of new.spm x)) (sym k) in
-          subst (λ (xs : List Outcome). ends_blocked xs ≡ fits_answers xs (phase_of new.spm a)) (sym (answers-here a es e mine))
+          subst (λ (xs : List Outcome). ends_blocked xs ≡ fits_answers xs (phase_of new.spm a)) (sym (ap outcomes_of (entries_of-own a es e mine) ∙ outcomes_of-push (entries_of a es) e))
           (ends_blocked-push os e.outcome ∙ sym (blocked-alike it.0 e.outcome it.1) ∙ own
           ∙ ap (λ (b : Bool). is_pending (phase_of new.spm a) || (is_panicked (phase_of new.spm a) && not b)) (panicked-alike it.0 e.outcome it.1 ∙ sym (ends_panicked-push os e.outcome))))
           (λ k.
           let flipped : (e.actor.0 == a) ≡ false = grind arith in
-          subst (λ (xs : List Outcome). ends_blocked xs ≡ fits_answers xs (phase_of new.spm a)) (sym (answers-else a es e flipped))
+          subst (λ (xs : List Outcome). ends_blocked xs ≡ fits_answers xs (phase_of new.spm a)) (sym (ap outcomes_of (entries_of-other a es e flipped)))
           (turned-fits (answers_to a es) (phase_of st.spm a) (phase_of new.spm a) (turns.others a k) (w.last a)));
     }
 
@@ -158,13 +116,10 @@ opening-waits s m = record {
 }
 
 enabled-due : (p : ActorPhase) (word : ℕ) (os : List Outcome) → can_go_on p word ≡ true → ends_blocked os ≡ fits_answers os p → may_resume p ≡ ends_blocked os
-enabled-due Running word os e h = sym h
 enabled-due Blocked word os e h = cc
-enabled-due (Waiting mask) word os e h = sym h
-enabled-due (Ready o) word os e h = sym h
-enabled-due (Connected c) word os e h = sym h
 enabled-due Ended word os e h = cc
 enabled-due Panicked word os e h = cc
+enabled-due _ word os e h = sym h
 
 -- in each state of a run
 pub run-returns : (s : System) (m : ByteMap) (es : List Entry) (st : State) → after s m es ≡ Some st → ReturnsDue s es st

@@ -14,7 +14,7 @@ use Rattle.ffm_model.specs.Actors.{is_stateless, permits}
 use Rattle.ffm_model.specs.Memory.{no_vectors}
 use Rattle.ffm_model.specs.State.{SpmState, phase_of, in_use, connection_held, message_held, phase_put}
 use Rattle.ffm_model.specs.Panic.{is_dead, panic_effect}
-use Rattle.ffm_model.specs.ClientCalls.{Move, move, connect_issued, new_connection, call_on, call_to, close_on}
+use Rattle.ffm_model.specs.ClientCalls.{Move, move, connect_issued, new_connection, call_on}
 use Rattle.ffm_model.specs.ServiceCalls.{replied, owes_panic}
 use Rattle.ffm_model.specs.Names.{capacity, message_capacity}
 use Rattle.counting_law.specs.Objects.{ObjectsFit, allowed}
@@ -24,9 +24,8 @@ use Rattle.counting_law.proofs.Bounds.{few-connections}
 use Rattle.counting_law.proofs.Callers.{few-messages-of}
 use Rattle.counting_law.proofs.Reply.{settled, settled-keeps}
 use Rattle.counting_law.proofs.Owed.{replied-settled, owed-settled, owed-request}
-use Rattle.counting_law.proofs.Keeps.{owed-keeps, panics-keep, invoke-keeps, asked-keeps, issued-keeps, less}
+use Rattle.counting_law.proofs.Keeps.{owed-keeps, panics-keep, invoke-keeps, issued-keeps, less}
 use Rattle.counting_law.proofs.Connect.{connected-keeps}
-use Rattle.counting_law.proofs.Close.{close-keeps}
 
 pub connect-fits : (s : System) (b : SpmState) (a v : ℕ) → ObjectsFit s b → phase_of b a ≡ Running → (in_use b a v == allowed s a v) ≡ false → ObjectsFit s (connect_issued b a v)
 connect-fits s b a v h running free =

@@ -112,52 +112,38 @@ map-same {X = X} f e (x ∷ xs) = ap (λ (y : X). y ∷ map f xs) (e x) ∙ ap (
 pub all-stay : (ns ms : List PendingMessage) → count_by (stays ns) ms ≤ count_by (λ m. true) ms
 all-stay ns ms = omega (arith, count_by-le-length (stays ns) ms, count-all ms)
 
--- the same messages, whatever else
-still : (b new : SpmState) → new.messages ≡ b.messages → Ordered b new
-still b new e = record {
-  q = λ m. true;
+-- those that pass q stay as they were
+unchanged : (b new : SpmState) (q : PendingMessage → Bool) (sent : List PendingMessage) → new.messages ≡ filter q b.messages ++ sent → count_by (stays new.messages) b.messages ≤ count_by q b.messages → Ordered b new
+unchanged b new q sent e exact = record {
+  q = q;
   f = λ m. m;
-  added = [];
-  messages = e ∙ filter-all b.messages ∙ sym (map-same (λ m. m) (λ m. refl) (filter (λ m. true) b.messages)) ∙ sym (append-nil (map (λ m. m) (filter (λ m. true) b.messages)));
+  added = sent;
+  messages = e ∙ ap (λ (ms : List PendingMessage). ms ++ sent) (sym (map-same (λ m. m) (λ m. refl) (filter q b.messages)));
   connection = λ m. refl;
   client = λ m. refl;
   kind = λ m. refl;
   handle = λ m. refl;
-  exact = all-stay new.messages b.messages;
+  exact = exact;
 }
+
+-- the same messages, whatever else
+still : (b new : SpmState) → new.messages ≡ b.messages → Ordered b new
+still b new e = unchanged b new (λ m. true) [] (e ∙ filter-all b.messages ∙ sym (append-nil (filter (λ m. true) b.messages))) (all-stay new.messages b.messages)
 
 -- one message more
 pushed : (b new : SpmState) (x : PendingMessage) → new.messages ≡ b.messages ++ x ∷ [] → Ordered b new
-pushed b new x e = record {
-  q = λ m. true;
-  f = λ m. m;
-  added = x ∷ [];
-  messages = e ∙ ap (λ (ms : List PendingMessage). ms ++ x ∷ []) (filter-all b.messages ∙ sym (map-same (λ m. m) (λ m. refl) (filter (λ m. true) b.messages)));
-  connection = λ m. refl;
-  client = λ m. refl;
-  kind = λ m. refl;
-  handle = λ m. refl;
-  exact = all-stay new.messages b.messages;
-}
+pushed b new x e = unchanged b new (λ m. true) (x ∷ []) (e ∙ ap (λ (ms : List PendingMessage). ms ++ x ∷ []) (filter-all b.messages)) (all-stay new.messages b.messages)
 
 -- some messages go
 fewer : (s : System) (b new : SpmState) (q : PendingMessage → Bool) → ObjectsFit s b → new.messages ≡ filter q b.messages → Ordered b new
-fewer s b new q fit e = record {
-  q = q;
-  f = λ m. m;
-  added = [];
-  messages = e ∙ sym (map-same (λ m. m) (λ m. refl) (filter q b.messages)) ∙ sym (append-nil (map (λ m. m) (filter q b.messages)));
-  connection = λ m. refl;
-  client = λ m. refl;
-  kind = λ m. refl;
-  handle = λ m. refl;
-  exact = omega (
-    arith,
-    ap (λ (ms : List PendingMessage). count_by (stays ms) b.messages) e,
-    stays-most b.messages (filter q b.messages) (one-each s b fit),
-    length-filter q b.messages,
-  );
-}
+fewer s b new q fit e =
+    unchanged b new q [] (e ∙ sym (append-nil (filter q b.messages)))
+    (omega (
+      arith,
+      ap (λ (ms : List PendingMessage). count_by (stays ms) b.messages) e,
+      stays-most b.messages (filter q b.messages) (one-each s b fit),
+      length-filter q b.messages,
+    ))
 
 filter-twice : {X : Type 0} (q r : X → Bool) (xs : List X) → filter r (filter q xs) ≡ filter (λ x. q x && r x) xs
 filter-twice q r [] = refl
@@ -254,24 +240,15 @@ panic-shape s b mid r p given it fit fit_mid quiet only =
     subst (λ (x : SpmState). Quiet b x given given) (sym (after_panic-is s mid p)) (record {
       same = refl;
       connects = λ t less. omega (arith, left-le s p (λ c. t c.serial c.handle) (λ c ph. refl) mid.connections, it.connects t);
-      ordered = record {
-        q = both;
-        f = λ m. m;
-        added = sent;
-        messages = order ∙ ap (λ (ms : List PendingMessage). ms ++ sent) (sym (map-same (λ m. m) (λ m. refl) (filter both b.messages)));
-        connection = λ m. refl;
-        client = λ m. refl;
-        kind = λ m. refl;
-        handle = λ m. refl;
-        exact = omega (
-          arith,
-          ap (λ (ms : List PendingMessage). count_by (stays ms) b.messages) order,
-          stays-append (filter both b.messages) sent b.messages,
-          stays-most b.messages (filter both b.messages) (one-each s b fit),
-          length-filter both b.messages,
-          apart,
-        );
-      };
+      ordered = unchanged b _ both sent order
+          (omega (
+            arith,
+            ap (λ (ms : List PendingMessage). count_by (stays ms) b.messages) order,
+            stays-append (filter both b.messages) sent b.messages,
+            stays-most b.messages (filter both b.messages) (one-each s b fit),
+            length-filter both b.messages,
+            apart,
+          ));
     })
 
 -- ---- each kind of change

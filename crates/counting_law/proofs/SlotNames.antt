@@ -84,8 +84,11 @@ taken-push ts i h below =
 named_numbers : (base n : ℕ) (t : SlotName) → handle_eq (record { 0 = pos n }) (name_of base t) ≡ true → n ≡ t.generation * 1024 + t.index + base
 named_numbers base n t e = let same : pos n ≡ pos (t.generation * 1024 + t.index + base) = (Decides-int_eq (pos n) (pos (t.generation * 1024 + t.index + base))).0 e in cc
 
-small_from : (x : ℕ) → bit (not (nat_lt x 512)) ≤ 0 → x < 512
+pub small_from : (x : ℕ) → bit (not (nat_lt x 512)) ≤ 0 → x < 512
 small_from x h = grind (arith, nat_tests)
+
+pub positive_from : (x : ℕ) → bit (x == 0) ≤ 0 → 1 ≤ x
+positive_from x h = grind arith
 
 -- a slot with the name, where there is one
 found-named : (base n : ℕ) (ts : List SlotName) → Taken ts → 1 ≤ count_by (λ t. handle_eq (record { 0 = pos n }) (name_of base t)) ts → (t : SlotName) × (n ≡ t.generation * 1024 + t.index + base) × (t.index < 512)

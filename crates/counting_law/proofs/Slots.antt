@@ -11,7 +11,7 @@ use Rattle.ffm_model.specs.declared.machine.Entry.{Entry}
 use Rattle.ffm_model.specs.declared.objects.PendingMessage.{PendingMessage}
 use Rattle.ffm_model.specs.Memory.{ByteMap}
 use Rattle.ffm_model.specs.declared.objects.ActorPhase.{ActorPhase}
-use Rattle.ffm_model.specs.declared.objects.ActorPhase.TheVariants.{Running, Blocked, Waiting, Ready, Connected, Ended, Panicked}
+use Rattle.ffm_model.specs.declared.objects.ActorPhase.TheVariants.{Connected}
 use Rattle.ffm_model.specs.State.{SpmState, State, phase_of}
 use Rattle.ffm_model.specs.Step.{step, after}
 use Rattle.ffm_model.specs.Names.{NamesSoFar, NamedState, SlotName, capacity, message_capacity, is_same_connection, live_connections, named_step, names_after, next_slot, shows_name, slots_kept, stays, with_connection, with_messages}
@@ -69,13 +69,8 @@ and-flip : (x n : ℕ) (c : Bool) → bit ((n == x) && c) ≤ bit (x == n)
 and-flip x n c = let e : (n == x) ≡ (x == n) = grind arith in omega (arith, both-le-left (n == x) c, ap bit e)
 
 pub calls-few : (p : ActorPhase) (n k x : ℕ) (j : ℕ → ℕ) → PhaseFits p (n + x) (k + x) j → x ≤ 1
-calls-few Running n k x j h = omega (arith, h)
-calls-few Blocked n k x j h = omega (arith, h)
-calls-few (Waiting mask) n k x j h = omega (arith, h)
-calls-few (Ready o) n k x j h = omega (arith, h)
 calls-few (Connected c) n k x j h = omega (arith, h.0)
-calls-few Ended n k x j h = omega (arith, h)
-calls-few Panicked n k x j h = omega (arith, h)
+calls-few _ n k x j h = omega (arith, h)
 
 -- an actor has one request by a stateless handle at most
 pub one-call : (s : System) (b : SpmState) (a : ℕ) → ObjectsFit s b → count_by (called_by a) b.messages ≤ 1

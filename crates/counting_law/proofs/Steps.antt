@@ -37,89 +37,20 @@ get-alike s st a signal msg h k =
     go (service_of_signal s a signal)
 
 pub alike : (s : System) (st : State) (a : ℕ) (c : Call) (h k : Handle) → is_none (call_case s st a c h) ≡ is_none (call_case s st a c k)
-alike s st a call.FrameworkVersion h k = refl
-alike s st a (call.Version sid) h k = refl
-alike s st a (call.Connect sid version) h k = refl
-alike s st a (call.Invoke c kind iv il ov ol) h k = refl
-alike s st a (call.Close c) h k = refl
-alike s st a (call.Wait mask timeout) h k = refl
 alike s st a (call.Get signal msg) h k = get-alike s st a signal msg h k
-alike s st a (call.SetRhandle c r) h k = refl
-alike s st a (call.Read c i at len) h k = refl
-alike s st a (call.Skip c i len) h k = refl
-alike s st a (call.Write c i at len) h k = refl
-alike s st a (call.Reply c status) h k = refl
-alike s st a (call.Notify id) h k = refl
-alike s st a call.Clear h k = refl
-alike s st a (call.Eoi signal) h k = refl
-alike s st a (call.IrqEnable signal) h k = refl
-alike s st a (call.IrqDisable signal) h k = refl
-alike s st a (call.ResetSignal signal) h k = refl
-alike s st a call.Panic h k = refl
-alike s st a (call.Load at size) h k = refl
-alike s st a (call.Store at size v) h k = refl
-alike s st a (call.Raise source) h k = refl
-alike s st a (call.Fire source result) h k = refl
-alike s st a (call.Stop spent) h k = refl
-alike s st a call.Resume h k = refl
+alike s st a _ h k = refl
 
 -- the call is no return, unless it is made
 is_call_or : (s : System) (st : State) (a : ℕ) (c : Call) (h : Handle) (P : Type 0) → call_case s st a c h ≡ None → (((p : ActorPhase) → returns_when_due c p ≡ not (may_resume p)) → P) → P
-is_call_or s st a call.FrameworkVersion h P e f = f (λ p. refl)
-is_call_or s st a (call.Version sid) h P e f = f (λ p. refl)
-is_call_or s st a (call.Connect sid version) h P e f = f (λ p. refl)
-is_call_or s st a (call.Invoke c kind iv il ov ol) h P e f = f (λ p. refl)
-is_call_or s st a (call.Close c) h P e f = f (λ p. refl)
-is_call_or s st a (call.Wait mask timeout) h P e f = f (λ p. refl)
-is_call_or s st a (call.Get signal msg) h P e f = f (λ p. refl)
-is_call_or s st a (call.SetRhandle c r) h P e f = f (λ p. refl)
-is_call_or s st a (call.Read c i at len) h P e f = f (λ p. refl)
-is_call_or s st a (call.Skip c i len) h P e f = f (λ p. refl)
-is_call_or s st a (call.Write c i at len) h P e f = f (λ p. refl)
-is_call_or s st a (call.Reply c status) h P e f = f (λ p. refl)
-is_call_or s st a (call.Notify id) h P e f = f (λ p. refl)
-is_call_or s st a call.Clear h P e f = f (λ p. refl)
-is_call_or s st a (call.Eoi signal) h P e f = f (λ p. refl)
-is_call_or s st a (call.IrqEnable signal) h P e f = f (λ p. refl)
-is_call_or s st a (call.IrqDisable signal) h P e f = f (λ p. refl)
-is_call_or s st a (call.ResetSignal signal) h P e f = f (λ p. refl)
-is_call_or s st a call.Panic h P e f = f (λ p. refl)
-is_call_or s st a (call.Load at size) h P e f = f (λ p. refl)
-is_call_or s st a (call.Store at size v) h P e f = f (λ p. refl)
-is_call_or s st a (call.Raise source) h P e f = f (λ p. refl)
-is_call_or s st a (call.Fire source result) h P e f = f (λ p. refl)
-is_call_or s st a (call.Stop spent) h P e f = f (λ p. refl)
 is_call_or s st a call.Resume h P e f = cc
+is_call_or s st a _ h P e f = f (λ p. refl)
 
 -- each kind of actor has the return of its calls
 lacks_call : (k : ActorKind) (c : Call) (P : Type 0) → has_call k c ≡ false → (((p : ActorPhase) → returns_when_due c p ≡ not (may_resume p)) → P) → P
-lacks_call k call.FrameworkVersion P e f = f (λ p. refl)
-lacks_call k (call.Version sid) P e f = f (λ p. refl)
-lacks_call k (call.Connect sid version) P e f = f (λ p. refl)
-lacks_call k (call.Invoke c kind iv il ov ol) P e f = f (λ p. refl)
-lacks_call k (call.Close c) P e f = f (λ p. refl)
-lacks_call k (call.Wait mask timeout) P e f = f (λ p. refl)
-lacks_call k (call.Get signal msg) P e f = f (λ p. refl)
-lacks_call k (call.SetRhandle c r) P e f = f (λ p. refl)
-lacks_call k (call.Read c i at len) P e f = f (λ p. refl)
-lacks_call k (call.Skip c i len) P e f = f (λ p. refl)
-lacks_call k (call.Write c i at len) P e f = f (λ p. refl)
-lacks_call k (call.Reply c status) P e f = f (λ p. refl)
-lacks_call k (call.Notify id) P e f = f (λ p. refl)
-lacks_call k call.Clear P e f = f (λ p. refl)
-lacks_call k (call.Eoi signal) P e f = f (λ p. refl)
-lacks_call k (call.IrqEnable signal) P e f = f (λ p. refl)
-lacks_call k (call.IrqDisable signal) P e f = f (λ p. refl)
-lacks_call k (call.ResetSignal signal) P e f = f (λ p. refl)
-lacks_call k call.Panic P e f = f (λ p. refl)
-lacks_call k (call.Load at size) P e f = f (λ p. refl)
-lacks_call k (call.Store at size v) P e f = f (λ p. refl)
-lacks_call k (call.Raise source) P e f = f (λ p. refl)
-lacks_call k (call.Fire source result) P e f = f (λ p. refl)
-lacks_call k (call.Stop spent) P e f = f (λ p. refl)
 lacks_call Partition call.Resume P e f = cc
 lacks_call Client call.Resume P e f = cc
 lacks_call Device call.Resume P e f = cc
+lacks_call k _ P e f = f (λ p. refl)
 
 -- a PROGRAMMER ERROR
 refused-kind : (s : System) (st : State) (a : ℕ) (c : Call) (Q : Outcome → SpmState → List Handle → Type 0) → EachKind s st.spm st.handles_given a c Q → phase_of st.spm a ≡ Running → Q (refusal_of c) st.spm st.handles_given
@@ -167,9 +98,7 @@ pub record Stepped (s : System) (st new : State) (e : Entry) : Type 0 where
 
 all_true : (a b c : Bool) (x y : State) (P : Type 0) → (if a && b && c then Some x else None) ≡ Some y → (a ≡ true → b ≡ true → c ≡ true → x ≡ y → P) → P
 all_true true true true x y P e f = f refl refl refl (let it : x ≡ y = cc in it)
-all_true true true false x y P e f = cc
-all_true true false c x y P e f = cc
-all_true false b c x y P e f = cc
+all_true _ _ _ x y P e f = cc
 
 pub step-is : (s : System) (st new : State) (e : Entry) → step s st e ≡ Some new → Stepped s st new e
 unfolding step

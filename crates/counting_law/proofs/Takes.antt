@@ -111,22 +111,24 @@ answers-spend b new q h = record {
   owners = omega (arith, h.owners, h.made);
 }
 
-client_blind : (n : ℕ) (ph : ConnPhase) (f : ℕ → Bool) (c : OpenConnection) → f (phase_put n ph c).client.0 ≡ f c.client.0
-client_blind n ph f c = put-same (λ (d : OpenConnection). d.serial == n) (λ d. f d.client.0) (λ d. record d { phase = ph }) (λ d. refl) c
+owner_blind : (n : ℕ) (f : OpenConnection → OpenConnection) (g : ℕ → Bool) → ((c : OpenConnection) → (f c).client.0 ≡ c.client.0) → (c : OpenConnection) → g (if c.serial == n then f c else c).client.0 ≡ g c.client.0
+owner_blind n f g same c = put-same (λ (d : OpenConnection). d.serial == n) (λ d. g d.client.0) f (λ d. ap g (same d)) c
+
+-- nor where one of them gets a phase
+owned-put : (b : SpmState) (a : ℕ) (p : ActorPhase) (n : ℕ) (ph : ConnPhase) → is_panicked (phase_of b a) ≡ false
+    → count_by (λ c. not (is_panicked (get_or (slice_set b.phases a p) c.client.0 Ended))) (map (phase_put n ph) b.connections) ≤ owned b
+owned-put b a p n ph alive =
+    omega (
+      arith,
+      owned-set b a p b.connections alive,
+      count-map-same (λ c. not (is_panicked (get_or (slice_set b.phases a p) c.client.0 Ended))) (phase_put n ph) (owner_blind n (λ c. record c { phase = ph }) (λ x. not (is_panicked (get_or (slice_set b.phases a p) x Ended))) (λ c. refl)) b.connections,
+    )
 
 settled-answers : (s : System) (limit : Handle → ℕ) (b : SpmState) (p : ℕ) (h : Handle) (status : ℤ) (m : PendingMessage) → Balanced s limit b → message_held s b p h ≡ Some m
     → Settles b (settled b h status m) (λ n. not (has_handle n.handle h))
 settled-answers s limit b p h status m balanced found =
     settled-cases s limit b p h status m balanced found (λ new. Settles b new (λ n. not (has_handle n.handle h)))
-    (λ n ph q blocked told. record {
-      messages = refl;
-      made = refl;
-      owners = omega (
-        arith,
-        owned-set b m.client.0 q b.connections (ap is_panicked blocked),
-        count-map-same (λ c. not (is_panicked (get_or (slice_set b.phases m.client.0 q) c.client.0 Ended))) (phase_put n ph) (λ c. client_blind n ph (λ x. not (is_panicked (get_or (slice_set b.phases m.client.0 q) x Ended))) c) b.connections,
-      );
-    })
+    (λ n ph q blocked told. record { messages = refl; made = refl; owners = owned-put b m.client.0 q n ph (ap is_panicked blocked) })
     (λ n q blocked told. record {
       messages = refl;
       made = refl;
@@ -235,9 +237,6 @@ length-delivered v h ms = sym (count-all (delivered v h ms)) ∙ delivered-same 
 pub length-map : {X : Type 0} (f : X → X) (xs : List X) → length (map f xs) ≡ length xs
 length-map f xs = sym (count-all (map f xs)) ∙ count-map-same (λ x. true) f (λ x. refl) xs ∙ count-all xs
 
-owner_blind : (n : ℕ) (f : OpenConnection → OpenConnection) (g : ℕ → Bool) → ((c : OpenConnection) → (f c).client.0 ≡ c.client.0) → (c : OpenConnection) → g (if c.serial == n then f c else c).client.0 ≡ g c.client.0
-owner_blind n f g same c = put-same (λ (d : OpenConnection). d.serial == n) (λ d. g d.client.0) f (λ d. ap g (same d)) c
-
 pub kinds-spend : (s : System) (b : SpmState) (given : List Handle) (a : ℕ) (d : Call) → Balanced s (times given) b → EachKind s b given a d (λ o new all. Spends b new)
 kinds-spend s b given a d h =
     let phased : (p q : ActorPhase) → phase_of b a ≡ q → is_panicked q ≡ false → Spends b (record b { phases = slice_set b.phases a p }) =
@@ -268,13 +267,7 @@ kinds-spend s b given a d h =
           let go : (d : Bool) → Spends b (cond {A = Move} d (move (outcome.Value PSA_ERROR_COMMUNICATION_FAILURE) b) (call_on b a (record c { phase = Idle }) (pos n) v)).spm =
           elim [
             | true ↦ kept-spends b b refl refl (λ m. refl) (omega arith)
-            | false ↦ pushed-spends b _ _ (omega arith) (omega arith) refl
-                (omega (
-                  arith,
-                  owned-set b a Blocked b.connections (ap is_panicked running),
-                  count-map-same (λ x. not (is_panicked (get_or (slice_set b.phases a Blocked) x.client.0 Ended))) (phase_put c.serial Busy)
-                      (owner_blind c.serial (λ x. record x { phase = Busy }) (λ x. not (is_panicked (get_or (slice_set b.phases a Blocked) x Ended))) (λ x. refl)) b.connections,
-                ))
+            | false ↦ pushed-spends b _ _ (omega arith) (omega arith) refl (omega (arith, owned-put b a Blocked c.serial Busy (ap is_panicked running)))
           ] in
           go (is_dead c.phase);
       asks = λ running v n vs stateless may.
@@ -288,13 +281,7 @@ kinds-spend s b given a d h =
           let go : (d : Bool) → Spends b (cond {A = Move} d (move outcome.Done (without_connection b c.serial)) (close_on b a (record c { phase = Idle }))).spm =
           elim [
             | true ↦ kept-spends b (without_connection b c.serial) refl refl (λ m. refl) (count-filter-le (is_owned b) (λ x. not (x.serial == c.serial)) b.connections)
-            | false ↦ pushed-spends b _ _ (omega arith) (omega arith) refl
-                (omega (
-                  arith,
-                  owned-set b a Blocked b.connections (ap is_panicked running),
-                  count-map-same (λ x. not (is_panicked (get_or (slice_set b.phases a Blocked) x.client.0 Ended))) (phase_put c.serial Closing)
-                      (owner_blind c.serial (λ x. record x { phase = Closing }) (λ x. not (is_panicked (get_or (slice_set b.phases a Blocked) x Ended))) (λ x. refl)) b.connections,
-                ))
+            | false ↦ pushed-spends b _ _ (omega arith) (omega arith) refl (omega (arith, owned-put b a Blocked c.serial Closing (ap is_panicked running)))
           ] in
           go (is_dead c.phase);
       gets = λ running signal msg v is has first at k shown tells new.

@@ -64,13 +64,9 @@ pub record Turns (a : ℕ) (old new : SpmState) (o : Outcome) : Type 0 where
   pub others : (x : ℕ) → (x == a) ≡ false → Turned (phase_of old x) (phase_of new x)
 
 plain_ends : (o : Outcome) → is_plain o ≡ true → is_blocked_outcome o ≡ false
-plain_ends (outcome.Value z) e = refl
-plain_ends (outcome.Number n) e = refl
-plain_ends (outcome.Signals n) e = refl
-plain_ends (outcome.Got m) e = refl
 plain_ends outcome.Blocked e = cc
-plain_ends outcome.Done e = refl
 plain_ends outcome.Panicked e = cc
+plain_ends _ e = refl
 
 -- no phase changes
 same-turns : (b new : SpmState) (a : ℕ) (o : Outcome) → phase_of b a ≡ Running → is_plain o ≡ true → new.phases ≡ b.phases → Turns a b new o
@@ -197,7 +193,7 @@ panic-turns s limit b a h running =
     }
 
 -- a reply touches the phase of its client alone
-settled-elsewhere : (s : System) (limit : Handle → ℕ) (b : SpmState) (p : ℕ) (h : Handle) (status : ℤ) (m : PendingMessage) → Balanced s limit b → message_held s b p h ≡ Some m → (x : ℕ) → (x == m.client.0) ≡ false
+pub settled-elsewhere : (s : System) (limit : Handle → ℕ) (b : SpmState) (p : ℕ) (h : Handle) (status : ℤ) (m : PendingMessage) → Balanced s limit b → message_held s b p h ≡ Some m → (x : ℕ) → (x == m.client.0) ≡ false
     → phase_of (settled b h status m) x ≡ phase_of b x
 settled-elsewhere s limit b p h status m balanced found x e =
     settled-cases s limit b p h status m balanced found (λ new. phase_of new x ≡ phase_of b x)
