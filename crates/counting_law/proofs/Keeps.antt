@@ -1,10 +1,10 @@
 -- Each kind of change keeps the balance.
 use Rattle.std.proofs.Common.{ℕ, ◌≡◌, ◌<◌, ◌≤◌, ◌+◌, ◌==◌, Bool, true, false, cond, not, ◌&&◌, List, [], ◌∷◌, ◌++◌, length, get_or, arith, ◌∙◌, ap, sym, refl, subst}
-use Rattle.std.specs.Prelude.{ℤ, pos, int_le, int_lt, count_by, find, Some, None, map, slice_set, is_none}
+use Rattle.std.specs.Prelude.{ℤ, pos, int_le, int_lt, count_by, Some, None, map, slice_set}
 use Rattle.std.specs.Option.{option_map_or}
 use Rattle.std.specs.Ordering.{int_eq}
 use Rattle.std.proofs.lemmas.Bool.{and_parts, eqb-true}
-use Rattle.list_laws.proofs.Counts.{bit, count-found, count-map-same, count-push}
+use Rattle.list_laws.proofs.Counts.{bit, count-map-same, count-push}
 use Rattle.list_laws.proofs.Tests.{find-passes}
 use Rattle.ffm_model.specs.declared.constants.TheConstants.{PSA_IPC_CALL, PSA_IPC_CONNECT, PSA_ERROR_PROGRAMMER_ERROR, PSA_ERROR_COMMUNICATION_FAILURE}
 use Rattle.ffm_model.specs.declared.system.System.{System}
@@ -25,12 +25,12 @@ use Rattle.ffm_model.specs.State.{SpmState, phase_of, in_use, has_handle, rhandl
 use Rattle.ffm_model.specs.Panic.{is_dead, panic_effect}
 use Rattle.ffm_model.specs.ClientCalls.{Move, move, call_on, call_to, is_service_panicked}
 use Rattle.ffm_model.specs.ServiceCalls.{connect_answered, close_answered, with_request_phase}
-use Rattle.counting_law.specs.Objects.{PhaseFits, same, is_joining, is_awaited, allowed, awaited_by, called_by, wrongly_called, awaited_of, asking_of, accepted_as, wrongly_shown, message_marked, connection_marked}
+use Rattle.counting_law.specs.Objects.{PhaseFits, is_joining, allowed, awaited_by, called_by, wrongly_called, awaited_of, asking_of, accepted_as, wrongly_shown, message_marked, connection_marked}
 use Rattle.counting_law.proofs.Balance.{Balanced}
-use Rattle.counting_law.proofs.Parts.{fits_same, is_there, phase_same, found-serial, flipped, off_left, on_left, is_itself, running-quiet, off_from, rising-map}
-use Rattle.counting_law.proofs.Updates.{put, moved-keeps, phased-keeps, sent-keeps}
+use Rattle.counting_law.proofs.Parts.{fits_same, is_there, phase_same, flipped, is_itself, running-quiet, rising-map}
+use Rattle.counting_law.proofs.Updates.{phased-keeps, sent-keeps}
 use Rattle.counting_law.proofs.Connect.{connected-keeps}
-use Rattle.counting_law.proofs.Close.{close-keeps, shown_some}
+use Rattle.counting_law.proofs.Close.{close-keeps, sent-own}
 use Rattle.counting_law.proofs.Reply.{settled, request_settled, settled-keeps, request-blocked, request-phases, not_negative}
 use Rattle.counting_law.proofs.Resume.{times, named-keeps, delivered-keeps, vectors-keep, put-same}
 use Rattle.counting_law.proofs.Panic.{panic-keeps}
@@ -51,33 +51,9 @@ phase-keeps s limit b a p h running new fits =
 invoke-own : (s : System) (limit : Handle → ℕ) (b : SpmState) (h : Handle) (c : OpenConnection) (n : ℕ) (v : Vectors) → Balanced s limit b → phase_of b c.client.0 ≡ Running
     → connection_held b c.client.0 h ≡ Some c → Balanced s limit (call_on b c.client.0 c (pos n) v).spm
 invoke-own s limit b h c n v balanced running held =
-    let a : ℕ = c.client.0 in
-    let inside : a < length b.phases = is_there b.phases a (λ ended. cc) in
-    let quiet : awaited_by b.connections b.messages a ≡ 0 = running-quiet (phase_of b a) _ _ (λ k. count_by (accepted_as a k) b.connections) running (balanced.fitting a) in
-    let own : bit (is_awaited c.phase) ≡ 0 =
-    omega (arith, quiet, on_left (a == a) (is_awaited c.phase) (is_itself a), count-found (λ d. (d.client.0 == a) && has_handle d.handle h) (awaited_of a) b.connections c held) in
-    let known : is_none c.handle ≡ false = shown_some c.handle h (and_parts (a == a) (has_handle c.handle h) (find-passes (λ d. (d.client.0 == a) && has_handle d.handle h) b.connections c held)).1 in
-    let here : find (λ d. d.serial == c.serial) b.connections ≡ Some c = found-serial 0 b.connections_made _ b.connections c balanced.rising held in
     let m : PendingMessage = record { service = c.service; client = c.client; connection = Some c.serial; kind = pos n; vectors = v; handle = None } in
-    let go : (d : Bool) → Balanced s limit (cond {A = Move} d (move (Value PSA_ERROR_COMMUNICATION_FAILURE) b) (record { outcome = Blocks; spm = record b { connections = map (phase_put c.serial Busy) b.connections; messages = b.messages ++ m ∷ []; phases = slice_set b.phases a Blocked } })).spm =
-    elim [
-      | true ↦ balanced
-      | false ↦
-          moved-keeps s limit b c Busy Blocked (b.messages ++ m ∷ [])
-          (record {
-            balanced = balanced;
-            here = here;
-            client = inside;
-            joined = λ k. ap (λ p. is_joining p k) running;
-            joins = λ k x. refl;
-            handles = λ k. omega (arith, count-push (λ x. has_handle x.handle k) b.messages m);
-            calls = λ x. omega (arith, count-push (called_by x) b.messages m);
-            called = omega (arith, count-push (wrongly_called s) b.messages m, balanced.called);
-          })
-          (λ t. omega (arith, off_left (is_awaited c.phase) (t c.serial c.client.0 c.service c.phase) (off_from _ own), count-push (message_marked t) b.messages m))
-          (omega (arith, quiet, count-push (called_by a) b.messages m, put b c Busy balanced.rising here (awaited_of a), on_left (a == a) (is_awaited c.phase) (is_itself a), on_left (a == a) true (is_itself a), own))
-          (ap (λ k. same k false) known)
-    ] in
+    let go : (d : Bool) → Balanced s limit (cond {A = Move} d (move (Value PSA_ERROR_COMMUNICATION_FAILURE) b) (record { outcome = Blocks; spm = record b { connections = map (phase_put c.serial Busy) b.connections; messages = b.messages ++ m ∷ []; phases = slice_set b.phases c.client.0 Blocked } })).spm =
+    elim [ true ↦ balanced | false ↦ sent-own s limit b h c (pos n) v balanced running held refl refl ] in
     go (is_dead c.phase)
 
 pub invoke-keeps : (s : System) (limit : Handle → ℕ) (b : SpmState) (a : ℕ) (h : Handle) (c : OpenConnection) (n : ℕ) (v : Vectors) → Balanced s limit b → phase_of b a ≡ Running

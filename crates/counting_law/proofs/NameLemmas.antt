@@ -9,7 +9,7 @@ use Rattle.std.proofs.lemmas.Bool.{and_parts}
 use Rattle.list_laws.proofs.Bools.{or_rest}
 use Rattle.ffm_model.specs.declared.system.System.{System}
 use Rattle.ffm_model.specs.declared.system.ActorKind.{ActorKind}
-use Rattle.ffm_model.specs.declared.system.ActorKind.TheVariants.{Partition, Client, Device}
+use Rattle.ffm_model.specs.declared.system.ActorKind.TheVariants.{Partition}
 use Rattle.ffm_model.specs.declared.machine.Handle.{Handle}
 use Rattle.ffm_model.specs.declared.machine.Entry.{Entry}
 use Rattle.ffm_model.specs.declared.machine.Message.{Message}
@@ -50,8 +50,7 @@ shown-alike = same-kind (λ o. (handle_shown o).0) int_same (λ n k e. refl) (λ
 error-got : (kind : ActorKind) (s : System) (st : State) (a signal msg : ℕ) → is_got (error_effect kind s st a (call.Get signal msg)).outcome ≡ false
 unfolding is_got
 error-got Partition s st a signal msg = refl
-error-got Client s st a signal msg = refl
-error-got Device s st a signal msg = refl
+error-got _ s st a signal msg = refl
 
 got-yes : (m : Message) → is_got (outcome.Got m) ≡ true
 unfolding is_got
@@ -80,8 +79,7 @@ get-made s st new e signal msg m it is got =
 
 resume-made : (k : ActorKind) (s : System) (st : State) (a : ℕ) (h : Handle) → is_none (cond {A = Option Effect} (has_call k call.Resume) (call_case s st a call.Resume h) None) ≡ false
 resume-made Partition s st a h = refl
-resume-made Client s st a h = refl
-resume-made Device s st a h = refl
+resume-made _ s st a h = refl
 
 pub resume-shows : (s : System) (st : State) (e : Entry) (k : NamesSoFar) (n : ℕ) → e.call ≡ call.Resume → phase_of st.spm e.actor.0 ≡ Connected n → shows_name s st e k ≡ true
     → handle_eq (handle_shown e.outcome) (name_of 0 (get_or k.connections n no_slot)) ≡ true

@@ -10,7 +10,7 @@ use Rattle.ffm_model.specs.declared.objects.ActorPhase.{ActorPhase}
 use Rattle.ffm_model.specs.declared.objects.ActorPhase.TheVariants.{Running, Blocked, Ready, Connected, Ended, Panicked}
 use Rattle.ffm_model.specs.Actors.{actor_count}
 use Rattle.ffm_model.specs.Memory.{ByteMap}
-use Rattle.ffm_model.specs.State.{State, opening, phase_of}
+use Rattle.ffm_model.specs.State.{State, opening, phase_of, SpmState}
 use Rattle.ffm_model.specs.Signals.{can_go_on, is_panicked, may_resume, signals_of}
 use Rattle.ffm_model.specs.Records.{entries_of, outcomes_of, is_blocked_outcome, ends_blocked}
 use Rattle.ffm_model.specs.Step.{step, after, outcome_eq}
@@ -39,7 +39,7 @@ ends_apart [] e = refl
 ends_apart (p ∷ []) e = blocked_not_panicked p e
 ends_apart (p ∷ q ∷ os) e = ends_apart (q ∷ os) e
 
-blocked-alike : (o p : Outcome) → outcome_eq o p ≡ true → is_blocked_outcome o ≡ is_blocked_outcome p
+pub blocked-alike : (o p : Outcome) → outcome_eq o p ≡ true → is_blocked_outcome o ≡ is_blocked_outcome p
 blocked-alike = same-kind is_blocked_outcome (λ z w e. refl) (λ n k e. refl) (λ n k e. refl) (λ m n e. refl)
 
 pub panicked-alike : (o p : Outcome) → outcome_eq o p ≡ true → is_panicked_outcome o ≡ is_panicked_outcome p
@@ -71,6 +71,11 @@ turned-sound p q (inl e) h = ap is_sound (sym e) ∙ h
 turned-sound p q (inr (inl k)) h = told_sound q k.1
 turned-sound p q (inr (inr k)) h = ap is_sound k.1
 
+-- and each actor's
+pub turns-sound : (b new : SpmState) (a : ℕ) (o : Outcome) → Turns a b new o → ((x : ℕ) → is_sound (phase_of b x) ≡ true) → (x : ℕ) → is_sound (phase_of new x) ≡ true
+turns-sound b new a o turns sound x =
+    same_or_not x a (is_sound (phase_of new x) ≡ true) (λ e. ap (λ (y : ℕ). is_sound (phase_of new y)) e ∙ turns.sound) (λ e. turned-sound _ _ (turns.others x e) (sound x))
+
 turned-fits : (os : List Outcome) (p q : ActorPhase) → Turned p q → ends_blocked os ≡ fits_answers os p → ends_blocked os ≡ fits_answers os q
 turned-fits os p q (inl e) h = h ∙ ap (fits_answers os) e
 turned-fits os p q (inr (inl k)) h =
@@ -86,9 +91,7 @@ step-waits s es st new e w h =
     let turns : Turns e.actor.0 st.spm new.spm it.0 = it.2 in
     record {
       balanced = step-keeps s st new e w.balanced h;
-      sound = λ a. same_or_not a e.actor.0 (is_sound (phase_of new.spm a) ≡ true)
-          (λ k. ap (λ (x : ℕ). is_sound (phase_of new.spm x)) k ∙ turns.sound)
-          (λ k. turned-sound _ _ (turns.others a k) (w.sound a));
+      sound = turns-sound st.spm new.spm e.actor.0 it.0 turns w.sound;
       last = λ a. same_or_not a e.actor.0 (ends_blocked (answers_to a (es ++ e ∷ [])) ≡ fits_answers (answers_to a (es ++ e ∷ [])) (phase_of new.spm a))
           (λ k.
           let mine : (e.actor.0 == a) ≡ true = ap (λ (x : ℕ). e.actor.0 == x) k ∙ is_itself e.actor.0 in

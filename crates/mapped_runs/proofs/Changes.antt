@@ -21,7 +21,7 @@ use Rattle.ffm_model.specs.declared.objects.SourceFlags.{SourceFlags}
 use Rattle.ffm_model.specs.declared.objects.OpenConnection.{OpenConnection}
 use Rattle.ffm_model.specs.declared.objects.PendingMessage.{PendingMessage}
 use Rattle.ffm_model.specs.declared.objects.ActorPhase.{ActorPhase}
-use Rattle.ffm_model.specs.declared.objects.ActorPhase.TheVariants.{Running, Blocked, Waiting, Ready, Connected}
+use Rattle.ffm_model.specs.declared.objects.ActorPhase.TheVariants.{Running, Blocked, Waiting, Ready}
 use Rattle.ffm_model.specs.declared.objects.ConnPhase.TheVariants.{Busy, Closing}
 use Rattle.ffm_model.specs.Actors.{is_stateless, permits, service_at, stateless_at, stateless_index, budget_of, kind_of}
 use Rattle.ffm_model.specs.Memory.{ByteMap, no_span, no_vectors, spans_at, valid_buffer, vectors_of, vectors_read}
@@ -220,8 +220,6 @@ closes s b a h d P k =
 
 returned-changes : (s : System) (st : State) (a : ℕ) (p : ActorPhase) (h : Handle) (d : Call) (P : SpmState → Type 0) → EachChange s st.spm a d P → P (returned s st a p h).state.spm
 returned-changes s st a (Ready o) h d P k = k.same _ refl
-returned-changes s st a (Connected c) h d P k = k.same _ refl
-returned-changes s st a (Waiting mask) h d P k = k.same _ refl
 returned-changes s st a _ h d P k = k.same _ refl
 
 -- ---- calls of services
@@ -336,8 +334,6 @@ call-changes s st a (call.Read m index buffer len) h P k = read-made s st a m in
 call-changes s st a (call.Skip m index len) h P k = skip-made s st a m index len (λ e. P e.state.spm) (λ x e. k.moves m _ x refl (request-is s st.spm a m index x e).held)
 call-changes s st a (call.Write m index buffer len) h P k = write-made s st a m index buffer len (λ e. P e.state.spm) (λ x e. k.moves m _ x refl (request-is s st.spm a m index x e).held)
 call-changes s st a (call.Reply m status) h P k = reply-made s st a m status.0 (λ e. P e.state.spm) (λ x e. reply-leaves s st.spm m status.0 x P (k.replies m status.0 x refl e) (λ n kind. k.owes m status.0 x n refl e kind))
-call-changes s st a (call.Notify id) h P k = moved P st _ (passes (λ (m : Move). P m.spm) _ _ (k.same _ refl))
-call-changes s st a call.Clear h P k = moved P st _ (passes (λ (m : Move). P m.spm) _ _ (k.same _ refl))
 call-changes s st a (call.Eoi signal) h P k = moved P st _ (flagged s st.spm a _ P _ (λ i. outcome.Done) _ (source_of_signal s a signal) k)
 call-changes s st a (call.IrqEnable signal) h P k = moved P st _ (flags_put s st.spm a _ P (λ i. outcome.Done) _ (source_of_signal s a signal) k)
 call-changes s st a (call.IrqDisable signal) h P k = moved P st _ (flags_put s st.spm a _ P _ _ (source_of_signal s a signal) k)
@@ -345,10 +341,10 @@ call-changes s st a (call.ResetSignal signal) h P k = moved P st _ (flagged s st
 call-changes s st a call.Panic h P k = tt
 call-changes s st a (call.Load at size) h P k = passes (λ (e : Effect). P e.state.spm) _ _ (k.same st.spm refl)
 call-changes s st a (call.Store at size value) h P k = passes (λ (e : Effect). P e.state.spm) _ _ (k.same st.spm refl)
-call-changes s st a (call.Raise source) h P k = moved P st _ (passes (λ (m : Move). P m.spm) _ _ (k.same _ refl))
 call-changes s st a (call.Fire source result) h P k = moved P st _ (passes (λ (m : Move). P m.spm) _ _ (fired s st.spm a source _ P k (result == 1)))
 call-changes s st a (call.Stop spent) h P k = k.same _ refl
 call-changes s st a call.Resume h P k = returned-changes s st a (phase_of st.spm a) h call.Resume P k
+call-changes s st a _ h P k = moved P st _ (passes (λ (m : Move). P m.spm) _ _ (k.same _ refl))
 
 -- ---- each event
 
@@ -368,8 +364,7 @@ errors s st a c P k running Device = k.same st.spm refl
 resume-changes : (s : System) (st : State) (a : ℕ) (h : Handle) (P : SpmState → Type 0) → P (returned s st a (phase_of st.spm a) h).state.spm → (kind : ActorKind)
     → P (effect_or_error (if has_call kind call.Resume then Some (returned s st a (phase_of st.spm a) h) else None) kind s st a call.Resume).state.spm
 resume-changes s st a h P made Partition = made
-resume-changes s st a h P made Client = made
-resume-changes s st a h P made Device = made
+resume-changes s st a h P made _ = made
 
 pub effect-changes : (s : System) (st : State) (a : ℕ) (c : Call) (h : Handle) (P : SpmState → Type 0) → EachChange s st.spm a c P → may_call s st.spm a c ≡ true → P (effect_of s st a c h).state.spm
 effect-changes s st a call.Resume h P k may = resume-changes s st a h P (returned-changes s st a (phase_of st.spm a) h call.Resume P k) (kind_of s a)

@@ -31,10 +31,12 @@ use Rattle.ffm_model.specs.HeldPlans.{Holding, holding_none, held_arrived, held_
 use Rattle.counting_law.proofs.Parts.{is_itself}
 use Rattle.mapped_runs.specs.Windows.{InputsAreCopied, IsEvent, OutputsAreCopied, standing_at}
 use Rattle.mapped_runs.proofs.Fits.{AreHeld, IsMappable, Match, mappable, mapped-unwritten}
-use Rattle.mapped_runs.proofs.Kept.{Kept, arrived-held, is-partition, may-alive, run-kept, standing, unmapped_in}
+use Rattle.mapped_runs.proofs.Kept.{Kept, arrived-held, may-alive, run-kept, standing, unmapped_in}
 use Rattle.mapped_runs.proofs.Lines.{map_in-call, plan-call, runs-back, unmap_out-call}
-use Rattle.mapped_runs.proofs.Own.{Own, done-is, own-step}
 use Rattle.mapped_runs.proofs.Ranges.{copied, window-valid}
+use Rattle.counting_law.proofs.OwnSteps.{Own, own-step}
+use Rattle.counting_law.proofs.Outcomes.{done-is}
+use Rattle.counting_law.proofs.Owners.{is-partition}
 
 -- ---- the call at the event
 

@@ -127,22 +127,17 @@ pub record OutputUse (g : List HeldVector → List HeldVector) (index : ℕ) (vs
   pub gone : (i : ℕ) → (i ≡ index → ⊥) → is_unmapped (vector_at (g vs) i).state ≡ true → is_unmapped (vector_at vs i).state ≡ true
 
 used-by : (u : VectorState) → is_or_was_mapped u ≡ false → is_fresh u ≡ false → is_unwritten u ≡ false
-used-by fresh e f = cc
 used-by used e f = refl
-used-by mapped e f = cc
 used-by unmapped e f = refl
+used-by _ e f = cc
 
 unused-by : (u : VectorState) → is_or_was_mapped u ≡ false → is_fresh u ≡ false → is_mapped u ≡ false
-unused-by fresh e f = refl
-unused-by used e f = refl
 unused-by mapped e f = cc
-unused-by unmapped e f = refl
+unused-by _ e f = refl
 
 unmapped-was : (u : VectorState) → is_or_was_mapped u ≡ false → is_unmapped u ≡ false
-unmapped-was fresh e = refl
-unmapped-was used e = refl
-unmapped-was mapped e = refl
 unmapped-was unmapped e = cc
+unmapped-was _ e = refl
 
 pub touched-output : (index : ℕ) (vs : List HeldVector) → is_or_was_mapped (vector_at vs index).state ≡ false → OutputUse (touched index) index vs
 touched-output index vs off = record {
@@ -159,9 +154,7 @@ touched-apart index vs i off e same = (touched-other is_unmapped vs index i refl
 
 pub mapped-is : (u : VectorState) → is_mapped u ≡ true → is_or_was_mapped u ≡ true
 mapped-is mapped e = refl
-mapped-is fresh e = cc
-mapped-is used e = cc
-mapped-is unmapped e = cc
+mapped-is _ e = cc
 
 pub unmapped-output : (index : ℕ) (vs : List HeldVector) → is_mapped (vector_at vs index).state ≡ true → OutputUse (with_state unmapped index) index vs
 unmapped-output index vs maps = record {
@@ -213,15 +206,11 @@ mappable p x v e =
 
 pub mapped-unwritten : (u : VectorState) → is_mapped u ≡ true → is_unwritten u ≡ true
 mapped-unwritten mapped e = refl
-mapped-unwritten fresh e = cc
-mapped-unwritten used e = cc
-mapped-unwritten unmapped e = cc
+mapped-unwritten _ e = cc
 
 fresh-unwritten : (u : VectorState) → is_fresh u ≡ true → is_unwritten u ≡ true
 fresh-unwritten fresh e = refl
-fresh-unwritten used e = cc
-fresh-unwritten mapped e = cc
-fresh-unwritten unmapped e = cc
+fresh-unwritten _ e = cc
 
 map_out-fits : (T : ℕ → ℕ → Type 0) (p : Holder) (index : ℕ) (x : HeldMessage) (m : PendingMessage) → IsMappable p x (vector_at x.output index) → Fits p T x m → Fits p T (with_output mapped index x) m
 map_out-fits T p index x m can fits = record {

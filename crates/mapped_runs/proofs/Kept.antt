@@ -1,16 +1,13 @@
 -- In each run a partition's table fits the machine's messages.
-use Rattle.std.proofs.Common.{ℕ, ◌≡◌, ◌≤◌, ◌<◌, ◌+◌, ◌==◌, Bool, true, false, ◌&&◌, List, [], ◌∷◌, ◌++◌, length, get_or, refl, ap, ap₂, sym, ◌∙◌, subst, arith, append_assoc, inl, inr}
-use Rattle.std.specs.Prelude.{Option, Some, nat_le, nat_lt, position, slice_get, if◌then◌else◌}
+use Rattle.std.proofs.Common.{ℕ, ◌≡◌, ◌≤◌, ◌<◌, ◌==◌, Bool, true, false, ◌&&◌, List, [], ◌∷◌, ◌++◌, length, get_or, refl, ap, ap₂, sym, ◌∙◌, subst, arith, append_assoc, inl, inr}
+use Rattle.std.specs.Prelude.{Option, Some, nat_le, nat_lt, slice_get, if◌then◌else◌}
 use Rattle.std.specs.Option.{option_map_or}
 use Rattle.std.proofs.lemmas.Bool.{and_parts}
 use Rattle.std.proofs.lemmas.Bool.Decides.{nat_tests}
-use Rattle.std.proofs.lemmas.List.Quantifiers.{position-Some}
-use Rattle.std.proofs.lemmas.Option.{slice_get-get_or}
 use Rattle.list_laws.proofs.Counts.{count-push}
 use Rattle.ffm_model.proofs.RecordLemmas.{ends_blocked-push, engine_after-push, entries_of-other, entries_of-own, outcomes_of-push}
-use Rattle.counting_law.proofs.Returns.{open-phase, turned-sound}
+use Rattle.counting_law.proofs.Returns.{open-phase, turns-sound}
 use Rattle.ffm_model.specs.declared.system.System.{System}
-use Rattle.ffm_model.specs.declared.system.Service.{Service}
 use Rattle.ffm_model.specs.declared.system.ActorKind.TheVariants as kind
 use Rattle.ffm_model.specs.declared.machine.Handle.{Handle}
 use Rattle.ffm_model.specs.declared.machine.Entry.{Entry}
@@ -19,17 +16,17 @@ use Rattle.ffm_model.specs.declared.machine.Call.TheVariants as call
 use Rattle.ffm_model.specs.declared.machine.Outcome.{Outcome}
 use Rattle.ffm_model.specs.declared.objects.PendingMessage.{PendingMessage}
 use Rattle.ffm_model.specs.declared.objects.ActorPhase.{ActorPhase}
-use Rattle.ffm_model.specs.declared.objects.ActorPhase.TheVariants.{Running, Blocked, Waiting, Ready, Connected, Ended, Panicked}
+use Rattle.ffm_model.specs.declared.objects.ActorPhase.TheVariants.{Panicked}
 use Rattle.ffm_model.specs.declared.objects.Span.{Span}
 use Rattle.ffm_model.specs.declared.script.Operand.{Operand}
 use Rattle.ffm_model.specs.declared.script.MapName.TheVariants.{UnmapOut}
 use Rattle.ffm_model.specs.declared.script.Instruction.{Instruction}
 use Rattle.ffm_model.specs.declared.script.Instruction.TheVariants as line
-use Rattle.ffm_model.specs.Actors.{actor_count, is_service_of, kind_of}
+use Rattle.ffm_model.specs.Actors.{actor_count, kind_of}
 use Rattle.ffm_model.specs.Memory.{ByteMap, no_span}
 use Rattle.ffm_model.specs.State.{SpmState, State, opening, phase_of, handle_eq}
 use Rattle.ffm_model.specs.Signals.{can_go_on, enabled, is_panicked, signals_of}
-use Rattle.ffm_model.specs.ServiceCalls.{moved_by, output_at, output_moved, service_of_signal}
+use Rattle.ffm_model.specs.ServiceCalls.{moved_by, output_at, output_moved}
 use Rattle.ffm_model.specs.Plans.{PlanRun, engine_after}
 use Rattle.ffm_model.specs.Records.{ends_blocked, entries_of, is_blocked_outcome, outcomes_of}
 use Rattle.ffm_model.specs.Step.{after, handle_shown, may_call, step}
@@ -48,27 +45,10 @@ use Rattle.mapped_runs.proofs.Changes.{effect-changes, is_vector_call}
 use Rattle.mapped_runs.proofs.Fits.{AreHeld, Fits, holds-at, map_out-held, mapped-input, mapped-is, mapped-unwritten, told-more, touched-apart, touched-input, touched-output, unmap_in-held, unmapped-output}
 use Rattle.mapped_runs.proofs.Lines.{arrived-has, behind-table, get-noted, other-keeps, plan-call, read-noted, reply-noted, runs-back, skip-noted, write-noted}
 use Rattle.mapped_runs.proofs.Messages.{AreWaiting, HoldsStill, IsKept, others-kept, own-kept, waiting-kept}
-use Rattle.mapped_runs.proofs.Own.{AreGiven, Behind, Own, get-behind, own-step, read-behind, reply-behind, skip-behind, write-behind}
+use Rattle.mapped_runs.proofs.Own.{AreGiven, Behind, get-behind, read-behind, reply-behind, skip-behind, write-behind}
 use Rattle.mapped_runs.proofs.Tables.{changed-count, large-there, moved-here}
-
--- ---- the partition and its services
-
-pub is-partition : (s : System) (a : ℕ) → a < length s.partitions → kind_of s a ≡ kind.Partition
-is-partition s a inside =
-    let yes : nat_lt a (length s.partitions) ≡ true = grind (arith, nat_tests) in
-    ap (λ (b : Bool). if b then kind.Partition else (if nat_lt a (length s.partitions + length s.clients) then kind.Client else kind.Device)) yes
-
-owner-at : (a signal : ℕ) (vs : List Service) (v : ℕ) (d : Service) → position (λ (v : Service). (v.owner == a) && (v.signal == signal)) vs ≡ Some v → option_map_or (λ v. v.owner == a) (slice_get vs v) false ≡ true
-owner-at a signal vs v d found =
-    let it = position-Some (λ (v : Service). (v.owner == a) && (v.signal == signal)) vs v d found in
-    ap (λ (o : Option Service). option_map_or (λ v. v.owner == a) o false) (slice_get-get_or vs v d it.0) ∙ (and_parts _ _ it.1).0
-
-owned-in : (a signal : ℕ) (vs : List Service) (v : ℕ) → position (λ (v : Service). (v.owner == a) && (v.signal == signal)) vs ≡ Some v → option_map_or (λ v. v.owner == a) (slice_get vs v) false ≡ true
-owned-in a signal [] v found = cc
-owned-in a signal (w ∷ ws) v found = owner-at a signal (w ∷ ws) v w found
-
-service-owned : (s : System) (a v signal : ℕ) → service_of_signal s a signal ≡ Some v → is_service_of s a v ≡ true
-service-owned s a v signal found = owned-in a signal s.services v found
+use Rattle.counting_law.proofs.Owners.{is-partition, service-owned}
+use Rattle.counting_law.proofs.OwnSteps.{Own, own-step}
 
 -- ---- phases
 
@@ -79,12 +59,7 @@ turned-alive p q (inr (inr k)) h = ap is_panicked k.0
 
 able-alive : (p : ActorPhase) (word : ℕ) → can_go_on p word ≡ true → is_panicked p ≡ false
 able-alive Panicked word e = cc
-able-alive Running word e = refl
-able-alive Blocked word e = refl
-able-alive (Waiting mask) word e = refl
-able-alive (Ready o) word e = refl
-able-alive (Connected c) word e = refl
-able-alive Ended word e = refl
+able-alive _ word e = refl
 
 pub may-alive : (s : System) (b : SpmState) (a : ℕ) (c : Call) → may_call s b a c ≡ true → is_panicked (phase_of b a) ≡ false
 may-alive s b a c may = able-alive (phase_of b a) (signals_of s b a) (and_parts (enabled s b a) _ (and_parts _ _ may).1).0
@@ -215,7 +190,7 @@ vector-behind : (T : Handle → ℕ → ℕ → Type 0) (s : System) (st new : S
     → Behind s a T (table_noted (holder_of s a) (slice_get script x.at.place) c o x.table) o new
 vector-behind T s st new a script x o (call.Get signal msg) partition balanced waiting all given on is now own =
     subst (λ (t : List HeldMessage). Behind s a T t o new) (sym (get-noted (holder_of s a) (slice_get script x.at.place) signal msg o x.table))
-    (get-behind T s st new a signal msg o x.table partition balanced waiting (λ v found. service-owned s a v signal found) all given own)
+    (get-behind T s st new a signal msg o x.table partition balanced waiting (λ v found. service-owned s a signal v found) all given own)
 vector-behind T s st new a script x o (call.Read h index buffer len) partition balanced waiting all given on is now own =
     read-noted (holder_of s a) (slice_get script x.at.place) h index buffer len o x.table (λ (t : List HeldMessage). Behind s a T t o new)
     (read-behind T s st new a h index buffer len o x.table (touched index) (touched-input index) partition balanced all given own)
@@ -307,9 +282,7 @@ step-kept s a script inside es st new e r h =
     let grown : (k : Handle) → times st.handles_given k ≤ times new.handles_given k = step-grows s st new e h in
     record {
       balanced = step-keeps s st new e r.balanced h;
-      sound = λ x. same_or_not x e.actor.0 (is_sound (phase_of new.spm x) ≡ true)
-          (λ k. ap (λ (y : ℕ). is_sound (phase_of new.spm y)) k ∙ turns.sound)
-          (λ k. turned-sound _ _ (turns.others x k) (r.sound x));
+      sound = turns-sound st.spm new.spm e.actor.0 turned.0 turns r.sound;
       waiting = subst (λ (y : State). AreWaiting y.spm.messages) it.state
           (effect-changes s st e.actor.0 e.call (handle_shown e.outcome) (λ b. AreWaiting b.messages) (waiting-kept s limit st.spm e.actor.0 e.call r.balanced r.waiting) it.may);
       follows = λ run. same_or_not a e.actor.0 (FollowsAt s a (unmapped_in s a script (es ++ e ∷ [])) script (outcomes_of (entries_of a (es ++ e ∷ []))) new)
@@ -334,7 +307,7 @@ step-kept s a script inside es st new e r h =
           let apart : e.actor.0 ≡ a → ⊥ = λ z. let yes : (a == e.actor.0) ≡ true = ap (λ (y : ℕ). a == y) z ∙ is_itself a in cc in
           let kept : IsKept s st.spm a new.spm =
           subst (λ (y : State). IsKept s st.spm a y.spm) it.state
-          (effect-changes s st e.actor.0 e.call (handle_shown e.outcome) (IsKept s st.spm a) (others-kept s limit st.spm e.actor.0 a e.call r.balanced apart (λ v signal found. service-owned s e.actor.0 v signal found)) it.may) in
+          (effect-changes s st e.actor.0 e.call (handle_shown e.outcome) (IsKept s st.spm a) (others-kept s limit st.spm e.actor.0 a e.call r.balanced apart (λ v signal found. service-owned s e.actor.0 signal v found)) it.may) in
           subst (λ (l : List Entry). FollowsAt s a T script (outcomes_of l) new) (sym same)
           (others-follow T s a script _ _ st new kept (turned-alive _ _ (turns.others a k)) grown old));
     }

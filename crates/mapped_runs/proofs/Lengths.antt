@@ -19,7 +19,7 @@ use Rattle.ffm_model.specs.ClientCalls.{Effect}
 use Rattle.ffm_model.specs.ServiceCalls.{output_at, outputs_given}
 use Rattle.ffm_model.specs.Step.{handle_shown, outcome_eq}
 use Rattle.ffm_model.specs.Held.{VectorState, is_mapped, is_or_was_mapped, vector_at}
-use Rattle.ffm_model.specs.Held.VectorState.{fresh, used, mapped, unmapped}
+use Rattle.ffm_model.specs.Held.VectorState.{unmapped}
 use Rattle.counting_law.proofs.Reply.{not_negative}
 use Rattle.mapped_runs.specs.Windows.{LengthsAreTold, WasUnmapped, length_word}
 use Rattle.mapped_runs.proofs.Changes.{reply-made}
@@ -27,9 +27,10 @@ use Rattle.mapped_runs.proofs.Copies.{At, at-event}
 use Rattle.mapped_runs.proofs.Fits.{Match, mapped-unwritten}
 use Rattle.mapped_runs.proofs.Kept.{unmapped_in}
 use Rattle.mapped_runs.proofs.Once.{unmapped-once}
-use Rattle.mapped_runs.proofs.Own.{Own, own-has}
+use Rattle.mapped_runs.proofs.Own.{own-has}
 use Rattle.mapped_runs.proofs.Ranges.{bytes-same, written-at}
 use Rattle.mapped_runs.proofs.Tables.{is_unmapped, large-there}
+use Rattle.counting_law.proofs.OwnSteps.{Own}
 
 -- ---- words that are stored
 
@@ -102,10 +103,8 @@ reply-memory s old new a h status m kind there own =
     ap (λ (x : State). x.memory) (sym own.state) ∙ due
 
 unmapped-is : (u : VectorState) → is_or_was_mapped u ≡ true → is_mapped u ≡ false → is_unmapped u ≡ true
-unmapped-is fresh e f = cc
-unmapped-is used e f = cc
-unmapped-is mapped e f = cc
 unmapped-is unmapped e f = refl
+unmapped-is _ e f = cc
 
 pub lengths-are-told : LengthsAreTold
 lengths-are-told s m a script es e old new h status x index event is done there maps =

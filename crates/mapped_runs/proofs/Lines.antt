@@ -50,11 +50,9 @@ map-has p P x y UnmapIn h index len keeps old e = unmap_in-has p P x y h index (
 map-has p P x y UnmapOut h index len keeps old e = cc
 
 line-has : (p : Holder) (P : List HeldMessage → Type 0) (x y : Holding) (i : Instruction) → IsLocal p P → P x.table → led_to (line_step p x i) ≡ Some y → P y.table
-line-has p P x y (line.Change o r v) keeps old e = led-same P x y _ e old
-line-has p P x y (line.Jump target) keeps old e = led-same P x y _ e old
-line-has p P x y (line.JumpIf c r v target) keeps old e = led-same P x y _ e old
 line-has p P x y (line.Make n operands) keeps old e = cc
 line-has p P x y (line.Map n operands) keeps old e = map-has p P x y n _ _ _ keeps old e
+line-has p P x y _ keeps old e = led-same P x y _ e old
 
 step-has : (p : Holder) (script : List Instruction) (P : List HeldMessage → Type 0) (x y : Holding) → IsLocal p P → P x.table → held_step p script x ≡ Some y → P y.table
 unfolding held_step
@@ -78,17 +76,9 @@ arrived-has p script P x keeps old = steps-has p script P most_lines x keeps old
 
 -- no other call changes it
 pub other-noted : (p : Holder) (i : Option Instruction) (c : Call) (o : Outcome) (t : List HeldMessage) → is_vector_call c ≡ false → table_noted p i c o t ≡ table_behind p c o (table_touched c t)
-other-noted p None c o t off = refl
-other-noted p (Some (line.Change f r v)) c o t off = refl
-other-noted p (Some (line.Jump target)) c o t off = refl
-other-noted p (Some (line.JumpIf f r v target)) c o t off = refl
-other-noted p (Some (line.Make n operands)) c o t off = refl
-other-noted p (Some (line.Map UnmapIn operands)) c o t off = refl
-other-noted p (Some (line.Map MapOut operands)) c o t off = refl
 other-noted p (Some (line.Map MapIn operands)) (call.Read h index buffer len) o t off = cc
-other-noted p (Some (line.Map MapIn operands)) _ o t off = refl
 other-noted p (Some (line.Map UnmapOut operands)) (call.Write h index buffer len) o t off = cc
-other-noted p (Some (line.Map UnmapOut operands)) _ o t off = refl
+other-noted p _ _ o t off = refl
 
 other-same : (p : Holder) (c : Call) (o : Outcome) (t : List HeldMessage) → is_vector_call c ≡ false → table_behind p c o (table_touched c t) ≡ t
 other-same p (call.Get signal msg) o t off = cc
@@ -104,49 +94,21 @@ other-keeps p i c o t off = other-noted p i c o t off ∙ other-same p c o t off
 -- a read that maps, or any other
 pub read-noted : (p : Holder) (i : Option Instruction) (h : Handle) (index buffer len : ℕ) (o : Outcome) (t : List HeldMessage) (P : List HeldMessage → Type 0) → P (changed_at h (λ m. record m { input = touched index m.input }) t)
     → P (changed_at h (with_input mapped index) t) → P (table_noted p i (call.Read h index buffer len) o t)
-read-noted p None h index buffer len o t P other maps = other
-read-noted p (Some (line.Change f r v)) h index buffer len o t P other maps = other
-read-noted p (Some (line.Jump target)) h index buffer len o t P other maps = other
-read-noted p (Some (line.JumpIf f r v target)) h index buffer len o t P other maps = other
-read-noted p (Some (line.Make n operands)) h index buffer len o t P other maps = other
 read-noted p (Some (line.Map MapIn operands)) h index buffer len o t P other maps = maps
-read-noted p (Some (line.Map UnmapIn operands)) h index buffer len o t P other maps = other
-read-noted p (Some (line.Map MapOut operands)) h index buffer len o t P other maps = other
-read-noted p (Some (line.Map UnmapOut operands)) h index buffer len o t P other maps = other
+read-noted p _ h index buffer len o t P other maps = other
 
 pub skip-noted : (p : Holder) (i : Option Instruction) (h : Handle) (index len : ℕ) (o : Outcome) (t : List HeldMessage) → table_noted p i (call.Skip h index len) o t ≡ changed_at h (λ m. record m { input = touched index m.input }) t
-skip-noted p None h index len o t = refl
-skip-noted p (Some (line.Change f r v)) h index len o t = refl
-skip-noted p (Some (line.Jump target)) h index len o t = refl
-skip-noted p (Some (line.JumpIf f r v target)) h index len o t = refl
-skip-noted p (Some (line.Make n operands)) h index len o t = refl
 skip-noted p (Some (line.Map MapIn operands)) h index len o t = refl
-skip-noted p (Some (line.Map UnmapIn operands)) h index len o t = refl
-skip-noted p (Some (line.Map MapOut operands)) h index len o t = refl
-skip-noted p (Some (line.Map UnmapOut operands)) h index len o t = refl
+skip-noted p _ h index len o t = refl
 
 -- psa_get and psa_reply
 pub get-noted : (p : Holder) (i : Option Instruction) (signal msg : ℕ) (o : Outcome) (t : List HeldMessage) → table_noted p i (call.Get signal msg) o t ≡ table_behind p (call.Get signal msg) o t
-get-noted p None signal msg o t = refl
-get-noted p (Some (line.Change f r v)) signal msg o t = refl
-get-noted p (Some (line.Jump target)) signal msg o t = refl
-get-noted p (Some (line.JumpIf f r v target)) signal msg o t = refl
-get-noted p (Some (line.Make n operands)) signal msg o t = refl
 get-noted p (Some (line.Map MapIn operands)) signal msg o t = refl
-get-noted p (Some (line.Map UnmapIn operands)) signal msg o t = refl
-get-noted p (Some (line.Map MapOut operands)) signal msg o t = refl
-get-noted p (Some (line.Map UnmapOut operands)) signal msg o t = refl
+get-noted p _ signal msg o t = refl
 
 pub reply-noted : (p : Holder) (i : Option Instruction) (h : Handle) (status : Status) (o : Outcome) (t : List HeldMessage) → table_noted p i (call.Reply h status) o t ≡ table_behind p (call.Reply h status) o t
-reply-noted p None h status o t = refl
-reply-noted p (Some (line.Change f r v)) h status o t = refl
-reply-noted p (Some (line.Jump target)) h status o t = refl
-reply-noted p (Some (line.JumpIf f r v target)) h status o t = refl
-reply-noted p (Some (line.Make n operands)) h status o t = refl
 reply-noted p (Some (line.Map MapIn operands)) h status o t = refl
-reply-noted p (Some (line.Map UnmapIn operands)) h status o t = refl
-reply-noted p (Some (line.Map MapOut operands)) h status o t = refl
-reply-noted p (Some (line.Map UnmapOut operands)) h status o t = refl
+reply-noted p _ h status o t = refl
 
 -- ---- which write a line makes
 
@@ -167,15 +129,15 @@ unmapped-by p t k h i index n buffer len e =
     let four : output_window p i ≡ buffer = let it = e.1 in cc in
     (subst (λ (x : Handle). can_unmap_out t x index len ≡ true) one (subst (λ (x : ℕ). can_unmap_out t k x len ≡ true) two (subst (λ (x : ℕ). can_unmap_out t k i x ≡ true) three e.0)), sym four ∙ ap (output_window p) two)
 
+never-writes : (b : Bool) (y : Holding) (h : Handle) (index buffer len : ℕ) → call_made (if b then leads y else makes call.Panic) ≡ call.Write h index buffer len → ⊥
+never-writes true y h index buffer len e = cc
+never-writes false y h index buffer len e = cc
+
 -- a write by unmap_out, or any other, which isn't refused
 write-by : (p : Holder) (x : Holding) (i : Option Instruction) (h : Handle) (index buffer len : ℕ) (o : Outcome) (P : List HeldMessage → Type 0)
     → option_map_or (λ i. call_made (line_step p x i)) i (call.Stop false) ≡ call.Write h index buffer len
     → (is_refused x.table (call.Write h index buffer len) ≡ false → P (changed_at h (λ m. record m { output = touched index m.output }) x.table))
     → ((operands : List Operand) → i ≡ Some (line.Map UnmapOut operands) → can_unmap_out x.table h index len ≡ true → P (changed_at h (with_output unmapped index) x.table)) → P (table_noted p i (call.Write h index buffer len) o x.table)
-write-by p x None h index buffer len o P is other unmaps = cc
-write-by p x (Some (line.Change f r v)) h index buffer len o P is other unmaps = cc
-write-by p x (Some (line.Jump target)) h index buffer len o P is other unmaps = cc
-write-by p x (Some (line.JumpIf f r v target)) h index buffer len o P is other unmaps = cc
 write-by p x (Some (line.Make n operands)) h index buffer len o P is other unmaps =
     other (made-write x.table (line_call x.at.registers (line.Make n operands)) h index buffer len (is_refused x.table (line_call x.at.registers (line.Make n operands))) refl is)
 write-by p x (Some (line.Map UnmapOut operands)) h index buffer len o P is other unmaps =
@@ -186,14 +148,9 @@ write-by p x (Some (line.Map MapIn operands)) h index buffer len o P is other un
     let registers : List ℕ = x.at.registers in
     let bad = chosen-panic (can_map_in p x.table (handle_at registers operands 0) (number_at registers operands 1)) _ (call.Write h index buffer len) is (λ z. cc) in
     let no = bad.1 in cc
-write-by p x (Some (line.Map MapOut operands)) h index buffer len o P is other unmaps =
-    let registers : List ℕ = x.at.registers in
-    let go : (b : Bool) (y : Holding) → call_made (if b then leads y else makes call.Panic) ≡ call.Write h index buffer len → ⊥ = elim [ true ↦ λ y e. cc | false ↦ λ y e. cc ] in
-    absurd (go (can_map_out p x.table (handle_at registers operands 0) (number_at registers operands 1)) _ is)
-write-by p x (Some (line.Map UnmapIn operands)) h index buffer len o P is other unmaps =
-    let registers : List ℕ = x.at.registers in
-    let go : (b : Bool) (y : Holding) → call_made (if b then leads y else makes call.Panic) ≡ call.Write h index buffer len → ⊥ = elim [ true ↦ λ y e. cc | false ↦ λ y e. cc ] in
-    absurd (go (can_unmap_in x.table (handle_at registers operands 0) (number_at registers operands 1)) _ is)
+write-by p x (Some (line.Map MapOut operands)) h index buffer len o P is other unmaps = absurd (never-writes (can_map_out p x.table (handle_at x.at.registers operands 0) (number_at x.at.registers operands 1)) _ h index buffer len is)
+write-by p x (Some (line.Map UnmapIn operands)) h index buffer len o P is other unmaps = absurd (never-writes (can_unmap_in x.table (handle_at x.at.registers operands 0) (number_at x.at.registers operands 1)) _ h index buffer len is)
+write-by p x _ h index buffer len o P is other unmaps = cc
 
 pub write-noted : (p : Holder) (script : List Instruction) (x : Holding) (h : Handle) (index buffer len : ℕ) (o : Outcome) (P : List HeldMessage → Type 0) → held_call p script x ≡ call.Write h index buffer len
     → (is_refused x.table (call.Write h index buffer len) ≡ false → P (changed_at h (λ m. record m { output = touched index m.output }) x.table))

@@ -30,6 +30,7 @@ use Rattle.counting_law.proofs.Turns.{panicked-self, settled-cases}
 use Rattle.mapped_runs.proofs.Changes.{AreNew, EachChange, is_vector_call, none-new}
 use Rattle.counting_law.proofs.Walk.{handle-same}
 use Rattle.mapped_runs.proofs.Tables.{handle-flip, same_handle}
+use Rattle.counting_law.proofs.Owners.{owners-same}
 
 -- ---- lists
 
@@ -163,10 +164,6 @@ put-still s b a h k v m apart found =
     put-held s b a h k v ∙ (ap (option_map (vectors_put h v)) found ∙ ap (λ (x : PendingMessage). Some x) (put-off h v m (has-apart m.handle h k apart (held-mine s b a k m found).1)))
 
 -- ---- a handle is one partition's
-
-owners-same : (o : Option Service) (x a : ℕ) → option_map_or (λ v. v.owner == x) o false ≡ true → option_map_or (λ v. v.owner == a) o false ≡ true → x ≡ a
-owners-same None x a h g = cc
-owners-same (Some v) x a h g = sym (eqb-true v.owner x h) ∙ eqb-true v.owner a g
 
 handles-apart : (s : System) (limit : Handle → ℕ) (b : SpmState) (x a : ℕ) (h k : Handle) (n m : PendingMessage) → Balanced s limit b → (x ≡ a → ⊥) → message_held s b x h ≡ Some n → message_held s b a k ≡ Some m → handle_eq h k ≡ false
 handles-apart s limit b x a h k n m balanced apart there here =

@@ -17,7 +17,7 @@ use Rattle.ffm_model.specs.declared.machine.Call.TheVariants as call
 use Rattle.ffm_model.specs.declared.machine.Outcome.{Outcome}
 use Rattle.ffm_model.specs.declared.machine.Outcome.TheVariants as outcome
 use Rattle.ffm_model.specs.declared.script.Operand.{Operand}
-use Rattle.ffm_model.specs.declared.script.MapName.TheVariants.{MapIn, UnmapIn, MapOut, UnmapOut}
+use Rattle.ffm_model.specs.declared.script.MapName.TheVariants.{UnmapOut}
 use Rattle.ffm_model.specs.declared.script.Instruction.{Instruction}
 use Rattle.ffm_model.specs.declared.script.Instruction.TheVariants as line
 use Rattle.ffm_model.specs.declared.system.ActorKind.TheVariants.{Partition}
@@ -28,7 +28,7 @@ use Rattle.ffm_model.specs.Plans.{PlanRun}
 use Rattle.ffm_model.specs.Records.{ends_blocked, entries_of, is_blocked_outcome, outcomes_of}
 use Rattle.ffm_model.specs.Step.{after, step}
 use Rattle.ffm_model.specs.Held.{Holder, HolderService, HeldMessage, HeldVector, VectorState, changed_at, fresh_vector, held, holder_of, is_fresh, is_held_as, is_mappable, is_mapped, is_output_free, most_held, table_behind, touched, vector_at, with_input, with_message_of, with_output, with_state, without}
-use Rattle.ffm_model.specs.Held.VectorState.{fresh, used, mapped, unmapped}
+use Rattle.ffm_model.specs.Held.VectorState.{used, mapped, unmapped}
 use Rattle.ffm_model.specs.HeldPlans.{Holding, held_arrived, held_behind, held_call, held_engine, held_plan, holding_none, table_noted}
 use Rattle.ffm_model.proofs.StepLemmas.{after-push}
 use Rattle.counting_law.proofs.Parts.{flipped, is_itself, same_or_not}
@@ -38,11 +38,14 @@ use Rattle.mapped_runs.specs.Windows.{IsEvent, WasUnmapped, line_at, standing_at
 use Rattle.mapped_runs.proofs.Changes.{is_vector_call}
 use Rattle.mapped_runs.proofs.Copies.{at-event, outputs-are-copied, tested}
 use Rattle.mapped_runs.proofs.Fits.{holds-at, mappable}
-use Rattle.mapped_runs.proofs.Kept.{Kept, arrived-given, is-partition, run-kept, standing, step-grows}
+use Rattle.mapped_runs.proofs.Kept.{Kept, arrived-given, run-kept, standing, step-grows}
 use Rattle.mapped_runs.proofs.Lines.{arrived-has, behind-table, get-noted, other-keeps, plan-call, read-noted, reply-noted, runs-back, skip-noted, unmap_out-call}
-use Rattle.mapped_runs.proofs.Own.{AreGiven, Own, get-new, own-step}
+use Rattle.mapped_runs.proofs.Own.{AreGiven, get-new}
 use Rattle.counting_law.proofs.Walk.{handle-same}
 use Rattle.mapped_runs.proofs.Tables.{changed-other, changed-same, is_unmapped, none-held, same_handle, without-other, without-same}
+use Rattle.counting_law.proofs.Entries.{never-nil, push-split}
+use Rattle.counting_law.proofs.OwnSteps.{Own, own-step}
+use Rattle.counting_law.proofs.Owners.{is-partition}
 
 -- ---- a vector that stays unmapped
 
@@ -67,21 +70,16 @@ changed-gone h k i f t keep stays gone y e =
 state-stays : (vs : List HeldVector) (u : VectorState) (k i : ℕ) → (i ≡ k → is_unmapped u ≡ true) → is_unmapped (vector_at vs i).state ≡ true → is_unmapped (vector_at (with_state u k vs) i).state ≡ true
 state-stays [] u k i h e = cc
 state-stays (v ∷ vs) u zero zero h e = h refl
-state-stays (v ∷ vs) u zero (suc i) h e = e
-state-stays (v ∷ vs) u (suc k) zero h e = e
 state-stays (v ∷ vs) u (suc k) (suc i) h e = state-stays vs u k i (λ z. h (ap suc z)) e
+state-stays (v ∷ vs) u _ _ h e = e
 
 not-fresh : (u : VectorState) → is_unmapped u ≡ true → is_fresh u ≡ false
-not-fresh fresh e = cc
-not-fresh used e = cc
-not-fresh mapped e = cc
 not-fresh unmapped e = refl
+not-fresh _ e = cc
 
 not-mapped : (u : VectorState) → is_unmapped u ≡ true → is_mapped u ≡ false
-not-mapped fresh e = cc
-not-mapped used e = cc
-not-mapped mapped e = cc
 not-mapped unmapped e = refl
+not-mapped _ e = cc
 
 -- no fresh vector is unmapped
 fresh-apart : (vs : List HeldVector) (k i : ℕ) (P : Type 0) → is_fresh (vector_at vs k).state ≡ true → is_unmapped (vector_at vs i).state ≡ true → i ≡ k → P
@@ -114,15 +112,8 @@ arrived-gone p script x k i gone =
 
 write-either : (p : Holder) (i : Option Instruction) (h : Handle) (index buffer len : ℕ) (o : Outcome) (t : List HeldMessage) (P : List HeldMessage → Type 0) → P (changed_at h (λ m. record m { output = touched index m.output }) t)
     → P (changed_at h (with_output unmapped index) t) → P (table_noted p i (call.Write h index buffer len) o t)
-write-either p None h index buffer len o t P other unmaps = other
-write-either p (Some (line.Change f r v)) h index buffer len o t P other unmaps = other
-write-either p (Some (line.Jump target)) h index buffer len o t P other unmaps = other
-write-either p (Some (line.JumpIf f r v target)) h index buffer len o t P other unmaps = other
-write-either p (Some (line.Make n operands)) h index buffer len o t P other unmaps = other
-write-either p (Some (line.Map MapIn operands)) h index buffer len o t P other unmaps = other
-write-either p (Some (line.Map UnmapIn operands)) h index buffer len o t P other unmaps = other
-write-either p (Some (line.Map MapOut operands)) h index buffer len o t P other unmaps = other
 write-either p (Some (line.Map UnmapOut operands)) h index buffer len o t P other unmaps = unmaps
+write-either p _ h index buffer len o t P other unmaps = other
 
 pushed-gone : (t : List HeldMessage) (x : HeldMessage) (k : Handle) (i : ℕ) → handle_eq x.handle k ≡ false → Gone t k i → Gone (t ++ x ∷ []) k i
 pushed-gone t x k i apart gone y e =
@@ -142,12 +133,7 @@ got-gone (Some v) m t k i apart gone = kept-gone v m t k i (nat_lt (length t) mo
 
 get-gone : (p : Holder) (signal msg : ℕ) (o : Outcome) (t : List HeldMessage) (k : Handle) (i : ℕ) → ((m : Message) → o ≡ outcome.Got m → handle_eq m.handle k ≡ false) → Gone t k i → Gone (table_behind p (call.Get signal msg) o t) k i
 get-gone p signal msg (outcome.Got m) t k i new gone = got-gone (find (λ v. v.signal == signal) p.services) m t k i (new m refl) gone
-get-gone p signal msg (outcome.Value z) t k i new gone = gone
-get-gone p signal msg (outcome.Number n) t k i new gone = gone
-get-gone p signal msg (outcome.Signals n) t k i new gone = gone
-get-gone p signal msg outcome.Blocked t k i new gone = gone
-get-gone p signal msg outcome.Done t k i new gone = gone
-get-gone p signal msg outcome.Panicked t k i new gone = gone
+get-gone p signal msg _ t k i new gone = gone
 
 without-gone : (h k : Handle) (i : ℕ) (t : List HeldMessage) → count_by (is_held_as h) t ≤ 1 → Gone t k i → Gone (without h t) k i
 without-gone h k i t few gone y e =
@@ -157,12 +143,7 @@ without-gone h k i t few gone y e =
 
 reply-gone : (p : Holder) (h : Handle) (status : Status) (o : Outcome) (t : List HeldMessage) (k : Handle) (i : ℕ) → count_by (is_held_as h) t ≤ 1 → Gone t k i → Gone (table_behind p (call.Reply h status) o t) k i
 reply-gone p h status outcome.Done t k i few gone = without-gone h k i t few gone
-reply-gone p h status (outcome.Got m) t k i few gone = gone
-reply-gone p h status (outcome.Value z) t k i few gone = gone
-reply-gone p h status (outcome.Number n) t k i few gone = gone
-reply-gone p h status (outcome.Signals n) t k i few gone = gone
-reply-gone p h status outcome.Blocked t k i few gone = gone
-reply-gone p h status outcome.Panicked t k i few gone = gone
+reply-gone p h status _ t k i few gone = gone
 
 noted-gone : (p : Holder) (l : Option Instruction) (c : Call) (o : Outcome) (t : List HeldMessage) (k : Handle) (i : ℕ) → ((h : Handle) → count_by (is_held_as h) t ≤ 1)
     → ((signal msg : ℕ) (m : Message) → c ≡ call.Get signal msg → o ≡ outcome.Got m → handle_eq m.handle k ≡ false) → Gone t k i → Gone (table_noted p l c o t) k i
@@ -180,25 +161,6 @@ noted-gone p l (call.Reply h status) o t k i few new gone = subst (λ (u : List 
 noted-gone p l c o t k i few new gone = subst (λ (u : List HeldMessage). Gone u k i) (sym (other-keeps p l c o t refl)) gone
 
 -- ---- an entry more
-
-head-same : (x y : Entry) (xs ys : List Entry) → x ∷ xs ≡ y ∷ ys → x ≡ y
-head-same x y xs ys e = cc
-
-tail-same : (x y : Entry) (xs ys : List Entry) → x ∷ xs ≡ y ∷ ys → xs ≡ ys
-tail-same x y xs ys e = cc
-
-never-nil : (before behind : List Entry) (e : Entry) → [] ≡ before ++ e ∷ behind → ⊥
-never-nil [] behind e h = cc
-never-nil (x ∷ before) behind e h = cc
-
--- an entry of a list is the last one, or stands before it
-push-split : (xs before behind : List Entry) (x e : Entry) (P : Type 0) → xs ++ x ∷ [] ≡ before ++ e ∷ behind → (xs ≡ before → x ≡ e → P) → ((rest : List Entry) → xs ≡ before ++ e ∷ rest → P) → P
-push-split [] [] behind x e P h last earlier = last refl (head-same x e [] behind h)
-push-split [] (b ∷ before) behind x e P h last earlier = absurd (never-nil before behind e (tail-same x b [] _ h))
-push-split (y ∷ ys) [] behind x e P h last earlier = earlier ys (ap (λ (z : Entry). z ∷ ys) (head-same y e _ behind h))
-push-split (y ∷ ys) (b ∷ before) behind x e P h last earlier =
-    let same : y ≡ b = head-same y b _ _ h in
-    push-split ys before behind x e P (tail-same y b _ _ h) (λ past. last (ap₂ (λ (z : Entry) (l : List Entry). z ∷ l) same past)) (λ rest past. earlier rest (ap₂ (λ (z : Entry) (l : List Entry). z ∷ l) same past))
 
 -- the last entry is an unmap_out
 record Unmaps (s : System) (a : ℕ) (script : List Instruction) (es : List Entry) (e : Entry) (k : Handle) (i n : ℕ) : Type 0 where

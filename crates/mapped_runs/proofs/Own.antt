@@ -1,6 +1,6 @@
 -- A partition's own calls on its messages, with the table behind them.
-use Rattle.std.proofs.Common.{ℕ, zero, suc, ◌≡◌, ◌≤◌, Bool, true, false, ◌&&◌, List, [], ◌∷◌, ◌++◌, length, refl, ap, ap₂, sym, ◌∙◌, subst, arith}
-use Rattle.std.specs.Prelude.{pos, ◌==◌, Option, Some, None, IfSome, find, count_by, map, get_or, is_none, nat_lt, option_and_then, if◌then◌else◌}
+use Rattle.std.proofs.Common.{ℕ, zero, suc, ◌≡◌, ◌≤◌, Bool, true, false, ◌&&◌, List, [], ◌∷◌, ◌++◌, length, refl, ap, sym, ◌∙◌, subst, arith}
+use Rattle.std.specs.Prelude.{◌==◌, Option, Some, None, IfSome, find, count_by, map, get_or, nat_lt, if◌then◌else◌}
 use Rattle.std.specs.List.{list_any}
 use Rattle.std.specs.Option.{option_map_or, option_or}
 use Rattle.std.specs.Ordering.{int_eq}
@@ -16,50 +16,35 @@ use Rattle.ffm_model.specs.declared.system.ActorKind.TheVariants.{Partition}
 use Rattle.ffm_model.specs.declared.machine.Handle.{Handle}
 use Rattle.ffm_model.specs.declared.machine.Status.{Status}
 use Rattle.ffm_model.specs.declared.machine.Message.{Message}
-use Rattle.ffm_model.specs.declared.machine.Entry.{Entry}
 use Rattle.ffm_model.specs.declared.machine.Call.{Call}
 use Rattle.ffm_model.specs.declared.machine.Call.TheVariants as call
 use Rattle.ffm_model.specs.declared.machine.Outcome.{Outcome}
 use Rattle.ffm_model.specs.declared.machine.Outcome.TheVariants as outcome
 use Rattle.ffm_model.specs.declared.objects.Span.{Span}
 use Rattle.ffm_model.specs.declared.objects.PendingMessage.{PendingMessage}
-use Rattle.ffm_model.specs.declared.objects.ActorPhase.{ActorPhase}
 use Rattle.ffm_model.specs.declared.objects.ActorPhase.TheVariants.{Running}
 use Rattle.ffm_model.specs.Actors.{kind_of, is_service_of}
 use Rattle.ffm_model.specs.Memory.{no_span, valid_buffer}
-use Rattle.ffm_model.specs.State.{SpmState, State, phase_of, fresh, handle_eq, has_handle, is_undelivered, delivered, message_held}
+use Rattle.ffm_model.specs.State.{SpmState, State, phase_of, handle_eq, has_handle, is_undelivered, delivered, message_held}
 use Rattle.ffm_model.specs.Signals.{is_panicked}
 use Rattle.ffm_model.specs.Panic.{panic_effect}
 use Rattle.ffm_model.specs.ClientCalls.{Effect, effect}
 use Rattle.ffm_model.specs.ServiceCalls.{get_of, message_size, output_moved, read_of, reply_of, service_of_signal, shown_message, skip_of}
-use Rattle.ffm_model.specs.Calls.{has_call, call_case, case_of, error_effect, programmer_error, effect_of}
-use Rattle.ffm_model.specs.Step.{step, may_call, handle_allowed, gives_handle, handle_shown, outcome_eq, message_eq}
+use Rattle.ffm_model.specs.Calls.{call_case, error_effect, effect_of}
+use Rattle.ffm_model.specs.Step.{handle_allowed, handle_shown, outcome_eq, message_eq}
 use Rattle.ffm_model.specs.Records.{is_blocked_outcome}
 use Rattle.ffm_model.specs.Held.{Holder, HolderService, HeldMessage, HeldVector, changed_at, fresh_vector, held, holder_of, is_held_as, most_held, table_behind, vector_at, with_message_of, without}
 use Rattle.counting_law.proofs.Balance.{Balanced}
 use Rattle.counting_law.proofs.Events.{caller-running}
 use Rattle.counting_law.proofs.Resume.{fresh-new, int_same, times}
-use Rattle.counting_law.proofs.Steps.{step-is, new_handle}
 use Rattle.counting_law.proofs.Walk.{handle-same, handle-self}
 use Rattle.mapped_runs.proofs.Changes.{AreNew, Unmoved, effect-has, get-made, read-made, reply-leaves, reply-made, request-is, skip-made, write-made}
 use Rattle.mapped_runs.proofs.Fits.{AreHeld, Fits, InputUse, Match, OutputUse, input-fits, moved-held, output-fits}
 use Rattle.mapped_runs.proofs.Messages.{AreWaiting, first-new, get-found, get-still, owed-still, self-dead, settled-still}
 use Rattle.mapped_runs.proofs.Tables.{changed-count, handle-flip, is_unmapped, new-kept, new-size, new-unmapped, new-unused, none-held, same_handle, without-count, without-other, without-same}
-
--- ---- a step of the actor
-
--- what a step says, with the actor and the call put in
-pub record Own (s : System) (st new : State) (a : ℕ) (c : Call) (o : Outcome) : Type 0 where
-  pub may : may_call s st.spm a c ≡ true
-  pub allowed : handle_allowed s st a c (handle_shown o) ≡ true
-  pub outcome : outcome_eq (effect_of s st a c (handle_shown o)).outcome o ≡ true
-  pub state : (effect_of s st a c (handle_shown o)).state ≡ new
-
-pub own-step : (s : System) (st new : State) (e : Entry) (a : ℕ) (c : Call) → step s st e ≡ Some new → e.actor.0 ≡ a → e.call ≡ c → Own s st new a c e.outcome
-own-step s st new e a c h at is =
-    let it = step-is s st new e h in
-    let whole : Own s st new e.actor.0 e.call e.outcome = record { may = it.may; allowed = it.allowed; outcome = it.outcome; state = it.state } in
-    subst (λ (x : ℕ). Own s st new x c e.outcome) at (subst (λ (d : Call). Own s st new e.actor.0 d e.outcome) is whole)
+use Rattle.counting_law.proofs.Outcomes.{done-is, panicked-is}
+use Rattle.counting_law.proofs.OwnSteps.{Own, get-fresh}
+use Rattle.counting_law.proofs.Returns.{blocked-alike}
 
 -- what holds of a partition's PROGRAMMER ERROR and of its call's effect, holds of what it does
 pub own-has : (Q : Effect → Type 0) (s : System) (st : State) (a : ℕ) (c : Call) (h : Handle) → kind_of s a ≡ Partition → Q (effect outcome.Panicked (record st { spm = panic_effect s st.spm a })) → IfSome (call_case s st a c h) Q → Q (effect_of s st a c h)
@@ -77,19 +62,7 @@ pub record Behind (s : System) (a : ℕ) (T : Handle → ℕ → ℕ → Type 0)
   pub ends : is_blocked_outcome o ≡ false
 
 not-blocked : (d o : Outcome) → is_blocked_outcome d ≡ false → outcome_eq d o ≡ true → is_blocked_outcome o ≡ false
-not-blocked outcome.Blocked outcome.Blocked off e = cc
-not-blocked (outcome.Value z) outcome.Blocked off e = cc
-not-blocked (outcome.Number n) outcome.Blocked off e = cc
-not-blocked (outcome.Signals n) outcome.Blocked off e = cc
-not-blocked (outcome.Got m) outcome.Blocked off e = cc
-not-blocked outcome.Done outcome.Blocked off e = cc
-not-blocked outcome.Panicked outcome.Blocked off e = cc
-not-blocked d (outcome.Value z) off e = refl
-not-blocked d (outcome.Number n) off e = refl
-not-blocked d (outcome.Signals n) off e = refl
-not-blocked d (outcome.Got m) off e = refl
-not-blocked d outcome.Done off e = refl
-not-blocked d outcome.Panicked off e = refl
+not-blocked d o off e = sym (blocked-alike d o e) ∙ off
 
 own-behind : (T : Handle → ℕ → ℕ → Type 0) (s : System) (st new : State) (a : ℕ) (c : Call) (o : Outcome) (t : List HeldMessage) → kind_of s a ≡ Partition → Own s st new a c o
     → (outcome_eq outcome.Panicked o ≡ true → Behind s a T t o (record st { spm = panic_effect s st.spm a }))
@@ -160,14 +133,6 @@ write-behind T s st new a h index buffer len o t g turn here kind balanced all g
 
 -- ---- psa_reply
 
-panicked-is : (o : Outcome) → outcome_eq outcome.Panicked o ≡ true → o ≡ outcome.Panicked
-panicked-is outcome.Panicked e = refl
-panicked-is _ e = cc
-
-pub done-is : (o : Outcome) → outcome_eq outcome.Done o ≡ true → o ≡ outcome.Done
-done-is outcome.Done e = refl
-done-is _ e = cc
-
 reply-held : (T : Handle → ℕ → ℕ → Type 0) (s : System) (st : State) (a : ℕ) (h : Handle) (t : List HeldMessage) (new : SpmState) → Balanced s (times st.handles_given) st.spm → AreGiven t st.handles_given → AreHeld s st.spm a T t
     → ((k : Handle) (m : PendingMessage) → handle_eq h k ≡ false → message_held s st.spm a k ≡ Some m → message_held s new a k ≡ Some m) → AreHeld s new a T (without h t)
 reply-held T s st a h t new balanced given all still k x e =
@@ -202,38 +167,12 @@ reply-behind T s st new a h status o t kind balanced all given own =
 
 -- ---- psa_get
 
-get-choice : System → State → ℕ → ℕ → ℕ → Handle → ActorKind → Option ℕ → (ℕ → Option PendingMessage) → Bool → Option Effect
-get-choice s st a signal msg h k at find_at room =
-    if has_call k (call.Get signal msg) then option_and_then (λ i. option_and_then (λ m. if room then Some (get_of s st i msg h m) else None) (find_at i)) at else None
-
-get-is : (s : System) (st : State) (a signal msg : ℕ) (h : Handle)
-    → case_of s st a (call.Get signal msg) h ≡ get-choice s st a signal msg h (kind_of s a) (service_of_signal s a signal) (λ i. find (is_undelivered i) st.spm.messages) (valid_buffer s a msg message_size)
-unfolding get-choice
-get-is s st a signal msg h = refl
-
-gives-get : (p : ActorPhase) (signal msg : ℕ) → gives_handle p (call.Get signal msg) ≡ true
-gives-get p signal msg = refl
-
--- the handle that it gives is new
-get-fresh : (s : System) (st : State) (a signal msg v : ℕ) (m : PendingMessage) (h : Handle) → kind_of s a ≡ Partition → service_of_signal s a signal ≡ Some v → find (is_undelivered v) st.spm.messages ≡ Some m
-    → valid_buffer s a msg message_size ≡ true → handle_allowed s st a (call.Get signal msg) h ≡ true → list_any (handle_eq h) st.handles_given ≡ false
-unfolding get-choice
-get-fresh s st a signal msg v m h kind found first room allowed =
-    let zero_handle : Handle = record { 0 = pos 0 } in
-    let made : case_of s st a (call.Get signal msg) zero_handle ≡ Some (get_of s st v msg zero_handle m) =
-    get-is s st a signal msg zero_handle
-    ∙ (ap (λ (k : ActorKind). get-choice s st a signal msg zero_handle k (service_of_signal s a signal) (λ i. find (is_undelivered i) st.spm.messages) (valid_buffer s a msg message_size)) kind
-    ∙ (ap₂ (λ (x : Option ℕ) (b : Bool). get-choice s st a signal msg zero_handle Partition x (λ i. find (is_undelivered i) st.spm.messages) b) found room
-    ∙ ap (λ (x : Option PendingMessage). option_and_then (λ m. Some (get_of s st v msg zero_handle m)) x) first)) in
-    let right : programmer_error s st a (call.Get signal msg) ≡ false = ap (λ (x : Option Effect). is_none x) made in
-    fresh-new st h (new_handle (programmer_error s st a (call.Get signal msg)) (gives_handle (phase_of st.spm a) (call.Get signal msg)) (fresh st h) right (gives-get (phase_of st.spm a) signal msg) allowed)
-
 -- no message that was shown comes again
 pub get-new : (s : System) (st new : State) (a signal msg : ℕ) (m : Message) → kind_of s a ≡ Partition → Own s st new a (call.Get signal msg) (outcome.Got m) → list_any (handle_eq m.handle) st.handles_given ≡ false
 get-new s st new a signal msg m kind own =
     own-has (λ (e : Effect). outcome_eq e.outcome (outcome.Got m) ≡ true → list_any (handle_eq m.handle) st.handles_given ≡ false) s st a (call.Get signal msg) m.handle kind (λ e. cc)
     (get-made s st a signal msg m.handle (λ e. outcome_eq e.outcome (outcome.Got m) ≡ true → list_any (handle_eq m.handle) st.handles_given ≡ false)
-    (λ v first found place room e. get-fresh s st a signal msg v first m.handle kind found place room own.allowed)) own.outcome
+    (λ v first found place room e. fresh-new st m.handle (get-fresh s st a signal msg v first m.handle kind found place room own.allowed))) own.outcome
 
 unmoved-at : (vs : List Span) (i : ℕ) → Unmoved vs → (get_or vs i no_span).moved ≡ 0
 unmoved-at [] i h = refl
@@ -343,18 +282,13 @@ got-behind T s st a signal msg v first t (outcome.Got k) kind balanced waiting o
       balanced = balanced;
       owned = owned v found;
       place = place;
-      unshown = get-fresh s st a signal msg v first k.handle kind found place room allowed;
+      unshown = fresh-new st k.handle (get-fresh s st a signal msg v first k.handle kind found place room allowed);
       shown = shown-is (shown_message s st.spm first k.handle) k e;
       unmoved = first-new v first st.spm.messages waiting place;
     } in
     let all_of = got-in T s st a v first k t got all given (find (λ w. w.signal == signal) (holder_of s a).services) in
     record { held = λ alive. all_of.held; given = all_of.given; ends = refl }
-got-behind T s st a signal msg v first t (outcome.Value z) kind balanced waiting owned all given found place room allowed e = cc
-got-behind T s st a signal msg v first t (outcome.Number n) kind balanced waiting owned all given found place room allowed e = cc
-got-behind T s st a signal msg v first t (outcome.Signals n) kind balanced waiting owned all given found place room allowed e = cc
-got-behind T s st a signal msg v first t outcome.Blocked kind balanced waiting owned all given found place room allowed e = cc
-got-behind T s st a signal msg v first t outcome.Done kind balanced waiting owned all given found place room allowed e = cc
-got-behind T s st a signal msg v first t outcome.Panicked kind balanced waiting owned all given found place room allowed e = cc
+got-behind T s st a signal msg v first t _ kind balanced waiting owned all given found place room allowed e = cc
 
 pub get-behind : (T : Handle → ℕ → ℕ → Type 0) (s : System) (st new : State) (a signal msg : ℕ) (o : Outcome) (t : List HeldMessage) → kind_of s a ≡ Partition → Balanced s (times st.handles_given) st.spm → AreWaiting st.spm.messages
     → ((v : ℕ) → service_of_signal s a signal ≡ Some v → is_service_of s a v ≡ true) → AreHeld s st.spm a T t → AreGiven t st.handles_given → Own s st new a (call.Get signal msg) o

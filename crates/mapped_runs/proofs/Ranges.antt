@@ -7,8 +7,6 @@ use Rattle.std.proofs.lemmas.Bool.{and_parts, and_from, or_right}
 use Rattle.std.proofs.lemmas.Bool.Decides.{nat_tests}
 use Rattle.list_laws.proofs.Tests.{list_all-at, list_any-at}
 use Rattle.ffm_model.specs.declared.system.ActorKind.TheVariants as kind
-use Rattle.ffm_model.specs.declared.system.Class.{Class}
-use Rattle.ffm_model.specs.declared.system.Class.TheVariants.{Ram, NonSecure, Mmio}
 use Rattle.ffm_model.specs.declared.system.Partition.{Partition}
 use Rattle.ffm_model.specs.declared.system.Region.{Region}
 use Rattle.ffm_model.specs.declared.system.System.{System}
@@ -18,6 +16,7 @@ use Rattle.ffm_model.specs.Memory.{ByteMap, bytes_at, copy_bytes, domain_of, is_
 use Rattle.ffm_model.specs.PartitionRam.{heap_of, ram_base, ram_size_of}
 use Rattle.ffm_model.specs.WellFormed.{is_ram_in, ram_size}
 use Rattle.ffm_model.proofs.WellFormedLemmas.{models_hold, partitions_hold}
+use Rattle.counting_law.proofs.Owners.{own-ram}
 
 -- ---- lists
 
@@ -44,11 +43,6 @@ window-inside base size heap i len r at big fits few short =
     let one : nat_le r.base (base + size - 8 * (heap / 8) + i * (heap / 8)) ≡ true = grind (arith, nat_tests) in
     let two : nat_le (base + size - 8 * (heap / 8) + i * (heap / 8) + len) (r.base + r.size) ≡ true = grind (arith, nat_tests) in
     or_right (len == 0) _ (and_from (nat_le r.base (base + size - 8 * (heap / 8) + i * (heap / 8))) (nat_le (base + size - 8 * (heap / 8) + i * (heap / 8) + len) (r.base + r.size)) one two)
-
-own-ram : (s : System) (a domain : ℕ) (c : Class) → is_partition (kind_of s a) ≡ true → domain ≡ domain_of s a → is_ram_in domain c ≡ true → is_ram_of s a c ≡ true
-own-ram s a domain (Ram d) partition own h = and_from (is_partition (kind_of s a)) (d == domain_of s a) partition (ap (λ (k : ℕ). d == k) (sym own) ∙ h)
-own-ram s a domain NonSecure partition own h = absurd (cc)
-own-ram s a domain (Mmio owner writable) partition own h = absurd (cc)
 
 window-by : (s : System) (a i len : ℕ) (p : Partition) (o : Option Region) → kind_of s a ≡ kind.Partition → slice_get s.partitions a ≡ Some p → slice_get s.regions p.ram ≡ o → option_map_or (λ r. is_ram_in p.domain r.class) o false ≡ true
     → nat_le p.heap (ram_size s.regions p) ≡ true → i < 8 → len ≤ window_size (holder_of s a) → valid_buffer s a (window (holder_of s a) i) len ≡ true

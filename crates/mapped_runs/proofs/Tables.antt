@@ -113,27 +113,22 @@ is_unmapped unmapped = true
 is_unmapped _ = false
 
 pub state-size : (vs : List HeldVector) (u : VectorState) (k i : ℕ) → (vector_at (with_state u k vs) i).size ≡ (vector_at vs i).size
-state-size [] u k i = refl
 state-size (v ∷ vs) u zero zero = refl
-state-size (v ∷ vs) u zero (suc i) = refl
-state-size (v ∷ vs) u (suc k) zero = refl
 state-size (v ∷ vs) u (suc k) (suc i) = state-size vs u k i
+state-size _ u _ _ = refl
 
 -- what the new state isn't, another vector is, and was
 pub state-other : (f : VectorState → Bool) (vs : List HeldVector) (u : VectorState) (k i : ℕ) → f used ≡ false → f u ≡ false → f (vector_at (with_state u k vs) i).state ≡ true → (i ≡ k → ⊥) × (f (vector_at vs i).state ≡ true)
 state-other f [] u k i out off e = cc
 state-other f (v ∷ vs) u zero zero out off e = cc
-state-other f (v ∷ vs) u zero (suc i) out off e = ((λ z. cc), e)
-state-other f (v ∷ vs) u (suc k) zero out off e = ((λ z. cc), e)
 state-other f (v ∷ vs) u (suc k) (suc i) out off e = let r = state-other f vs u k i out off e in ((λ z. r.0 (omega arith)), r.1)
+state-other f (v ∷ vs) u _ _ out off e = ((λ z. cc), e)
 
 -- and what the new state is too
 pub state-either : (f : VectorState → Bool) (vs : List HeldVector) (u : VectorState) (k i : ℕ) (P : Type 0) → f used ≡ false → f (vector_at (with_state u k vs) i).state ≡ true → (i ≡ k → P) → (f (vector_at vs i).state ≡ true → P) → P
-state-either f [] u k i P out e here there = there e
 state-either f (v ∷ vs) u zero zero P out e here there = here refl
-state-either f (v ∷ vs) u zero (suc i) P out e here there = there e
-state-either f (v ∷ vs) u (suc k) zero P out e here there = there e
 state-either f (v ∷ vs) u (suc k) (suc i) P out e here there = state-either f vs u k i P out e (λ z. here (ap suc z)) there
+state-either f _ u _ _ P out e here there = there e
 
 touched-size-by : (b : Bool) (vs : List HeldVector) (k i : ℕ) → (vector_at (if b then with_state used k vs else vs) i).size ≡ (vector_at vs i).size
 touched-size-by true vs k i = state-size vs used k i
@@ -176,18 +171,14 @@ new-kept (n ∷ ns) (suc i) = new-kept ns i
 -- ---- the vectors of the machine
 
 pub moved-len : (vs : List Span) (k n i : ℕ) → (get_or (slice_set vs k (moved_by (get_or vs k no_span) n)) i no_span).len ≡ (get_or vs i no_span).len
-moved-len [] k n i = refl
 moved-len (v ∷ vs) zero n zero = refl
-moved-len (v ∷ vs) zero n (suc i) = refl
-moved-len (v ∷ vs) (suc k) n zero = refl
 moved-len (v ∷ vs) (suc k) n (suc i) = moved-len vs k n i
+moved-len _ _ n _ = refl
 
 pub moved-other : (vs : List Span) (y : Span) (k i : ℕ) → (i ≡ k → ⊥) → get_or (slice_set vs k y) i no_span ≡ get_or vs i no_span
-moved-other [] y k i apart = refl
 moved-other (v ∷ vs) y zero zero apart = absurd (apart refl)
-moved-other (v ∷ vs) y zero (suc i) apart = refl
-moved-other (v ∷ vs) y (suc k) zero apart = refl
 moved-other (v ∷ vs) y (suc k) (suc i) apart = moved-other vs y k i (λ e. apart (ap suc e))
+moved-other _ y _ _ apart = refl
 
 pub moved-here : (vs : List Span) (y : Span) (k : ℕ) → k < length vs → get_or (slice_set vs k y) k no_span ≡ y
 moved-here [] y k lt = absurd (omega (arith, lt))

@@ -23,31 +23,14 @@ use Rattle.sfn_calls.proofs.CodeLemmas.{partition-fine}
 use Rattle.sfn_calls.proofs.SameRuns.{same-runs}
 use Rattle.sfn_runs.specs.Owners.{LoopsAreRounds}
 use Rattle.sfn_runs.proofs.Bits.{has-bit, lowest-some}
-use Rattle.sfn_runs.proofs.OwnSteps.{gets-message, own-step, reply-quiet, wait-blocks, wakes}
+use Rattle.sfn_runs.proofs.OwnSteps.{gets-message, reply-quiet, wait-blocks, wakes}
 use Rattle.sfn_runs.proofs.Owned.{IsSfnOwner, sfn-owner}
 use Rattle.sfn_runs.proofs.Recent.{Recent, front-push, front_of, last-push, last_of, opening-recent, step-recent}
 use Rattle.sfn_runs.proofs.Services.{base-is, lowest-is, partition-fits, wait-meets}
+use Rattle.counting_law.proofs.Entries.{never-nil, push-split}
+use Rattle.counting_law.proofs.OwnSteps.{own-step}
 
 -- ---- an entry of the partition, in the whole run
-
-head-same : (x y : Entry) (xs ys : List Entry) → x ∷ xs ≡ y ∷ ys → x ≡ y
-head-same x y xs ys e = cc
-
-tail-same : (x y : Entry) (xs ys : List Entry) → x ∷ xs ≡ y ∷ ys → xs ≡ ys
-tail-same x y xs ys e = cc
-
-never-nil : (before behind : List Entry) (e : Entry) → [] ≡ before ++ e ∷ behind → ⊥
-never-nil [] behind e h = cc
-never-nil (x ∷ before) behind e h = cc
-
--- an entry of a list is the last one, or stands before it
-push-split : (xs before behind : List Entry) (x e : Entry) (P : Type 0) → xs ++ x ∷ [] ≡ before ++ e ∷ behind → (xs ≡ before → x ≡ e → P) → ((rest : List Entry) → xs ≡ before ++ e ∷ rest → P) → P
-push-split [] [] behind x e P h last earlier = last refl (head-same x e [] behind h)
-push-split [] (b ∷ before) behind x e P h last earlier = absurd (never-nil before behind e (tail-same x b [] _ h))
-push-split (y ∷ ys) [] behind x e P h last earlier = earlier ys (ap (λ (z : Entry). z ∷ ys) (head-same y e _ behind h))
-push-split (y ∷ ys) (b ∷ before) behind x e P h last earlier =
-    let same : y ≡ b = head-same y b _ _ h in
-    push-split ys before behind x e P (tail-same y b _ _ h) (λ past. last (ap₂ (λ (z : Entry) (l : List Entry). z ∷ l) same past)) (λ rest past. earlier rest (ap₂ (λ (z : Entry) (l : List Entry). z ∷ l) same past))
 
 -- what is known at an entry of the partition
 record Here (s : System) (a : ℕ) (before : List Entry) (e : Entry) : Type 0 where

@@ -1,15 +1,12 @@
 -- A message that waits for psa_get stays until its service's partition takes it, or panics.
 use Rattle.std.proofs.Common.{ℕ, ◌≡◌, ◌==◌, List, [], ◌∷◌, ◌++◌, refl, ap, ap₂, sym, ◌∙◌, subst, Bool, true, false, eqb-true}
-use Rattle.std.specs.Prelude.{ℤ, pos, Option, Some, None, if◌then◌else◌, not, ◌&&◌, ◌||◌, position, map, filter, is_none, slice_get, int_lt}
+use Rattle.std.specs.Prelude.{ℤ, pos, Option, Some, None, if◌then◌else◌, not, ◌&&◌, ◌||◌, map, filter, is_none, slice_get}
 use Rattle.std.specs.List.{list_any}
 use Rattle.std.specs.Option.{option_map_or}
-use Rattle.std.specs.Ordering.{int_eq}
 use Rattle.std.proofs.lemmas.List.Folds.{list_any-append}
-use Rattle.std.proofs.lemmas.List.Quantifiers.{position-Some}
-use Rattle.std.proofs.lemmas.Option.{slice_get-get_or}
 use Rattle.std.proofs.lemmas.Bool.{and_parts, false_from_ne_true}
 use Rattle.std.proofs.lemmas.Map.Views.{any-filter_same}
-use Rattle.ffm_model.specs.declared.constants.TheConstants.{PSA_IPC_CALL, PSA_IPC_CONNECT, PSA_SUCCESS, PSA_ERROR_PROGRAMMER_ERROR, PSA_ERROR_COMMUNICATION_FAILURE, PSA_IPC_DISCONNECT}
+use Rattle.ffm_model.specs.declared.constants.TheConstants.{PSA_ERROR_COMMUNICATION_FAILURE, PSA_IPC_DISCONNECT}
 use Rattle.ffm_model.specs.declared.system.System.{System}
 use Rattle.ffm_model.specs.declared.system.Service.{Service}
 use Rattle.ffm_model.specs.declared.machine.Handle.{Handle}
@@ -21,18 +18,17 @@ use Rattle.ffm_model.specs.declared.objects.ActorPhase.TheVariants.{Blocked}
 use Rattle.ffm_model.specs.Actors.{is_service_of}
 use Rattle.ffm_model.specs.declared.machine.Outcome.TheVariants as outcome
 use Rattle.ffm_model.specs.declared.machine.Outcome.TheVariants.{Value}
-use Rattle.ffm_model.specs.declared.objects.ConnPhase.{ConnPhase}
-use Rattle.ffm_model.specs.declared.objects.ConnPhase.TheVariants.{Busy, Closing, Error, Idle}
+use Rattle.ffm_model.specs.declared.objects.ConnPhase.TheVariants.{Busy, Closing}
 use Rattle.ffm_model.specs.Memory.{no_vectors}
-use Rattle.ffm_model.specs.State.{SpmState, with_phase, with_message, with_request, with_connection_phase, without_connection, phase_of, has_handle, is_undelivered, delivered, vectors_put, without_message}
-use Rattle.ffm_model.specs.Signals.{has_undelivered, is_blocked}
+use Rattle.ffm_model.specs.State.{SpmState, with_phase, with_message, with_request, with_connection_phase, without_connection, phase_of, has_handle, is_undelivered, delivered, vectors_put}
+use Rattle.ffm_model.specs.Signals.{has_undelivered}
 use Rattle.ffm_model.specs.Panic.{panic_effect, is_dead}
 use Rattle.ffm_model.specs.ClientCalls.{is_service_panicked, move}
-use Rattle.ffm_model.specs.ServiceCalls.{close_answered, connect_answered, service_of_signal, with_request_phase}
 use Rattle.counting_law.proofs.Balance.{Balanced}
 use Rattle.counting_law.proofs.Resume.{times}
-use Rattle.counting_law.proofs.Reply.{request-blocked, settled}
+use Rattle.counting_law.proofs.Reply.{request-blocked, settled, settled-messages}
 use Rattle.counting_law.proofs.Events.{EachKind}
+use Rattle.counting_law.proofs.Owners.{owners-same, service-owned}
 
 -- ---- lists
 
@@ -79,44 +75,7 @@ delivered-other : (v w : ℕ) (h : Handle) → (v ≡ w → ⊥) → (ms : List 
 delivered-other v w h apart [] = refl
 delivered-other v w h apart (m ∷ ms) = delivered-by v w h m ms (is_undelivered w m) refl apart (delivered-other v w h apart ms)
 
--- ---- services
-
-owner-at : (a signal : ℕ) (vs : List Service) (v : ℕ) (d : Service) → position (λ (v : Service). (v.owner == a) && (v.signal == signal)) vs ≡ Some v → option_map_or (λ v. v.owner == a) (slice_get vs v) false ≡ true
-owner-at a signal vs v d found =
-    let it = position-Some (λ (v : Service). (v.owner == a) && (v.signal == signal)) vs v d found in
-    ap (λ (o : Option Service). option_map_or (λ v. v.owner == a) o false) (slice_get-get_or vs v d it.0) ∙ (and_parts _ _ it.1).0
-
-owned-in : (a signal : ℕ) (vs : List Service) (v : ℕ) → position (λ (v : Service). (v.owner == a) && (v.signal == signal)) vs ≡ Some v → option_map_or (λ v. v.owner == a) (slice_get vs v) false ≡ true
-owned-in a signal [] v found = cc
-owned-in a signal (w ∷ ws) v found = owner-at a signal (w ∷ ws) v w found
-
-pub service-owned : (s : System) (a signal v : ℕ) → service_of_signal s a signal ≡ Some v → is_service_of s a v ≡ true
-service-owned s a signal v found = owned-in a signal s.services v found
-
--- a service has one owner
-owners-same : (o : Option Service) (x a : ℕ) → option_map_or (λ v. v.owner == x) o false ≡ true → option_map_or (λ v. v.owner == a) o false ≡ true → x ≡ a
-owners-same None x a h g = cc
-owners-same (Some v) x a h g = sym (eqb-true v.owner x h) ∙ eqb-true v.owner a g
-
 -- ---- states
-
-if-messages : (b : Bool) (x y : SpmState) (ms : List PendingMessage) → x.messages ≡ ms → y.messages ≡ ms → (if b then x else y).messages ≡ ms
-if-messages true x y ms e f = e
-if-messages false x y ms e f = f
-
-option-messages : (f : ℕ → SpmState) (o : Option ℕ) (b : SpmState) → ((n : ℕ) → (f n).messages ≡ b.messages) → (option_map_or f o b).messages ≡ b.messages
-option-messages f None b e = refl
-option-messages f (Some n) b e = e n
-
-settled-messages : (b : SpmState) (h : Handle) (status : ℤ) (m : PendingMessage) → (settled b h status m).messages ≡ (without_message b h).messages
-settled-messages b h status m =
-    let rest : SpmState = without_message b h in
-    let request : (ph : ConnPhase) → (with_request_phase rest m ph).messages ≡ rest.messages = λ ph. option-messages (λ n. with_connection_phase rest n ph) m.connection rest (λ n. refl) in
-    if-messages (int_eq m.kind PSA_IPC_CONNECT) _ _ rest.messages
-    (option-messages (λ n. connect_answered rest n m status) m.connection rest (λ n. if-messages (int_eq status PSA_SUCCESS) _ _ rest.messages refl refl))
-    (if-messages (int_lt m.kind PSA_IPC_CALL) _ _ rest.messages
-    (option-messages (λ n. close_answered rest n m) m.connection rest (λ n. if-messages (is_blocked (phase_of rest m.client.0)) _ _ rest.messages refl refl))
-    (if-messages (int_eq status PSA_ERROR_PROGRAMMER_ERROR) _ _ rest.messages (request Error) (request Idle)))
 
 settled-waits : (b : SpmState) (h : Handle) (status : ℤ) (m : PendingMessage) (v : ℕ) → has_undelivered b v ≡ true → has_undelivered (settled b h status m) v ≡ true
 settled-waits b h status m v some =

@@ -1,6 +1,6 @@
 -- What the machine answers to a partition's own calls.
 use Rattle.std.proofs.Common.{ℕ, ◌<◌, ◌≤◌, ◌≡◌, ◌==◌, ◌^◌, List, [], ◌∷◌, length, refl, ap, ap₂, sym, ◌∙◌, subst, arith, Bool, true, false, eqb-true, inl, inr}
-use Rattle.std.specs.Prelude.{ℤ, pos, negsuc, Option, Some, None, if◌then◌else◌, ◌&&◌, ◌||◌, find, is_none, nat_lt, bit_and, int_le, nat_le, option_and_then, ◌⊎◌}
+use Rattle.std.specs.Prelude.{ℤ, pos, negsuc, Option, Some, None, if◌then◌else◌, ◌&&◌, ◌||◌, find, nat_lt, bit_and, int_le, nat_le, ◌⊎◌}
 use Rattle.std.specs.List.{list_any}
 use Rattle.std.specs.Option.{option_map}
 use Rattle.std.specs.Int.{w32, cast_signed, cast_unsigned}
@@ -13,28 +13,27 @@ use Rattle.ffm_model.specs.declared.system.ActorKind.{ActorKind}
 use Rattle.ffm_model.specs.declared.system.ActorKind.TheVariants.{Partition}
 use Rattle.ffm_model.specs.declared.machine.Handle.{Handle}
 use Rattle.ffm_model.specs.declared.machine.Status.{Status}
-use Rattle.ffm_model.specs.declared.machine.Entry.{Entry}
 use Rattle.ffm_model.specs.declared.machine.Message.{Message}
-use Rattle.ffm_model.specs.declared.machine.Call.{Call}
 use Rattle.ffm_model.specs.declared.machine.Call.TheVariants as call
 use Rattle.ffm_model.specs.declared.machine.Outcome.{Outcome}
 use Rattle.ffm_model.specs.declared.machine.Outcome.TheVariants as outcome
 use Rattle.ffm_model.specs.declared.objects.PendingMessage.{PendingMessage}
 use Rattle.ffm_model.specs.declared.objects.ActorPhase.{ActorPhase}
-use Rattle.ffm_model.specs.declared.objects.ActorPhase.TheVariants.{Running, Blocked, Waiting, Ready, Connected, Ended, Panicked}
+use Rattle.ffm_model.specs.declared.objects.ActorPhase.TheVariants.{Running, Waiting}
 use Rattle.ffm_model.specs.Actors.{kind_of}
 use Rattle.ffm_model.specs.Memory.{valid_buffer}
 use Rattle.ffm_model.specs.State.{SpmState, State, phase_of, with_phase, fresh, is_undelivered}
 use Rattle.ffm_model.specs.Signals.{enabled, can_go_on, signals_of, assigned_to, has_signal_of, has_undelivered}
 use Rattle.ffm_model.specs.ClientCalls.{Effect, move, in_state, returned}
 use Rattle.ffm_model.specs.ServiceCalls.{get_of, message_size, service_of_signal, reply_of, reply_to, shown_message}
-use Rattle.ffm_model.specs.Calls.{has_call, case_of, programmer_error, effect_or_error, effect_of}
-use Rattle.ffm_model.specs.Step.{step, may_call, returns_when_due, handle_allowed, gives_handle, handle_shown, outcome_eq}
+use Rattle.ffm_model.specs.Calls.{has_call, effect_or_error, effect_of}
+use Rattle.ffm_model.specs.Step.{may_call, returns_when_due, handle_shown, outcome_eq}
 use Rattle.counting_law.proofs.Parts.{is_there, phase_same}
 use Rattle.counting_law.proofs.Events.{caller-running}
-use Rattle.counting_law.proofs.Steps.{step-is, new_handle}
 use Rattle.sfn_calls.specs.Answers.{IsHandle}
-use Rattle.sfn_runs.proofs.Owned.{is-partition}
+use Rattle.counting_law.proofs.Outcomes.{done-is, panicked-is}
+use Rattle.counting_law.proofs.OwnSteps.{Own, get-due, get-fresh}
+use Rattle.counting_law.proofs.Owners.{is-partition}
 
 -- ---- outcomes that are told apart
 
@@ -49,29 +48,6 @@ signals-is n _ e = cc
 got-is : (m : Message) (o : Outcome) → outcome_eq (outcome.Got m) o ≡ true → (k : Message) × (o ≡ outcome.Got k)
 got-is m (outcome.Got k) e = (k, refl)
 got-is m _ e = cc
-
-done-is : (o : Outcome) → outcome_eq outcome.Done o ≡ true → o ≡ outcome.Done
-done-is outcome.Done e = refl
-done-is _ e = cc
-
-panicked-is : (o : Outcome) → outcome_eq outcome.Panicked o ≡ true → o ≡ outcome.Panicked
-panicked-is outcome.Panicked e = refl
-panicked-is _ e = cc
-
--- ---- a step of the actor
-
--- what a step says, with the actor and the call put in
-pub record Own (s : System) (st new : State) (a : ℕ) (c : Call) (o : Outcome) : Type 0 where
-  pub may : may_call s st.spm a c ≡ true
-  pub allowed : handle_allowed s st a c (handle_shown o) ≡ true
-  pub outcome : outcome_eq (effect_of s st a c (handle_shown o)).outcome o ≡ true
-  pub state : (effect_of s st a c (handle_shown o)).state ≡ new
-
-pub own-step : (s : System) (st new : State) (e : Entry) (a : ℕ) (c : Call) → step s st e ≡ Some new → e.actor.0 ≡ a → e.call ≡ c → Own s st new a c e.outcome
-own-step s st new e a c h at is =
-    let it = step-is s st new e h in
-    let whole : Own s st new e.actor.0 e.call e.outcome = record { may = it.may; allowed = it.allowed; outcome = it.outcome; state = it.state } in
-    subst (λ (x : ℕ). Own s st new x c e.outcome) at (subst (λ (d : Call). Own s st new e.actor.0 d e.outcome) is whole)
 
 -- ---- psa_wait
 
@@ -150,15 +126,6 @@ now-running b a mask waits = phase_same b.phases a Running (is_there b.phases a 
 
 -- ---- psa_get
 
-get-choice : System → State → ℕ → ℕ → ℕ → Handle → ActorKind → Option ℕ → (ℕ → Option PendingMessage) → Bool → Option Effect
-get-choice s st a signal msg h k at find_at room =
-    if has_call k (call.Get signal msg) then option_and_then (λ i. option_and_then (λ m. if room then Some (get_of s st i msg h m) else None) (find_at i)) at else None
-
-get-is : (s : System) (st : State) (a signal msg : ℕ) (h : Handle)
-    → case_of s st a (call.Get signal msg) h ≡ get-choice s st a signal msg h (kind_of s a) (service_of_signal s a signal) (λ i. find (is_undelivered i) st.spm.messages) (valid_buffer s a msg message_size)
-unfolding get-choice
-get-is s st a signal msg h = refl
-
 find-by : (b : Bool) (m : PendingMessage) (o : Option PendingMessage) (some : Bool) → (b || some) ≡ true → (some ≡ true → (k : PendingMessage) × (o ≡ Some k)) → (k : PendingMessage) × ((if b then Some m else o) ≡ Some k)
 find-by true m o some e go = (m, refl)
 find-by false m o some e go = go e
@@ -181,32 +148,15 @@ pub record Delivered (o : Outcome) : Type 0 where
   pub shown : o ≡ outcome.Got message
   pub handle : IsHandle message.handle
 
-gives-get : (p : ActorPhase) (signal msg : ℕ) → gives_handle p (call.Get signal msg) ≡ true
-gives-get Running signal msg = refl
-gives-get Blocked signal msg = refl
-gives-get (Waiting mask) signal msg = refl
-gives-get (Ready o) signal msg = refl
-gives-get (Connected c) signal msg = refl
-gives-get Ended signal msg = refl
-gives-get Panicked signal msg = refl
-
 pub gets-message : (s : System) (st new : State) (a signal msg v : ℕ) (o : Outcome) → a < length s.partitions → Own s st new a (call.Get signal msg) o → service_of_signal s a signal ≡ Some v
     → has_undelivered st.spm v ≡ true → valid_buffer s a msg message_size ≡ true → Delivered o
-unfolding get-choice
 gets-message s st new a signal msg v o inside own found waits room =
     let first = find-any v st.spm.messages waits in
-    let made : (h : Handle) → case_of s st a (call.Get signal msg) h ≡ Some (get_of s st v msg h first.0) =
-    λ h. get-is s st a signal msg h
-    ∙ (ap (λ (k : ActorKind). get-choice s st a signal msg h k (service_of_signal s a signal) (λ i. find (is_undelivered i) st.spm.messages) (valid_buffer s a msg message_size)) (is-partition s a inside)
-    ∙ (ap₂ (λ (x : Option ℕ) (b : Bool). get-choice s st a signal msg h Partition x (λ i. find (is_undelivered i) st.spm.messages) b) found room
-    ∙ ap (λ (x : Option PendingMessage). option_and_then (λ m. Some (get_of s st v msg h m)) x) first.1)) in
     let h : Handle = handle_shown o in
     let all : effect_of s st a (call.Get signal msg) h ≡ get_of s st v msg h first.0 =
-    ap (λ (x : Option Effect). effect_or_error x (kind_of s a) s st a (call.Get signal msg)) (made h) in
+    ap (λ (x : Option Effect). effect_or_error x (kind_of s a) s st a (call.Get signal msg)) (get-due s st a signal msg v first.0 h (is-partition s a inside) found first.1 room) in
     let it = got-is (shown_message s st.spm first.0 h) o (subst (λ (x : Effect). outcome_eq x.outcome o ≡ true) all own.outcome) in
-    let right : programmer_error s st a (call.Get signal msg) ≡ false = ap (λ (x : Option Effect). is_none x) (made (record { 0 = pos 0 })) in
-    let new_one : fresh st h ≡ true =
-    new_handle (programmer_error s st a (call.Get signal msg)) (gives_handle (phase_of st.spm a) (call.Get signal msg)) (fresh st h) right (gives-get (phase_of st.spm a) signal msg) own.allowed in
+    let new_one : fresh st h ≡ true = get-fresh s st a signal msg v first.0 h (is-partition s a inside) found first.1 room own.allowed in
     let shown : h ≡ it.0.handle = ap handle_shown it.1 in
     let range = and_parts (int_le (pos 1) h.0 && int_le h.0 (pos 0x3fffffff)) _ new_one in
     record {

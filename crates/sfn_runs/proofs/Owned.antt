@@ -8,14 +8,11 @@ use Rattle.std.proofs.lemmas.Bool.Decides.{nat_tests}
 use Rattle.std.proofs.lemmas.Iterator.Adapters.{position_from-zero}
 use Rattle.std.proofs.lemmas.Option.{slice_get_within}
 use Rattle.list_laws.proofs.Tests.{list_all-at, list_any-at}
-use Rattle.ffm_model.specs.declared.system.ActorKind.TheVariants as kind
-use Rattle.ffm_model.specs.declared.system.Class.{Class}
-use Rattle.ffm_model.specs.declared.system.Class.TheVariants.{Ram, NonSecure, Mmio}
 use Rattle.ffm_model.specs.declared.system.Partition.{Partition}
 use Rattle.ffm_model.specs.declared.system.Region.{Region}
 use Rattle.ffm_model.specs.declared.system.Service.{Service}
 use Rattle.ffm_model.specs.declared.system.System.{System}
-use Rattle.ffm_model.specs.Actors.{is_partition, kind_of}
+use Rattle.ffm_model.specs.Actors.{is_partition}
 use Rattle.ffm_model.specs.Memory.{domain_of, is_ram_of, lies_in, valid_buffer}
 use Rattle.ffm_model.specs.PartitionRam.{ram_base}
 use Rattle.ffm_model.specs.ServiceCalls.{message_size, service_of_signal}
@@ -23,6 +20,7 @@ use Rattle.ffm_model.specs.WellFormed.{functions_fit, is_ram_in, is_signal_bit, 
 use Rattle.ffm_model.proofs.WellFormedLemmas.{models_hold, partitions_hold, service_signals_hold}
 use Rattle.sfn_calls.specs.Partitions.{is_sfn}
 use Rattle.sfn_runs.proofs.Bits.{signal-bit}
+use Rattle.counting_law.proofs.Owners.{is-partition, own-ram}
 
 -- ---- lists
 
@@ -43,11 +41,6 @@ position-some p [] n h = absurd (cc)
 position-some p (x ∷ xs) n h = position-by p xs n (p x) h (position-some p xs (n + 1))
 
 -- ---- the partition
-
-pub is-partition : (s : System) (a : ℕ) → a < length s.partitions → kind_of s a ≡ kind.Partition
-is-partition s a inside =
-    let yes : nat_lt a (length s.partitions) ≡ true = grind (arith, nat_tests) in
-    ap (λ (b : Bool). if b then kind.Partition else (if nat_lt a (length s.partitions + length s.clients) then kind.Client else kind.Device)) yes
 
 -- some service of a partition
 pub record Serves (s : System) (a : ℕ) : Type 0 where
@@ -104,11 +97,6 @@ serves-of s a some =
     record { bit = it.bit; service = at.0; from = it.from; to = it.to; found = position_from-zero (is_that a it.bit) s.services ∙ at.1 }
 
 -- ---- its RAM
-
-own-ram : (s : System) (a domain : ℕ) (c : Class) → is_partition (kind_of s a) ≡ true → domain ≡ domain_of s a → is_ram_in domain c ≡ true → is_ram_of s a c ≡ true
-own-ram s a domain (Ram d) partition own h = and_from (is_partition (kind_of s a)) (d == domain_of s a) partition (ap (λ (k : ℕ). d == k) (sym own) ∙ h)
-own-ram s a domain NonSecure partition own h = absurd (cc)
-own-ram s a domain (Mmio owner writable) partition own h = absurd (cc)
 
 within-by : (base : ℕ) (r : Region) → base ≡ r.base → nat_le message_size r.size ≡ true → lies_in base message_size r ≡ true
 within-by base r at large =

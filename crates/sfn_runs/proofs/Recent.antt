@@ -3,7 +3,7 @@ use Rattle.std.proofs.Common.{ℕ, ◌<◌, ◌≤◌, ◌≡◌, ◌==◌, ◌^
 use Rattle.std.specs.Prelude.{Option, Some, None, bit_and}
 use Rattle.std.specs.Int.{bit_at}
 use Rattle.ffm_model.proofs.RecordLemmas.{entries_of-other, entries_of-own}
-use Rattle.counting_law.proofs.Returns.{open-phase, turned-sound}
+use Rattle.counting_law.proofs.Returns.{open-phase, turns-sound}
 use Rattle.ffm_model.specs.declared.system.System.{System}
 use Rattle.ffm_model.specs.declared.machine.Entry.{Entry}
 use Rattle.ffm_model.specs.declared.machine.Call.TheVariants as call
@@ -26,8 +26,10 @@ use Rattle.counting_law.proofs.Runs.{opening-balanced, step-keeps}
 use Rattle.counting_law.proofs.Turns.{Turned, Turns, is_sound, kinds-turn}
 use Rattle.sfn_runs.proofs.Bits.{and-left}
 use Rattle.sfn_runs.proofs.Signals.{asserted-waits}
-use Rattle.sfn_runs.proofs.Delivery.{Stays, kinds-stay, service-owned}
-use Rattle.sfn_runs.proofs.OwnSteps.{own-step, waits-for, wakes, now-running}
+use Rattle.sfn_runs.proofs.Delivery.{Stays, kinds-stay}
+use Rattle.sfn_runs.proofs.OwnSteps.{waits-for, wakes, now-running}
+use Rattle.counting_law.proofs.OwnSteps.{own-step}
+use Rattle.counting_law.proofs.Owners.{service-owned}
 
 -- ---- the last entries of a list
 
@@ -86,9 +88,7 @@ step-recent s a inside es st new e r h =
     let turns : Turns e.actor.0 st.spm new.spm it.0 = it.2 in
     record {
       balanced = step-keeps s st new e r.balanced h;
-      sound = λ x. same_or_not x e.actor.0 (is_sound (phase_of new.spm x) ≡ true)
-          (λ k. ap (λ (y : ℕ). is_sound (phase_of new.spm y)) k ∙ turns.sound)
-          (λ k. turned-sound _ _ (turns.others x k) (r.sound x));
+      sound = turns-sound st.spm new.spm e.actor.0 it.0 turns r.sound;
       waits = λ w mask timeout last is blocked. same_or_not a e.actor.0 (phase_of new.spm a ≡ Waiting mask)
           (λ k.
           let mine : (e.actor.0 == a) ≡ true = ap (λ (x : ℕ). e.actor.0 == x) k ∙ is_itself e.actor.0 in
