@@ -174,6 +174,22 @@ panicked-other s limit b p x h e =
     (λ o blocked one now plain. told_to _ _ blocked (ap is_told now ∙ plain))
     (λ gone now. stays_as _ _ (gone ∙ sym now))
 
+-- its own panic, of an actor that runs
+pub running-panicked : (s : System) (limit : Handle → ℕ) (b : SpmState) (a : ℕ) → Balanced s limit b → phase_of b a ≡ Running → phase_of (panic_effect s b a) a ≡ Panicked
+running-panicked s limit b a h running =
+    panicked-self s limit b a h (is_there b.phases a (λ x. cc)) (running-quiet (phase_of b a) _ _ (λ n. count_by (accepted_as a n) b.connections) running (h.fitting a))
+
+-- the panic that a reply owes
+pub owed-panicked : (s : System) (limit : Handle → ℕ) (b : SpmState) (a : ℕ) (h : Handle) (status : ℤ) (m : PendingMessage) (n : ℕ) → Balanced s limit b → message_held s b a h ≡ Some m → m.kind ≡ pos n
+    → phase_of (panic_effect s (settled b h status m) m.client.0) m.client.0 ≡ Panicked
+owed-panicked s limit b a h status m n balanced found kind =
+    let x : ℕ = m.client.0 in
+    let told : SpmState = settled b h status m in
+    let kept : Balanced s limit told = settled-keeps s limit b a h status m balanced found in
+    let ready = request-ready s limit b a h status m n balanced found kind in
+    panicked-self s limit told x kept (is_there told.phases x (λ w. let at : phase_of told x ≡ Ready ready.0 = ready.1 in cc))
+    (ready-quiet (phase_of told x) ready.0 _ _ (λ z. count_by (accepted_as x z) told.connections) ready.1 (kept.fitting x))
+
 -- one that runs goes on
 panicked-running : (s : System) (limit : Handle → ℕ) (b : SpmState) (p x : ℕ) → Balanced s limit b → (x == p) ≡ false → phase_of b x ≡ Running → phase_of (panic_effect s b p) x ≡ Running
 panicked-running s limit b p x h e running =
@@ -184,8 +200,7 @@ panicked-running s limit b p x h e running =
 
 panic-turns : (s : System) (limit : Handle → ℕ) (b : SpmState) (a : ℕ) → Balanced s limit b → phase_of b a ≡ Running → Turns a b (panic_effect s b a) outcome.Panicked
 panic-turns s limit b a h running =
-    let quiet : awaited_by b.connections b.messages a ≡ 0 = running-quiet (phase_of b a) _ _ (λ n. count_by (accepted_as a n) b.connections) running (h.fitting a) in
-    let here : phase_of (panic_effect s b a) a ≡ Panicked = panicked-self s limit b a h (is_there b.phases a (λ x. cc)) quiet in
+    let here : phase_of (panic_effect s b a) a ≡ Panicked = running-panicked s limit b a h running in
     record {
       own = sym (ap (goes_with outcome.Panicked) here);
       sound = ap is_sound here;
@@ -205,14 +220,11 @@ owed-turns s limit b a h status m n balanced running found kind =
     let x : ℕ = m.client.0 in
     let told : SpmState = settled b h status m in
     let kept : Balanced s limit told = settled-keeps s limit b a h status m balanced found in
-    let ready = request-ready s limit b a h status m n balanced found kind in
     let blocked : phase_of b x ≡ Blocked = request-blocked s limit b _ m n balanced found kind in
     let apart : (a == x) ≡ false = same_or_not a x ((a == x) ≡ false) (λ k. absurd (let same : phase_of b x ≡ Running = ap (phase_of b) (sym k) ∙ running in cc)) (λ k. k) in
     let before : (y : ℕ) → (y == x) ≡ false → phase_of told y ≡ phase_of b y = settled-elsewhere s limit b a h status m balanced found in
     let here : phase_of (panic_effect s told x) a ≡ Running = panicked-running s limit told x a kept apart (before a apart ∙ running) in
-    let gone : phase_of (panic_effect s told x) x ≡ Panicked =
-    panicked-self s limit told x kept (is_there told.phases x (λ w. let at : phase_of told x ≡ Ready ready.0 = ready.1 in cc))
-    (ready-quiet (phase_of told x) ready.0 _ _ (λ z. count_by (accepted_as x z) told.connections) ready.1 (kept.fitting x)) in
+    let gone : phase_of (panic_effect s told x) x ≡ Panicked = owed-panicked s limit b a h status m n balanced found kind in
     record {
       own = sym (ap (goes_with outcome.Done) here);
       sound = ap is_sound here;

@@ -24,9 +24,9 @@ use Rattle.counting_law.specs.Objects.{accepted_as}
 use Rattle.counting_law.proofs.Balance.{Balanced}
 use Rattle.counting_law.proofs.Keeps.{ready-quiet, request-ready}
 use Rattle.counting_law.proofs.Parts.{is_there, off_from, running-quiet}
-use Rattle.counting_law.proofs.Reply.{settled, settled-keeps}
+use Rattle.counting_law.proofs.Reply.{settled, settled-keeps, settled-messages}
 use Rattle.counting_law.proofs.Resume.{put-same}
-use Rattle.counting_law.proofs.Turns.{panicked-self, settled-cases}
+use Rattle.counting_law.proofs.Turns.{panicked-self, settled-cases, owed-panicked, running-panicked}
 use Rattle.mapped_runs.proofs.Changes.{AreNew, EachChange, is_vector_call, none-new}
 use Rattle.counting_law.proofs.Walk.{handle-same}
 use Rattle.mapped_runs.proofs.Tables.{handle-flip, same_handle}
@@ -180,39 +180,21 @@ handles-apart s limit b x a h k n m balanced apart there here =
 
 -- ---- replies
 
-settled-messages : (s : System) (limit : Handle → ℕ) (b : SpmState) (x : ℕ) (h : Handle) (status : ℤ) (m : PendingMessage) → Balanced s limit b → message_held s b x h ≡ Some m → (settled b h status m).messages ≡ (without_message b h).messages
-settled-messages s limit b x h status m balanced found =
-    settled-cases s limit b x h status m balanced found (λ new. new.messages ≡ (without_message b h).messages) (λ n ph q blocked told. refl) (λ n q blocked told. refl) (λ n. refl) (λ q blocked told. refl)
-
 pub settled-still : (s : System) (limit : Handle → ℕ) (b : SpmState) (x a : ℕ) (h k : Handle) (status : ℤ) (n m : PendingMessage) → Balanced s limit b → message_held s b x h ≡ Some n → handle_eq h k ≡ false
     → message_held s b a k ≡ Some m → message_held s (settled b h status n) a k ≡ Some m
-settled-still s limit b x a h k status n m balanced there apart found = filter-still s b (settled b h status n) a h k m apart (settled-messages s limit b x h status n balanced there) found
-
--- the client that is owed a panic is panicked
-owed-gone : (s : System) (limit : Handle → ℕ) (b : SpmState) (x : ℕ) (h : Handle) (status : ℤ) (m : PendingMessage) (n : ℕ) → Balanced s limit b → message_held s b x h ≡ Some m → m.kind ≡ pos n
-    → phase_of (panic_effect s (settled b h status m) m.client.0) m.client.0 ≡ Panicked
-owed-gone s limit b x h status m n balanced found kind =
-    let c : ℕ = m.client.0 in
-    let told : SpmState = settled b h status m in
-    let kept : Balanced s limit told = settled-keeps s limit b x h status m balanced found in
-    let ready = request-ready s limit b x h status m n balanced found kind in
-    panicked-self s limit told c kept (is_there told.phases c (λ w. let at = ready.1 in cc)) (ready-quiet (phase_of told c) ready.0 _ _ (λ z. count_by (accepted_as c z) told.connections) ready.1 (kept.fitting c))
+settled-still s limit b x a h k status n m balanced there apart found = filter-still s b (settled b h status n) a h k m apart (settled-messages b h status n) found
 
 pub owed-still : (s : System) (limit : Handle → ℕ) (b : SpmState) (x a : ℕ) (h k : Handle) (status : ℤ) (n m : PendingMessage) (kind : ℕ) → Balanced s limit b → message_held s b x h ≡ Some n → n.kind ≡ pos kind → handle_eq h k ≡ false
     → is_panicked (phase_of (panic_effect s (settled b h status n) n.client.0) a) ≡ false → message_held s b a k ≡ Some m → message_held s (panic_effect s (settled b h status n) n.client.0) a k ≡ Some m
 owed-still s limit b x a h k status n m kind balanced there request apart alive found =
     panic-still s (settled b h status n) n.client.0 a
     (λ same.
-    let gone = owed-gone s limit b x h status n kind balanced there request in
+    let gone = owed-panicked s limit b x h status n kind balanced there request in
     let bad : true ≡ false = sym (ap is_panicked gone) ∙ (ap (λ (y : ℕ). is_panicked (phase_of (panic_effect s (settled b h status n) n.client.0) y)) same ∙ alive) in
     cc)
     k m (settled-still s limit b x a h k status n m balanced there apart found)
 
 -- ---- each kind of change
-
-self-gone : (s : System) (limit : Handle → ℕ) (b : SpmState) (a : ℕ) → Balanced s limit b → phase_of b a ≡ Running → phase_of (panic_effect s b a) a ≡ Panicked
-self-gone s limit b a h running =
-    panicked-self s limit b a h (is_there b.phases a (λ x. cc)) (running-quiet (phase_of b a) _ _ (λ n. count_by (accepted_as a n) b.connections) running (h.fitting a))
 
 -- where the partition isn't panicked, it holds the same messages behind an event
 abbrev pub IsKept : System → SpmState → ℕ → SpmState → Type 0
@@ -220,10 +202,10 @@ IsKept s b a new = is_panicked (phase_of new a) ≡ false → HoldsStill s b a n
 
 -- where it is said not to be, anything holds
 pub self-dead : (s : System) (limit : Handle → ℕ) (b : SpmState) (a : ℕ) (P : Type 0) → Balanced s limit b → phase_of b a ≡ Running → is_panicked (phase_of (panic_effect s b a) a) ≡ false → P
-self-dead s limit b a P h running alive = let bad : true ≡ false = sym (ap is_panicked (self-gone s limit b a h running)) ∙ alive in cc
+self-dead s limit b a P h running alive = let bad : true ≡ false = sym (ap is_panicked (running-panicked s limit b a h running)) ∙ alive in cc
 
 pub self-kept : (s : System) (limit : Handle → ℕ) (b : SpmState) (a : ℕ) → Balanced s limit b → phase_of b a ≡ Running → IsKept s b a (panic_effect s b a)
-self-kept s limit b a h running alive = let bad : true ≡ false = sym (ap is_panicked (self-gone s limit b a h running)) ∙ alive in cc
+self-kept s limit b a h running alive = let bad : true ≡ false = sym (ap is_panicked (running-panicked s limit b a h running)) ∙ alive in cc
 
 -- another actor's event
 pub others-kept : (s : System) (limit : Handle → ℕ) (b : SpmState) (x a : ℕ) (d : Call) → Balanced s limit b → (x ≡ a → ⊥) → ((v signal : ℕ) → service_of_signal s x signal ≡ Some v → is_service_of s x v ≡ true) → EachChange s b x d (IsKept s b a)
@@ -302,7 +284,7 @@ panic-waiting s b p k = append-waiting (filter (λ m. not (is_service_of s p m.s
 pub waiting-kept : (s : System) (limit : Handle → ℕ) (b : SpmState) (x : ℕ) (d : Call) → Balanced s limit b → AreWaiting b.messages → EachChange s b x d (λ new. AreWaiting new.messages)
 waiting-kept s limit b x d balanced k =
     let gone : (h : Handle) (status : ℤ) (m : PendingMessage) → message_held s b x h ≡ Some m → AreWaiting (settled b h status m).messages =
-    λ h status m there. subst AreWaiting (sym (settled-messages s limit b x h status m balanced there)) (filter-waiting (λ m. not (has_handle m.handle h)) b.messages k) in
+    λ h status m there. subst AreWaiting (sym (settled-messages b h status m)) (filter-waiting (λ m. not (has_handle m.handle h)) b.messages k) in
     record {
       same = λ new e. subst AreWaiting (sym e) k;
       pushes = λ new m none fresh e. subst AreWaiting (sym e) (append-waiting b.messages (m ∷ []) k ((λ z. fresh), tt));

@@ -1,12 +1,11 @@
 -- Each client that a panic frees has its arrow.
 use Rattle.std.proofs.Common.{ℕ, ◌≡◌, ◌≤◌, ◌+◌, ◌==◌, Bool, true, false, ◌&&◌, List, [], ◌∷◌, get_or, arith, ◌∙◌, ap, sym, refl, subst}
-use Rattle.std.specs.Prelude.{ℤ, pos, count_by, is_none, not, Option, Some, None, if◌then◌else◌}
+use Rattle.std.specs.Prelude.{ℤ, count_by, is_none, not, Option, Some, None, if◌then◌else◌}
 use Rattle.std.specs.List.{AllByRecursion, Contains, cons_option, filter_map}
 use Rattle.std.specs.Option.{option_and_then, option_map_or}
 use Rattle.std.proofs.lemmas.Bool.{and_from, and_parts, eqb-true}
 use Rattle.std.proofs.lemmas.List.Elements.{Contains-append_right, Contains-get_or}
 use Rattle.list_laws.proofs.Counts.{bit, count-cons, count-ext, count-filter-le}
-use Rattle.ffm_model.specs.declared.constants.TheConstants.{PSA_ERROR_COMMUNICATION_FAILURE}
 use Rattle.ffm_model.specs.declared.system.System.{System}
 use Rattle.ffm_model.specs.declared.machine.Handle.{Handle}
 use Rattle.ffm_model.specs.declared.machine.Status.{Status}
@@ -16,65 +15,48 @@ use Rattle.ffm_model.specs.declared.machine.Call.TheVariants as call
 use Rattle.ffm_model.specs.declared.machine.Outcome.{Outcome}
 use Rattle.ffm_model.specs.declared.machine.Outcome.TheVariants as outcome
 use Rattle.ffm_model.specs.declared.objects.PendingMessage.{PendingMessage}
-use Rattle.ffm_model.specs.declared.objects.ConnPhase.TheVariants.{Busy, Closing}
 use Rattle.ffm_model.specs.declared.objects.ActorPhase.TheVariants.{Blocked, Panicked}
-use Rattle.ffm_model.specs.declared.constants.TheConstants.{PSA_IPC_DISCONNECT}
 use Rattle.ffm_model.specs.Actors.{is_service_of}
-use Rattle.ffm_model.specs.Memory.{no_vectors}
 use Rattle.ffm_model.specs.Signals.{is_blocked}
-use Rattle.ffm_model.specs.Panic.{is_dead, panic_effect}
-use Rattle.ffm_model.specs.ClientCalls.{is_service_panicked, move}
+use Rattle.ffm_model.specs.Panic.{panic_effect}
 use Rattle.ffm_model.specs.ServiceCalls.{owes_panic, replied}
-use Rattle.ffm_model.specs.State.{SpmState, State, has_handle, message_held, phase_of, with_connection_phase, with_message, with_phase, with_request, without_connection}
-use Rattle.ffm_model.specs.Step.{outcome_eq, step}
+use Rattle.ffm_model.specs.State.{SpmState, State, has_handle, message_held, phase_of}
+use Rattle.ffm_model.specs.Step.{step}
 use Rattle.counting_law.specs.Objects.{Mark, connection_marked, is_awaited, message_marked}
-use Rattle.counting_law.specs.Pending.{is_panicked_outcome}
 use Rattle.counting_law.proofs.Balance.{Balanced}
-use Rattle.counting_law.proofs.Events.{EachKind}
 use Rattle.counting_law.proofs.Owed.{owed-settled}
 use Rattle.counting_law.proofs.Panic.{lost_by, lost_call, lost_of, phase_after}
-use Rattle.counting_law.proofs.Parts.{is_plain, phase_other}
-use Rattle.counting_law.proofs.Reply.{settled, settled-keeps}
+use Rattle.counting_law.proofs.Reply.{settled, settled-keeps, settled-messages}
 use Rattle.counting_law.proofs.Resume.{times}
-use Rattle.counting_law.proofs.Steps.{step-kind}
-use Rattle.counting_law.proofs.Turns.{is_sound, settled-cases}
+use Rattle.counting_law.proofs.Turns.{is_sound, settled-elsewhere}
 use Rattle.trace_diagram.specs.declared.arrows.Arrow.{Arrow}
 use Rattle.trace_diagram.specs.declared.arrows.Meaning.TheVariants as meaning
 use Rattle.trace_diagram.specs.Arrows.{arrow, arrow_of, panic_arrows, panicking, panicking_by, release_arrow}
 use Rattle.trace_diagram.specs.Pairs.{EachFreedHasArrow, IsWaiting}
 use Rattle.trace_diagram.proofs.Everywhere.{each-weaken}
 use Rattle.trace_diagram.proofs.Replies.{IsReplied, step-replies}
-use Rattle.trace_diagram.proofs.Waiting.{Kept, run-kept, settled-messages}
+use Rattle.trace_diagram.proofs.Waiting.{Kept, run-kept}
+use Rattle.trace_diagram.proofs.Panics.{is_lost, own-panic}
+use Rattle.counting_law.proofs.Pairs.{two-below}
 
 -- ---- an actor that loses its answer has a message to a service of the partition
-
-abbrev is_lost : System → ℕ → ℕ → PendingMessage → Bool
-is_lost s p a m = is_service_of s p m.service && (m.client.0 == a)
-
-two-le : {X : Type 0} (p q r : X → Bool) → ((x : X) → bit (p x) + bit (q x) ≤ bit (r x)) → (xs : List X) → count_by p xs + count_by q xs ≤ count_by r xs
-two-le p q r le [] = omega arith
-two-le p q r le (x ∷ xs) = omega (arith, count-cons p x xs, count-cons q x xs, count-cons r x xs, le x, two-le p q r le xs)
 
 -- a message has a connection or none
 lost-once : (o : Option ℕ) (v x : Bool) → bit (option_map_or (λ n. v && x) o false) + bit ((is_none o && v) && x) ≤ bit (v && x)
 lost-once None true x = omega arith
-lost-once None false x = omega arith
-lost-once (Some n) v x = omega arith
+lost-once _ v x = omega arith
 
 turned : (w v x : Bool) → (w && (v && x)) ≡ (v && (x && w))
 turned true true true = refl
-turned true true false = refl
-turned true false x = refl
 turned false true true = refl
-turned false true false = refl
-turned false false x = refl
+turned _ _ _ = refl
 
 loses-message : (s : System) (limit : Handle → ℕ) (b : SpmState) (p a : ℕ) → Balanced s limit b → lost_by s b p a ≤ count_by (is_lost s p a) b.messages
 loses-message s limit b p a h =
     let t : Mark = λ n y v ph. is_service_of s p v && (y == a) in
     omega (
       arith,
-      two-le (message_marked t) (lost_call s p a) (is_lost s p a) (λ m. lost-once m.connection (is_service_of s p m.service) (m.client.0 == a)) b.messages,
+      two-below (message_marked t) (lost_call s p a) (is_lost s p a) (λ m. lost-once m.connection (is_service_of s p m.service) (m.client.0 == a)) b.messages,
       h.paired t,
       count-ext (connection_marked t) (lost_of s p a) (λ c. turned (is_awaited c.phase) (is_service_of s p c.service) (c.client.0 == a)) b.connections,
     )
@@ -129,66 +111,7 @@ frees s b p a W blocked (m ∷ ms) all some =
     ] in
     go (is_lost s p a m) refl (omega (arith, some, count-cons (is_lost s p a) m ms))
 
--- ---- an actor that panics at its own call
-
-plain-stays : (o : Outcome) → is_plain o ≡ true → is_panicked_outcome o ≡ false
-plain-stays (outcome.Value z) e = refl
-plain-stays (outcome.Number n) e = refl
-plain-stays (outcome.Signals n) e = refl
-plain-stays (outcome.Got m) e = refl
-plain-stays outcome.Blocked e = refl
-plain-stays outcome.Done e = refl
-plain-stays outcome.Panicked e = cc
-
--- the state behind an outcome Panicked
-abbrev Panics : System → SpmState → ℕ → Outcome → SpmState → Type 0
-Panics s b a o new = is_panicked_outcome o ≡ true → new ≡ panic_effect s b a
-
-stays : (s : System) (b : SpmState) (a : ℕ) (o : Outcome) (new : SpmState) → is_panicked_outcome o ≡ false → Panics s b a o new
-stays s b a o new plain gone = let bad : false ≡ true = sym plain ∙ gone in cc
-
-either-stays : (s : System) (b : SpmState) (a : ℕ) (dead : Bool) (o : Outcome) (x y : SpmState) → is_panicked_outcome o ≡ false → (let m = if dead then move o x else move outcome.Blocked y in Panics s b a m.outcome m.spm)
-either-stays s b a true o x y plain = stays s b a o x plain
-either-stays s b a false o x y plain = stays s b a outcome.Blocked y refl
-
-kinds-panic : (s : System) (b : SpmState) (given : List Handle) (a : ℕ) (d : Call) → is_sound (phase_of b a) ≡ true → EachKind s b given a d (λ o new all. Panics s b a o new)
-kinds-panic s b given a d sound = record {
-  beside = λ running o doorbells sources plain. stays s b a o _ (plain-stays o plain);
-  waits = λ running mask. stays s b a outcome.Blocked _ refl;
-  ends = λ running. stays s b a outcome.Done _ refl;
-  wakes = λ mask n e. stays s b a (outcome.Signals n) _ refl;
-  returns = λ o e. stays s b a o _ (plain-stays o (sym (ap is_sound e) ∙ sound));
-  joins = λ is n k e new. stays s b a (outcome.Value k.0) _ refl;
-  connects = λ running v free. stays s b a outcome.Blocked _ refl;
-  calls = λ running k c n v held takes. either-stays s b a (is_dead c.phase) (outcome.Value PSA_ERROR_COMMUNICATION_FAILURE) b (with_phase (with_message (with_connection_phase b c.serial Busy) c (pos n) v) a Blocked) refl;
-  asks = λ running v n vs stateless may. either-stays s b a (is_service_panicked s b v) (outcome.Value PSA_ERROR_COMMUNICATION_FAILURE) b (with_phase (with_request b a v (pos n) vs) a Blocked) refl;
-  closes = λ running k c held. either-stays s b a (is_dead c.phase) outcome.Done (without_connection b c.serial) (with_phase (with_message (with_connection_phase b c.serial Closing) c PSA_IPC_DISCONNECT no_vectors) a Blocked) refl;
-  gets = λ running signal msg v is has first at k shown tells new. stays s b a (outcome.Got shown) _ refl;
-  moves = λ running o k v plain. stays s b a o _ (plain-stays o plain);
-  marks = λ running n r. stays s b a outcome.Done _ refl;
-  replies = λ running k status m held. stays s b a outcome.Done _ refl;
-  owes = λ running k status m n held kind. stays s b a outcome.Done _ refl;
-  panics = λ running gone. refl;
-}
-
-panicked-due : (o p : Outcome) → outcome_eq o p ≡ true → is_panicked_outcome p ≡ true → is_panicked_outcome o ≡ true
-panicked-due outcome.Panicked p e k = refl
-panicked-due o outcome.Panicked e k = e
-panicked-due o p e k = cc
-
-own-panic : (s : System) (st new : State) (e : Entry) → is_sound (phase_of st.spm e.actor.0) ≡ true → step s st e ≡ Some new → e.outcome ≡ outcome.Panicked → new.spm ≡ panic_effect s st.spm e.actor.0
-own-panic s st new e sound is gone =
-    let it = step-kind s st new e (λ o spm given. Panics s st.spm e.actor.0 o spm) (kinds-panic s st.spm st.handles_given e.actor.0 e.call sound) is in
-    it.2 (panicked-due it.0 e.outcome it.1 (ap is_panicked_outcome gone))
-
 -- ---- a client that panics for a reply
-
--- a reply touches the phase of its client alone
-told-elsewhere : (s : System) (limit : Handle → ℕ) (b : SpmState) (p : ℕ) (h : Handle) (status : ℤ) (m : PendingMessage) → Balanced s limit b → message_held s b p h ≡ Some m → (x : ℕ) → (x == m.client.0) ≡ false
-    → phase_of (settled b h status m) x ≡ phase_of b x
-told-elsewhere s limit b p h status m balanced found x e =
-    settled-cases s limit b p h status m balanced found (λ new. phase_of new x ≡ phase_of b x)
-    (λ n ph q blocked told. phase_other b.phases m.client.0 x q e) (λ n q blocked told. phase_other b.phases m.client.0 x q e) (λ n. refl) (λ q blocked told. phase_other b.phases m.client.0 x q e)
 
 owed-state : (s : System) (b : SpmState) (h : Handle) (status : ℤ) (m : PendingMessage) (new : SpmState) → new ≡ (if owes_panic s m status then panic_effect s (replied s b h status m) m.client.0 else replied s b h status m) → owes_panic s m status ≡ true
     → new ≡ panic_effect s (settled b h status m) m.client.0
@@ -199,7 +122,7 @@ reply-frees : (s : System) (limit : Handle → ℕ) (b : SpmState) (a : ℕ) (h 
     → is_blocked (phase_of (panic_effect s (settled b h status m) m.client.0) x) ≡ false → 1 ≤ count_by (is_lost s m.client.0 x) b.messages
 reply-frees s limit b a h status m x balanced held apart blocked freed =
     let told : SpmState = settled b h status m in
-    let some : 1 ≤ count_by (is_lost s m.client.0 x) told.messages = freed-loses s limit told m.client.0 x (settled-keeps s limit b a h status m balanced held) apart (told-elsewhere s limit b a h status m balanced held x apart ∙ blocked) freed in
+    let some : 1 ≤ count_by (is_lost s m.client.0 x) told.messages = freed-loses s limit told m.client.0 x (settled-keeps s limit b a h status m balanced held) apart (settled-elsewhere s limit b a h status m balanced held x apart ∙ blocked) freed in
     omega (arith, some, ap (count_by (is_lost s m.client.0 x)) (settled-messages b h status m), count-filter-le (is_lost s m.client.0 x) (λ (y : PendingMessage). not (has_handle y.handle h)) b.messages)
 
 -- ---- each panic is one of the two
@@ -234,7 +157,7 @@ step-frees s st new e p x balanced sound is panics apart blocked freed =
     let limit : Handle → ℕ = times st.handles_given in
     panic-cases s b a e.call e.outcome p (1 ≤ count_by (is_lost s p x) b.messages) panics
     (λ gone own.
-    let state : new.spm ≡ panic_effect s b p = own-panic s st new e sound is gone ∙ ap (panic_effect s b) own in
+    let state : new.spm ≡ panic_effect s b p = (own-panic s st new e sound is gone).1 ∙ ap (panic_effect s b) own in
     freed-loses s limit b p x balanced apart blocked (ap (λ (y : SpmState). is_blocked (phase_of y x)) (sym state) ∙ freed))
     (λ h status m reply done held owes own.
     let state : new.spm ≡ panic_effect s (settled b h status.0 m) m.client.0 = owed-state s b h status.0 m new.spm (same-message s b a h status.0 m new.spm held (step-replies s st new e h status is reply done)) owes in

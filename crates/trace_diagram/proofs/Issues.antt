@@ -22,7 +22,7 @@ use Rattle.ffm_model.specs.declared.objects.OpenConnection.{OpenConnection}
 use Rattle.ffm_model.specs.declared.objects.PendingMessage.{PendingMessage}
 use Rattle.ffm_model.specs.declared.objects.ConnPhase.TheVariants.{Busy, Closing}
 use Rattle.ffm_model.specs.declared.objects.ActorPhase.{ActorPhase}
-use Rattle.ffm_model.specs.declared.objects.ActorPhase.TheVariants.{Running, Blocked, Waiting, Ready, Connected, Ended, Panicked}
+use Rattle.ffm_model.specs.declared.objects.ActorPhase.TheVariants.{Running, Blocked, Waiting, Ready, Connected, Ended}
 use Rattle.ffm_model.specs.Actors.{is_stateless, kind_of, permits, service_at, stateless_at, stateless_index}
 use Rattle.ffm_model.specs.Memory.{no_vectors, vectors_of, valid_buffer}
 use Rattle.ffm_model.specs.Records.{is_blocked_outcome}
@@ -32,13 +32,14 @@ use Rattle.ffm_model.specs.Panic.{is_dead}
 use Rattle.ffm_model.specs.ClientCalls.{Move, Effect, move, in_state, connect_to, connect_issued, connection_called, service_called, call_on, call_to, close_on, is_service_panicked, refuses_requests, is_busy, returned, takes_version, version_number}
 use Rattle.ffm_model.specs.ServiceCalls.{get_of, message_size, output_at, read_of, reply_of, reply_to, request_held, rest_of, service_of_signal, skip_of, write_of}
 use Rattle.ffm_model.specs.SignalCalls.{source_of_signal}
-use Rattle.ffm_model.specs.Step.{handle_shown, may_call, outcome_eq, step}
+use Rattle.ffm_model.specs.Step.{handle_shown, may_call, step}
 use Rattle.ffm_model.specs.Calls.{call_case, has_call, refusal_of, error_effect, effect_or_error, effect_of}
 use Rattle.counting_law.proofs.Events.{IfMoved, IfThere, Says, caller-running}
 use Rattle.counting_law.proofs.Steps.{Stepped, step-is}
 use Rattle.counting_law.proofs.Parts.{is_there, phase_same}
 use Rattle.trace_diagram.specs.Arrows.{service_of_handle}
 use Rattle.trace_diagram.specs.Pairs.{Asks}
+use Rattle.counting_law.proofs.Returns.{blocked-alike}
 
 -- the calls that ask for a message
 abbrev pub is_for_message : Call → Bool
@@ -230,10 +231,7 @@ returns : (s : System) (st : State) (a : ℕ) (h : Handle) (p : ActorPhase) → 
 returns s st a h (Ready o) e due = λ there blocked why. let set : phase_of (with_phase st.spm a Running) a ≡ Running = set-phase st.spm a Running there in neither _ _ (λ (x : phase_of (with_phase st.spm a Running) a ≡ Blocked). cc) why
 returns s st a h (Connected n) e due = ends s st.spm a call.Resume (outcome.Value h.0) (returned s st a (Connected n) h).state.spm (returned s st a (Connected n) h).state.handles_given refl
 returns s st a h (Waiting mask) e due = ends s st.spm a call.Resume (outcome.Signals (bit_and (signals_of s st.spm a) mask)) (returned s st a (Waiting mask) h).state.spm st.handles_given refl
-returns s st a h Running e due = cc
-returns s st a h Blocked e due = cc
-returns s st a h Ended e due = cc
-returns s st a h Panicked e due = cc
+returns s st a h _ e due = cc
 
 -- ---- each call
 
@@ -283,12 +281,6 @@ effect-by : (s : System) (st : State) (a : ℕ) (d : Call) (h : Handle) (x : Boo
 effect-by s st a d h true may = made-issues s st a d (kind_of s a) (call_case s st a d h) (call-issues s st a d h may)
 effect-by s st a d h false may = error-issues s st a d (kind_of s a)
 
--- the outcome that is due is the entry's
-blocked-due : (o p : Outcome) → outcome_eq o p ≡ true → is_blocked_outcome p ≡ true → is_blocked_outcome o ≡ true
-blocked-due outcome.Blocked p e k = refl
-blocked-due o outcome.Blocked e k = e
-blocked-due o p e k = cc
-
 -- an actor that may call has not ended
 goes-on : (p : ActorPhase) (word : ℕ) → can_go_on p word ≡ true → p ≡ Ended → ⊥
 goes-on p word able ended = let bad : false ≡ true = sym (ap (λ (q : ActorPhase). can_go_on q word) ended) ∙ able in cc
@@ -301,4 +293,4 @@ step-issues s st new e is why blocked =
     let own : Says (Issues s st.spm e.actor.0 e.call) due = effect-by s st e.actor.0 e.call (handle_shown e.outcome) (has_call (kind_of s e.actor.0) e.call) it.may in
     let made : Issues s st.spm e.actor.0 e.call due.outcome new.spm new.handles_given = subst (λ (x : State). Issues s st.spm e.actor.0 e.call due.outcome x.spm x.handles_given) it.state own in
     let able : can_go_on (phase_of st.spm e.actor.0) (signals_of s st.spm e.actor.0) ≡ true = (and_parts _ _ (and_parts _ _ it.may).1).0 in
-    made (goes-on _ _ able) (blocked-due due.outcome e.outcome it.outcome (ap is_blocked_outcome blocked)) why
+    made (goes-on _ _ able) (blocked-alike due.outcome e.outcome it.outcome ∙ ap is_blocked_outcome blocked) why

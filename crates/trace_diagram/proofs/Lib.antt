@@ -6,6 +6,7 @@ mod Issues
 mod Once
 mod Owners
 mod Pairs
+mod Panics
 mod Places
 mod Pushed
 mod Replies

@@ -1,12 +1,12 @@
 -- No call is answered twice: what answers a client takes its one message away.
 use Rattle.std.proofs.Common.{ℕ, ◌≡◌, ◌≤◌, ◌+◌, ◌==◌, Bool, true, false, not, ◌&&◌, List, [], ◌∷◌, arith, ◌∙◌, ap, sym, refl, subst}
-use Rattle.std.specs.Prelude.{ℤ, pos, count_by, find, Option, Some, None, option_and_then, is_none, if◌then◌else◌, filter, slice_get}
+use Rattle.std.specs.Prelude.{ℤ, pos, count_by, find, Option, Some, None, option_and_then, if◌then◌else◌, filter, slice_get}
 use Rattle.std.specs.List.{AllByRecursion, cons_option, filter_map}
 use Rattle.std.specs.Option.{option_map, option_map_or}
 use Rattle.std.proofs.lemmas.Bool.{and_from, and_parts}
 use Rattle.list_laws.proofs.Counts.{bit, bit-le, both-le-right, count-cons, count-ext, count-filter-le, count-found, count-le}
 use Rattle.list_laws.proofs.Tests.{find-passes}
-use Rattle.ffm_model.specs.declared.constants.TheConstants.{PSA_ERROR_COMMUNICATION_FAILURE, PSA_IPC_CONNECT, PSA_IPC_DISCONNECT}
+use Rattle.ffm_model.specs.declared.constants.TheConstants.{PSA_IPC_CONNECT, PSA_IPC_DISCONNECT}
 use Rattle.ffm_model.specs.declared.system.Service.{Service}
 use Rattle.ffm_model.specs.declared.system.Source.{Source}
 use Rattle.ffm_model.specs.declared.system.System.{System}
@@ -23,35 +23,30 @@ use Rattle.ffm_model.specs.declared.objects.ActorPhase.TheVariants.{Running, Blo
 use Rattle.ffm_model.specs.Actors.{is_service_of, owner_of, service_at}
 use Rattle.ffm_model.specs.Signals.{is_blocked}
 use Rattle.ffm_model.specs.State.{SpmState, State, connection_held, has_handle, message_held, phase_of, without_message}
-use Rattle.ffm_model.specs.Panic.{disconnection, is_dead, panic_effect, without_service}
-use Rattle.ffm_model.specs.ClientCalls.{Move, is_service_panicked, move}
+use Rattle.ffm_model.specs.Panic.{disconnection, panic_effect, without_service}
 use Rattle.ffm_model.specs.ServiceCalls.{owes_panic, replied}
-use Rattle.ffm_model.specs.Step.{may_call, outcome_eq, step}
+use Rattle.ffm_model.specs.Step.{may_call, step}
 use Rattle.counting_law.specs.Objects.{Mark, accepted_as, awaited_of, called_by, connection_marked, message_marked}
-use Rattle.counting_law.specs.Pending.{is_panicked_outcome}
 use Rattle.counting_law.proofs.Balance.{Balanced}
-use Rattle.counting_law.proofs.Events.{EachKind, caller-running}
+use Rattle.counting_law.proofs.Events.{caller-running}
 use Rattle.counting_law.proofs.Owed.{owed-request, owed-settled, replied-settled}
-use Rattle.counting_law.proofs.Pairs.{count-sum}
+use Rattle.counting_law.proofs.Pairs.{count-sum, count-split, two-below}
 use Rattle.counting_law.proofs.Panic.{count-append, count-filter}
-use Rattle.counting_law.proofs.Parts.{flipped, is_itself, is_plain, same_or_not}
-use Rattle.counting_law.proofs.Reply.{blocked-one, settled}
+use Rattle.counting_law.proofs.Parts.{flipped, is_itself, same_or_not}
+use Rattle.counting_law.proofs.Reply.{blocked-one, settled, settled-messages}
 use Rattle.counting_law.proofs.Resume.{times}
 use Rattle.counting_law.proofs.Runs.{step-keeps}
-use Rattle.counting_law.proofs.Steps.{step-is, step-kind}
-use Rattle.counting_law.proofs.Turns.{is_sound}
+use Rattle.counting_law.proofs.Steps.{step-is}
+use Rattle.counting_law.proofs.Turns.{is_sound, owed-panicked}
 use Rattle.trace_diagram.specs.declared.arrows.Arrow.{Arrow}
 use Rattle.trace_diagram.specs.declared.arrows.Meaning.TheVariants as meaning
 use Rattle.trace_diagram.specs.Arrows.{arrow, arrow_of_call, arrows_of, is_return, issued, message_arrow, panic_arrows, panicking_by, release_arrow, reply_arrow, service_of_handle}
 use Rattle.trace_diagram.specs.Gathering.{is_answer}
 use Rattle.trace_diagram.proofs.Replies.{IsReplied, step-replies}
-use Rattle.trace_diagram.proofs.Waiting.{awaited-is, client-is, each-disconnection, owed-panicked, settled-messages}
+use Rattle.trace_diagram.proofs.Waiting.{awaited-is, client-is, each-disconnection}
+use Rattle.trace_diagram.proofs.Panics.{is_lost, own-panic}
 
 -- ---- counting
-
-two-below : {X : Type 0} (p q r : X → Bool) → ((x : X) → bit (p x) + bit (q x) ≤ bit (r x)) → (xs : List X) → count_by p xs + count_by q xs ≤ count_by r xs
-two-below p q r h [] = omega arith
-two-below p q r h (x ∷ xs) = omega (arith, h x, two-below p q r h xs, count-cons p x xs, count-cons q x xs, count-cons r x xs)
 
 pub none-counted : {X : Type 0} (q : X → Bool) (xs : List X) → AllByRecursion (λ x. q x ≡ false) xs → count_by q xs ≡ 0
 none-counted q [] h = refl
@@ -62,19 +57,14 @@ none-counted q (x ∷ xs) h = omega (arith, count-cons q x xs, ap bit h.0, none-
 abbrev is_of : ℕ → PendingMessage → Bool
 is_of c m = m.client.0 == c
 
-client-both : (c : ℕ) (m : PendingMessage) → bit (message_marked (λ n x v ph. x == c) m) + bit (called_by c m) ≤ bit (is_of c m)
-client-both c m =
-    let go : (o : Option ℕ) (x : Bool) → bit (option_map_or (λ n. x) o false) + bit (is_none o && x) ≤ bit x = elim [ Some n ↦ λ x. omega arith | None ↦ λ x. omega arith ] in
-    go m.connection (m.client.0 == c)
-
 -- a client that is Blocked has one
 one-message : (s : System) (limit : Handle → ℕ) (b : SpmState) (c : ℕ) → Balanced s limit b → phase_of b c ≡ Blocked → count_by (is_of c) b.messages ≡ 1
 one-message s limit b c h blocked =
     let t : Mark = λ n x v ph. x == c in
     omega (
       arith,
-      count-sum (is_of c) (message_marked t) (called_by c) (client-is c) b.messages,
-      two-below (message_marked t) (called_by c) (is_of c) (client-both c) b.messages,
+      count-sum (is_of c) (message_marked t) (called_by c) (λ m. omega (arith, client-is c m)) b.messages,
+      two-below (message_marked t) (called_by c) (is_of c) (λ m. omega (arith, client-is c m)) b.messages,
       h.paired t,
       count-ext (connection_marked t) (awaited_of c) (awaited-is c) b.connections,
       blocked-one (phase_of b c) _ _ (λ n. count_by (accepted_as c n) b.connections) blocked (h.fitting c),
@@ -87,21 +77,16 @@ no-message s limit b c h none blocked = let bad : 1 ≤ 0 = omega (arith, one-me
 without-it : (c : ℕ) (h : Handle) (ms : List PendingMessage) (q : PendingMessage → Bool) (m : PendingMessage) → find q ms ≡ Some m → (has_handle m.handle h && is_of c m) ≡ true → count_by (is_of c) ms ≡ 1
     → count_by (is_of c) (filter (λ x. not (has_handle x.handle h)) ms) ≡ 0
 without-it c h ms q m found passes one =
-    let split : (x : PendingMessage) → bit (not (has_handle x.handle h) && is_of c x) + bit (has_handle x.handle h && is_of c x) ≤ bit (is_of c x) =
-    λ x. let go : (y z : Bool) → bit (not y && z) + bit (y && z) ≤ bit z = elim [ true ↦ λ z. omega arith | false ↦ λ z. omega arith ] in go (has_handle x.handle h) (is_of c x) in
     omega (
       arith,
       count-filter (is_of c) (λ (x : PendingMessage). not (has_handle x.handle h)) ms,
-      two-below (λ (x : PendingMessage). not (has_handle x.handle h) && is_of c x) (λ (x : PendingMessage). has_handle x.handle h && is_of c x) (is_of c) split ms,
+      count-split (λ (x : PendingMessage). has_handle x.handle h) (is_of c) ms,
       count-found q (λ (x : PendingMessage). has_handle x.handle h && is_of c x) ms m found,
       ap bit passes,
       one,
     )
 
 -- ---- the clients that a panic frees
-
-abbrev lost : System → ℕ → ℕ → PendingMessage → Bool
-lost s p c m = is_service_of s p m.service && is_of c m
 
 abbrev pub frees : ℕ → Arrow → Bool
 frees c x = is_answer x.meaning && (x.to.0 == c)
@@ -112,13 +97,13 @@ released-by s p c m true true more k few = omega (arith, count-cons (frees c) (a
 released-by s p c m true false more k few = omega (arith, few)
 released-by s p c m false y more k few = omega (arith, few)
 
-released-few : (s : System) (b : SpmState) (p c : ℕ) (ms : List PendingMessage) → count_by (frees c) (filter_map (release_arrow s b p) ms) ≤ count_by (lost s p c) ms
+released-few : (s : System) (b : SpmState) (p c : ℕ) (ms : List PendingMessage) → count_by (frees c) (filter_map (release_arrow s b p) ms) ≤ count_by (is_lost s p c) ms
 released-few s b p c [] = omega arith
 released-few s b p c (m ∷ ms) =
     omega (
       arith,
-      released-by s p c m (is_service_of s p m.service) (is_blocked (phase_of b m.client.0)) (filter_map (release_arrow s b p) ms) (count_by (lost s p c) ms) (released-few s b p c ms),
-      count-cons (lost s p c) m ms,
+      released-by s p c m (is_service_of s p m.service) (is_blocked (phase_of b m.client.0)) (filter_map (release_arrow s b p) ms) (count_by (is_lost s p c) ms) (released-few s b p c ms),
+      count-cons (is_lost s p c) m ms,
     )
 
 -- and none of their messages is left
@@ -129,11 +114,8 @@ others-disconnections s p c cs apart =
 abbrev stays : System → ℕ → ℕ → PendingMessage → Bool
 stays s p c m = not (is_service_of s p m.service) && is_of c m
 
-none-stays : (s : System) (p c : ℕ) (ms : List PendingMessage) → count_by (is_of c) ms ≤ count_by (lost s p c) ms → count_by (stays s p c) ms ≡ 0
-none-stays s p c ms all =
-    let split : (m : PendingMessage) → bit (stays s p c m) + bit (lost s p c m) ≤ bit (is_of c m) =
-    λ m. let go : (y z : Bool) → bit (not y && z) + bit (y && z) ≤ bit z = elim [ true ↦ λ z. omega arith | false ↦ λ z. omega arith ] in go (is_service_of s p m.service) (is_of c m) in
-    omega (arith, two-below (stays s p c) (lost s p c) (is_of c) split ms, all)
+none-stays : (s : System) (p c : ℕ) (ms : List PendingMessage) → count_by (is_of c) ms ≤ count_by (is_lost s p c) ms → count_by (stays s p c) ms ≡ 0
+none-stays s p c ms all = omega (arith, count-split (λ (m : PendingMessage). is_service_of s p m.service) (is_of c) ms, all)
 
 panic-takes : (s : System) (b : SpmState) (p c : ℕ) → (c == p) ≡ false → count_by (stays s p c) b.messages ≡ 0 → count_by (is_of c) (panic_effect s b p).messages ≡ 0
 panic-takes s b p c apart none =
@@ -193,8 +175,8 @@ panic-once : (s : System) (limit next : Handle → ℕ) (b new : SpmState) (a c 
 panic-once s limit next b new a c o h k blocked q running is =
     let apart : (c == a) ≡ false = same_or_not c a ((c == a) ≡ false) (λ z. absurd (let bad : Running ≡ Blocked = sym running ∙ (ap (phase_of b) (sym z) ∙ blocked) in cc)) (λ z. z) in
     let one : count_by (is_of c) b.messages ≡ 1 = one-message s limit b c h blocked in
-    let below : count_by (lost s a c) b.messages ≤ count_by (is_of c) b.messages = count-le (lost s a c) (is_of c) (λ m. both-le-right (is_service_of s a m.service) (is_of c m)) b.messages in
-    let here : count_by (frees c) (cons_option o (panic_arrows s b a)) ≤ count_by (lost s a c) b.messages =
+    let below : count_by (is_lost s a c) b.messages ≤ count_by (is_of c) b.messages = count-le (is_lost s a c) (is_of c) (λ m. both-le-right (is_service_of s a m.service) (is_of c m)) b.messages in
+    let here : count_by (frees c) (cons_option o (panic_arrows s b a)) ≤ count_by (is_lost s a c) b.messages =
     omega (arith, quiet-count c o (panic_arrows s b a) q, count-cons (frees c) (arrow a a meaning.Panic) (filter_map (release_arrow s b a) b.messages), released-few s b a c b.messages) in
     record {
       few = omega (arith, here, below, one);
@@ -237,7 +219,7 @@ own-owed s limit b new a h status m n balanced running blocked held kind is =
     let p : ℕ = m.client.0 in
     let passes : (is_service_of s a m.service ≡ true) × (has_handle m.handle h ≡ true) = and_parts _ _ (find-passes (λ (x : PendingMessage). is_service_of s a x.service && has_handle x.handle h) b.messages m held) in
     let apart : (p == a) ≡ false = same_or_not p a ((p == a) ≡ false) (λ z. absurd (let bad : Running ≡ Blocked = sym running ∙ (ap (phase_of b) (sym z) ∙ blocked) in cc)) (λ z. z) in
-    let split : (x : PendingMessage) → bit (lost s a p x) + bit (lost s p p x) ≤ bit (is_of p x) =
+    let split : (x : PendingMessage) → bit (is_lost s a p x) + bit (is_lost s p p x) ≤ bit (is_of p x) =
     λ x. let go : (y z w : Bool) → bit y + bit z ≤ 1 → bit (y && w) + bit (z && w) ≤ bit w = elim [ true ↦ elim [ true ↦ λ w few. absurd (omega (arith, few)) | false ↦ λ w few. omega arith ] | false ↦ λ z w few. omega (arith, both-le-right z w) ] in
     go (is_service_of s a x.service) (is_service_of s p x.service) (is_of p x) (of-two a p apart (slice_get s.services x.service)) in
     let gone : phase_of new p ≡ Panicked = ap (λ (x : SpmState). phase_of x p) is ∙ owed-panicked s limit b a h status m n balanced held kind in
@@ -247,8 +229,8 @@ own-owed s limit b new a h status m n balanced running blocked held kind is =
         reply-count p a status m (panic_arrows s b p),
         count-cons (frees p) (arrow p p meaning.Panic) (filter_map (release_arrow s b p) b.messages),
         released-few s b p p b.messages,
-        two-below (lost s a p) (lost s p p) (is_of p) split b.messages,
-        count-found _ (lost s a p) b.messages m held,
+        two-below (is_lost s a p) (is_lost s p p) (is_of p) split b.messages,
+        count-found _ (is_lost s a p) b.messages m held,
         ap bit (and_from (is_service_of s a m.service) (is_of p m) passes.0 (is_itself p)),
         one-message s limit b p balanced blocked,
         bit-le (is_of p m),
@@ -263,8 +245,8 @@ others-owed s limit next b new a c h status m balanced k blocked apart is =
     let told : SpmState = settled b h status m in
     let keeps : PendingMessage → Bool = λ x. not (has_handle x.handle h) in
     let one : count_by (is_of c) b.messages ≡ 1 = one-message s limit b c balanced blocked in
-    let below : count_by (lost s p c) b.messages ≤ count_by (is_of c) b.messages = count-le (lost s p c) (is_of c) (λ x. both-le-right (is_service_of s p x.service) (is_of c x)) b.messages in
-    let here : count_by (frees c) (reply_arrow a status m ∷ panic_arrows s b p) ≤ count_by (lost s p c) b.messages =
+    let below : count_by (is_lost s p c) b.messages ≤ count_by (is_of c) b.messages = count-le (is_lost s p c) (is_of c) (λ x. both-le-right (is_service_of s p x.service) (is_of c x)) b.messages in
+    let here : count_by (frees c) (reply_arrow a status m ∷ panic_arrows s b p) ≤ count_by (is_lost s p c) b.messages =
     omega (arith, reply-count c a status m (panic_arrows s b p), ap bit (flipped c p apart), count-cons (frees c) (arrow p p meaning.Panic) (filter_map (release_arrow s b p) b.messages), released-few s b p c b.messages) in
     record {
       few = omega (arith, here, below, one);
@@ -286,48 +268,6 @@ answer-once s limit next b new a c h status m true balanced k running blocked he
 answer-once s limit next b new a c h status m false balanced k running blocked held owes is = plain-once s limit next b new a c h status m balanced k blocked held owes is
 
 -- ---- an entry
-
--- an entry that answers Panicked is the caller's panic
-abbrev Panics : System → SpmState → ℕ → Outcome → SpmState → Type 0
-Panics s b a o new = is_panicked_outcome o ≡ true → (phase_of b a ≡ Running) × (new ≡ panic_effect s b a)
-
-no-panic : (s : System) (b : SpmState) (a : ℕ) (o : Outcome) (new : SpmState) → is_plain o ≡ true → Panics s b a o new
-no-panic s b a (outcome.Value z) new plain panicked = cc
-no-panic s b a (outcome.Number n) new plain panicked = cc
-no-panic s b a (outcome.Signals n) new plain panicked = cc
-no-panic s b a (outcome.Got m) new plain panicked = cc
-no-panic s b a outcome.Blocked new plain panicked = cc
-no-panic s b a outcome.Done new plain panicked = cc
-no-panic s b a outcome.Panicked new plain panicked = cc
-
-called-panic : (s : System) (b : SpmState) (a : ℕ) (x : Bool) (y z : SpmState) (o : Outcome) → is_plain o ≡ true → (let m : Move = if x then move o y else move outcome.Blocked z in Panics s b a m.outcome m.spm)
-called-panic s b a true y z o plain = no-panic s b a o y plain
-called-panic s b a false y z o plain = λ panicked. cc
-
-kinds-panic : (s : System) (b : SpmState) (given : List Handle) (a : ℕ) (d : Call) → is_sound (phase_of b a) ≡ true → EachKind s b given a d (λ o new all. Panics s b a o new)
-kinds-panic s b given a d sound = record {
-  beside = λ running o doorbells sources plain. no-panic s b a o _ plain;
-  waits = λ running mask panicked. cc;
-  ends = λ running panicked. cc;
-  wakes = λ mask n e panicked. cc;
-  returns = λ o e. no-panic s b a o _ (sym (ap is_sound e) ∙ sound);
-  joins = λ is n k e new panicked. cc;
-  connects = λ running v free panicked. cc;
-  calls = λ running k c n v held takes. called-panic s b a (is_dead c.phase) b _ (outcome.Value PSA_ERROR_COMMUNICATION_FAILURE) refl;
-  asks = λ running v n vs stateless may. called-panic s b a (is_service_panicked s b v) b _ (outcome.Value PSA_ERROR_COMMUNICATION_FAILURE) refl;
-  closes = λ running k c held. called-panic s b a (is_dead c.phase) _ _ outcome.Done refl;
-  gets = λ running signal msg v is has first at k shown tells new panicked. cc;
-  moves = λ running o k v plain. no-panic s b a o _ plain;
-  marks = λ running n r panicked. cc;
-  replies = λ running k status m held panicked. cc;
-  owes = λ running k status m n held kind panicked. cc;
-  panics = λ running panicked. (running, refl);
-}
-
-panicked-alike : (o p : Outcome) → outcome_eq o p ≡ true → is_panicked_outcome p ≡ true → is_panicked_outcome o ≡ true
-panicked-alike outcome.Panicked p e k = refl
-panicked-alike o outcome.Panicked e k = e
-panicked-alike o p e k = cc
 
 -- what an entry is known to be
 pub record Event (s : System) (st new : State) (e : Entry) (c : ℕ) : Type 0 where
@@ -359,8 +299,7 @@ entry-by : (s : System) (st new : State) (e : Entry) (c : ℕ) (d : Call) (o : O
 entry-by s st new e c d outcome.Done event is out = done-entry s st new e c d event is out
 entry-by s st new e c d outcome.Panicked event is out =
     let a : ℕ = e.actor.0 in
-    let it = step-kind s st new e (λ o spm given. Panics s st.spm a o spm) (kinds-panic s st.spm st.handles_given a e.call event.sound) event.is in
-    let was = it.2 (panicked-alike it.0 e.outcome it.1 (ap is_panicked_outcome out)) in
+    let was = own-panic s st new e event.sound event.is out in
     panic-once s (times st.handles_given) (times new.handles_given) st.spm new.spm a c _ event.balanced (step-keeps s st new e event.balanced event.is) event.blocked (mark-quiet a outcome.Panicked (is_return d) None refl) was.0 was.1
 entry-by s st new e c d outcome.Blocked event is out = quiet-once c _ new.spm (mark-quiet e.actor.0 outcome.Blocked (is_return d) (issued s st.spm e.actor.0 d) (issued-quiet s st.spm e.actor.0 d))
 entry-by s st new e c d (outcome.Value z) event is out = quiet-once c _ new.spm (mark-quiet e.actor.0 (outcome.Value z) (is_return d) (Some (arrow e.actor.0 e.actor.0 (meaning.Refusal z))) refl)

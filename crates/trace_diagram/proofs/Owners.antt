@@ -1,10 +1,9 @@
 -- A call that is Blocked and waits for an answer names a service of the system, and so has an arrow.
-use Rattle.std.proofs.Common.{ℕ, zero, suc, ◌≡◌, ◌<◌, ◌≤◌, ◌+◌, ◌==◌, Bool, true, false, ◌&&◌, List, [], ◌∷◌, length, get_or, arith, ◌∙◌, ap, sym, refl, subst}
+use Rattle.std.proofs.Common.{ℕ, ◌≡◌, ◌≤◌, ◌+◌, ◌==◌, Bool, true, false, ◌&&◌, List, [], ◌∷◌, length, arith, ◌∙◌, ap, sym, refl, subst}
 use Rattle.std.specs.Prelude.{ℤ, Option, Some, None, find, if◌then◌else◌, nat_lt, not, position, slice_get}
 use Rattle.std.specs.List.{list_all}
 use Rattle.std.specs.Option.{option_map, option_map_or, unwrap_or}
 use Rattle.std.proofs.lemmas.Bool.{and_from, and_parts, eqb-true}
-use Rattle.std.proofs.lemmas.List.Quantifiers.{position-Some}
 use Rattle.list_laws.proofs.Counts.{bit, count-found}
 use Rattle.list_laws.proofs.Tests.{find-passes}
 use Rattle.ffm_model.specs.declared.system.Budget.{Budget}
@@ -21,6 +20,7 @@ use Rattle.counting_law.proofs.Balance.{Balanced}
 use Rattle.counting_law.proofs.Parts.{is_itself}
 use Rattle.trace_diagram.specs.Pairs.{Asks}
 use Rattle.trace_diagram.proofs.Issues.{own-connection}
+use Rattle.counting_law.proofs.Events.{position-passes}
 
 -- the service at a place has an owner
 abbrev pub Owned : System → ℕ → Type 0
@@ -29,16 +29,6 @@ Owned s service = (p : ℕ) × (owner_of s service ≡ Some p)
 owned-by : (s : System) (service : ℕ) (q : Service → Bool) (o : Option Service) → slice_get s.services service ≡ o → option_map_or q o false ≡ true → Owned s service
 owned-by s service q None at e = cc
 owned-by s service q (Some v) at e = (v.owner, ap (option_map (λ (x : Service). x.owner)) at)
-
--- the item at a place that was found passes
-passes-at : {X : Type 0} (q : X → Bool) (xs : List X) (i : ℕ) → i < length xs → ((d : X) → q (get_or xs i d) ≡ true) → option_map_or q (slice_get xs i) false ≡ true
-passes-at q [] i lt h = absurd (omega (arith, lt))
-passes-at q (x ∷ xs) zero lt h = h x
-passes-at q (x ∷ xs) (suc i) lt h = passes-at q xs i (omega (arith, lt)) h
-
-position-passes : {X : Type 0} (q : X → Bool) (xs : List X) (i : ℕ) → position q xs ≡ Some i → option_map_or q (slice_get xs i) false ≡ true
-position-passes q [] i e = absurd (cc)
-position-passes q (x ∷ xs) i e = passes-at q (x ∷ xs) i (position-Some q (x ∷ xs) i x e).0 (λ d. (position-Some q (x ∷ xs) i d e).1)
 
 position-owned : (s : System) (q : Service → Bool) (service : ℕ) → position q s.services ≡ Some service → Owned s service
 position-owned s q service e = owned-by s service q (slice_get s.services service) refl (position-passes q s.services service e)

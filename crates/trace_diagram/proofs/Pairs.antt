@@ -19,7 +19,7 @@ use Rattle.ffm_model.specs.declared.machine.Outcome.TheVariants as outcome
 use Rattle.ffm_model.specs.declared.objects.OpenConnection.{OpenConnection}
 use Rattle.ffm_model.specs.declared.objects.PendingMessage.{PendingMessage}
 use Rattle.ffm_model.specs.declared.objects.ActorPhase.{ActorPhase}
-use Rattle.ffm_model.specs.declared.objects.ActorPhase.TheVariants.{Running, Blocked, Waiting, Ready, Connected, Ended, Panicked}
+use Rattle.ffm_model.specs.declared.objects.ActorPhase.TheVariants.{Blocked}
 use Rattle.ffm_model.specs.Actors.{is_service_of, owner_of, service_at}
 use Rattle.ffm_model.specs.Memory.{ByteMap}
 use Rattle.ffm_model.specs.Signals.{is_blocked}
@@ -164,12 +164,7 @@ IsPaired s m es x = (place : ℕ) → x.answers ≡ Some place → IsPair s m es
 
 pub blocked-phase : (p : ActorPhase) → is_blocked p ≡ true → p ≡ Blocked
 blocked-phase Blocked e = refl
-blocked-phase Running e = cc
-blocked-phase (Waiting mask) e = cc
-blocked-phase (Ready o) e = cc
-blocked-phase (Connected c) e = cc
-blocked-phase Ended e = cc
-blocked-phase Panicked e = cc
+blocked-phase _ e = cc
 
 -- where the entries before it lead, the arrow's client waits in the call whose place is noted
 paired : (s : System) (m : ByteMap) (es past later : List Entry) (e : Entry) (x : PlacedArrow) (service : ℕ) (kind : ℤ) (place : ℕ) → es ≡ past ++ e ∷ later → x.place ≡ length past + 1 → answered_message x.arrow.meaning ≡ Some (service, kind)

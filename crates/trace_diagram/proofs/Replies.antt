@@ -1,12 +1,12 @@
 -- A reply that is done answers the message that has its handle.
-use Rattle.std.proofs.Common.{ℕ, ◌≡◌, Bool, true, false, not, ◌&&◌, ap, sym, refl, subst}
+use Rattle.std.proofs.Common.{ℕ, ◌≡◌, Bool, true, false, not, ◌&&◌, ap, sym, refl, subst, ◌∙◌}
 use Rattle.std.specs.Prelude.{ℤ, Option, Some, None, option_and_then, if◌then◌else◌}
 use Rattle.std.specs.Option.{option_map}
 use Rattle.std.specs.Ordering.{int_eq}
 use Rattle.ffm_model.specs.declared.constants.TheConstants.{PSA_IPC_CONNECT}
 use Rattle.ffm_model.specs.declared.system.System.{System}
 use Rattle.ffm_model.specs.declared.system.ActorKind.{ActorKind}
-use Rattle.ffm_model.specs.declared.system.ActorKind.TheVariants.{Partition, Client, Device}
+use Rattle.ffm_model.specs.declared.system.ActorKind.TheVariants.{Partition}
 use Rattle.ffm_model.specs.declared.machine.Handle.{Handle}
 use Rattle.ffm_model.specs.declared.machine.Status.{Status}
 use Rattle.ffm_model.specs.declared.machine.Entry.{Entry}
@@ -24,6 +24,7 @@ use Rattle.ffm_model.specs.Calls.{effect_of, effect_or_error, error_effect, has_
 use Rattle.ffm_model.specs.Step.{handle_shown, outcome_eq, step}
 use Rattle.counting_law.proofs.Events.{IfThere}
 use Rattle.counting_law.proofs.Steps.{Stepped, step-is}
+use Rattle.counting_law.proofs.Outcomes.{same-kind}
 
 -- the message is gone, its client is answered, and panics where it owes that
 pub record IsReplied (s : System) (b : SpmState) (a : ℕ) (h : Handle) (status : ℤ) (new : SpmState) : Type 0 where
@@ -49,8 +50,7 @@ held-replies s st a h status (Some m) held = allowed-replies s st a h status m (
 
 error-replies : (s : System) (st : State) (a : ℕ) (h : Handle) (status : Status) (k : ActorKind) → Replies s st a h status.0 (error_effect k s st a (call.Reply h status))
 error-replies s st a h status Partition = λ done. cc
-error-replies s st a h status Client = λ done. cc
-error-replies s st a h status Device = λ done. cc
+error-replies s st a h status _ = λ done. cc
 
 made-replies : (s : System) (st : State) (a : ℕ) (h : Handle) (status : Status) (k : ActorKind) (o : Option Effect) → IfThere o (Replies s st a h status.0) → Replies s st a h status.0 (effect_or_error o k s st a (call.Reply h status))
 made-replies s st a h status k None there = error-replies s st a h status k
@@ -61,9 +61,7 @@ effect-replies s st a h status true = made-replies s st a h status (kind_of s a)
 effect-replies s st a h status false = error-replies s st a h status (kind_of s a)
 
 done-due : (o p : Outcome) → outcome_eq o p ≡ true → is_done p ≡ true → is_done o ≡ true
-done-due outcome.Done p e k = refl
-done-due o outcome.Done e k = e
-done-due o p e k = cc
+done-due o p e k = same-kind is_done (λ z w e. refl) (λ n k e. refl) (λ n k e. refl) (λ m n e. refl) o p e ∙ k
 
 pub step-replies : (s : System) (st new : State) (e : Entry) (h : Handle) (status : Status) → step s st e ≡ Some new → e.call ≡ call.Reply h status → e.outcome ≡ outcome.Done → IsReplied s st.spm e.actor.0 h status.0 new.spm
 step-replies s st new e h status is reply done =

@@ -1,15 +1,14 @@
 -- In each state of a run, each message whose client is Blocked is the one that the client's last entry asks for.
-use Rattle.std.proofs.Common.{ℕ, ◌≡◌, ◌<◌, ◌≤◌, ◌+◌, ◌==◌, Bool, true, false, cond, not, ◌&&◌, List, [], ◌∷◌, ◌++◌, length, get_or, arith, ◌∙◌, ap, sym, refl, subst, inl, inr}
-use Rattle.std.specs.Prelude.{ℤ, pos, int_lt, count_by, nat_lt, replicate, Option, Some, None, option_and_then, is_none, if◌then◌else◌, filter, map, slice_set}
+use Rattle.std.proofs.Common.{ℕ, ◌≡◌, ◌<◌, ◌+◌, ◌==◌, Bool, true, false, cond, not, ◌&&◌, List, [], ◌∷◌, ◌++◌, length, get_or, arith, ◌∙◌, ap, sym, refl, subst, inl, inr}
+use Rattle.std.specs.Prelude.{ℤ, pos, count_by, nat_lt, replicate, Option, Some, None, option_and_then, is_none, if◌then◌else◌, filter, map, slice_set}
 use Rattle.std.specs.List.{AllByRecursion, filter_map}
 use Rattle.std.specs.Option.{option_map_or}
-use Rattle.std.specs.Ordering.{int_eq}
 use Rattle.std.proofs.lemmas.Grind.{common_steps}
 use Rattle.std.proofs.lemmas.Bool.{and_parts, eqb-true}
 use Rattle.std.proofs.lemmas.Bool.Decides.{nat_tests}
 use Rattle.std.proofs.lemmas.List.{append_assoc, length-replicate}
 use Rattle.list_laws.proofs.Counts.{bit, count-cons, count-ext}
-use Rattle.ffm_model.specs.declared.constants.TheConstants.{PSA_IPC_CALL, PSA_IPC_CONNECT, PSA_IPC_DISCONNECT, PSA_SUCCESS, PSA_ERROR_PROGRAMMER_ERROR, PSA_ERROR_COMMUNICATION_FAILURE}
+use Rattle.ffm_model.specs.declared.constants.TheConstants.{PSA_IPC_DISCONNECT, PSA_ERROR_COMMUNICATION_FAILURE}
 use Rattle.ffm_model.specs.declared.system.System.{System}
 use Rattle.ffm_model.specs.declared.machine.Handle.{Handle}
 use Rattle.ffm_model.specs.declared.machine.Entry.{Entry}
@@ -20,33 +19,29 @@ use Rattle.ffm_model.specs.declared.machine.Outcome.TheVariants as outcome
 use Rattle.ffm_model.specs.declared.objects.Vectors.{Vectors}
 use Rattle.ffm_model.specs.declared.objects.OpenConnection.{OpenConnection}
 use Rattle.ffm_model.specs.declared.objects.PendingMessage.{PendingMessage}
-use Rattle.ffm_model.specs.declared.objects.ConnPhase.{ConnPhase}
-use Rattle.ffm_model.specs.declared.objects.ConnPhase.TheVariants.{Busy, Closing, Error, Idle}
+use Rattle.ffm_model.specs.declared.objects.ConnPhase.TheVariants.{Busy, Closing}
 use Rattle.ffm_model.specs.declared.objects.ActorPhase.{ActorPhase}
 use Rattle.ffm_model.specs.declared.objects.ActorPhase.TheVariants.{Running, Blocked, Waiting, Ready, Connected, Ended, Panicked}
 use Rattle.ffm_model.specs.Actors.{actor_count, is_service_of}
 use Rattle.ffm_model.specs.Memory.{ByteMap, no_vectors}
 use Rattle.ffm_model.specs.Records.{is_blocked_outcome}
-use Rattle.ffm_model.specs.State.{SpmState, State, delivered, has_handle, is_undelivered, message_held, opening, phase_of, vectors_put, with_connection_phase, with_message, with_phase, with_request, without_connection, without_message}
-use Rattle.ffm_model.specs.Signals.{is_blocked}
+use Rattle.ffm_model.specs.State.{SpmState, State, delivered, has_handle, is_undelivered, opening, phase_of, vectors_put, with_connection_phase, with_message, with_phase, with_request, without_connection}
 use Rattle.ffm_model.specs.Panic.{disconnection, is_dead, panic_effect, without_service}
 use Rattle.ffm_model.specs.ClientCalls.{is_service_panicked, move}
-use Rattle.ffm_model.specs.ServiceCalls.{close_answered, connect_answered, with_request_phase}
 use Rattle.ffm_model.specs.Step.{after, may_call, outcome_eq, step}
 use Rattle.ffm_model.proofs.RecordLemmas.{entries_of-other}
 use Rattle.ffm_model.proofs.StepLemmas.{after-push}
 use Rattle.counting_law.specs.Objects.{Mark, accepted_as, awaited_by, awaited_of, called_by, connection_marked, is_awaited, message_marked}
 use Rattle.counting_law.proofs.Balance.{Balanced}
 use Rattle.counting_law.proofs.Events.{EachKind, caller-running}
-use Rattle.counting_law.proofs.Keeps.{ready-quiet, request-ready}
 use Rattle.counting_law.proofs.Pairs.{count-sum}
-use Rattle.counting_law.proofs.Parts.{flipped, is_itself, is_there, off_from, running-quiet, same_or_not}
-use Rattle.counting_law.proofs.Reply.{settled, settled-keeps}
+use Rattle.counting_law.proofs.Parts.{flipped, is_itself, off_from, running-quiet, same_or_not}
+use Rattle.counting_law.proofs.Reply.{settled, settled-messages}
 use Rattle.counting_law.proofs.Resume.{times}
-use Rattle.counting_law.proofs.Returns.{open-phase, turned-sound}
+use Rattle.counting_law.proofs.Returns.{open-phase, turns-sound}
 use Rattle.counting_law.proofs.Runs.{opening-balanced, run-has, step-keeps}
 use Rattle.counting_law.proofs.Steps.{Stepped, step-is, step-kind}
-use Rattle.counting_law.proofs.Turns.{Turned, Turns, goes_with, is_sound, kinds-turn, panicked-self}
+use Rattle.counting_law.proofs.Turns.{Turned, Turns, goes_with, is_sound, kinds-turn, owed-panicked}
 use Rattle.trace_diagram.specs.Pairs.{Asks, IsWaiting}
 use Rattle.trace_diagram.proofs.Everywhere.{each-append, each-filter, each-of, each-option, each-weaken}
 use Rattle.trace_diagram.proofs.Issues.{IsIssued, own-connection, step-issues}
@@ -89,24 +84,6 @@ each-vectors R h v (m ∷ ms) all = (vectors-by R v m (has_handle m.handle h) al
 
 -- ---- a reply takes its message away
 
-if-messages : (b : Bool) (x y : SpmState) (ms : List PendingMessage) → x.messages ≡ ms → y.messages ≡ ms → (if b then x else y).messages ≡ ms
-if-messages true x y ms e f = e
-if-messages false x y ms e f = f
-
-option-messages : (f : ℕ → SpmState) (o : Option ℕ) (b : SpmState) → ((n : ℕ) → (f n).messages ≡ b.messages) → (option_map_or f o b).messages ≡ b.messages
-option-messages f None b e = refl
-option-messages f (Some n) b e = e n
-
-pub settled-messages : (b : SpmState) (h : Handle) (status : ℤ) (m : PendingMessage) → (settled b h status m).messages ≡ (without_message b h).messages
-settled-messages b h status m =
-    let rest : SpmState = without_message b h in
-    let request : (ph : ConnPhase) → (with_request_phase rest m ph).messages ≡ rest.messages = λ ph. option-messages (λ n. with_connection_phase rest n ph) m.connection rest (λ n. refl) in
-    if-messages (int_eq m.kind PSA_IPC_CONNECT) _ _ rest.messages
-    (option-messages (λ n. connect_answered rest n m status) m.connection rest (λ n. if-messages (int_eq status PSA_SUCCESS) _ _ rest.messages refl refl))
-    (if-messages (int_lt m.kind PSA_IPC_CALL) _ _ rest.messages
-    (option-messages (λ n. close_answered rest n m) m.connection rest (λ n. if-messages (is_blocked (phase_of rest m.client.0)) _ _ rest.messages refl refl))
-    (if-messages (int_eq status PSA_ERROR_PROGRAMMER_ERROR) _ _ rest.messages (request Error) (request Idle)))
-
 each-settled : (R : ℕ → ℕ → ℤ → Type 0) (b : SpmState) (h : Handle) (status : ℤ) (m : PendingMessage) → Each R b.messages → Each R (settled b h status m).messages
 each-settled R b h status m all = subst (Each R) (sym (settled-messages b h status m)) (each-filter (λ (x : PendingMessage). R x.client.0 x.service x.kind) (λ x. not (has_handle x.handle h)) b.messages all)
 
@@ -134,17 +111,6 @@ panicked-others R a s b p all own =
     each-append (OtherHas R a phases) (filter (λ m. not (is_service_of s p m.service)) b.messages) _
     (stay R a phases _ (each-filter (λ (x : PendingMessage). R x.client.0 x.service x.kind) (λ m. not (is_service_of s p m.service)) b.messages all))
     (each-disconnection (OtherHas R a phases) s p own b.connections)
-
--- the partition that a reply panics is Panicked
-pub owed-panicked : (s : System) (limit : Handle → ℕ) (b : SpmState) (a : ℕ) (h : Handle) (status : ℤ) (m : PendingMessage) (n : ℕ) → Balanced s limit b → message_held s b a h ≡ Some m → m.kind ≡ pos n
-    → phase_of (panic_effect s (settled b h status m) m.client.0) m.client.0 ≡ Panicked
-owed-panicked s limit b a h status m n balanced found kind =
-    let x : ℕ = m.client.0 in
-    let told : SpmState = settled b h status m in
-    let kept : Balanced s limit told = settled-keeps s limit b a h status m balanced found in
-    let ready = request-ready s limit b a h status m n balanced found kind in
-    panicked-self s limit told x kept (is_there told.phases x (λ w. let at : phase_of told x ≡ Ready ready.0 = ready.1 in cc))
-    (ready-quiet (phase_of told x) ready.0 _ _ (λ z. count_by (accepted_as x z) told.connections) ready.1 (kept.fitting x))
 
 -- ---- each kind of change
 
@@ -189,9 +155,9 @@ kinds-others R s b given a d h all = record {
 -- ---- the actor's own messages
 
 -- an actor that runs has no message
-pub client-is : (a : ℕ) (m : PendingMessage) → bit (m.client.0 == a) ≤ bit (message_marked (λ n x v ph. x == a) m) + bit (called_by a m)
+pub client-is : (a : ℕ) (m : PendingMessage) → bit (message_marked (λ n x v ph. x == a) m) + bit (called_by a m) ≡ bit (m.client.0 == a)
 client-is a m =
-    let go : (o : Option ℕ) (x : Bool) → bit x ≤ bit (option_map_or (λ n. x) o false) + bit (is_none o && x) = elim [ Some n ↦ λ x. omega arith | None ↦ λ x. omega arith ] in
+    let go : (o : Option ℕ) (x : Bool) → bit (option_map_or (λ n. x) o false) + bit (is_none o && x) ≡ bit x = elim [ Some n ↦ λ x. omega arith | None ↦ λ x. omega arith ] in
     go m.connection (m.client.0 == a)
 
 pub awaited-is : (a : ℕ) (c : OpenConnection) → connection_marked (λ n x v ph. x == a) c ≡ awaited_of a c
@@ -203,7 +169,7 @@ running-none s limit b a h running =
     let quiet : awaited_by b.connections b.messages a ≡ 0 = running-quiet (phase_of b a) _ _ (λ n. count_by (accepted_as a n) b.connections) running (h.fitting a) in
     omega (
       arith,
-      count-sum (λ (m : PendingMessage). m.client.0 == a) (message_marked t) (called_by a) (client-is a) b.messages,
+      count-sum (λ (m : PendingMessage). m.client.0 == a) (message_marked t) (called_by a) (λ m. omega (arith, client-is a m)) b.messages,
       h.paired t,
       count-ext (connection_marked t) (awaited_of a) (awaited-is a) b.connections,
       quiet,
@@ -349,9 +315,7 @@ step-kept s m past last st new e k is =
     record {
       run = after-push s m past e ∙ ap (option_and_then (λ x. step s x e)) k.run ∙ is;
       balanced = step-keeps s st new e k.balanced is;
-      sound = λ x. same_or_not x a (is_sound (phase_of new.spm x) ≡ true)
-          (λ z. ap (λ (y : ℕ). is_sound (phase_of new.spm y)) z ∙ turns.sound)
-          (λ z. turned-sound _ _ (turns.others x z) (k.sound x));
+      sound = turns-sound st.spm new.spm a it.0 turns k.sound;
       long = set-long last a (length past + 1) ∙ k.long;
       waiting = both (OtherHas R a new.spm.phases) (OwnHas S a new.spm) (λ (x : PendingMessage). S x.client.0 x.service x.kind)
           (λ x other own phase. same_or_not x.client.0 a (IsWaiting s m now (get_or places x.client.0 0) x.client.0 x.service x.kind)
