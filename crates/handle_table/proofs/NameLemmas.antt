@@ -13,11 +13,7 @@ use Rattle.list_laws.proofs.Tests.{find-same}
 use Rattle.object_pools.proofs.Orders.{same_number, other_number, same_bit, other_bit}
 use Rattle.object_pools.proofs.Pigeons.{index-below}
 use Rattle.handle_table.specs.Handles.{slot_name, live_names, IsPast, TakesNextName}
-
-zero_at : (n i : ℕ) → get_or {A = ℕ} (replicate n 0) i 0 ≡ 0
-zero_at zero i = refl
-zero_at (suc n) zero = refl
-zero_at (suc n) (suc i) = zero_at n i
+use Rattle.object_pools.proofs.Updates.{zero_at}
 
 module _ {T : Type 0} where
   any-names : (i : ℕ) (held : List (Held T)) → list_any (has_index i) (map (λ (h : Held T). slot_name h.slot) held) ≡ list_any (is_at i) held

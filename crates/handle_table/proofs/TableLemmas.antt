@@ -185,7 +185,7 @@ IsTable-out capacity p s c k t live = record {
 
 -- ---- a connection is found
 
-handle-is : (o : Option Handle) (k : Handle) → has_handle o k ≡ true → o ≡ Some k
+pub handle-is : (o : Option Handle) (k : Handle) → has_handle o k ≡ true → o ≡ Some k
 handle-is None k e = cc
 handle-is (Some h) k e = let same : h.0 ≡ k.0 = (Decides-int_eq h.0 k.0).0 e in ap (λ (n : ℤ). Some (record { 0 = n })) same
 

@@ -23,7 +23,7 @@ unfolding first_from
 first-none count ended at n e = rw e refl
 
 -- the one that is found is one of them
-within-by : (count at : ℕ) (b : Bool) → (at + 1 == count) ≡ b → at < count → (if b then 0 else at + 1) < count
+pub within-by : (count at : ℕ) (b : Bool) → (at + 1 == count) ≡ b → at < count → (if b then 0 else at + 1) < count
 within-by count at true e h = omega arith
 within-by count at false e h = grind (arith, nat_tests)
 

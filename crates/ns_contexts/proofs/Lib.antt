@@ -1,1 +1,1 @@
-mod DeskLemmas
+pub mod DeskLemmas

@@ -51,7 +51,7 @@ times-out_other i j (k ∷ ks) apart =
     ] in
     go (k == i) refl ∙ sym (count-cons (λ x. x == j) k ks)
 
-zero_at : (n i : ℕ) → get_or {A = ℕ} (replicate n 0) i 0 ≡ 0
+pub zero_at : (n i : ℕ) → get_or {A = ℕ} (replicate n 0) i 0 ≡ 0
 zero_at zero i = refl
 zero_at (suc n) zero = refl
 zero_at (suc n) (suc i) = zero_at n i

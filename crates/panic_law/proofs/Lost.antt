@@ -14,6 +14,7 @@ use Rattle.ffm_model.specs.Panic.{is_dead, lost, without_service, without_client
 use Rattle.counting_law.specs.Objects.{Mark, RisesTo, called_by, connection_marked, is_awaited, is_opening}
 use Rattle.counting_law.proofs.Losses.{disconnect_message}
 use Rattle.counting_law.proofs.Parts.{off_right, rising-from}
+use Rattle.counting_law.proofs.Panic.{kept_mark}
 
 -- ---- the services are gone
 
@@ -57,21 +58,13 @@ served-rises s p lo hi (c ∷ cs) h =
     served_cases s p c (filter_map (without_service s p) cs) (λ (xs : List OpenConnection). RisesTo lo xs hi)
     (rising-from (c.serial + 1) lo hi (filter_map (without_service s p) cs) (omega (arith, h.0)) rest) (λ unopened. (h.0, rest)) (h.0, rest)
 
--- a mark that no service of the partition has
-abbrev pub other_service : System → ℕ → Mark → Mark
-other_service s p t n a v f = not (is_service_of s p v) && t n a v f
-
 lost-unmarked : (t : Mark) (c : OpenConnection) (rest : List OpenConnection) (f : ConnPhase)
     → count_by (connection_marked t) (cons_option (option_map (λ g. record c { phase = g }) (lost f)) rest) ≡ count_by (connection_marked t) rest
 lost-unmarked t c rest Opening = refl
-lost-unmarked t c rest Idle = refl
-lost-unmarked t c rest Busy = refl
-lost-unmarked t c rest Error = refl
-lost-unmarked t c rest Closing = refl
-lost-unmarked t c rest Dead = refl
+lost-unmarked t c rest _ = refl
 
 -- the awaited connections are those to other services, as they were
-pub served-marks : (s : System) (p : ℕ) (t : Mark) (cs : List OpenConnection) → count_by (connection_marked t) (filter_map (without_service s p) cs) ≡ count_by (connection_marked (other_service s p t)) cs
+pub served-marks : (s : System) (p : ℕ) (t : Mark) (cs : List OpenConnection) → count_by (connection_marked t) (filter_map (without_service s p) cs) ≡ count_by (connection_marked (kept_mark s p t)) cs
 served-marks s p t [] = refl
 served-marks s p t (c ∷ cs) =
     let rest : List OpenConnection = filter_map (without_service s p) cs in
@@ -82,12 +75,7 @@ served-marks s p t (c ∷ cs) =
       | true ↦ omega (arith, lost-unmarked t c rest c.phase, off_right (is_awaited c.phase) false refl)
       | false ↦ count-cons (connection_marked t) c rest
     ] in
-    omega (arith, here (is_service_of s p c.service), served-marks s p t cs, count-cons (connection_marked (other_service s p t)) c cs)
-
-pub message-marks : (o : Bool) (f : ℕ → Bool) (k : Option ℕ) → (not o && option_map_or f k false) ≡ option_map_or (λ n. not o && f n) k false
-message-marks o f (Some n) = refl
-message-marks true f None = refl
-message-marks false f None = refl
+    omega (arith, here (is_service_of s p c.service), served-marks s p t cs, count-cons (connection_marked (kept_mark s p t)) c cs)
 
 -- ---- the client is gone
 

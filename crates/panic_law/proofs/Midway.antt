@@ -15,11 +15,11 @@ use Rattle.ffm_model.specs.Panic.{clients_released, connections_closed, disconne
 use Rattle.ffm_model.specs.State.{SpmState, has_handle, phase_of}
 use Rattle.ffm_model.proofs.PanicLemmas.{effect-steps}
 use Rattle.counting_law.specs.Objects.{Mark, ObjectsFit, PhaseFits, PhaseFitsAt, accepted_as, asked_by, asking_of, awaited_by, awaited_of, called_by, connection_marked, is_accepted, is_asking, is_awaited, is_joining, is_opening, message_marked, phase_for, same, wrongly_called, wrongly_shown}
-use Rattle.counting_law.proofs.Panic.{count-append, count-filter, told-self}
+use Rattle.counting_law.proofs.Panic.{count-append, count-filter, told-self, kept_mark, mark-kept}
 use Rattle.counting_law.proofs.Parts.{fits_same, is_there, running-quiet, same_or_not}
 use Rattle.counting_law.proofs.Reply.{asking_le}
 use Rattle.counting_law.proofs.Rooms.{panic-fits}
-use Rattle.panic_law.proofs.Lost.{closed-same, disconnections-uncalled, message-marks, other_service, served-le, served-marks, served-rises}
+use Rattle.panic_law.proofs.Lost.{closed-same, disconnections-uncalled, served-le, served-marks, served-rises}
 
 -- the services are gone, and the partition is still there as a client
 abbrev pub midway : System → SpmState → ℕ → SpmState
@@ -136,9 +136,9 @@ paired-midway s b p t fit =
     omega (
       arith,
       count-filter (message_marked t) (λ m. not (is_service_of s p m.service)) b.messages,
-      count-ext (λ m. not (is_service_of s p m.service) && message_marked t m) (message_marked (other_service s p t))
-          (λ m. message-marks (is_service_of s p m.service) (λ n. t n m.client.0 m.service (phase_for m.kind)) m.connection) b.messages,
-      fit.paired (other_service s p t),
+      count-ext (λ m. not (is_service_of s p m.service) && message_marked t m) (message_marked (kept_mark s p t))
+          (λ m. mark-kept (is_service_of s p m.service) (λ n. t n m.client.0 m.service (phase_for m.kind)) m.connection) b.messages,
+      fit.paired (kept_mark s p t),
       served-marks s p t b.connections,
     )
 

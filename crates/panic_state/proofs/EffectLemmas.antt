@@ -131,9 +131,7 @@ answered-length Busy phases client = length-set phases client (Ready (Value PSA_
 answered-length Closing phases client =
     let go : (b : Bool) → length (cond b (slice_set phases client (Ready Done)) phases) ≡ length phases = elim [ true ↦ length-set phases client (Ready Done) | false ↦ refl ] in
     go (is_blocked (get_or phases client Ended))
-answered-length Idle phases client = refl
-answered-length Error phases client = refl
-answered-length Dead phases client = refl
+answered-length _ phases client = refl
 
 clients-length : (s : System) (p : ℕ) (cs : List OpenConnection) (phases : List ActorPhase) → length (clients_answered s p cs phases) ≡ length phases
 clients-length s p [] phases = refl

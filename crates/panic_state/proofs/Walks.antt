@@ -20,6 +20,7 @@ use Rattle.spm_tables.specs.TablesView.{TablesView, held_message}
 use Rattle.panic_state.specs.Losses.{caller_answered, with_dropped, with_left, in_slot, in_phase, held_without_service, with_lost, without_messages}
 use Rattle.panic_state.proofs.Lists.{left_from, left_from-same, left_from-set, left_from-out, left_from-all, length-out, drop-nth, drop-set, drop-out, drop-all}
 use Rattle.panic_state.proofs.PlaceLemmas.{with_item-at, without-at}
+use Rattle.slot_names.proofs.Kept.{message_list}
 
 abbrev pub items : List (Held OpenConnection) → List OpenConnection
 items hs = map (λ h. h.item) hs
@@ -97,19 +98,16 @@ lost-shorter n d new h kept k here after stays gone =
 abbrev pub is_kept : System → ℕ → Held QueuedMessage → Option (Held QueuedMessage)
 is_kept s p h = if is_service_of s p h.item.service then None else Some h
 
-abbrev pub seen_messages : List (Held QueuedMessage) → List PendingMessage
-seen_messages hs = map held_message hs
-
 abbrev pub messages_from : System → ℕ → ℕ → TablesView → TablesView
 messages_from s p n d = record d {
   messages = record d.messages { held = left_from (is_kept s p) n d.messages.held };
-  phases = callers_answered s p (seen_messages (drop n d.messages.held)) d.phases;
+  phases = callers_answered s p (message_list (drop n d.messages.held)) d.phases;
 }
 
 pub messages_from-all : (s : System) (p n : ℕ) (d : TablesView) → length d.messages.held ≤ n → messages_from s p n d ≡ d
 messages_from-all s p n d past = λ j. record d {
   messages = record d.messages { held = left_from-all (is_kept s p) d.messages.held n past j };
-  phases = callers_answered s p (seen_messages (drop-all d.messages.held n past j)) d.phases;
+  phases = callers_answered s p (message_list (drop-all d.messages.held n past j)) d.phases;
 }
 
 -- the phases after one message
@@ -131,9 +129,9 @@ told-own s p phases m own =
 pub messages_from-other : (s : System) (p n : ℕ) (d : TablesView) (h : Held QueuedMessage) → slice_get d.messages.held n ≡ Some h → is_service_of s p h.item.service ≡ false → messages_from s p (n + 1) d ≡ messages_from s p n d
 messages_from-other s p n d h here other =
     let held = left_from-same (is_kept s p) d.messages.held n h here (ap (λ (b : Bool). if b then None else Some h) other) in
-    let phases : callers_answered s p (seen_messages (drop (n + 1) d.messages.held)) d.phases ≡ callers_answered s p (seen_messages (drop n d.messages.held)) d.phases =
-    ap (callers_answered s p (seen_messages (drop (n + 1) d.messages.held))) (sym (told-other s p d.phases h.item other))
-    ∙ ap (λ (hs : List (Held QueuedMessage)). callers_answered s p (seen_messages hs) d.phases) (sym (drop-nth d.messages.held n h here)) in
+    let phases : callers_answered s p (message_list (drop (n + 1) d.messages.held)) d.phases ≡ callers_answered s p (message_list (drop n d.messages.held)) d.phases =
+    ap (callers_answered s p (message_list (drop (n + 1) d.messages.held))) (sym (told-other s p d.phases h.item other))
+    ∙ ap (λ (hs : List (Held QueuedMessage)). callers_answered s p (message_list hs) d.phases) (sym (drop-nth d.messages.held n h here)) in
     λ j. record d { messages = record d.messages { held = held j }; phases = phases j }
 
 pub messages_from-gone : (s : System) (p n : ℕ) (d new : TablesView) (h : Held QueuedMessage) → IsKept 304 d.messages → slice_get d.messages.held n ≡ Some h → is_service_of s p h.item.service ≡ true
@@ -141,10 +139,10 @@ pub messages_from-gone : (s : System) (p n : ℕ) (d new : TablesView) (h : Held
 messages_from-gone s p n d new h k here own after =
     let out = without-at 304 d.messages n h k here in
     let held = ap (left_from (is_kept s p) n) out ∙ left_from-out (is_kept s p) d.messages.held n h here (ap (λ (b : Bool). if b then None else Some h) own) in
-    let phases : callers_answered s p (seen_messages (drop n (without d.messages h.slot).held)) (caller_answered h.item d.phases) ≡ callers_answered s p (seen_messages (drop n d.messages.held)) d.phases =
-    ap (λ (hs : List (Held QueuedMessage)). callers_answered s p (seen_messages hs) (caller_answered h.item d.phases)) (ap (drop n) out ∙ drop-out d.messages.held n)
-    ∙ ap (callers_answered s p (seen_messages (drop (n + 1) d.messages.held))) (sym (told-own s p d.phases h.item own))
-    ∙ ap (λ (hs : List (Held QueuedMessage)). callers_answered s p (seen_messages hs) d.phases) (sym (drop-nth d.messages.held n h here)) in
+    let phases : callers_answered s p (message_list (drop n (without d.messages h.slot).held)) (caller_answered h.item d.phases) ≡ callers_answered s p (message_list (drop n d.messages.held)) d.phases =
+    ap (λ (hs : List (Held QueuedMessage)). callers_answered s p (message_list hs) (caller_answered h.item d.phases)) (ap (drop n) out ∙ drop-out d.messages.held n)
+    ∙ ap (callers_answered s p (message_list (drop (n + 1) d.messages.held))) (sym (told-own s p d.phases h.item own))
+    ∙ ap (λ (hs : List (Held QueuedMessage)). callers_answered s p (message_list hs) d.phases) (sym (drop-nth d.messages.held n h here)) in
     let step : messages_from s p n (with_dropped d h) ≡ messages_from s p n d = λ j. record d { messages = record d.messages { held = held j }; phases = phases j } in
     ap (messages_from s p n) after ∙ step
 

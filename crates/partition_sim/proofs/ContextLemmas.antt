@@ -11,6 +11,7 @@ use Rattle.ffm_model.specs.declared.script.Instruction.{Instruction}
 use Rattle.ffm_model.specs.ScriptRuns.{Point, start}
 use Rattle.ffm_model.specs.Contexts.{Contexts, first_from, next_context, picked, picked_context, script_of, next_calls, is_stop, is_spent}
 use Rattle.partition_sim.specs.Clients.{call_from, desk_of}
+use Rattle.ns_contexts.proofs.DeskLemmas.{within-by}
 
 -- ---- places
 
@@ -48,10 +49,6 @@ map-get (c ∷ cs) (suc k) d h = map-get cs k d (omega arith)
 
 -- ---- flags that agree on the contexts pick the same one
 
-next-within : (count at : ℕ) (b : Bool) → (at + 1 == count) ≡ b → at < count → (if b then 0 else at + 1) < count
-next-within count at true e h = omega arith
-next-within count at false e h = grind (arith, nat_tests)
-
 agree-by : (count : ℕ) (e f : List Bool) (at n : ℕ) (b : Bool) → first_from count e (next_context count at) n ≡ first_from count f (next_context count at) n
     → (if b then first_from count e (next_context count at) n else Some at) ≡ (if b then first_from count f (next_context count at) n else Some at)
 agree-by count e f at n true h = h
@@ -62,7 +59,7 @@ unfolding first_from
 picks-agree count e f same zero at inside = refl
 picks-agree count e f same (suc n) at inside =
     ap (λ (x : Bool). if x then first_from count e (next_context count at) n else Some at) (same at inside)
-    ∙ agree-by count e f at n (get_or f at false) (picks-agree count e f same n (next_context count at) (next-within count at (at + 1 == count) refl inside))
+    ∙ agree-by count e f at n (get_or f at false) (picks-agree count e f same n (next_context count at) (within-by count at (at + 1 == count) refl inside))
 
 pub picked-same : (scripts : List (List Instruction)) (x : Contexts) (ended : List Bool) → length x.points ≡ length scripts → x.turn < length scripts
     → ((k : ℕ) → k < length scripts → get_or ended k false ≡ is_stop (call_from (script_of scripts k) (get_or x.points k start)))

@@ -66,13 +66,9 @@ held-nothing p script x d (Some to) inside h = h
 -- a line that makes a call leaves the table to the call's outcome
 keeps-by : (p : Holder) (t : List HeldMessage) (l : MmLine) (b : Bool) (c : Call) → Calls c ≡ (if b then step_done p t l else Fault) → (if b then table_done l t else t) ≡ t
 keeps-by p t l false c e = refl
-keeps-by p t (MapIn h i) true c e = refl
 keeps-by p t (UnmapIn h i) true c e = cc
 keeps-by p t (MapOut h i) true c e = cc
-keeps-by p t (UnmapOut h i n) true c e = refl
-keeps-by p t (Read h i b n) true c e = refl
-keeps-by p t (Skip h i n) true c e = refl
-keeps-by p t (Write h i b n) true c e = refl
+keeps-by p t _ true c e = refl
 
 pub call-keeps : (p : Holder) (t : List HeldMessage) (l : MmLine) (c : Call) → Calls c ≡ step_of p t l → table_of p t l ≡ t
 call-keeps p t l c e = keeps-by p t l (can_do p t l) c e

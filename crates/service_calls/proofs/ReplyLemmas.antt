@@ -23,7 +23,7 @@ use Rattle.slot_names.specs.Replies.{Answered, reply_on}
 use Rattle.counting_law.specs.Objects.{ObjectsFit, accepted_as, is_joining}
 use Rattle.counting_law.proofs.Balance.{Balanced, balanced-fit, fit-balanced, one}
 use Rattle.counting_law.proofs.Keeps.{ready-quiet, request-ready}
-use Rattle.counting_law.proofs.Owed.{owed-request}
+use Rattle.counting_law.proofs.Owed.{owed-request, owed-same, set-twice}
 use Rattle.counting_law.proofs.Parts.{is_there}
 use Rattle.counting_law.proofs.Reply.{not_negative, settled, settled-keeps}
 use Rattle.counting_law.proofs.Updates.{phased-keeps}
@@ -108,35 +108,11 @@ reply-due s d new given bytes after a k status t m owing it lengths =
     ∙ ap (λ (b : SpmState). due b told) (panic-is s (spm_of new) owing m.client.0 (owes_panic s n status) it.owes)
     ∙ ap (due (once_panicked s (spm_of new) owing)) (sym lengths)
 
-set-twice : (xs : List ActorPhase) (i : ℕ) (x y : ActorPhase) → slice_set (slice_set xs i x) i y ≡ slice_set xs i y
-set-twice [] i x y = refl
-set-twice (z ∷ zs) zero x y = refl
-set-twice (z ∷ zs) (suc i) x y = ap (λ (ws : List ActorPhase). z ∷ ws) (set-twice zs i x y)
-
--- the choices of a reply: k a connection, l a disconnection, g a request, f with PROGRAMMER ERROR, p to a partition
-same-after : (F : SpmState → SpmState) (k l g f p : Bool) (A C X Y Z : SpmState) → (g ≡ true → (k ≡ false) × (l ≡ false)) → F X ≡ F Y → (g && (f && p)) ≡ true
-    → F (if k then A else (if l then C else (if f then (if p then X else Y) else Z))) ≡ F (if k then A else (if l then C else (if f then Y else Z)))
-same-after F k l false f p A C X Y Z high same e = cc
-same-after F k l true false p A C X Y Z high same e = cc
-same-after F k l true true false A C X Y Z high same e = cc
-same-after F true l true true true A C X Y Z high same e = let no : true ≡ false = (high refl).0 in cc
-same-after F false true true true true A C X Y Z high same e = let no : true ≡ false = (high refl).1 in cc
-same-after F false false true true true A C X Y Z high same e = same
-
-high : (k : ℤ) → int_le (pos 0) k ≡ true → (int_eq k PSA_IPC_CONNECT ≡ false) × (int_lt k PSA_IPC_CALL ≡ false)
-high (pos n) e = (refl, not_negative n)
-high (negsuc n) e = cc
-
 -- once it runs, the partition that owes the panic is as one that was told
 running-told : (s : System) (b : SpmState) (h : Handle) (status : ℤ) (m : PendingMessage) → owes_panic s m status ≡ true
     → with_phase (replied s b h status m) m.client.0 Running ≡ with_phase (settled b h status m) m.client.0 Running
-running-told s b h status m e =
-    let rest : SpmState = without_message b h in
-    let failed : SpmState = with_request_phase rest m Error in
-    same-after (λ x. with_phase x m.client.0 Running) (int_eq m.kind PSA_IPC_CONNECT) (int_lt m.kind PSA_IPC_CALL) (int_le PSA_IPC_CALL m.kind) (int_eq status PSA_ERROR_PROGRAMMER_ERROR) (is_partition (kind_of s m.client.0))
-    (option_map_or (λ n. connect_answered rest n m status) m.connection rest) (option_map_or (λ n. close_answered rest n m) m.connection rest) failed (with_phase failed m.client.0 (Ready (Value PSA_ERROR_PROGRAMMER_ERROR)))
-    (with_phase (with_request_phase rest m Idle) m.client.0 (Ready (Value status))) (high m.kind)
-    (ap (λ (ps : List ActorPhase). record failed { phases = ps }) (sym (set-twice failed.phases m.client.0 (Ready (Value PSA_ERROR_PROGRAMMER_ERROR)) Running))) e
+running-told s b h status m =
+    owed-same s b h status m (λ x. with_phase x m.client.0 Running) (λ x p. ap (λ (ps : List ActorPhase). record x { phases = ps }) (sym (set-twice x.phases m.client.0 p Running)))
 
 -- and its objects fit then
 pub owed-running : (s : System) (b : SpmState) (a : ℕ) (h : Handle) (status : ℤ) (m : PendingMessage) → ObjectsFit s b → message_held s b a h ≡ Some m → owes_panic s m status ≡ true

@@ -13,9 +13,9 @@ use Rattle.ffm_model.specs.declared.system.System.{System}
 use Rattle.ffm_model.specs.Names.{NamedState, NamesSoFar, SlotName, has_index, name_of, no_slot}
 use Rattle.ffm_model.specs.State.{SpmState, handle_eq}
 use Rattle.counting_law.specs.Fresh.{slots_named}
-use Rattle.counting_law.proofs.Fresh.{Named}
+use Rattle.counting_law.proofs.Fresh.{Named, off-second}
 use Rattle.counting_law.proofs.Resume.{times}
-use Rattle.counting_law.proofs.SlotNames.{Taken, is_slot}
+use Rattle.counting_law.proofs.SlotNames.{Taken, is_slot, small_from, positive_from}
 use Rattle.counting_law.proofs.Walk.{handle-same, handle-self, shown-taken, was_shown, with_slots}
 use Rattle.memory_image.specs.Pieces.{byte_at}
 use Rattle.object_pools.specs.declared.slot.Slot.{Slot}
@@ -35,12 +35,6 @@ number base t = t.generation * 1024 + t.index + base
 
 same-number : (base other : ℕ) (u t : SlotName) → handle_eq (name_of base u) (name_of other t) ≡ true → number base u ≡ number other t
 same-number base other u t e = let same : pos (number base u) ≡ pos (number other t) = (Decides-int_eq (pos (number base u)) (pos (number other t))).0 e in cc
-
-small-index : (x : ℕ) → bit (not (nat_lt x 512)) ≤ 0 → x < 512
-small-index x h = grind (arith, nat_tests)
-
-positive : (x : ℕ) → bit (x == 0) ≤ 0 → 1 ≤ x
-positive x h = grind arith
 
 is-itself : (t : SlotName) → is_slot t.index t.generation t ≡ true
 is-itself t = grind arith
@@ -70,8 +64,8 @@ found-taken ts q h some =
     record {
       slot = t;
       passes = find-passes q ts t it.1;
-      small = small-index t.index (omega (arith, count-found q (λ u. not (nat_lt u.index 512)) ts t it.1, h.small));
-      first = positive t.generation (omega (arith, count-found q (λ u. u.generation == 0) ts t it.1, h.positive));
+      small = small_from t.index (omega (arith, count-found q (λ u. not (nat_lt u.index 512)) ts t it.1, h.small));
+      first = positive_from t.generation (omega (arith, count-found q (λ u. u.generation == 0) ts t it.1, h.positive));
       before = taken-before ts t.index t.generation h here;
     }
 
@@ -101,11 +95,6 @@ message-apart ts u h small =
     none-passes ts (λ t. handle_eq (name_of 512 u) (name_of 0 t)) h (λ it. omega (arith, same-number 512 0 u it.slot it.passes, it.small, small))
 
 -- ---- handles of live slots that weren't told
-
-off-second : (x y : Bool) → x ≡ true → bit (x && y) ≡ 0 → y ≡ false
-off-second true true e h = absurd (omega (arith, h))
-off-second true false e h = refl
-off-second false y e h = cc
 
 none-if : (o : Option Handle) → is_some o ≡ false → is_none o ≡ true
 none-if None e = refl

@@ -26,6 +26,7 @@ use Rattle.spm_tables.specs.declared.item.QueuedMessage.{QueuedMessage}
 use Rattle.spm_tables.specs.declared.signals.OwnedSignal.{OwnedSignal}
 use Rattle.spm_tables.specs.Queues.{QueuesView}
 use Rattle.spm_tables.specs.TablesView.{TablesView, Shape, MadeFor, spm_of, message_of, message_at, held_message, shown_handle, waits_for, is_signal_of, service_signal}
+use Rattle.handle_table.proofs.TableLemmas.{handle-is}
 
 -- ---- lists
 
@@ -73,10 +74,6 @@ equal-slots s t m n e =
     let index : s.index ≡ t.index = omega (arith, m.index, n.index) in
     let generation : s.generation ≡ t.generation = omega (arith, m.index, n.index) in
     λ j. record { index = index j; generation = generation j }
-
-handle-is : (o : Option Handle) (k : Handle) → has_handle o k ≡ true → o ≡ Some k
-handle-is None k e = cc
-handle-is (Some h) k e = let same : h.0 ≡ k.0 = (Decides-int_eq h.0 k.0).0 e in ap (λ (n : ℤ). Some (record { 0 = n })) same
 
 pub own-handle : (k : Handle) → handle_eq k k ≡ true
 own-handle k = (Decides-int_eq k.0 k.0).1 refl

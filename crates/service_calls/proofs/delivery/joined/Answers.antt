@@ -5,12 +5,8 @@ abbrev first_four : List ℕ → List ℕ
 first_four xs = get_or xs 0 0 ∷ (get_or xs 1 0 ∷ (get_or xs 2 0 ∷ (get_or xs 3 0 ∷ [])))
 
 all-four : (xs : List ℕ) → length xs ≡ 4 → first_four xs ≡ xs
-all-four [] e = absurd (omega arith)
-all-four (a ∷ []) e = absurd (omega arith)
-all-four (a ∷ b ∷ []) e = absurd (omega arith)
-all-four (a ∷ b ∷ c ∷ []) e = absurd (omega arith)
 all-four (a ∷ b ∷ c ∷ d ∷ []) e = refl
-all-four (a ∷ b ∷ c ∷ d ∷ f ∷ xs) e = absurd (omega arith)
+all-four _ e = absurd (omega arith)
 
 pub returns : goal.returns
 returns c =
