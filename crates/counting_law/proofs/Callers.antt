@@ -22,8 +22,8 @@ use Rattle.counting_law.proofs.Bounds.{count-all, few-connections}
 use Rattle.counting_law.proofs.Pairs.{count-sum, none-counts}
 use Rattle.counting_law.proofs.Slots.{one-call}
 
--- the clients of budgets are partitions and non-secure clients
-all-at : {X : Type 0} (p : X → Bool) (xs : List X) (q : X → Bool) (x : X) → list_all p xs ≡ true → find q xs ≡ Some x → p x ≡ true
+-- what a test says of all items, it says of the one that was found
+pub all-at : {X : Type 0} (p : X → Bool) (xs : List X) (q : X → Bool) (x : X) → list_all p xs ≡ true → find q xs ≡ Some x → p x ≡ true
 all-at p [] q x all f = cc
 all-at {X = X} p (y ∷ ys) q x all f =
     let go : (b : Bool) → cond b (Some y) (find q ys) ≡ Some x → p x ≡ true =

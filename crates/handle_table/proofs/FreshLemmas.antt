@@ -1,6 +1,6 @@
 -- A handle that is told is new: through each call of a pool, and each handle that an event shows.
-use Rattle.std.proofs.Common.{ℕ, ◌≡◌, ◌≢◌, ◌<◌, ◌≤◌, ◌+◌, ◌*◌, Bool, true, false, cond, not, ◌&&◌, ◌||◌, List, [], ◌∷◌, ◌++◌, length, map, get_or, arith, ◌∙◌, ap, sym, refl, subst}
-use Rattle.std.specs.Prelude.{pos, find, Some, slice_set, int_le, All}
+use Rattle.std.proofs.Common.{ℕ, ◌≡◌, ◌<◌, ◌≤◌, ◌+◌, ◌*◌, Bool, true, false, cond, not, ◌&&◌, ◌||◌, List, [], ◌∷◌, ◌++◌, length, map, get_or, arith, ◌∙◌, ap, sym, refl, subst}
+use Rattle.std.specs.Prelude.{pos, Some, slice_set, int_le, All}
 use Rattle.std.specs.List.{list_any}
 use Rattle.std.specs.Ordering.{int_eq}
 use Rattle.std.proofs.lemmas.Bool.Decides.{Decides-int_eq}
@@ -16,17 +16,12 @@ use Rattle.handle_table.specs.declared.handles.Family.{Family}
 use Rattle.handle_table.specs.declared.handles.Family.TheVariants.{Connection, Message}
 use Rattle.handle_table.specs.Handles.{base_of, indices_of, handle_at, handle_number, is_given, IsNameable, GivesFresh, StaysFresh}
 use Rattle.handle_table.proofs.NameLemmas.{free-parts}
-use Rattle.handle_table.proofs.SlotLemmas.{held-of, slot-is, named-at, nameable-at}
+use Rattle.handle_table.proofs.SlotLemmas.{held-of, slot-is, named-at, nameable-at, All-put}
+use Rattle.std.proofs.lemmas.List.Folds.{list_any-append}
+use Rattle.list_laws.proofs.Tests.{find-all}
 
 any-push : {X : Type 0} (q : X → Bool) (xs : List X) (x : X) → list_any q xs ≡ false → q x ≡ false → list_any q (xs ++ x ∷ []) ≡ false
-any-push q [] x e f = off (q x) f where
-  off : (b : Bool) → b ≡ false → (b || false) ≡ false
-  off true g = cc
-  off false g = refl
-any-push q (y ∷ ys) x e f =
-    let go : (b : Bool) → (b || list_any q ys) ≡ false → (b || list_any q (ys ++ x ∷ [])) ≡ false =
-    elim [ true ↦ λ g. cc | false ↦ λ g. any-push q ys x g f ] in
-    go (q y) e
+any-push q xs x e f = list_any-append q xs (x ∷ []) ∙ (ap (λ (b : Bool). b || (q x || false)) e ∙ ap (λ (b : Bool). b || false) f)
 
 -- ---- two slots with one handle are one
 
@@ -76,44 +71,23 @@ module _ {T : Type 0} (f : Family) (told : T → Bool) where
   pub GivesFresh-out : (p : Places T) (given : List Handle) (s : Slot) → GivesFresh f told p given → GivesFresh f told (without p s) given
   GivesFresh-out p given s v = record { future = v.future; untold = All-filter (λ h. not (has_slot s h)) (IsUntold given) p.held v.untold }
 
-  untold-put : (given : List Handle) (s : Slot) (y : T) → (told y ≡ false → is_given given (handle_at f s) ≡ false) → (held : List (Held T)) → All (IsUntold given) held → All (IsUntold given) (map (item_put s y) held)
-  untold-put given s y here [] a = All-nil (IsUntold given)
-  untold-put given s y here (h ∷ hs) a =
-      let go : (b : Bool) → has_slot s h ≡ b → IsUntold given (cond b (record h { item = y }) h) =
-      elim [
-        | true ↦ λ e. subst (λ (t : Slot). told y ≡ false → is_given given (handle_at f t) ≡ false) (sym (slot-is s h e)) here
-        | false ↦ λ e. All-head (IsUntold given) h hs a
-      ] in
-      All-cons (IsUntold given) (item_put s y h) (map (item_put s y) hs) (go (has_slot s h) refl) (untold-put given s y here hs (All-tail (IsUntold given) h hs a))
-
-  untold-found : (given : List Handle) (s : Slot) (h : Held T) (held : List (Held T)) → All (IsUntold given) held → find (has_slot s) held ≡ Some h → IsUntold given h
-  untold-found given s h [] a e = cc
-  untold-found given s h (x ∷ xs) a e =
-      let go : (b : Bool) → cond b (Some x) (find (has_slot s) xs) ≡ Some h → IsUntold given h =
-      elim [
-        | true ↦ λ g. let it : x ≡ h = cc in subst (IsUntold given) it (All-head (IsUntold given) x xs a)
-        | false ↦ λ g. untold-found given s h xs (All-tail (IsUntold given) x xs a) g
-      ] in
-      go (has_slot s x) e
-
   -- a live slot that wasn't told
   pub untold-at : (p : Places T) (given : List Handle) (s : Slot) (x : T) → GivesFresh f told p given → item_at p s ≡ Some x → told x ≡ false → is_given given (handle_at f s) ≡ false
   untold-at p given s x v live e =
       let it = held-of p s x live in
-      subst (λ (t : Slot). is_given given (handle_at f t) ≡ false) it.3 (untold-found given s it.0 p.held v.untold it.1 (ap told it.2 ∙ e))
+      subst (λ (t : Slot). is_given given (handle_at f t) ≡ false) it.3 (find-all (IsUntold given) (has_slot s) p.held it.0 it.1 v.untold (ap told it.2 ∙ e))
 
   -- a change of an item that takes no telling back
   pub GivesFresh-put : (p : Places T) (given : List Handle) (s : Slot) (x y : T) → GivesFresh f told p given → item_at p s ≡ Some x → (told y ≡ false → told x ≡ false) → GivesFresh f told (with_item p s y) given
   GivesFresh-put p given s x y v live kept =
-      record { future = v.future; untold = untold-put given s y (λ e. untold-at p given s x v live (kept e)) p.held v.untold }
+      record {
+        future = v.future;
+        untold = All-put (IsUntold given) s y (λ h e. subst (λ (t : Slot). told y ≡ false → is_given given (handle_at f t) ≡ false) (sym (slot-is s h e)) (λ off. untold-at p given s x v live (kept off))) p.held v.untold;
+      }
 
   untold-more : (given : List Handle) (h : Handle) (held : List (Held T)) → All (λ x. told x.item ≡ false → handle_eq (handle_at f x.slot) h ≡ false) held → All (IsUntold given) held
       → All (IsUntold (given ++ h ∷ [])) held
-  untold-more given h [] others a = All-nil (IsUntold (given ++ h ∷ []))
-  untold-more given h (x ∷ xs) others a =
-      All-cons (IsUntold (given ++ h ∷ [])) x xs
-      (λ e. any-push (handle_eq (handle_at f x.slot)) given h (All-head (IsUntold given) x xs a e) (All-head (λ y. told y.item ≡ false → handle_eq (handle_at f y.slot) h ≡ false) x xs others e))
-      (untold-more given h xs (All-tail (λ y. told y.item ≡ false → handle_eq (handle_at f y.slot) h ≡ false) x xs others) (All-tail (IsUntold given) x xs a))
+  untold-more given h held others a = λ k d lt e. any-push (handle_eq (handle_at f (get_or held k d).slot)) given h (a k d lt e) (others k d lt e)
 
   -- a handle of the other family is shown
   pub GivesFresh-other : (p : Places T) (given : List Handle) (g : Family) (s : Slot) → (base_of f ≡ base_of g → ⊥) → s.index < indices_of g → IsKept (indices_of f) p → GivesFresh f told p given

@@ -1,15 +1,15 @@
 -- Slots of a pool: each is of one live item, and can be named by a handle.
 use Rattle.std.proofs.Common.{ℕ, zero, suc, ◌≡◌, ◌≤◌, ◌+◌, ◌==◌, Bool, true, false, cond, ◌&&◌, List, [], ◌∷◌, arith, ◌∙◌, ap, refl, subst}
-use Rattle.std.specs.Prelude.{count_by, find, Option, Some, None, All, slice_get}
+use Rattle.std.specs.Prelude.{count_by, find, Option, Some, None, All, slice_get, map}
 use Rattle.std.specs.Option.{option_map}
-use Rattle.std.proofs.lemmas.List.Elements.{All-head, All-tail, All-weaker}
+use Rattle.std.proofs.lemmas.List.Elements.{All-head, All-tail, All-weaker, All-nil, All-cons}
 use Rattle.list_laws.proofs.Counts.{both-le-left, count-le, count-nth, bit, count-cons}
 use Rattle.object_pools.specs.declared.slot.Slot.{Slot}
 use Rattle.object_pools.specs.declared.slot.Held.{Held}
-use Rattle.object_pools.specs.Pool.{Places, IsKept, IsNamed, has_slot, is_at, item_at}
+use Rattle.object_pools.specs.Pool.{Places, IsKept, IsNamed, has_slot, is_at, item_at, item_put}
 use Rattle.handle_table.specs.declared.handles.Family.{Family}
 use Rattle.handle_table.specs.Handles.{IsNameable, indices_of}
-use Rattle.list_laws.proofs.Tests.{find-passes}
+use Rattle.list_laws.proofs.Tests.{find-passes, find-all}
 
 pub both : (a b : Bool) → (a && b) ≡ true → (a ≡ true) × (b ≡ true)
 both true b e = (refl, e)
@@ -61,34 +61,21 @@ module _ {T : Type 0} where
       All-weaker (λ h. IsNamed p.generations h.slot) (λ h. IsNameable f h.slot)
       (λ h n. record { index = omega (arith, n.below, k.size); first = n.used; last = omega (arith, n.latest, k.given h.slot.index, k.takes_left) }) p.held k.named
 
-  named-found : (f : Family) (s : Slot) (h : Held T) (held : List (Held T)) → All (λ x. IsNameable f x.slot) held → find (has_slot s) held ≡ Some h → IsNameable f h.slot
-  named-found f s h [] a e = cc
-  named-found f s h (x ∷ xs) a e =
-      let go : (b : Bool) → cond b (Some x) (find (has_slot s) xs) ≡ Some h → IsNameable f h.slot =
-      elim [
-        | true ↦ λ g. let it : x ≡ h = cc in subst (λ (y : Held T). IsNameable f y.slot) it (All-head (λ (y : Held T). IsNameable f y.slot) x xs a)
-        | false ↦ λ g. named-found f s h xs (All-tail (λ (y : Held T). IsNameable f y.slot) x xs a) g
-      ] in
-      go (has_slot s x) e
-
   -- a live slot can be named by a handle
   pub nameable-at : (f : Family) (p : Places T) (s : Slot) (c : T) → IsKept (indices_of f) p → item_at p s ≡ Some c → IsNameable f s
   nameable-at f p s c k live =
       let it = held-of p s c live in
-      subst (IsNameable f) it.3 (named-found f s it.0 p.held (nameable f p k) it.1)
+      subst (IsNameable f) it.3 (find-all (λ h. IsNameable f h.slot) (has_slot s) p.held it.0 it.1 (nameable f p k))
 
   -- a live slot has the last generation of its index
-  named-among : (generations : List ℕ) (s : Slot) (h : Held T) (held : List (Held T)) → All (λ x. IsNamed generations x.slot) held → find (has_slot s) held ≡ Some h → IsNamed generations h.slot
-  named-among generations s h [] a f = cc
-  named-among generations s h (x ∷ xs) a f =
-      let go : (b : Bool) → cond b (Some x) (find (has_slot s) xs) ≡ Some h → IsNamed generations h.slot =
-      elim [
-        | true ↦ λ g. let it : x ≡ h = cc in subst (λ (y : Held T). IsNamed generations y.slot) it (All-head (λ (y : Held T). IsNamed generations y.slot) x xs a)
-        | false ↦ λ g. named-among generations s h xs (All-tail (λ (y : Held T). IsNamed generations y.slot) x xs a) g
-      ] in
-      go (has_slot s x) f
-
   pub named-at : (p : Places T) (s : Slot) (c : T) (capacity : ℕ) → IsKept capacity p → item_at p s ≡ Some c → IsNamed p.generations s
   named-at p s c capacity k live =
       let it = held-of p s c live in
-      subst (IsNamed p.generations) it.3 (named-among p.generations s it.0 p.held k.named it.1)
+      subst (IsNamed p.generations) it.3 (find-all (λ h. IsNamed p.generations h.slot) (has_slot s) p.held it.0 it.1 k.named)
+
+  -- an item that is put in its slot
+  pub All-put : (P : Held T → Type 0) (s : Slot) (y : T) → ((h : Held T) → has_slot s h ≡ true → P (record h { item = y })) → (held : List (Held T)) → All P held → All P (map (item_put s y) held)
+  All-put P s y here [] a = All-nil P
+  All-put P s y here (h ∷ hs) a =
+      let go : (b : Bool) → has_slot s h ≡ b → P (cond b (record h { item = y }) h) = elim [ true ↦ λ e. here h e | false ↦ λ e. All-head P h hs a ] in
+      All-cons P (item_put s y h) (map (item_put s y) hs) (go (has_slot s h) refl) (All-put P s y here hs (All-tail P h hs a))

@@ -3,7 +3,7 @@ use Rattle.std.proofs.Common.{ℕ, ◌≡◌, ◌<◌, ◌≤◌, ◌+◌, ◌==
 use Rattle.std.specs.Prelude.{ℤ, count_by, find, Option, Some, None, map, filter, if◌then◌else◌, All, IfSome, IsTrue, option_and_then, slice_get}
 use Rattle.std.specs.Option.{option_map}
 use Rattle.std.proofs.lemmas.Bool.Decides.{Decides-int_eq}
-use Rattle.std.proofs.lemmas.List.Elements.{All-nil, All-cons, All-head, All-tail, All-push, All-filter, All-weaker, All-map}
+use Rattle.std.proofs.lemmas.List.Elements.{All-nil, All-cons, All-push, All-filter, All-weaker, All-map}
 use Rattle.std.proofs.lemmas.List.Sums.{count_by_more_yes, count_by_more_no}
 use Rattle.std.proofs.lemmas.Option.{slice_get-map, slice_get_within, get_or_from_slice_get}
 use Rattle.std.proofs.lemmas.List.{map_push}
@@ -12,13 +12,14 @@ use Rattle.ffm_model.specs.declared.objects.OpenConnection.{OpenConnection}
 use Rattle.ffm_model.specs.State.{has_handle}
 use Rattle.object_pools.specs.declared.slot.Slot.{Slot}
 use Rattle.object_pools.specs.declared.slot.Held.{Held}
-use Rattle.object_pools.specs.Pool.{Places, IsKept, has_slot, item_at, item_put, taken, with_item, without}
-use Rattle.list_laws.proofs.Counts.{bit, bit-le, count-cons}
+use Rattle.object_pools.specs.Pool.{Places, IsKept, has_slot, item_at, taken, with_item, without}
+use Rattle.list_laws.proofs.Counts.{bit, count-cons}
 use Rattle.handle_table.specs.declared.handles.Family.TheVariants.{Connection}
 use Rattle.handle_table.specs.Handles.{handle_at, IsNameable}
 use Rattle.handle_table.specs.Table.{connections, spm_of_connections, Rises, IsTable, with_started}
-use Rattle.handle_table.proofs.SlotLemmas.{both, has_own, one_slot, slot-is, held-of, nameable}
+use Rattle.handle_table.proofs.SlotLemmas.{both, has_own, one_slot, slot-is, held-of, nameable, All-put}
 use Rattle.handle_table.proofs.Twins.{count-map, twin-put, twin-out, twin-find, find-all_fail, find-first, find-more}
+use Rattle.list_laws.proofs.Tests.{find-all}
 
 -- ---- serial numbers
 
@@ -113,31 +114,11 @@ spm-put capacity p s c g k t live = λ j. record (spm_of_connections p) { connec
 abbrev pub IsTold : Held OpenConnection → Type 0
 IsTold h = IfSome h.item.handle (λ k. k ≡ handle_at Connection h.slot)
 
-told-put : (s : Slot) (c : OpenConnection) → IfSome c.handle (λ k. k ≡ handle_at Connection s) → (held : List (Held OpenConnection)) → All IsTold held → All IsTold (map (item_put s c) held)
-told-put s c fits [] a = All-nil IsTold
-told-put s c fits (h ∷ hs) a =
-    let go : (b : Bool) → has_slot s h ≡ b → IsTold (cond b (record h { item = c }) h) =
-    elim [
-      | true ↦ λ e. subst (λ (t : Slot). IfSome c.handle (λ k. k ≡ handle_at Connection t)) (sym (slot-is s h e)) fits
-      | false ↦ λ e. All-head IsTold h hs a
-    ] in
-    All-cons IsTold (item_put s c h) (map (item_put s c) hs) (go (has_slot s h) refl) (told-put s c fits hs (All-tail IsTold h hs a))
-
-told-found : (s : Slot) (h : Held OpenConnection) (held : List (Held OpenConnection)) → All IsTold held → find (has_slot s) held ≡ Some h → IsTold h
-told-found s h [] a f = cc
-told-found s h (x ∷ xs) a f =
-    let go : (b : Bool) → cond b (Some x) (find (has_slot s) xs) ≡ Some h → IsTold h =
-    elim [
-      | true ↦ λ g. let it : x ≡ h = cc in subst IsTold it (All-head IsTold x xs a)
-      | false ↦ λ g. told-found s h xs (All-tail IsTold x xs a) g
-    ] in
-    go (has_slot s x) f
-
 -- the handle that a live connection's client was told is that of its slot
 pub told-at : (p : Places OpenConnection) (s : Slot) (c : OpenConnection) → IsTable p → item_at p s ≡ Some c → IfSome c.handle (λ k. k ≡ handle_at Connection s)
 told-at p s c t live =
     let it = held-of p s c live in
-    let told : IfSome (it.0).item.handle (λ k. k ≡ handle_at Connection (it.0).slot) = told-found s it.0 p.held t.told it.1 in
+    let told : IfSome (it.0).item.handle (λ k. k ≡ handle_at Connection (it.0).slot) = find-all IsTold (has_slot s) p.held it.0 it.1 t.told in
     subst (λ (d : OpenConnection). IfSome d.handle (λ k. k ≡ handle_at Connection s)) it.2 (subst (λ (u : Slot). IfSome (it.0).item.handle (λ k. k ≡ handle_at Connection u)) it.3 told)
 
 pub IsTable-put : (capacity : ℕ) (p : Places OpenConnection) (s : Slot) (c : OpenConnection) (g : OpenConnection → OpenConnection) → ((d : OpenConnection) → (g d).serial ≡ d.serial)
@@ -145,7 +126,7 @@ pub IsTable-put : (capacity : ℕ) (p : Places OpenConnection) (s : Slot) (c : O
 IsTable-put capacity p s c g same k t live fits = record {
   rising = subst (λ (cs : List OpenConnection). Rises 0 cs p.takes) (sym (connections-put capacity p s c g k t live))
       (rises-map 0 p.takes (λ d. if d.serial == c.serial then g d else d) (put-serial c.serial g same) (connections p) t.rising);
-  told = told-put s (g c) fits p.held t.told;
+  told = All-put IsTold s (g c) (λ h e. subst (λ (u : Slot). IfSome (g c).handle (λ k. k ≡ handle_at Connection u)) (sym (slot-is s h e)) fits) p.held t.told;
 }
 
 -- ---- a connection is started
@@ -196,10 +177,7 @@ shows-slot h owner k told e =
     sym (subst (λ (o : Option Handle). IfSome o (λ j. j ≡ handle_at Connection h.slot)) shown told)
 
 all-with : (Q : Held OpenConnection → Type 0) (held : List (Held OpenConnection)) → ((h : Held OpenConnection) → IsTold h → IsNameable Connection h.slot → Q h) → All IsTold held → All (λ h. IsNameable Connection h.slot) held → All Q held
-all-with Q [] each told named = All-nil Q
-all-with Q (h ∷ hs) each told named =
-    All-cons Q h hs (each h (All-head IsTold h hs told) (All-head (λ x. IsNameable Connection x.slot) h hs named))
-    (all-with Q hs each (All-tail IsTold h hs told) (All-tail (λ x. IsNameable Connection x.slot) h hs named))
+all-with Q held each told named = λ k d lt. each _ (told k d lt) (named k d lt)
 
 abbrev pub is_shown : ℕ → Handle → OpenConnection → Bool
 is_shown owner k c = (c.client.0 == owner) && has_handle c.handle k

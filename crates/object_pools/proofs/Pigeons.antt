@@ -1,5 +1,5 @@
 -- A list with each index at most once, and which index is free.
-use Rattle.std.proofs.Common.{ℕ, zero, suc, ◌≡◌, ◌<◌, ◌≤◌, ◌+◌, ◌==◌, nat_lt, Bool, true, false, cond, not, List, [], ◌∷◌, length, arith, ◌∙◌, ap, sym, refl}
+use Rattle.std.proofs.Common.{ℕ, zero, suc, ◌≡◌, ◌<◌, ◌≤◌, ◌+◌, ◌==◌, nat_lt, Bool, true, false, cond, not, List, [], ◌∷◌, length, arith, ap, refl}
 use Rattle.std.specs.Prelude.{count_by, sum_by, find, Some, None}
 use Rattle.std.specs.List.{range_with_len}
 use Rattle.std.proofs.lemmas.List.FromFn.{length-range_with_len}
@@ -37,14 +37,6 @@ stood-all ks free (i ∷ is) o h =
       | false ↦ λ e g. omega (arith, o.once i, ap (λ b. bit (not b)) e, stood-all ks free is o g)
     ] in
     omega (arith, sum_by-cons (λ j. times j ks) i is, go (free i) refl h)
-
--- what is found is free, and one of them
-pub found-free : (free : ℕ → Bool) (is : List ℕ) (k : ℕ) → find free is ≡ Some k → free k ≡ true
-found-free free [] k h = cc
-found-free free (i ∷ is) k h =
-    let go : (b : Bool) → free i ≡ b → cond b (Some i) (find free is) ≡ Some k → free k ≡ true =
-    elim [ true ↦ λ e g. let it : i ≡ k = cc in ap free (sym it) ∙ e | false ↦ λ e g. found-free free is k g ] in
-    go (free i) refl h
 
 found-below : (free : ℕ → Bool) (a n k : ℕ) → find free (range_with_len a n) ≡ Some k → k < a + n
 found-below free a zero k h = cc

@@ -15,8 +15,9 @@ use Rattle.object_pools.specs.Pool.{most_takes, has_slot, item_put, item_at, fre
 use Rattle.object_pools.specs.Cells.{under_slot, held_in, held_at, item_in, generations_of, generation_at, places_of, Stored}
 use Rattle.list_laws.proofs.Counts.{bit, bit-le, count-cons, count-push}
 use Rattle.object_pools.proofs.Orders.{times, same-else, filter-out, map-put, all-held, same_number, other_number, same_bit, other_bit}
-use Rattle.object_pools.proofs.Pigeons.{Once, Below, fits, has_room, is_full, found-free, index-below}
+use Rattle.object_pools.proofs.Pigeons.{Once, Below, fits, has_room, is_full, index-below}
 use Rattle.object_pools.proofs.Stores.{Owns-held, Narrow-slot, Filled-order, live-length, count-at, free-is, held-set_same, held-set_other, live-cell, slot_of, at-slot, at-place}
+use Rattle.list_laws.proofs.Tests.{find-passes}
 
 -- one index, and all others
 at_each : (P : ℕ → Type 0) (i : ℕ) → P i → ((j : ℕ) → j ≢ i → P j) → (j : ℕ) → P j
@@ -268,7 +269,7 @@ module _ {T : Type 0} where
   free-below cells i h = index-below (λ k. is_none (held_at cells k)) (length cells) i h
 
   pub free-none : (cells : List (Cell T)) (i : ℕ) → find (λ k. is_none (held_at cells k)) (range_with_len 0 (length cells)) ≡ Some i → is_none (held_at cells i) ≡ true
-  free-none cells i h = found-free (λ k. is_none (held_at cells k)) (range_with_len 0 (length cells)) i h
+  free-none cells i h = find-passes (λ k. is_none (held_at cells k)) (range_with_len 0 (length cells)) i h
 
   -- ---- a change at a live slot
 

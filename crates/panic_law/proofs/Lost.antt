@@ -1,8 +1,8 @@
 -- What the panic of a partition leaves of connections when its services are gone, and when it is gone as a client, under tests and counts.
 use Rattle.std.proofs.Common.{ℕ, ◌≡◌, ◌≤◌, ◌+◌, ◌==◌, Bool, true, false, ◌&&◌, not, List, [], ◌∷◌, arith, ap, refl, ◌∙◌}
-use Rattle.std.specs.Prelude.{count_by, Option, Some, None, if◌then◌else◌}
+use Rattle.std.specs.Prelude.{count_by, Some, None, if◌then◌else◌}
 use Rattle.std.specs.List.{filter_map, cons_option}
-use Rattle.std.specs.Option.{option_map, option_map_or}
+use Rattle.std.specs.Option.{option_map}
 use Rattle.list_laws.proofs.Counts.{bit, count-cons}
 use Rattle.ffm_model.specs.declared.system.System.{System}
 use Rattle.ffm_model.specs.declared.objects.OpenConnection.{OpenConnection}

@@ -12,7 +12,7 @@ use Rattle.ffm_model.specs.declared.objects.PendingMessage.{PendingMessage}
 use Rattle.ffm_model.specs.declared.objects.ConnPhase.{ConnPhase}
 use Rattle.ffm_model.specs.declared.objects.ActorPhase.{ActorPhase}
 use Rattle.ffm_model.specs.declared.objects.ActorPhase.TheVariants.{Running, Ready, Ended, Panicked}
-use Rattle.ffm_model.specs.declared.objects.ConnPhase.TheVariants.{Opening, Idle, Busy, Error, Closing, Dead}
+use Rattle.ffm_model.specs.declared.objects.ConnPhase.TheVariants.{Opening, Busy, Closing}
 use Rattle.ffm_model.specs.declared.machine.Outcome.TheVariants.{Value, Done}
 use Rattle.ffm_model.specs.declared.constants.TheConstants.{PSA_ERROR_CONNECTION_REFUSED, PSA_ERROR_COMMUNICATION_FAILURE}
 use Rattle.ffm_model.specs.Signals.{is_blocked}

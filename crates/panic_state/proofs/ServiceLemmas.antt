@@ -1,6 +1,6 @@
 -- Each connection has a budget, so its service is there.
 use Rattle.std.proofs.Common.{ℕ, ◌≡◌, ◌<◌, ◌≤◌, ◌+◌, ◌==◌, Bool, true, false, cond, not, ◌&&◌, List, [], ◌∷◌, length, get_or, arith, refl}
-use Rattle.std.specs.Prelude.{Option, Some, None, find, slice_get, All, sum_by, nat_lt, nat_le}
+use Rattle.std.specs.Prelude.{Option, Some, None, find, slice_get, All, nat_lt}
 use Rattle.std.specs.List.{list_all}
 use Rattle.std.specs.Option.{option_map, option_map_or, unwrap_or}
 use Rattle.std.proofs.lemmas.Option.{slice_get_within}

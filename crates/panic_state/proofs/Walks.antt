@@ -5,7 +5,6 @@ use Rattle.std.specs.List.{filter_map, cons_option}
 use Rattle.std.specs.Option.{option_map}
 use Rattle.ffm_model.specs.declared.system.System.{System}
 use Rattle.ffm_model.specs.declared.objects.OpenConnection.{OpenConnection}
-use Rattle.ffm_model.specs.declared.objects.PendingMessage.{PendingMessage}
 use Rattle.ffm_model.specs.declared.objects.ConnPhase.{ConnPhase}
 use Rattle.ffm_model.specs.declared.objects.ActorPhase.{ActorPhase}
 use Rattle.ffm_model.specs.declared.objects.ActorPhase.TheVariants.{Ready}
@@ -16,7 +15,7 @@ use Rattle.ffm_model.specs.Panic.{lost, callers_answered, client_answered, clien
 use Rattle.object_pools.specs.declared.slot.Held.{Held}
 use Rattle.object_pools.specs.Pool.{IsKept, with_item, without}
 use Rattle.spm_tables.specs.declared.item.QueuedMessage.{QueuedMessage}
-use Rattle.spm_tables.specs.TablesView.{TablesView, held_message}
+use Rattle.spm_tables.specs.TablesView.{TablesView}
 use Rattle.panic_state.specs.Losses.{caller_answered, with_dropped, with_left, in_slot, in_phase, held_without_service, with_lost, without_messages}
 use Rattle.panic_state.proofs.Lists.{left_from, left_from-same, left_from-set, left_from-out, left_from-all, length-out, drop-nth, drop-set, drop-out, drop-all}
 use Rattle.panic_state.proofs.PlaceLemmas.{with_item-at, without-at}

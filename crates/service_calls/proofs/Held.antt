@@ -3,7 +3,7 @@ use Rattle.std.proofs.Common.{ℕ, ◌≡◌, Bool, true, false, cond, ◌&&◌,
 use Rattle.std.specs.Prelude.{ℤ, int_le, nat_lt, find, Option, Some, None, map, All, option_and_then}
 use Rattle.std.specs.Option.{option_map}
 use Rattle.std.proofs.lemmas.Bool.Decides.{Decides-int_eq}
-use Rattle.std.proofs.lemmas.List.Elements.{All-head, All-tail}
+use Rattle.std.proofs.lemmas.List.Elements.{All-head, All-tail, All-nil, All-cons}
 use Rattle.ffm_model.specs.declared.constants.TheConstants.{PSA_IPC_CALL, PSA_MAX_IOVEC}
 use Rattle.ffm_model.specs.declared.machine.Handle.{Handle}
 use Rattle.ffm_model.specs.declared.system.System.{System}
@@ -17,21 +17,18 @@ use Rattle.object_pools.specs.Pool.{has_slot, item_at}
 use Rattle.handle_table.specs.declared.handles.Family.TheVariants.{Message}
 use Rattle.handle_table.specs.Handles.{handle_at}
 use Rattle.handle_table.proofs.SlotLemmas.{both, held-of}
-use Rattle.list_laws.proofs.Tests.{find-passes}
+use Rattle.list_laws.proofs.Tests.{find-passes, find-all}
 use Rattle.spm_tables.specs.declared.item.QueuedMessage.{QueuedMessage}
 use Rattle.spm_tables.specs.TablesView.{TablesView, spm_of, message_of, message_at, held_message, shown_handle}
 
 -- ---- what holds of all messages holds of a live one
 
+pub All-of-map : {X Y : Type 0} (P : Y → Type 0) (f : X → Y) (xs : List X) → All P (map f xs) → All (λ x. P (f x)) xs
+All-of-map P f [] all = All-nil (λ x. P (f x))
+All-of-map P f (x ∷ xs) all = All-cons (λ x. P (f x)) x xs (All-head P (f x) (map f xs) all) (All-of-map P f xs (All-tail P (f x) (map f xs) all))
+
 holds-among : (P : PendingMessage → Type 0) (t : Slot) (h : Held QueuedMessage) (held : List (Held QueuedMessage)) → All P (map held_message held) → find (has_slot t) held ≡ Some h → P (held_message h)
-holds-among P t h [] all f = cc
-holds-among P t h (x ∷ xs) all f =
-    let go : (b : Bool) → cond b (Some x) (find (has_slot t) xs) ≡ Some h → P (held_message h) =
-    elim [
-      | true ↦ λ g. let it : x ≡ h = cc in subst (λ (y : Held QueuedMessage). P (held_message y)) it (All-head P (held_message x) (map held_message xs) all)
-      | false ↦ λ g. holds-among P t h xs (All-tail P (held_message x) (map held_message xs) all) g
-    ] in
-    go (has_slot t x) f
+holds-among P t h held all f = find-all (λ x. P (held_message x)) (has_slot t) held h f (All-of-map P held_message held all)
 
 pub holds-at : (P : PendingMessage → Type 0) (d : TablesView) (t : Slot) (m : QueuedMessage) → All P (spm_of d).messages → item_at d.messages t ≡ Some m → P (message_of t m)
 holds-at P d t m all live =

@@ -1,7 +1,7 @@
 -- What each call keeps: the condition on the vectors of messages, and the names of slots.
-use Rattle.std.proofs.Common.{ℕ, ◌≡◌, ◌==◌, Bool, true, false, cond, not, List, [], ◌∷◌, map, filter, ◌∙◌, ap, sym, refl, subst, inl, inr}
+use Rattle.std.proofs.Common.{ℕ, ◌≡◌, ◌==◌, Bool, not, List, map, filter, ◌∙◌, ap, sym, refl, subst, inl, inr}
 use Rattle.std.specs.Prelude.{Option, Some, None, IsSome, IfSome, All, IsSomeAnd, find, is_some}
-use Rattle.std.proofs.lemmas.List.Elements.{All-cons, All-head, All-tail}
+use Rattle.std.proofs.lemmas.List.Elements.{All-map, All-filter}
 use Rattle.ffm_model.specs.declared.objects.OpenConnection.{OpenConnection}
 use Rattle.ffm_model.specs.declared.objects.ActorPhase.{ActorPhase}
 use Rattle.ffm_model.specs.declared.objects.PendingMessage.{PendingMessage}
@@ -22,29 +22,23 @@ use Rattle.slot_names.proofs.Removals.{fitting-messages, names-answered, names-e
 use Rattle.spm_tables.specs.declared.item.QueuedMessage.{QueuedMessage}
 use Rattle.spm_tables.specs.TablesView.{TablesView, held_message, spm_of}
 use Rattle.service_calls.specs.Connections.{ChangesAt, ChangesWhere, IsConnectionOf}
+use Rattle.handle_table.proofs.SlotLemmas.{All-put}
+use Rattle.service_calls.proofs.Held.{All-of-map}
 
 -- ---- the vectors of the messages
 
 put-among : (P : Vectors → Type 0) (t : Slot) (n : QueuedMessage) (held : List (Held QueuedMessage)) → All (λ m. P m.vectors) (map held_message held) → P n.vectors
     → All (λ m. P m.vectors) (map held_message (map (item_put t n) held))
-put-among P t n [] all new = all
-put-among P t n (x ∷ xs) all new =
-    let own : P (held_message x).vectors = All-head (λ (m : PendingMessage). P m.vectors) (held_message x) (map held_message xs) all in
-    let go : (b : Bool) → P (held_message (cond b (record x { item = n }) x)).vectors = elim [ true ↦ new | false ↦ own ] in
-    All-cons (λ (m : PendingMessage). P m.vectors) (held_message (item_put t n x)) (map held_message (map (item_put t n) xs)) (go (has_slot t x))
-    (put-among P t n xs (All-tail (λ (m : PendingMessage). P m.vectors) (held_message x) (map held_message xs) all) new)
+put-among P t n held all new =
+    All-map (λ (m : PendingMessage). P m.vectors) held_message (map (item_put t n) held)
+    (All-put (λ (h : Held QueuedMessage). P (held_message h).vectors) t n (λ h e. new) held (All-of-map (λ (m : PendingMessage). P m.vectors) held_message held all))
 
 -- the message of a slot is another one
 pub all-put : (P : Vectors → Type 0) (d new : TablesView) (t : Slot) (n : QueuedMessage) → new.messages ≡ with_item d.messages t n → P n.vectors → All (λ m. P m.vectors) (spm_of d).messages → All (λ m. P m.vectors) (spm_of new).messages
 all-put P d new t n put own all = subst (λ (w : Places QueuedMessage). All (λ m. P m.vectors) (map held_message w.held)) (sym put) (put-among P t n d.messages.held all own)
 
 out-among : (P : PendingMessage → Type 0) (p : Held QueuedMessage → Bool) (held : List (Held QueuedMessage)) → All P (map held_message held) → All P (map held_message (filter p held))
-out-among P p [] all = all
-out-among P p (x ∷ xs) all =
-    let rest : All P (map held_message (filter p xs)) = out-among P p xs (All-tail P (held_message x) (map held_message xs) all) in
-    let go : (b : Bool) → All P (map held_message (cond b (x ∷ filter p xs) (filter p xs))) =
-    elim [ true ↦ All-cons P (held_message x) (map held_message (filter p xs)) (All-head P (held_message x) (map held_message xs) all) rest | false ↦ rest ] in
-    go (p x)
+out-among P p held all = All-map P held_message (filter p held) (All-filter p (λ h. P (held_message h)) held (All-of-map P held_message held all))
 
 -- the message of a slot is gone
 pub all-out : (P : PendingMessage → Type 0) (d new : TablesView) (t : Slot) → new.messages ≡ without d.messages t → All P (spm_of d).messages → All P (spm_of new).messages

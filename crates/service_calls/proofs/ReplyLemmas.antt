@@ -1,7 +1,7 @@
 -- What psa_reply leaves, from what was done to the message and its connection.
-use Rattle.std.proofs.Common.{ℕ, zero, suc, ◌≡◌, Bool, true, false, cond, not, ◌&&◌, List, [], ◌∷◌, ◌∙◌, ap, sym, refl, subst}
-use Rattle.std.specs.Prelude.{ℤ, pos, negsuc, int_lt, int_le, count_by, take, slice_set, Option, Some, None, IfSome, option_and_then, if◌then◌else◌}
-use Rattle.std.specs.Option.{option_map, option_map_or}
+use Rattle.std.proofs.Common.{ℕ, ◌≡◌, Bool, true, false, cond, not, ◌&&◌, List, ◌∙◌, ap, sym, refl, subst}
+use Rattle.std.specs.Prelude.{ℤ, int_lt, count_by, take, Option, Some, None, IfSome, option_and_then, if◌then◌else◌}
+use Rattle.std.specs.Option.{option_map}
 use Rattle.std.specs.Ordering.{int_eq}
 use Rattle.ffm_model.specs.declared.constants.TheConstants.{PSA_IPC_CALL, PSA_IPC_CONNECT, PSA_ERROR_PROGRAMMER_ERROR}
 use Rattle.ffm_model.specs.declared.machine.ActorId.{ActorId}
@@ -18,14 +18,14 @@ use Rattle.ffm_model.specs.ClientCalls.{Effect, effect}
 use Rattle.ffm_model.specs.Memory.{lengths_written}
 use Rattle.ffm_model.specs.Panic.{panic_effect}
 use Rattle.ffm_model.specs.State.{SpmState, message_held, phase_of, with_phase, without_message}
-use Rattle.ffm_model.specs.ServiceCalls.{answered, close_answered, connect_answered, is_connect_status, owes_panic, psa_reply, replied, reply_of, reply_to, request_answered, with_request_phase}
+use Rattle.ffm_model.specs.ServiceCalls.{answered, is_connect_status, owes_panic, psa_reply, replied, reply_of, reply_to, request_answered, with_request_phase}
 use Rattle.slot_names.specs.Replies.{Answered, reply_on}
 use Rattle.counting_law.specs.Objects.{ObjectsFit, accepted_as, is_joining}
 use Rattle.counting_law.proofs.Balance.{Balanced, balanced-fit, fit-balanced, one}
 use Rattle.counting_law.proofs.Keeps.{ready-quiet, request-ready}
 use Rattle.counting_law.proofs.Owed.{owed-request, owed-same, set-twice}
 use Rattle.counting_law.proofs.Parts.{is_there}
-use Rattle.counting_law.proofs.Reply.{not_negative, settled, settled-keeps}
+use Rattle.counting_law.proofs.Reply.{settled, settled-keeps}
 use Rattle.counting_law.proofs.Updates.{phased-keeps}
 use Rattle.memory_image.specs.Pieces.{byte_at}
 use Rattle.object_pools.specs.declared.slot.Slot.{Slot}

@@ -26,6 +26,7 @@ use Rattle.slot_names.specs.Named.{NamesAre, IsNamedBy}
 use Rattle.slot_names.specs.Changes.{KeepsConnectionNames, KeepsMessageNames, is_like}
 use Rattle.slot_names.proofs.Given.{All-left, given-filter, given-held, given-put, given-same}
 use Rattle.slot_names.proofs.Kept.{name_list}
+use Rattle.counting_law.proofs.Pairs.{member-counts}
 
 -- ---- pools that change without a take
 
@@ -40,10 +41,7 @@ relinks-same old new same = relinks-to old new old same (record { generations = 
 
 module _ {T : Type 0} where
   none-passes : (p : Held T → Bool) (Q : Held T → Type 0) (hs : List (Held T)) → count_by p hs ≡ 0 → All (λ x. p x ≡ true → Q x) hs
-  none-passes p Q [] none = All-nil (λ x. p x ≡ true → Q x)
-  none-passes p Q (y ∷ ys) none =
-      let split : bit (p y) + count_by p ys ≡ 0 = sym (count-cons p y ys) ∙ none in
-      All-cons (λ x. p x ≡ true → Q x) y ys (λ e. absurd (omega (arith, ap bit e, split))) (none-passes p Q ys (omega (arith, split)))
+  none-passes p Q hs none = λ k d lt e. absurd (omega (arith, member-counts p hs k d lt, none, ap bit e))
 
   -- where one item at most passes, each that passes is the one that is found
   only-found : (p : Held T → Bool) (hs : List (Held T)) (h : Held T) → find p hs ≡ Some h → count_by p hs ≤ 1 → All (λ x. p x ≡ true → x.item ≡ h.item) hs

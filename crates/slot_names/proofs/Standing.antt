@@ -26,6 +26,7 @@ use Rattle.spm_tables.specs.declared.item.QueuedMessage.{QueuedMessage}
 use Rattle.spm_tables.specs.TablesView.{TablesView, held_message, shown_handle, spm_of}
 use Rattle.slot_names.specs.Named.{IsNamedBy, NamesAre}
 use Rattle.slot_names.specs.Stands.{NamesTaken, Stands}
+use Rattle.counting_law.proofs.Pairs.{member-counts}
 
 -- ---- slots that were taken
 
@@ -129,9 +130,7 @@ untold-messages given (h ∷ hs) none =
 
 -- what holds of each handle that is there at least once holds of all
 each-given : (P : Handle → Type 0) (hs all : List Handle) → ((x : Handle) → times hs x ≤ times all x) → ((x : Handle) → 1 ≤ times all x → P x) → All P hs
-each-given P [] all le holds = All-nil P
-each-given P (h ∷ hs) all le holds =
-    All-cons P h hs (holds h (omega (arith, le h, count-cons (handle_eq h) h hs, ap bit (handle-self h)))) (each-given P hs all (λ x. omega (arith, le x, count-cons (handle_eq x) h hs)) holds)
+each-given P hs all le holds = λ k d lt. let x : Handle = get_or hs k d in holds x (omega (arith, le x, member-counts (handle_eq x) hs k d lt, ap bit (handle-self x)))
 
 abbrev slot_of : SlotName → Slot
 slot_of t = record { index = t.index; generation = t.generation }

@@ -1,6 +1,6 @@
 -- The messages of a pool, as the machine's state has them.
 use Rattle.std.proofs.Common.{ℕ, ◌≡◌, ◌≤◌, ◌<◌, ◌+◌, ◌*◌, ◌==◌, nat_lt, length, Bool, true, false, cond, ◌&&◌, List, [], ◌∷◌, arith, ◌∙◌, ap, sym, refl, subst}
-use Rattle.std.specs.Prelude.{ℤ, pos, count_by, find, Option, Some, None, map, All, IfSome, option_and_then, slice_get}
+use Rattle.std.specs.Prelude.{pos, count_by, find, Option, Some, None, map, All, IfSome, option_and_then, slice_get}
 use Rattle.std.specs.Option.{option_map, option_map_or}
 use Rattle.std.proofs.lemmas.Bool.Decides.{Decides-int_eq, nat_tests}
 use Rattle.std.proofs.lemmas.List.Elements.{All-nil, All-cons, All-head, All-tail, All-weaker, All-map}
@@ -313,8 +313,7 @@ all-found (x ∷ xs) one =
       behind h f false k = f
 
 all-both : (P Q R : Held QueuedMessage → Type 0) (xs : List (Held QueuedMessage)) → ((h : Held QueuedMessage) → P h → Q h → R h) → All P xs → All Q xs → All R xs
-all-both P Q R [] each ps qs = All-nil R
-all-both P Q R (x ∷ xs) each ps qs = All-cons R x xs (each x (All-head P x xs ps) (All-head Q x xs qs)) (all-both P Q R xs each (All-tail P x xs ps) (All-tail Q x xs qs))
+all-both P Q R xs each ps qs = λ k d lt. each _ (ps k d lt) (qs k d lt)
 
 -- no message of the service has an index below
 abbrev pub NoneBelow : Places QueuedMessage → ℕ → ℕ → Type 0

@@ -6,17 +6,17 @@ use Rattle.std.proofs.lemmas.Bool.Decides.{nat_tests}
 use Rattle.std.proofs.lemmas.List.{get_or_past, get_or-set_other}
 use Rattle.std.specs.List.{range_with_len, list_any}
 use Rattle.std.proofs.Math.ListN.{length-set}
-use Rattle.std.proofs.lemmas.List.Elements.{All-nil, All-cons, All-head, All-tail, All-weaker, All-push, All-filter}
+use Rattle.std.proofs.lemmas.List.Elements.{All-head, All-tail, All-weaker, All-push, All-filter}
 use Rattle.ffm_model.specs.declared.objects.Vectors.{Vectors}
 use Rattle.object_pools.specs.declared.slot.Slot.{Slot}
 use Rattle.object_pools.specs.declared.slot.Held.{Held}
 use Rattle.object_pools.specs.Pool.{Places, IsKept, IsNamed, is_at, has_slot, item_at, item_put, with_item, without, taken, free_slot}
 use Rattle.list_laws.proofs.Counts.{bit, both-le-right, count-cons, none-count}
 use Rattle.object_pools.proofs.Orders.{times, same_number, same_bit}
-use Rattle.object_pools.proofs.Pigeons.{found-free, index-below}
-use Rattle.handle_table.proofs.SlotLemmas.{both, held-of, named-at}
+use Rattle.object_pools.proofs.Pigeons.{index-below}
+use Rattle.handle_table.proofs.SlotLemmas.{both, held-of, named-at, All-put}
 use Rattle.handle_table.proofs.NameLemmas.{free-parts}
-use Rattle.list_laws.proofs.Tests.{find-passes}
+use Rattle.list_laws.proofs.Tests.{find-passes, find-all}
 use Rattle.spm_tables.specs.declared.item.QueuedMessage.{QueuedMessage}
 use Rattle.spm_tables.specs.declared.links.Link.{Link}
 use Rattle.spm_tables.specs.declared.links.Ends.{Ends}
@@ -25,6 +25,7 @@ use Rattle.spm_tables.specs.Queues.{first_of, no_ends, link_at, ends_at, AreQueu
 use Rattle.spm_tables.proofs.MessageLemmas.{all-found, found-too, found-live, found-index, IsOldest, oldest-is, same_itself}
 use Rattle.spm_tables.proofs.QueueLemmas.{out, out-none}
 use Rattle.spm_tables.proofs.QueueUpdates.{Apart, queues-join, queues-unlink, length-joined, length-unlinked}
+use Rattle.handle_table.proofs.Twins.{find-all_fail}
 
 -- the indices of the items that pass
 abbrev pub places : (Held QueuedMessage → Bool) → List (Held QueuedMessage) → List ℕ
@@ -193,20 +194,7 @@ put-same t s n h (x ∷ xs) same only =
     go (has_slot s x) refl
 
 known-put : (bound : ℕ) (s : Slot) (n : QueuedMessage) (xs : List (Held QueuedMessage)) → n.service < bound → All (λ h. h.item.service < bound) xs → All (λ h. h.item.service < bound) (map (item_put s n) xs)
-known-put bound s n [] below a = All-nil (λ (h : Held QueuedMessage). h.item.service < bound)
-known-put bound s n (x ∷ xs) below a =
-    let go : (b : Bool) → (cond b (record x { item = n }) x).item.service < bound = elim [ true ↦ below | false ↦ All-head (λ (h : Held QueuedMessage). h.item.service < bound) x xs a ] in
-    All-cons (λ (h : Held QueuedMessage). h.item.service < bound) (item_put s n x) (map (item_put s n) xs) (go (has_slot s x)) (known-put bound s n xs below (All-tail (λ (h : Held QueuedMessage). h.item.service < bound) x xs a))
-
-known-found : (bound : ℕ) (p : Held QueuedMessage → Bool) (xs : List (Held QueuedMessage)) (h : Held QueuedMessage) → All (λ x. x.item.service < bound) xs → find p xs ≡ Some h → h.item.service < bound
-known-found bound p [] h a f = cc
-known-found bound p (x ∷ xs) h a f =
-    let go : (b : Bool) → cond b (Some x) (find p xs) ≡ Some h → h.item.service < bound =
-    elim [
-      | true ↦ λ g. let it : x ≡ h = cc in subst (λ (y : Held QueuedMessage). y.item.service < bound) it (All-head (λ (y : Held QueuedMessage). y.item.service < bound) x xs a)
-      | false ↦ λ g. known-found bound p xs h (All-tail (λ (y : Held QueuedMessage). y.item.service < bound) x xs a) g
-    ] in
-    go (p x) f
+known-put bound s n xs below a = All-put (λ (h : Held QueuedMessage). h.item.service < bound) s n (λ h e. below) xs a
 
 -- ---- what the queues keep
 
@@ -222,7 +210,7 @@ module _ (p : Places QueuedMessage) (ls : List Link) (es : List Ends) where
   keeps-take s x kept k free fresh below =
       let parts = free-parts p s free in
       let index : s.index < length p.generations = index-below (λ i. not (list_any (is_at i) p.held)) (length p.generations) s.index parts.0 in
-      let none : count_by (is_at s.index) p.held ≡ 0 = none-count (is_at s.index) p.held (is_off (list_any (is_at s.index) p.held) (found-free (λ i. not (list_any (is_at i) p.held)) (range_with_len 0 (length p.generations)) s.index parts.0)) in
+      let none : count_by (is_at s.index) p.held ≡ 0 = none-count (is_at s.index) p.held (is_off (list_any (is_at s.index) p.held) (find-passes (λ i. not (list_any (is_at i) p.held)) (range_with_len 0 (length p.generations)) s.index parts.0)) in
       let waiting : (v : ℕ) → waits_for v (record { slot = s; item = x }) ≡ (x.service == v) = λ v. ap (λ (b : Bool). is_none (shown_handle b s) && (x.service == v)) fresh in
       record {
         linked = omega (arith, length-joined ls (ends_at es x.service).last s.index, k.linked, length-set p.generations s.index s.generation);
@@ -255,7 +243,7 @@ module _ (p : Places QueuedMessage) (ls : List Link) (es : List Ends) where
   service-below : (s : Slot) (m : QueuedMessage) → KeepsQueues p ls es → item_at p s ≡ Some m → m.service < length es
   service-below s m k live =
       let it = held-of p s m live in
-      subst (λ (i : QueuedMessage). i.service < length es) it.2 (known-found (length es) (has_slot s) p.held it.0 k.known it.1)
+      subst (λ (i : QueuedMessage). i.service < length es) it.2 (find-all (λ (h : Held QueuedMessage). h.item.service < length es) (has_slot s) p.held it.0 it.1 k.known)
 
   -- a message leaves its queue
   keeps-left : (r : Places QueuedMessage) (s : Slot) (m : QueuedMessage) → IsKept 304 p → KeepsQueues p ls es → item_at p s ≡ Some m → m.delivered ≡ false
@@ -356,15 +344,8 @@ first-find t (x ∷ xs) =
     go (t x)
 
 none-known : (v bound : ℕ) (xs : List (Held QueuedMessage)) → bound ≤ v → All (λ h. h.item.service < bound) xs → find (waits_for v) xs ≡ None
-none-known v bound [] past a = refl
-none-known v bound (x ∷ xs) past a =
-    let below : x.item.service < bound = All-head (λ (h : Held QueuedMessage). h.item.service < bound) x xs a in
-    let go : (b : Bool) → waits_for v x ≡ b → cond b (Some x) (find (waits_for v) xs) ≡ None =
-    elim [
-      | true ↦ λ e. absurd (omega (arith, waits-service v x e))
-      | false ↦ λ e. none-known v bound xs past (All-tail (λ (h : Held QueuedMessage). h.item.service < bound) x xs a)
-    ] in
-    go (waits_for v x) refl
+none-known v bound xs past a =
+    find-all_fail (waits_for v) xs (All-weaker (λ (h : Held QueuedMessage). h.item.service < bound) (λ (h : Held QueuedMessage). waits_for v h ≡ true → ⊥) (λ h below e. absurd (omega (arith, waits-service v h e))) xs a)
 
 pub first-is : (p : Places QueuedMessage) (ls : List Link) (es : List Ends) (v : ℕ) → KeepsQueues p ls es → (ends_at es v).first ≡ first_of (queue_in p v)
 first-is p ls es v k =

@@ -24,18 +24,14 @@ at_each P s here others v =
 -- ---- one link is written
 
 before-set : (ls : List Link) (m k : ℕ) (x : Link) → x.before ≡ (link_at ls m).before → (link_at (set ls m x) k).before ≡ (link_at ls k).before
-before-set [] m k x e = refl
 before-set (y ∷ ys) zero zero x e = e
-before-set (y ∷ ys) zero (suc k) x e = refl
-before-set (y ∷ ys) (suc m) zero x e = refl
 before-set (y ∷ ys) (suc m) (suc k) x e = before-set ys m k x e
+before-set _ _ _ x e = refl
 
 after-set : (ls : List Link) (m k : ℕ) (x : Link) → x.after ≡ (link_at ls m).after → (link_at (set ls m x) k).after ≡ (link_at ls k).after
-after-set [] m k x e = refl
 after-set (y ∷ ys) zero zero x e = e
-after-set (y ∷ ys) zero (suc k) x e = refl
-after-set (y ∷ ys) (suc m) zero x e = refl
 after-set (y ∷ ys) (suc m) (suc k) x e = after-set ys m k x e
+after-set _ _ _ x e = refl
 
 after-kept : (o b : Option ℕ) (ls : List Link) (k : ℕ) → (link_at (with_before o b ls) k).after ≡ (link_at ls k).after
 after-kept None b ls k = refl

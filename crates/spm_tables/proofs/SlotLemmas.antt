@@ -2,7 +2,7 @@
 use Rattle.std.proofs.Common.{ℕ, ◌≡◌, ◌<◌, ◌≤◌, ◌+◌, ◌==◌, Bool, true, false, cond, not, List, [], ◌∷◌, arith, ◌∙◌, ap, sym, refl, subst}
 use Rattle.std.specs.Prelude.{find, Option, Some, None, map, All, IsSome, IfSome}
 use Rattle.std.specs.Option.{option_map}
-use Rattle.std.proofs.lemmas.List.Elements.{All-nil, All-cons, All-push, All-filter, All-weaker, All-map, All-head, All-tail}
+use Rattle.std.proofs.lemmas.List.Elements.{All-nil, All-cons, All-push, All-filter, All-weaker, All-map}
 use Rattle.ffm_model.specs.declared.objects.OpenConnection.{OpenConnection}
 use Rattle.object_pools.specs.declared.slot.Slot.{Slot}
 use Rattle.object_pools.specs.declared.slot.Held.{Held}
@@ -10,24 +10,13 @@ use Rattle.object_pools.specs.Pool.{Places, IsKept, has_slot, item_at, item_put,
 use Rattle.handle_table.specs.Table.{connections, Rises, IsTable}
 use Rattle.handle_table.proofs.SlotLemmas.{has_own, one_slot, slot-is, held-of}
 use Rattle.handle_table.proofs.TableLemmas.{rises-bounds}
-use Rattle.list_laws.proofs.Tests.{find-passes}
+use Rattle.list_laws.proofs.Tests.{find-passes, find-all}
 use Rattle.spm_tables.specs.declared.item.MessageItem.{MessageItem}
 use Rattle.spm_tables.specs.declared.item.QueuedMessage.{QueuedMessage}
 use Rattle.spm_tables.specs.TablesView.{queued, queued_as, serial_at}
 use Rattle.spm_tables.specs.Queues.{QueuesView}
 use Rattle.spm_tables.specs.Slots.{BelongsTo, KeepSlots}
 use Rattle.spm_tables.proofs.MessageLemmas.{find-map, found-too}
-
--- what all keep, the one that is found keeps
-All-found : {X : Type 0} (P : X → Type 0) (q : X → Bool) (xs : List X) (x : X) → All P xs → find q xs ≡ Some x → P x
-All-found P q [] x a f = cc
-All-found P q (y ∷ ys) x a f =
-    let go : (b : Bool) → cond b (Some y) (find q ys) ≡ Some x → P x =
-    elim [
-      | true ↦ λ g. let it : y ≡ x = cc in subst P it (All-head P y ys a)
-      | false ↦ λ g. All-found P q ys x (All-tail P y ys a) g
-    ] in
-    go (q y) f
 
 -- if it is the message's connection, the message names its slot
 abbrev Slotted : QueuedMessage → Held OpenConnection → Type 0
@@ -36,7 +25,7 @@ Slotted m h = m.serial ≡ Some h.item.serial → m.connection ≡ Some h.slot
 pub named-slot : (p : Places OpenConnection) (s : Slot) (c : OpenConnection) (m : QueuedMessage) → BelongsTo p m → item_at p s ≡ Some c → m.serial ≡ Some c.serial → m.connection ≡ Some s
 named-slot p s c m b live same =
     let it = held-of p s c live in
-    All-found (Slotted m) (has_slot s) p.held it.0 b.slot it.1 (same ∙ ap (λ (d : OpenConnection). Some d.serial) (sym it.2)) ∙ ap (λ (t : Slot). Some t) it.3
+    find-all (Slotted m) (has_slot s) p.held it.0 it.1 b.slot (same ∙ ap (λ (d : OpenConnection). Some d.serial) (sym it.2)) ∙ ap (λ (t : Slot). Some t) it.3
 
 -- ---- changes of the connections
 
@@ -72,7 +61,7 @@ slots-free p w s k =
 pub belongs-at : (p : Places OpenConnection) (w : Places QueuedMessage) (s : Slot) (m : QueuedMessage) → KeepSlots p w → item_at w s ≡ Some m → BelongsTo p m
 belongs-at p w s m k live =
     let it = held-of w s m live in
-    subst (BelongsTo p) it.2 (All-found (λ h. BelongsTo p h.item) (has_slot s) w.held it.0 k it.1)
+    subst (BelongsTo p) it.2 (find-all (λ h. BelongsTo p h.item) (has_slot s) w.held it.0 it.1 k)
 
 pub slots-take : (p : Places OpenConnection) (w : Places QueuedMessage) (s : Slot) (m : QueuedMessage) → BelongsTo p m → KeepSlots p w → KeepSlots p (taken w s m)
 slots-take p w s m b k = All-push (λ h. BelongsTo p h.item) w.held (record { slot = s; item = m }) k b
@@ -135,7 +124,7 @@ one-place low made (y ∷ ys) q x r f =
           All-cons (λ h. h.item.serial ≡ x.item.serial → h.slot ≡ x.slot) y ys (λ e. ap (λ (h : Held OpenConnection). h.slot) it)
           (All-weaker (λ h. y.item.serial + 1 ≤ h.item.serial) (λ h. h.item.serial ≡ x.item.serial → h.slot ≡ x.slot) (λ h a e. absurd {A = h.slot ≡ x.slot} (omega arith)) ys later)
       | false ↦ λ g.
-          let after : y.item.serial + 1 ≤ x.item.serial = All-found (λ h. y.item.serial + 1 ≤ h.item.serial) q ys x later g in
+          let after : y.item.serial + 1 ≤ x.item.serial = find-all (λ h. y.item.serial + 1 ≤ h.item.serial) q ys x g later in
           All-cons (λ h. h.item.serial ≡ x.item.serial → h.slot ≡ x.slot) y ys (λ e. absurd (omega arith)) (one-place (y.item.serial + 1) made ys q x r.1 g)
     ] in
     go (q y) f
@@ -148,7 +137,7 @@ belongs-to p s c m t live serial names =
     let it = held-of p s c live in
     let same : (it.0).item.serial ≡ c.serial = ap (λ (d : OpenConnection). d.serial) it.2 in
     record {
-      made = subst (λ (k : Option ℕ). IfSome k (λ i. i < p.takes)) (sym serial) (omega (arith, same, All-found (λ h. h.item.serial < p.takes) (has_slot s) p.held it.0 (below-made 0 p.takes p.held t.rising) it.1));
+      made = subst (λ (k : Option ℕ). IfSome k (λ i. i < p.takes)) (sym serial) (omega (arith, same, find-all (λ h. h.item.serial < p.takes) (has_slot s) p.held it.0 it.1 (below-made 0 p.takes p.held t.rising)));
       slot = All-weaker (λ h. h.item.serial ≡ (it.0).item.serial → h.slot ≡ (it.0).slot) (Slotted m)
           (λ h one e. names ∙ ap (λ (u : Slot). Some u) (sym (one (let is : h.item.serial ≡ c.serial = cc in is ∙ sym same) ∙ it.3))) p.held (one-place 0 p.takes p.held (has_slot s) it.0 t.rising it.1);
     }
@@ -187,7 +176,7 @@ slot-of-serial p m n c kept b numbered f =
       | Some h ↦ λ e g.
           let here : find (has_slot h.slot) p.held ≡ Some h = found-too (λ x. x.item.serial == n) (has_slot h.slot) p.held h (has_own h.slot) (one_slot 256 p h.slot kept) e in
           let serial : h.item.serial ≡ n = equal h.item.serial n (find-passes (λ x. x.item.serial == n) p.held h e) in
-          (h.slot, All-found (Slotted m) (λ x. x.item.serial == n) p.held h b.slot e (numbered ∙ ap (λ (k : ℕ). Some k) (sym serial)), ap (option_map (λ (x : Held OpenConnection). x.item)) here ∙ g)
+          (h.slot, find-all (Slotted m) (λ x. x.item.serial == n) p.held h e b.slot (numbered ∙ ap (λ (k : ℕ). Some k) (sym serial)), ap (option_map (λ (x : Held OpenConnection). x.item)) here ∙ g)
     ] in
     go (find (λ h. h.item.serial == n) p.held) refl (sym (find-map (λ (h : Held OpenConnection). h.item) (λ d. d.serial == n) p.held) ∙ f) where
       equal : (k n : ℕ) → (k == n) ≡ true → k ≡ n

@@ -21,6 +21,7 @@ use Rattle.counting_law.proofs.Parts.{is_itself}
 use Rattle.trace_diagram.specs.Pairs.{Asks}
 use Rattle.trace_diagram.proofs.Issues.{own-connection}
 use Rattle.counting_law.proofs.Events.{position-passes}
+use Rattle.counting_law.proofs.Callers.{all-at}
 
 -- the service at a place has an owner
 abbrev pub Owned : System → ℕ → Type 0
@@ -37,14 +38,6 @@ index-owned : (s : System) (index service : ℕ) (x : Bool) → (if x then None 
 index-owned s index service true e = cc
 index-owned s index service false e = position-owned s (λ (v : Service). v.stateless == index) service e
 
--- a connection is to a service that its client has a budget for
-found-all : {X : Type 0} (q r : X → Bool) (xs : List X) (x : X) → list_all q xs ≡ true → find r xs ≡ Some x → q x ≡ true
-found-all q r [] x all e = cc
-found-all {X} q r (y ∷ ys) x all e =
-    let parts = and_parts (q y) (list_all q ys) all in
-    let go : (b : Bool) → (if b then Some y else find r ys) ≡ Some x → q x ≡ true = elim [ true ↦ λ k. let same : y ≡ x = cc in ap q (sym same) ∙ parts.0 | false ↦ λ k. found-all q r ys x parts.1 k ] in
-    go (r y) e
-
 budget-owned : (s : System) (a service : ℕ) (o : Option Budget) → find (λ (b : Budget). (b.client.0 == a) && (b.service == service)) s.budgets ≡ o → 1 ≤ unwrap_or (option_map (λ (b : Budget). b.count) o) 0 → Owned s service
 budget-owned s a service None at some = absurd (omega (arith, some))
 budget-owned s a service (Some b) at some =
@@ -52,7 +45,7 @@ budget-owned s a service (Some b) at some =
     let fits : Budget → Bool = λ (x : Budget). nat_lt x.client.0 n && option_map_or (λ (v : Service). not (v.owner == x.client.0)) (slice_get s.services x.service) false in
     let same : b.service ≡ service = eqb-true b.service service (and_parts (b.client.0 == a) (b.service == service) (find-passes (λ (x : Budget). (x.client.0 == a) && (x.service == service)) s.budgets b at)).1 in
     let all : list_all fits s.budgets ≡ true = (and_parts _ _ (and_parts _ _ (budgets_hold s)).0).0 in
-    let passes : option_map_or (λ (v : Service). not (v.owner == b.client.0)) (slice_get s.services b.service) false ≡ true = (and_parts _ _ (found-all fits _ s.budgets b all at)).1 in
+    let passes : option_map_or (λ (v : Service). not (v.owner == b.client.0)) (slice_get s.services b.service) false ≡ true = (and_parts _ _ (all-at fits s.budgets _ b all at)).1 in
     subst (Owned s) same (owned-by s b.service (λ (v : Service). not (v.owner == b.client.0)) (slice_get s.services b.service) refl passes)
 
 connection-owned : (s : System) (limit : Handle → ℕ) (b : SpmState) (a : ℕ) (h : Handle) (c : OpenConnection) → Balanced s limit b → connection_held b a h ≡ Some c → Owned s c.service
