@@ -1,6 +1,6 @@
 -- The answer of the machine to a call: the only one but for its handle.
 use Rattle.std.proofs.Common.{ℕ, ℤ, pos, ◌≡◌, ◌⊎◌, inl, inr, Bool, true, false, List, refl, ap, sym, ◌∙◌}
-use Rattle.std.specs.Prelude.{Option, Some, None, IsSome, option_and_then, find, is_none, is_some, ◌&&◌, ◌||◌, ◌==◌, not, if◌then◌else◌}
+use Rattle.std.specs.Prelude.{Option, Some, None, IsSome, is_none, is_some, ◌&&◌, ◌||◌, ◌==◌, not, if◌then◌else◌}
 use Rattle.std.specs.Ordering.{int_eq}
 use Rattle.std.specs.Str.{bytes_eq}
 use Rattle.std.proofs.lemmas.Bool.{and_parts, eqb-true, false_from_ne_true}
@@ -18,16 +18,15 @@ use Rattle.ffm_model.specs.declared.machine.Outcome.{Outcome}
 use Rattle.ffm_model.specs.declared.machine.Outcome.TheVariants.{Value, Number, Signals, Got, Blocked, Done, Panicked}
 use Rattle.ffm_model.specs.declared.objects.ActorPhase.{ActorPhase}
 use Rattle.ffm_model.specs.declared.objects.ActorPhase.TheVariants as phase
-use Rattle.ffm_model.specs.declared.objects.PendingMessage.{PendingMessage}
 use Rattle.ffm_model.specs.Actors.{kind_of}
-use Rattle.ffm_model.specs.Memory.{valid_buffer}
-use Rattle.ffm_model.specs.State.{State, phase_of, fresh, handle_eq, is_undelivered}
+use Rattle.ffm_model.specs.State.{State, phase_of, fresh, handle_eq}
 use Rattle.ffm_model.specs.ClientCalls.{Effect, returned}
-use Rattle.ffm_model.specs.ServiceCalls.{get_of, service_of_signal, message_size}
 use Rattle.ffm_model.specs.Calls.{effect_of, effect_or_error, has_call, call_case, programmer_error}
 use Rattle.ffm_model.specs.Step.{step, may_call, gives_handle, handle_allowed, handle_shown, message_eq, outcome_eq}
 use Rattle.ffm_model.proofs.StepLemmas.{Fits, step-fits}
 use Rattle.machine_check.specs.Performed.{gave_handle}
+use Rattle.machine_check.proofs.Allowed.{error_gives_none, get_cases}
+use Rattle.machine_check.proofs.Followed.{there}
 use Rattle.trace_view.specs.Why.{IsAnswer, IsStepWith, HasNoHandle, gives, with_handle}
 
 -- ---- the outcome of a call under each handle
@@ -51,26 +50,14 @@ record IsNamed (p : ActorPhase) (c : Call) (g : Bool) (due : Handle → Effect) 
 abbrev Shape : ActorPhase → Call → Bool → (Handle → Effect) → Type 0
 Shape p c g due = IsFixed p c g due ⊎ IsNamed p c g due
 
--- of psa_get of a partition, by the message in the queue
-by_message : (s : System) (st : State) (a signal msg : ℕ) (p : ActorPhase) (i : ℕ) (v : Bool) (y : Option PendingMessage)
-    → Shape p (call.Get signal msg) (not (is_none (option_and_then (λ m. if v then Some (get_of s st i msg zero_handle m) else None) y)))
-    (λ h. effect_or_error (option_and_then (λ m. if v then Some (get_of s st i msg h m) else None) y) Partition s st a (call.Get signal msg))
-by_message s st a signal msg p i true (Some m) = inr (record { giving = refl; like = λ h k. refl; shown = λ h. refl; gave = λ h. refl })
-by_message s st a signal msg p i false (Some m) = inl (record { giving = refl; same = λ h k. refl; gave = λ h. refl })
-by_message s st a signal msg p i v None = inl (record { giving = refl; same = λ h k. refl; gave = λ h. refl })
-
-by_service : (s : System) (st : State) (a signal msg : ℕ) (p : ActorPhase) (v : Bool) (f : ℕ → Option PendingMessage) (x : Option ℕ)
-    → Shape p (call.Get signal msg) (not (is_none (option_and_then (λ i. option_and_then (λ m. if v then Some (get_of s st i msg zero_handle m) else None) (f i)) x)))
-    (λ h. effect_or_error (option_and_then (λ i. option_and_then (λ m. if v then Some (get_of s st i msg h m) else None) (f i)) x) Partition s st a (call.Get signal msg))
-by_service s st a signal msg p v f (Some i) = by_message s st a signal msg p i v (f i)
-by_service s st a signal msg p v f None = inl (record { giving = refl; same = λ h k. refl; gave = λ h. refl })
-
-by_kind : (s : System) (st : State) (a signal msg : ℕ) (p : ActorPhase) (k : ActorKind)
+-- of psa_get
+by_get : (s : System) (st : State) (a signal msg : ℕ) (p : ActorPhase) (k : ActorKind)
     → Shape p (call.Get signal msg) (not (is_none (if has_call k (call.Get signal msg) then call_case s st a (call.Get signal msg) zero_handle else None)))
     (λ h. effect_or_error (if has_call k (call.Get signal msg) then call_case s st a (call.Get signal msg) h else None) k s st a (call.Get signal msg))
-by_kind s st a signal msg p Partition = by_service s st a signal msg p (valid_buffer s a msg message_size) (λ i. find (is_undelivered i) st.spm.messages) (service_of_signal s a signal)
-by_kind s st a signal msg p Client = inl (record { giving = refl; same = λ h k. refl; gave = λ h. refl })
-by_kind s st a signal msg p Device = inl (record { giving = refl; same = λ h k. refl; gave = λ h. refl })
+by_get s st a signal msg p k =
+    get_cases s st a signal msg k (λ due. Shape p (call.Get signal msg) (not (is_none (due zero_handle))) (λ h. effect_or_error (due h) k s st a (call.Get signal msg)))
+    (inl (record { giving = refl; same = λ h j. refl; gave = λ h. error_gives_none s st a signal msg p k }))
+    (λ i m. inr (record { giving = refl; like = λ h j. refl; shown = λ h. refl; gave = λ h. refl }))
 
 -- of a return
 by_return : (s : System) (st : State) (a : ℕ) (k : ActorKind) (p : ActorPhase)
@@ -79,12 +66,10 @@ by_return : (s : System) (st : State) (a : ℕ) (k : ActorKind) (p : ActorPhase)
 by_return s st a Partition (phase.Connected c) = inr (record { giving = refl; like = λ h k. refl; shown = λ h. refl; gave = λ h. refl })
 by_return s st a Client (phase.Connected c) = inr (record { giving = refl; like = λ h k. refl; shown = λ h. refl; gave = λ h. refl })
 by_return s st a Device (phase.Connected c) = inr (record { giving = refl; like = λ h k. refl; shown = λ h. refl; gave = λ h. refl })
-by_return s st a Partition p = inl (record { giving = refl; same = λ h k. refl; gave = λ h. refl })
-by_return s st a Client p = inl (record { giving = refl; same = λ h k. refl; gave = λ h. refl })
-by_return s st a Device p = inl (record { giving = refl; same = λ h k. refl; gave = λ h. refl })
+by_return s st a k p = inl (record { giving = refl; same = λ h k. refl; gave = λ h. refl })
 
 shape : (s : System) (st : State) (a : ℕ) (c : Call) → Shape (phase_of st.spm a) c (gives_handle (phase_of st.spm a) c && not (programmer_error s st a c)) (λ h. effect_of s st a c h)
-shape s st a (call.Get signal msg) = by_kind s st a signal msg (phase_of st.spm a) (kind_of s a)
+shape s st a (call.Get signal msg) = by_get s st a signal msg (phase_of st.spm a) (kind_of s a)
 shape s st a call.Resume = by_return s st a (kind_of s a) (phase_of st.spm a)
 shape s st a c = inl (record { giving = refl; same = λ h k. refl; gave = λ h. refl })
 
@@ -136,9 +121,6 @@ fits_from s st e h =
     let due = effect_of s st e.actor.0 e.call k in
     let tests = three_tests (may_call s st.spm e.actor.0 e.call) (handle_allowed s st e.actor.0 e.call k) (outcome_eq due.outcome e.outcome) due.state h in
     record { may = tests.0; allowed = tests.1.0; outcome = sym (same_outcome due.outcome e.outcome tests.1.1) }
-
-there : {X : Type 0} (o : Option X) (x : X) → o ≡ Some x → IsSome o
-there o x e = rw e refl
 
 pub step_from : (s : System) (st : State) (e : Entry) → Fits s st e → IsSome (step s st e)
 step_from s st e f = there _ _ (step-fits s st e f)

@@ -1,63 +1,26 @@
 -- How a trace is judged, out of what was reached.
-use Rattle.std.proofs.Common.{arith, ℕ, ◌≡◌, ◌<◌, ◌≤◌, ◌+◌, Bool, true, false, List, [], ◌∷◌, ◌++◌, length, take, drop, get_or, refl, ap, sym, subst, ◌∙◌, inl, inr}
-use Rattle.std.proofs.lemmas.Bool.Decides.{nat_tests}
+use Rattle.std.proofs.Common.{arith, ℕ, ◌≡◌, ◌<◌, ◌≤◌, ◌+◌, true, false, List, [], ◌∷◌, ◌++◌, length, take, drop, get_or, refl, ap, sym, subst, ◌∙◌, inl, inr}
+use Rattle.std.proofs.lemmas.Bool.{le-leb}
 use Rattle.std.proofs.lemmas.List.{drop_all, drop_more, length-take-le, take-append-drop, take_all, take_more}
 use Rattle.std.proofs.lemmas.Option.{slice_get-get_or}
-use Rattle.std.specs.Prelude.{nat_le, None, Some, Option, if◌then◌else◌, fold, option_and_then, IsSomeAnd}
+use Rattle.std.specs.Prelude.{nat_le, Some, Option, if◌then◌else◌, option_and_then, IsSomeAnd}
 use Rattle.std.specs.Option.{option_map_or}
 use Rattle.ffm_model.specs.declared.system.System.{System}
 use Rattle.ffm_model.specs.declared.machine.Entry.{Entry}
 use Rattle.ffm_model.specs.declared.machine.Verdict.{Verdict}
 use Rattle.ffm_model.specs.Memory.{ByteMap}
 use Rattle.ffm_model.specs.State.{State, opening}
-use Rattle.ffm_model.specs.Step.{after, step, step_on}
+use Rattle.ffm_model.specs.Step.{after, step}
 use Rattle.ffm_model.proofs.StepLemmas.{after-push}
-use Rattle.ffm_model.specs.Verdicts.{Judgement, Legal, IllegalAt, judged, judged_from, verdict_at, verdict_eq, verdict_of}
+use Rattle.ffm_model.specs.Verdicts.{Legal, IllegalAt, judged, judged_from, verdict_at, verdict_eq, verdict_of}
 use Rattle.machine_calls.specs.Machine.{spm_of_objects, state_of}
 use Rattle.machine_check.specs.declared.judging.Checker.{Checker}
 use Rattle.machine_check.specs.Reaching.{IsLast, IsReached}
+use Rattle.machine_check.proofs.Followed.{judged_behind}
+use Rattle.machine_check.proofs.Judged.{either, first, second}
 use Rattle.trace_view.specs.Why.{BreaksRule, IsFinding, IsIllegal, IsRule, TellsOfCall}
 use Rattle.trace_view.specs.declared.reasons.Finding.TheVariants as finding
 use Rattle.trace_view.specs.declared.reasons.IllegalEntry.{IllegalEntry}
-
-below_limit : (limit n : ℕ) → n < limit → nat_le limit n ≡ false
-below_limit limit n h = grind (arith, nat_tests)
-
-at_limit : (limit n : ℕ) → limit ≤ n → nat_le limit n ≡ true
-at_limit limit n h = grind (arith, nat_tests)
-
-if_true : (b : Bool) (x y : Judgement) → b ≡ true → (if b then x else y) ≡ x
-if_true b x y h = rw h refl
-
-if_false : (b : Bool) (x y : Judgement) → b ≡ false → (if b then x else y) ≡ y
-if_false b x y h = rw h refl
-
-if_same : (b : Bool) (x y : Judgement) → y ≡ x → (if b then x else y) ≡ x
-if_same true x y h = refl
-if_same false x y h = h
-
-none_stays : (s : System) (es : List Entry) → fold (step_on s) None es ≡ None
-none_stays s [] = refl
-none_stays s (e ∷ es) = none_stays s es
-
--- behind entries that are a run within the limit, the others decide
-behind_run : (s : System) (limit : ℕ) (v : Verdict) (n : ℕ) (xs ys : List Entry) (st new : State) → n + length xs ≤ limit → fold (step_on s) (Some st) xs ≡ Some new
-    → judged_from s limit v n (xs ++ ys) st ≡ judged_from s limit v (n + length xs) ys new
-behind_run s limit v n [] ys st new within run =
-    let same : st ≡ new = cc in
-    let here : n + 0 ≡ n = omega arith in
-    ap (λ k. judged_from s limit v k ys st) (sym here) ∙ ap (λ x. judged_from s limit v (n + 0) ys x) same
-behind_run s limit v n (x ∷ xs) ys st new within run = by_step (step s st x) refl run (λ next rest. behind_run s limit v (n + 1) xs ys next new (omega (arith, within)) rest) where
-  by_step : (o : Option State) → step s st x ≡ o → fold (step_on s) o xs ≡ Some new
-      → ((next : State) → fold (step_on s) (Some next) xs ≡ Some new → judged_from s limit v (n + 1) (xs ++ ys) next ≡ judged_from s limit v ((n + 1) + length xs) ys new)
-      → judged_from s limit v n (x ∷ (xs ++ ys)) st ≡ judged_from s limit v (n + length (x ∷ xs)) ys new
-  by_step None is rest more = let none = none_stays s xs in absurd (cc)
-  by_step (Some next) is rest more =
-      let long : (n + 1) + length xs ≡ n + length (x ∷ xs) = omega arith in
-      if_false (nat_le limit n) _ _ (below_limit limit n (omega (arith, within)))
-      ∙ ap (λ o. option_map_or (λ z. judged_from s limit v (n + 1) (xs ++ ys) z) o (IllegalAt (n + 1))) is
-      ∙ more next rest
-      ∙ ap (λ k. judged_from s limit v k ys new) long
 
 -- the judgement by the entries that are left
 pub left_over : (s : System) (m : ByteMap) (limit : ℕ) (es : List Entry) (v : Verdict) (r : Checker) (it : IsReached s m limit es r)
@@ -66,7 +29,7 @@ left_over s m limit es v r it =
     let long : length (take r.count es) ≡ r.count = length-take-le r.count es it.few in
     let from_0 : 0 + length (take r.count es) ≡ r.count = omega (arith, long) in
     ap (λ xs. judged s m limit xs v) (sym (take-append-drop r.count es))
-    ∙ behind_run s limit v 0 (take r.count es) (drop r.count es) (opening s m) (state_of r.machine it.behind.handles) (omega (arith, long, it.within)) it.behind.state
+    ∙ judged_behind s limit v 0 (take r.count es) (drop r.count es) (opening s m) (state_of r.machine it.behind.handles) it.behind.state (omega (arith, long, it.within))
     ∙ ap (λ k. judged_from s limit v k (drop r.count es) (state_of r.machine it.behind.handles)) from_0
 
 all_gone : (s : System) (limit : ℕ) (v : Verdict) (n : ℕ) (xs : List Entry) (st : State) → xs ≡ [] → judged_from s limit v n xs st ≡ (if option_map_or (verdict_eq v) (verdict_at s limit n st.spm) false then Legal else IllegalAt (n + 1))
@@ -83,8 +46,8 @@ next_is_illegal s m limit es r e it below more = which it.last where
 
 -- an illegal entry decides
 illegal_decides : (s : System) (limit : ℕ) (v : Verdict) (n : ℕ) (e : Entry) (es : List Entry) (st : State) → IsIllegal s limit n st e → judged_from s limit v n (e ∷ es) st ≡ IllegalAt (n + 1)
-illegal_decides s limit v n e es st (inl full) = if_true (nat_le limit n) _ _ (at_limit limit n full)
-illegal_decides s limit v n e es st (inr none) = if_same (nat_le limit n) _ _ (ap (λ o. option_map_or (λ z. judged_from s limit v (n + 1) es z) o (IllegalAt (n + 1))) none)
+illegal_decides s limit v n e es st (inl full) = first (nat_le limit n) _ _ (le-leb limit n full)
+illegal_decides s limit v n e es st (inr none) = either (nat_le limit n) _ _ (ap (λ o. option_map_or (λ z. judged_from s limit v (n + 1) es z) o (IllegalAt (n + 1))) none)
 
 -- the parts of a list at a place
 parts_at : (es : List Entry) (k : ℕ) (e : Entry) → k < length es → e ≡ get_or es k e → (drop k es ≡ e ∷ drop (k + 1) es) × (take (k + 1) es ≡ take k es ++ e ∷ [])
@@ -115,7 +78,7 @@ none_left s m limit es v r it all = left_over s m limit es v r it ∙ all_gone s
 
 pub is_legal : (s : System) (m : ByteMap) (limit : ℕ) (es : List Entry) (v : Verdict) (r : Checker) → IsReached s m limit es r → length es ≤ r.count
     → option_map_or (verdict_eq v) (verdict_at s limit r.count (spm_of_objects r.machine.objects)) false ≡ true → IsFinding s m limit es v (finding.Legal r.count)
-is_legal s m limit es v r it all due = (none_left s m limit es v r it all ∙ if_true _ _ _ due, omega (arith, all, it.few))
+is_legal s m limit es v r it all due = (none_left s m limit es v r it all ∙ first _ _ _ due, omega (arith, all, it.few))
 
 verdict_due : (s : System) (m : ByteMap) (limit : ℕ) (es : List Entry) (r : Checker) → IsReached s m limit es r → length es ≤ r.count → verdict_at s limit r.count (spm_of_objects r.machine.objects) ≡ verdict_of s m limit es
 verdict_due s m limit es r it all =
@@ -126,4 +89,4 @@ verdict_due s m limit es r it all =
 pub wrong_verdict : (s : System) (m : ByteMap) (limit : ℕ) (es : List Entry) (v : Verdict) (r : Checker) (d : Option Verdict) → IsReached s m limit es r → length es ≤ r.count → d ≡ verdict_at s limit r.count (spm_of_objects r.machine.objects)
     → option_map_or (verdict_eq v) d false ≡ false → IsFinding s m limit es v (finding.Verdict (r.count + 1) v d)
 wrong_verdict s m limit es v r d it all is due =
-    (none_left s m limit es v r it all ∙ if_false _ _ _ (ap (λ x. option_map_or (verdict_eq v) x false) (sym is) ∙ due), (omega (arith, all, it.few), (refl, is ∙ verdict_due s m limit es r it all)))
+    (none_left s m limit es v r it all ∙ second _ _ _ (ap (λ x. option_map_or (verdict_eq v) x false) (sym is) ∙ due), (omega (arith, all, it.few), (refl, is ∙ verdict_due s m limit es r it all)))

@@ -8,7 +8,7 @@ use Rattle.ffm_model.specs.Memory.{ByteMap}
 use Rattle.ffm_model.specs.Step.{after}
 use Rattle.machine_check.specs.declared.judging.Checker.{Checker}
 use Rattle.machine_check.specs.Reaching.{IsBehind, IsLast, IsReached}
-use Rattle.machine_check.proofs.Followed.{is_some}
+use Rattle.machine_check.proofs.Followed.{there}
 use Rattle.trace_view.specs.Showing.{AreLastPlaces, IsIllegalAt, IsStateBehind}
 use Rattle.trace_view.specs.declared.behind.StateBehind.{StateBehind}
 
@@ -34,7 +34,7 @@ place_illegal s m limit es k r few it other =
           place = refl;
           there = omega (arith, below, few);
           within = it.within;
-          run = is_some _ _ (ap (after s m) (sym front) ∙ it.behind.state);
+          run = there _ _ (ap (after s m) (sym front) ∙ it.behind.state);
           illegal = which below here it.last;
         },
       ),

@@ -1,6 +1,6 @@
 -- Whether psa_call is a PROGRAMMER ERROR, by the answer that is due.
 use Rattle.std.proofs.Common.{ℕ, ℤ, pos, ◌≡◌, Bool, true, false, refl, ap, ◌∙◌}
-use Rattle.std.specs.Prelude.{Option, Some, None, IfSome, option_and_then, is_none, int_lt, ◌&&◌, ◌||◌, not, if◌then◌else◌}
+use Rattle.std.specs.Prelude.{Option, Some, None, IfSome, is_none, int_lt, ◌&&◌, ◌||◌, not, if◌then◌else◌}
 use Rattle.std.specs.Option.{option_map, option_map_or}
 use Rattle.ffm_model.specs.declared.system.System.{System}
 use Rattle.ffm_model.specs.declared.system.ActorKind.{ActorKind}
@@ -18,6 +18,7 @@ use Rattle.ffm_model.specs.Memory.{vectors_of}
 use Rattle.ffm_model.specs.Panic.{is_dead}
 use Rattle.ffm_model.specs.State.{SpmState, State, connection_held}
 use Rattle.ffm_model.specs.Step.{handle_shown}
+use Rattle.memory_image.proofs.Effects.{each_made, if_fails}
 use Rattle.trace_view.specs.Why.{IsRule, is_refusal, refusal_shown}
 use Rattle.trace_view.specs.declared.reasons.Rule.{Rule}
 use Rattle.trace_view.specs.declared.reasons.Rule.TheVariants as rule
@@ -41,28 +42,14 @@ where_true : (p : Bool) (x : Move) → is_refusal x.outcome ≡ false → IsNone
 where_true true x h = h
 where_true false x h = tt
 
-where_false : (p : Bool) (x : Move) → is_refusal x.outcome ≡ false → IsNone (if p then None else Some x)
-where_false true x h = tt
-where_false false x h = h
-
-by_stateless : (service : Option ℕ) (vectors : Option Vectors) (p : ℕ → Bool) (x : ℕ → Vectors → Move) → ((i : ℕ) (v : Vectors) → is_refusal (x i v).outcome ≡ false)
-    → IsNone (option_and_then (λ i. option_and_then (λ v. if p i then Some (x i v) else None) vectors) service)
-by_stateless None vectors p x h = tt
-by_stateless (Some i) None p x h = tt
-by_stateless (Some i) (Some v) p x h = where_true (p i) (x i v) (h i v)
-
-by_connection : (connection : Option OpenConnection) (vectors : Option Vectors) (p : OpenConnection → Bool) (x : OpenConnection → Vectors → Move) → ((c : OpenConnection) (v : Vectors) → is_refusal (x c v).outcome ≡ false)
-    → IsNone (option_and_then (λ c. option_and_then (λ v. if p c then None else Some (x c v)) vectors) connection)
-by_connection None vectors p x h = tt
-by_connection (Some c) None p x h = tt
-by_connection (Some c) (Some v) p x h = where_false (p c) (x c v) (h c v)
-
 by_index : (s : System) (st : State) (a : ℕ) (h : Handle) (kind : ℤ) (in_vec in_len out_vec out_len : ℕ) (index : Option ℕ)
     → IsNone (option_map_or (λ i. service_called s st a i kind in_vec in_len out_vec out_len) index (connection_called s st a h kind in_vec in_len out_vec out_len))
 by_index s st a h kind in_vec in_len out_vec out_len (Some i) =
-    by_stateless (stateless_at s i) (vectors_of s st.memory a in_vec in_len out_vec out_len) (λ service. permits s a service && not (int_lt kind (pos 0))) (λ service v. call_to s st.spm a service kind v) (λ service v. request_answer s st.spm a service kind v)
+    each_made (λ m. is_refusal m.outcome ≡ false) _ (stateless_at s i) (λ service found. each_made (λ m. is_refusal m.outcome ≡ false) _ (vectors_of s st.memory a in_vec in_len out_vec out_len) (λ v given.
+    where_true (permits s a service && not (int_lt kind (pos 0))) (call_to s st.spm a service kind v) (request_answer s st.spm a service kind v)))
 by_index s st a h kind in_vec in_len out_vec out_len None =
-    by_connection (connection_held st.spm a h) (vectors_of s st.memory a in_vec in_len out_vec out_len) (λ c. refuses_requests c.phase || int_lt kind (pos 0)) (λ c v. call_on st.spm a c kind v) (λ c v. connection_answer st.spm a c kind v)
+    each_made (λ m. is_refusal m.outcome ≡ false) _ (connection_held st.spm a h) (λ c held. each_made (λ m. is_refusal m.outcome ≡ false) _ (vectors_of s st.memory a in_vec in_len out_vec out_len) (λ v given.
+    if_fails (λ m. is_refusal m.outcome ≡ false) (refuses_requests c.phase || int_lt kind (pos 0)) (call_on st.spm a c kind v) (λ may. connection_answer st.spm a c kind v)))
 
 -- the answer is a refusal exactly where the call is one
 exactly : (s : System) (st : State) (a : ℕ) (h : Handle) (kind : ℤ) (in_vec in_len out_vec out_len : ℕ) (k : ActorKind) (x : Option Move) → IsNone x

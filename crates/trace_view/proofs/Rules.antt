@@ -1,5 +1,5 @@
 -- The rule by which an entry is illegal.
-use Rattle.std.proofs.Common.{ℕ, ◌≡◌, ◌<◌, ◌≤◌, inl, inr, Bool, true, false, refl, ap, sym, subst, arith, ◌∙◌}
+use Rattle.std.proofs.Common.{ℕ, ◌≡◌, ◌<◌, ◌≤◌, inl, inr, Bool, true, false, ap, sym, subst, arith, ◌∙◌}
 use Rattle.std.specs.Prelude.{Some, None, IsSome, is_some, nat_lt, ◌&&◌, if◌then◌else◌}
 use Rattle.std.proofs.lemmas.Bool.{and_from, and_left, and_parts, and_right, false_from_ne_true}
 use Rattle.std.proofs.lemmas.Bool.Decides.{nat_tests}
@@ -13,18 +13,12 @@ use Rattle.ffm_model.specs.Step.{step, may_call, handle_shown, outcome_eq, retur
 use Rattle.ffm_model.proofs.StepLemmas.{outcome_eq-self}
 use Rattle.machine_check.specs.Performed.{gave_handle}
 use Rattle.machine_check.specs.Reaching.{IsDue}
+use Rattle.machine_check.proofs.Steps.{none_by_call}
 use Rattle.trace_view.specs.Why.{IsIllegal, IsOther, IsRule, IsStepWith, gives, with_handle}
 use Rattle.trace_view.specs.declared.reasons.Rule.TheVariants as rule
 use Rattle.trace_view.proofs.Answers.{gives_by, no_handle, same_outcome, the_answer}
 
 -- ---- a call that may not be made
-
-no_call : (a b c : Bool) (st : State) → a ≡ false → (if a && b && c then Some st else None) ≡ None
-no_call a b c st h = rw h refl
-
-none_by_call : (s : System) (st : State) (e : Entry) → may_call s st.spm e.actor.0 e.call ≡ false → step s st e ≡ None
-unfolding step
-none_by_call s st e h = no_call _ _ _ _ h
 
 there : (s : System) (e : Entry) → e.actor.0 < actor_count s → nat_lt e.actor.0 (actor_count s) ≡ true
 there s e h = grind (arith, nat_tests)
