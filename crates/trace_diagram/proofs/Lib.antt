@@ -8,6 +8,5 @@ mod Owners
 mod Pairs
 mod Panics
 mod Places
-mod Pushed
 mod Replies
 mod Waiting

@@ -2,7 +2,7 @@ use Rattle.std.proofs.Common.{◌++◌, [], ap, ◌∙◌}
 use Rattle.std.specs.List.{cons_option}
 use Rattle.machine_calls.specs.Machine.{spm_of_objects}
 use Rattle.trace_diagram.specs.Arrows.{release_arrow}
-use Rattle.trace_diagram.proofs.Pushed.{filter_map_more}
+use Rattle.machine_calls.proofs.Leaving.{filter_map_more}
 use Rattle.trace_diagram.proofs.arrows.push_releases.Goals as goal
 
 pub loop-message-preserved : goal.loop-message-preserved
