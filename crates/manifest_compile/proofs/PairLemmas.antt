@@ -1,6 +1,5 @@
 -- Permitted pairs of one actor, service by service.
-use Rattle.std.proofs.Common.{ℕ, ◌≡◌, ◌*◌, ◌≤◌, Bool, List, [], ◌++◌, length, Option, Some, None, refl, ◌∙◌, arith, ltb-false}
-use Rattle.std.specs.Prelude.{if◌then◌else◌}
+use Rattle.std.proofs.Common.{ℕ, ◌≡◌, ◌*◌, ◌≤◌, List, [], ◌++◌, length, refl, ◌∙◌, arith, ltb-false}
 use Rattle.std.specs.List.{enumerate_from, flat_map}
 use Rattle.ffm_model.specs.Layout.{Located}
 use Rattle.ffm_model.specs.ManifestItems.{ManifestRecord, ServiceRecord}

@@ -1,5 +1,5 @@
 -- The parts of a system, where no rule is broken.
-use Rattle.std.proofs.Common.{ℕ, ◌≡◌, ◌≤◌, ◌+◌, List, [], ◌∷◌, ◌++◌, Option, Some, Err, length, map, flat_map, All, ap, sym, ◌∙◌, subst}
+use Rattle.std.proofs.Common.{ℕ, ◌≡◌, ◌≤◌, ◌+◌, List, [], ◌∷◌, Option, Some, Err, length, map, flat_map, All, ap, sym, ◌∙◌, subst}
 use Rattle.std.specs.List.{enumerate_from}
 use Rattle.list_laws.proofs.Lists.{append_nil}
 use Rattle.ffm_model.specs.declared.system.Budget.{Budget}

@@ -1,5 +1,5 @@
 use Rattle.std.proofs.Common.{◌∙◌, append-nil}
-use Rattle.ffm_model.specs.Rules.{unknown_regions, overlapping_regions, too_many_partitions, duplicate_indices, too_many_stateless}
+use Rattle.ffm_model.specs.Rules.{too_many_partitions, duplicate_indices, too_many_stateless}
 use Rattle.manifest_compile.proofs.KeepsLemmas.{behind, part_refused, since_indices, since_regions}
 use Rattle.manifest_compile.proofs.compiler.keep_rules.Goals as goal
 
