@@ -6,8 +6,7 @@ use Rattle.clap.specs.declared.builder.value_parser.ValueParser.{ValueParser}
 use Rattle.clap.specs.declared.error.Error.{Error}
 use Rattle.clap.specs.declared.error.kind.ErrorKind.TheVariants as kind
 use Rattle.clap.specs.declared.parser.matches.ArgMatches.{ArgMatches}
-use Rattle.view_words.specs.Requests.{AskNothing, AsksFor, IsFormatParser, IsRequestOf, IsTold, told_status, view_app}
-use Rattle.view_words.specs.declared.words.Request.{Request}
+use Rattle.view_words.specs.Requests.{IsFormatParser, IsTold, told_status, view_app}
 
 simple : (p : ValueParser) → is_simple (view_app p) ≡ true
 simple p = refl
@@ -31,13 +30,3 @@ failed a p words r form is kinds = by r (subst (λ x. FailsBy (fault_of x words)
   by : (r : Result ArgMatches Error) → FailsBy (fault_of (view_app p) words) r → IfErr r (λ e. (kind_of e ≡ kind.OutOfMemory) ⊎ IsTold words (told_status (kind_of e)))
   by (Ok m) h = tt
   by (Err e) h = which e h
-
--- the matches ask for this
-pub asks : (words : List Text) (m : ArgMatches) (r : Request) → ((p : ValueParser) × IsFormatParser p × ((fault_of (view_app p) words ≡ []) × (subcommand_rows_of m ≡ subcommand_of (view_app p) words)))
-    → IsRequestOf (subcommand_rows_of m) r → AsksFor words r
-asks words m r is asked = (is.0, is.1, is.2.0, subst (λ found. IsRequestOf found r) is.2.1 asked)
-
--- the matches ask for nothing
-pub asks_nothing : (words : List Text) (m : ArgMatches) (e : Error) → ((p : ValueParser) × IsFormatParser p × ((fault_of (view_app p) words ≡ []) × (subcommand_rows_of m ≡ subcommand_of (view_app p) words)))
-    → AskNothing (subcommand_rows_of m) → kind_of e ≡ kind.MissingSubcommand → IsTold words (told_status (kind_of e))
-asks_nothing words m e is asked missing = (is.0, is.1, (kind_of e, inr (missing, subst AskNothing is.2.1 asked), refl))
