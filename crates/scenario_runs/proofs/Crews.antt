@@ -270,9 +270,6 @@ waiting_more (y ∷ seats) x = ap (λ (ws : Crew). left_of y.crew.value y.progre
 pub same_trans : (a b c : Crew) → SameWorkers a b → SameWorkers b c → SameWorkers a c
 same_trans a b c p q = record { actors = q.actors ∙ p.actors; scripts = q.scripts ∙ p.scripts; roles = q.roles ∙ p.roles }
 
-pub same_itself : (a : Crew) → SameWorkers a a
-same_itself a = record { actors = refl; scripts = refl; roles = refl }
-
 tail_is : {X : Type 0} (x y : X) (xs ys : List X) → x ∷ xs ≡ y ∷ ys → xs ≡ ys
 tail_is x y xs ys e = cc
 
@@ -311,13 +308,6 @@ next_left (x ∷ y ∷ crew) rest workers later w one same e = absurd (omega (ar
 
 pub next_finished : (s : SharedView) (workers later : Crew) (w : Worker PassView) → AllFinished s workers → workers ≡ w ∷ later → AllFinished s later
 next_finished s workers later w finished e = rest_of (IsFinished IsOwn record_of IsDone s) w later (subst (AllFinished s) e finished)
-
--- where a crew waits, a worker is left
-pub next_there : (crew rest workers : Crew) → length crew ≡ 1 → SameWorkers (crew ++ rest) workers → 0 < length workers
-next_there crew rest workers one same =
-    let long = same_length (crew ++ rest) workers same in
-    let more = length-append crew rest in
-    omega (arith, one, long, more)
 
 pub crews_more : (seats : List Seat) (x : Seat) → crews_in (seats ++ x ∷ []) ≡ crews_in seats ++ x.crew.value ∷ []
 crews_more [] x = refl

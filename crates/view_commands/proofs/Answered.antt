@@ -1,5 +1,5 @@
 -- What is due of the words and the files, out of what was read and shown.
-use Rattle.std.proofs.Common.{◌≡◌, ◌≢◌, ◌<◌, ℕ, List, inl, inr, length, refl, subst, sym}
+use Rattle.std.proofs.Common.{◌≡◌, ◌≢◌, ◌<◌, ℕ, List, inl, inr, length, subst, sym}
 use Rattle.std.specs.Prelude.{◌⊎◌, Option, Some, None, IfOk, IfSome, IsOk, Result, Ok, Err}
 use Rattle.clap.specs.Words.{kind_of}
 use Rattle.clap.specs.declared.error.Error.{Error}
@@ -9,7 +9,6 @@ use Rattle.outside_io.proofs.ReadSteps.{read_none}
 use Rattle.outside_io.specs.Reads.{FrontReadBetween, ReadBetween}
 use Rattle.outside_io.specs.Told.{Takes, TakesPart}
 use Rattle.work_orders.specs.Work.{Work, work_of}
-use Rattle.view_commands.specs.declared.files.Halt.TheVariants.{Refused}
 use Rattle.view_commands.specs.declared.files.TraceFiles.{TraceFiles}
 use Rattle.view_commands.specs.declared.top.Answer.{Answer}
 use Rattle.view_commands.specs.Answers.{Due, FailedAsked, ReadsAsked, ReadsAskedPart, Shows, ViewDue, WritesDue, WritesPart, files_of}
@@ -23,11 +22,6 @@ pub shown_due : (held : Option Contents) (f : Contents → Reading Work) (files 
     → IfSome held (λ of. ViewDue (f of).gives a text status)
 shown_due None f files a text status read shows = tt
 shown_due (Some of) f files a text status read shows = inr (record { files = files; work = read.0; are = read.1; shows = shows })
-
--- a file is refused
-pub refused_due : (held : Option Contents) (f : Contents → Reading Work) (line : _) (a : Aspect) → IfSome held (λ of. ReadsDue (f of).gives (Err (Refused line))) → IfSome held (λ of. ViewDue (f of).gives a line.items 1)
-refused_due None f line a read = tt
-refused_due (Some of) f line a read = inl (read, refl)
 
 -- what the words ask for is due
 pub asked_due : {E : Type 0} (held : Option Contents) (words : List (List ℕ)) (r : Request) (result : Result Answer E) → AsksFor words r

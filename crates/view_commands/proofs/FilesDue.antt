@@ -1,11 +1,11 @@
 -- What is due of the files of a trace, out of what was read of them.
-use Rattle.std.proofs.Common.{◌≡◌, ◌≤◌, ◌∙◌, ℕ, List, [], append-nil, length, refl, ap, sym, subst}
+use Rattle.std.proofs.Common.{◌≡◌, ◌≤◌, ◌∙◌, ℕ, List, [], append-nil, length, refl, ap, sym}
 use Rattle.std.specs.Prelude.{Option, Some, None, IfSome, Result, Ok, Err}
 use Rattle.std.specs.List.{AllByRecursion}
 use Rattle.ffm_model.specs.declared.constants.TheConstants.{MAX_ENTRIES}
 use Rattle.ffm_model.specs.declared.place.Refusal.{Refusal}
 use Rattle.ffm_model.specs.Actors.{counts_of}
-use Rattle.ffm_model.specs.Reading.{Contents, Reading, Stop, refused}
+use Rattle.ffm_model.specs.Reading.{Contents, Reading}
 use Rattle.ffm_model.specs.TraceText.{trace_text, EntryFits}
 use Rattle.trace_print.specs.Lines.{IsFirstWrong}
 use Rattle.trace_print.specs.View.{parts}
@@ -32,15 +32,6 @@ pub wrong_due : (w : TraceWork) (place : ℕ) (h : Halt) → IsFirstWrong (count
 wrong_due w place (Refused line) first is = record { place = place; first = first; text_is = is; status_is = refl }
 wrong_due w place Memory first is = tt
 wrong_due w place Files first is = absurd is
-
--- a file is refused
-pub refused_due : (held : Option Contents) (f : Contents → Reading Work) (r : Refusal) (h : Halt) → IfSome held (λ of. (f of).gives ≡ Err (refused r)) → IsRefusalBy r h → IfSome held (λ of. ReadsDue (f of).gives (Err h))
-refused_due None f r h gives is = tt
-refused_due (Some of) f r h gives is = subst (λ (g : Result Work Stop). ReadsDue g (Err h)) (sym gives) (by h is) where
-  by : (h : Halt) → IsRefusalBy r h → ReadsDue (Err (refused r)) (Err h)
-  by (Refused line) is = is
-  by Memory is = tt
-  by Files is = tt
 
 -- ---- which files were read
 
