@@ -3,7 +3,6 @@ use Rattle.std.proofs.Common.{◌≡◌, ◌≤◌, ◌∙◌, ℕ, List, [], ap
 use Rattle.std.specs.Prelude.{Option, Some, None, IfSome, Result, Ok, Err}
 use Rattle.std.specs.List.{AllByRecursion}
 use Rattle.ffm_model.specs.declared.constants.TheConstants.{MAX_ENTRIES}
-use Rattle.ffm_model.specs.declared.place.Refusal.{Refusal}
 use Rattle.ffm_model.specs.Actors.{counts_of}
 use Rattle.ffm_model.specs.Reading.{Contents, Reading}
 use Rattle.ffm_model.specs.TraceText.{trace_text, EntryFits}
