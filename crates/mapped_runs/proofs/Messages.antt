@@ -14,19 +14,17 @@ use Rattle.ffm_model.specs.declared.machine.Call.{Call}
 use Rattle.ffm_model.specs.declared.objects.Vectors.{Vectors}
 use Rattle.ffm_model.specs.declared.objects.OpenConnection.{OpenConnection}
 use Rattle.ffm_model.specs.declared.objects.PendingMessage.{PendingMessage}
-use Rattle.ffm_model.specs.declared.objects.ActorPhase.TheVariants.{Running, Panicked}
+use Rattle.ffm_model.specs.declared.objects.ActorPhase.TheVariants.{Running}
 use Rattle.ffm_model.specs.Actors.{is_service_of}
-use Rattle.ffm_model.specs.State.{SpmState, phase_of, handle_eq, has_handle, message_held, without_message, vectors_put, with_vectors, is_undelivered, delivered}
+use Rattle.ffm_model.specs.State.{SpmState, phase_of, handle_eq, has_handle, message_held, vectors_put, with_vectors, is_undelivered, delivered}
 use Rattle.ffm_model.specs.Signals.{is_panicked}
 use Rattle.ffm_model.specs.Panic.{panic_effect, without_service, disconnection, is_dead}
 use Rattle.ffm_model.specs.ServiceCalls.{service_of_signal}
-use Rattle.counting_law.specs.Objects.{accepted_as}
 use Rattle.counting_law.proofs.Balance.{Balanced}
-use Rattle.counting_law.proofs.Keeps.{ready-quiet, request-ready}
-use Rattle.counting_law.proofs.Parts.{is_there, off_from, running-quiet}
-use Rattle.counting_law.proofs.Reply.{settled, settled-keeps, settled-messages}
+use Rattle.counting_law.proofs.Parts.{off_from}
+use Rattle.counting_law.proofs.Reply.{settled, settled-messages}
 use Rattle.counting_law.proofs.Resume.{put-same}
-use Rattle.counting_law.proofs.Turns.{panicked-self, settled-cases, owed-panicked, running-panicked}
+use Rattle.counting_law.proofs.Turns.{owed-panicked, running-panicked}
 use Rattle.mapped_runs.proofs.Changes.{AreNew, EachChange, is_vector_call, none-new}
 use Rattle.counting_law.proofs.Walk.{handle-same}
 use Rattle.mapped_runs.proofs.Tables.{handle-flip, same_handle}

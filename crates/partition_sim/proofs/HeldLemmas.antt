@@ -15,7 +15,7 @@ use Rattle.ffm_model.specs.Plans.{engine_after, plan_of}
 use Rattle.ffm_model.specs.Records.{ends_blocked, is_blocked_outcome}
 use Rattle.ffm_model.specs.ScriptRuns.{most_lines, place_behind}
 use Rattle.mm_iovec.specs.declared.line.MmLine.{MmLine}
-use Rattle.mm_iovec.specs.declared.line.MmLine.TheVariants.{MapIn, UnmapIn, MapOut, UnmapOut, Read, Skip, Write}
+use Rattle.mm_iovec.specs.declared.line.MmLine.TheVariants.{UnmapIn, MapOut}
 use Rattle.mm_iovec.specs.declared.line.MmStep.TheVariants.{Calls, Fault}
 use Rattle.mm_iovec.specs.Lines.{can_do, engine_line, step_done, step_of, table_done, table_of}
 use Rattle.partition_sim.specs.Partitions.{PartitionStanding, FollowsHeld, AskedHeld, holding, holding_after}

@@ -1,13 +1,12 @@
 -- The functions of an SFN partition, section by section.
-use Rattle.std.proofs.Common.{ℕ, ◌≡◌, ◌≤◌, ◌+◌, List, [], ◌∷◌, ◌++◌, length, refl, ap, arith, drop, map, false}
+use Rattle.std.proofs.Common.{ℕ, ◌≡◌, ◌≤◌, List, [], ◌∷◌, ◌++◌, length, refl, ap, arith, drop, map, false}
 use Rattle.std.proofs.lemmas.Grind.{common_steps}
-use Rattle.std.specs.Prelude.{Some, None, Result, Ok, Err, ◌==◌}
+use Rattle.std.specs.Prelude.{Result, Ok, ◌==◌}
 use Rattle.std.specs.List.{IsDistinct}
 use Rattle.std.proofs.lemmas.Bool.{or_parts}
 use Rattle.list_laws.proofs.Lists.{AllByRecursion-push}
 use Rattle.ffm_model.specs.declared.constants.TheConstants.{MAX_SCRIPT_LINES}
 use Rattle.ffm_model.specs.declared.system.System.{System}
-use Rattle.ffm_model.specs.declared.script.SfnInstruction.{SfnInstruction}
 use Rattle.ffm_model.specs.declared.script.SfnFunction.{SfnFunction}
 use Rattle.ffm_model.specs.SfnScripts.{IsFunction, IsSfnScript}
 use Rattle.script_asm.specs.declared.lines.Line as code
@@ -15,7 +14,7 @@ use Rattle.script_asm.specs.Made.{Fails}
 use Rattle.script_asm.specs.Views.{lines_view}
 use Rattle.script_asm.specs.declared.scripts.LineError.{LineError}
 use Rattle.script_asm.specs.declared.scripts.LineError.TheVariants as error
-use Rattle.sfn_calls.specs.FunctionLines.{◌>>=◌, has_function, instructions_of, service_of_head, function_of, functions_below}
+use Rattle.sfn_calls.specs.FunctionLines.{◌>>=◌, has_function, function_of, functions_below}
 use Rattle.sfn_calls.specs.Sections.{Section, sections}
 
 -- ---- the function of a section

@@ -1,5 +1,5 @@
 -- The loop's tests: from behind psa_wait to the psa_get of the lowest signal.
-use Rattle.std.proofs.Common.{ℕ, zero, suc, ◌+◌, ◌*◌, ◌≤◌, ◌≡◌, ◌==◌, List, [], ◌∷◌, ◌++◌, length, get_or, refl, ap, ap₂, ◌∙◌, subst, arith, Bool, true, false, length-append}
+use Rattle.std.proofs.Common.{ℕ, suc, ◌+◌, ◌*◌, ◌≤◌, ◌≡◌, ◌==◌, List, [], ◌∷◌, ◌++◌, length, get_or, refl, ap, ap₂, ◌∙◌, subst, arith, Bool, true, false, length-append}
 use Rattle.std.specs.Prelude.{Some, slice_set, if◌then◌else◌, not, find, bit_and}
 use Rattle.ffm_model.specs.declared.script.Operand.TheVariants.{Register, Number}
 use Rattle.ffm_model.specs.declared.script.Operation.TheVariants.{Set}
@@ -116,11 +116,9 @@ pub dispatch : (code : List Instruction) (base : ℕ) (v : SfnService) (rs : Lis
     → StandsAt code at (services_code base at vs) → find (asserts (get_or rs 0 0)) vs ≡ Some v → Dispatched code base n rs h t at v
 unfolding services_code
 dispatch code base v rs h [] at n t room long stands found = cc
-dispatch code base v rs h (e ∷ vs) at zero t room long stands found = absurd (omega arith)
-dispatch code base v rs h (e ∷ vs) at (suc zero) t room long stands found = absurd (omega arith)
-dispatch code base v rs h (e ∷ vs) at (suc (suc zero)) t room long stands found = absurd (omega arith)
 dispatch code base v rs h (e ∷ vs) at (suc (suc (suc n))) t room long stands found =
     let here = stands-left code at (service_code base at e) _ stands in
     let rest = stands-moved code _ (at + service_size e.lines) _ (ap (λ (k : ℕ). at + k) (service_code-length base at e)) (stands-right code at (service_code base at e) _ stands) in
     dispatch-by code base at n e v vs rs h t (bit_and (get_or rs 0 0) e.signal == 0) refl here long found
     (λ u f. dispatch code base v rs h vs (at + service_size e.lines) n u (omega arith) long rest f)
+dispatch code base v rs h (e ∷ vs) at _ t room long stands found = absurd (omega arith)

@@ -55,8 +55,7 @@ listed-width all i (order ws) made e = order-width (function_instruction all ws)
 
 width-one : (l : Line) → width l ≤ 1
 width-one passed = omega arith
-width-one (label n) = omega arith
-width-one (order ws) = omega arith
+width-one _ = omega arith
 
 widths-few : (ls : List Line) → sum_by width ls ≤ length ls
 widths-few [] = omega arith

@@ -68,19 +68,15 @@ pub message-low : (m : Message) (rs xs : List ℕ) → length rs ≡ 14 → with
 message-low m rs xs long = five-low rs xs 0 _ _ _ _ long
 
 pub noted-long : (o : Outcome) (rs : List ℕ) → length rs ≡ 14 → length (noted o rs) ≡ 14
-noted-long (outcome.Value z) rs long = long-set rs _ _ 14 long
-noted-long (outcome.Number n) rs long = long-set rs _ _ 14 long
-noted-long (outcome.Signals n) rs long = long-set rs _ _ 14 long
 noted-long (outcome.Got m) rs long = message-long m rs long
 noted-long outcome.Blocked rs long = long
 noted-long outcome.Done rs long = long
 noted-long outcome.Panicked rs long = long
+noted-long _ rs long = long-set rs _ _ 14 long
 
 pub noted-low : (o : Outcome) (rs xs : List ℕ) → length rs ≡ 14 → noted o (rs ++ xs) ≡ noted o rs ++ xs
 noted-low (outcome.Value z) rs xs long = set-low rs xs 0 _ long (lit< tt)
 noted-low (outcome.Number n) rs xs long = set-low rs xs 0 n long (lit< tt)
 noted-low (outcome.Signals n) rs xs long = set-low rs xs 0 n long (lit< tt)
 noted-low (outcome.Got m) rs xs long = message-low m rs xs long
-noted-low outcome.Blocked rs xs long = refl
-noted-low outcome.Done rs xs long = refl
-noted-low outcome.Panicked rs xs long = refl
+noted-low _ rs xs long = refl

@@ -65,11 +65,6 @@ jump-cases false f t u v e = sym e
 
 effect-by : (lines : List SfnInstruction) (at h t : ℕ) (p : Point) (l : Option SfnInstruction) → slice_get lines p.place ≡ l → IsFunction lines → IsLong p
     → line_effect (in_loop lines at h t p) (code_of (λ u. at + place_in lines u) l) ≡ option_map (in_loop lines at h t) (option_and_then (function_effect p) l)
-effect-by lines at h t p None e fine long = refl
-effect-by lines at h t p (Some (Return v)) e fine long = refl
-effect-by lines at h t p (Some (Plain (Make n vs))) e fine long = refl
-effect-by lines at h t p (Some (Plain (Map n vs))) e fine long = refl
-effect-by lines at h t p (Some (Plain (Jump u))) e fine long = refl
 effect-by lines at h t p (Some (Plain (JumpIf c r v u))) e fine long =
     let xs : List ℕ = h ∷ (t ∷ []) in
     let low = AllByRecursion-at (IsFunctionLine (length lines)) lines p.place (Plain (JumpIf c r v u)) fine e in
@@ -83,6 +78,7 @@ effect-by lines at h t p (Some (Plain (Change o r v))) e fine long =
     let next : at + place_in lines p.place + 1 ≡ at + place_in lines (p.place + 1) = omega (arith, place-next lines p.place (Change o r v) e) in
     let value = ap₂ (changed o) (get-low p.registers xs r long low.0) (value-low p.registers xs v long low.1) in
     ap₂ (λ (l : List ℕ) (k : ℕ). Some (point l k)) (ap (slice_set (p.registers ++ xs) r) value ∙ set-low p.registers xs r _ long low.0) next
+effect-by lines at h t p _ e fine long = refl
 
 -- one local line of a function is one of the loop
 pub step-same : (code : List Instruction) (lines : List SfnInstruction) (at h t : ℕ) (p : Point) → StandsAt code at (function_code lines at) → IsFunction lines → IsLong p
@@ -135,13 +131,11 @@ call-by lines to h t p (Some (Return v)) e fine long handle =
     let low = AllByRecursion-at (IsFunctionLine (length lines)) lines p.place (Return v) fine e in
     ap₂ (λ (x : Handle) (y : ℕ). call.Reply x (record { 0 = cast_signed w32 y })) (λ i. record { 0 = (ap (cast_signed w32) (get-14 p.registers (cast_unsigned w32 h.0) t long) ∙ handle) i })
     (value-low p.registers (cast_unsigned w32 h.0 ∷ (t ∷ [])) v long low)
-call-by lines to h t p (Some (Plain (Change o r v))) e fine long handle = refl
-call-by lines to h t p (Some (Plain (Jump u))) e fine long handle = refl
-call-by lines to h t p (Some (Plain (JumpIf c r v u))) e fine long handle = refl
 call-by lines to h t p (Some (Plain (Make n vs))) e fine long handle =
     let low = AllByRecursion-at (IsFunctionLine (length lines)) lines p.place (Plain (Make n vs)) fine e in
     ap (call_of n) (fun_ext (λ i. value-low p.registers (cast_unsigned w32 h.0 ∷ (t ∷ [])) (get_or vs i (Number 0)) long (operand-at vs i low.1)))
 call-by lines to h t p (Some (Plain (Map n vs))) e fine long handle = absurd (AllByRecursion-at (IsFunctionLine (length lines)) lines p.place (Plain (Map n vs)) fine e)
+call-by lines to h t p _ e fine long handle = refl
 
 -- a function's call is that of the loop
 pub call-same : (code : List Instruction) (lines : List SfnInstruction) (at t : ℕ) (h : Handle) (p : Point) → StandsAt code at (function_code lines at) → IsFunction lines → IsLong p → IsHandle h

@@ -51,8 +51,7 @@ set_ended (p ∷ ps) (suc a) = set_ended ps a
 -- every kind of actor may stop
 may_stop : (k : ActorKind) (spent : Bool) → has_call k (call.Stop spent) ≡ true
 may_stop Partition spent = refl
-may_stop Client spent = refl
-may_stop Device spent = refl
+may_stop _ spent = refl
 
 stop_effect : (s : System) (st : State) (a : ℕ) (spent : Bool) (h : Handle) → is_gone (phase_of (effect_of s st a (call.Stop spent) h).state.spm a) ≡ true
 stop_effect s st a spent h =

@@ -25,18 +25,12 @@ use Rattle.spm_lock.proofs.Moves.{held_value}
 -- an answer without an entry leaves the history
 pub made_nothing : (o : Opening) (h : List Entry) (a : ℕ) (call : Call) (answer : Answer) (after : List Entry) → ((place : ℕ) (e : Entry) → answer ≡ Made place e → ⊥) → StepAnswers o h a call answer after → after ≡ h
 made_nothing o h a call (Made place e) after not ans = absurd (not place e refl)
-made_nothing o h a call Gone after not ans = ans.unchanged
-made_nothing o h a call Over after not ans = ans.unchanged
-made_nothing o h a call Full after not ans = ans.unchanged
-made_nothing o h a call NotYet after not ans = ans.unchanged
+made_nothing o h a call _ after not ans = ans.unchanged
 
 -- a run stays one
 still_run : (o : Opening) (h : List Entry) (a : ℕ) (call : Call) (answer : Answer) (after : List Entry) → IsRun o h → StepAnswers o h a call answer after → IsRun o after
 still_run o h a call (Made place e) after run ans = ans.is_state
-still_run o h a call Gone after run ans = subst (IsRun o) (sym ans.unchanged) run
-still_run o h a call Over after run ans = subst (IsRun o) (sym ans.unchanged) run
-still_run o h a call Full after run ans = subst (IsRun o) (sym ans.unchanged) run
-still_run o h a call NotYet after run ans = subst (IsRun o) (sym ans.unchanged) run
+still_run o h a call _ after run ans = subst (IsRun o) (sym ans.unchanged) run
 
 -- a turn, as the simulator sees it
 answers_as : (o : Opening) (a : ℕ) (old : List Entry) (call : Call) (answer : Answer) (new : List Entry) → IsTurn o a old call answer new

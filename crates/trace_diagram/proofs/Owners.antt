@@ -1,5 +1,5 @@
 -- A call that is Blocked and waits for an answer names a service of the system, and so has an arrow.
-use Rattle.std.proofs.Common.{ℕ, ◌≡◌, ◌≤◌, ◌+◌, ◌==◌, Bool, true, false, ◌&&◌, List, [], ◌∷◌, length, arith, ◌∙◌, ap, sym, refl, subst}
+use Rattle.std.proofs.Common.{ℕ, ◌≡◌, ◌≤◌, ◌+◌, ◌==◌, Bool, true, false, ◌&&◌, length, arith, ◌∙◌, ap, refl, subst}
 use Rattle.std.specs.Prelude.{ℤ, Option, Some, None, find, if◌then◌else◌, nat_lt, not, position, slice_get}
 use Rattle.std.specs.List.{list_all}
 use Rattle.std.specs.Option.{option_map, option_map_or, unwrap_or}
