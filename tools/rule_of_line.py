@@ -40,13 +40,14 @@ MACHINE, EVIDENCE, FORMATS, VIEW = (pathlib.Path("docs") / name for name in PAGE
 USAGE = "usage: rule_of_line.py TRACE NUMBER | rule_of_line.py 'LINE', with the line in quotation marks"
 EVENT = re.compile(r"([pn][1-9]\d*|dev) (\w+)((?: \S+)*) -> (\w+)((?: \S+)*)")
 VERDICT, RESTART = re.compile(r"(quiet|stalled|full) \d+"), re.compile(r"restart \d+")
-REFUSAL = re.compile(r"refused (\d+)\b.*")
+REFUSAL, JUDGEMENT = re.compile(r"refused (\d+)\b.*"), re.compile(r"(legal|illegal|clean) \d+")
 ACTORS = {"p": "partition", "n": "client", "d": "device"}
 OPERANDS = {"d": r"-?\d+", "h": r"0x[0-9a-fA-F]+", "u": r"\d+"}
 
 # The sections of docs/machine.md that outcomes add to the table of the calls.
 CALLS, RIGHTS, ERROR, REPLY, PANIC = "the-calls", "who-has-which-call", "what-a-programmer-error-does", "reply", "panic"
 SIGNALS, MESSAGE, RESETS, VERDICTS = "signals", "the-message", "resets", "runs-verdicts-and-judgements"
+HANDLES = "handles-and-their-names"
 # The kinds of messages in the section Reply, by the calls that send them, or by the outcomes of their returns.
 REQUEST, CONNECTION, DISCONNECTION = "request", "-1", "-2"
 ASKED_BY = {"connect": [CONNECTION], "call": [REQUEST], "close": [DISCONNECTION]}
@@ -138,10 +139,10 @@ def is_event(text):
 
 
 class Run:
-    """The events of a run before a line, and those behind it."""
+    """The events of a run before a line, and those behind it, and whether the run is one behind a reset."""
 
-    def __init__(self, events, behind=()):
-        self.events, self.behind = events, behind
+    def __init__(self, events, behind=(), is_later=False):
+        self.events, self.behind, self.is_later = events, behind, is_later
         self.messages = {event.shown[1]: event for event in events if event.outcome == "message"}
 
     def answered(self, reply):
@@ -201,6 +202,16 @@ class Run:
         found = self.interrupts_of(actor, bit) if is_source else []
         what = f"asserted {word}" if len(found) == 1 else f"{PERHAPS} asserted {word}"
         return [(event, what) for event in found] if len(found) <= FEW else []
+
+    def stored_at(self, load):
+        """The last `store` to bytes that a `load` reads."""
+        first, size = int(load.given[0], 16), int(load.given[1])
+        for event in reversed(self.events):
+            if event.word == "store" and event.outcome == "done":
+                at, count = int(event.given[0], 16), int(event.given[1])
+                if at < first + size and first < at + count:
+                    return event
+        return None
 
     def call_of(self, actor):
         """The call in which an actor is blocked."""
@@ -348,7 +359,7 @@ def rule_of_call(event, run):
             mark = "?" if shown is None else ">" if shown == is_error else " "
             words.append((mark, f"{column}: {explained(row, column)}"))
         if is_error and shown is not False and ";" in words[-1][1]:
-            asks = f"change the line's outcome in a copy of the trace, and ask the built program, `ffm_view why` ({place_of('why', VIEW)})"
+            asks = f"change the line's outcome in a copy of the trace, and ask the built program, `ffm_view why SYSTEM SCENARIO COPY` ({place_of('why', VIEW)})"
             words.append((" ", f"Which of these holds: {asks}"))
     words += [(" ", text) for _, text in terms_of(" ".join(row.values()))]
     title = f"call {name_of(event)}" + (f", {row['API'].strip('`')}" if row["API"] else "")
@@ -408,6 +419,19 @@ def rule_of_signals(event, run):
     return rule, notes
 
 
+def gives_handle(event, kinds):
+    """Whether a `resume` shows the handle of a connection."""
+    return CONNECTION in kinds and event.outcome == "value" and int(event.shown[0]) > 0
+
+
+def rules_of_load(event, run):
+    """What a load reads beside its own rule: the last store to these bytes, and behind a reset what that leaves."""
+    stored = run.stored_at(event)
+    rules = [] if stored or not run.is_later else [rule_of_section(RESETS, f"#{RESETS})", is_sure=False)]
+    what = "the last store to these bytes; a call that moved bytes since may have changed them too"
+    return rules, [(stored, what)] if stored else []
+
+
 def rules_of_answer(event, run):
     """The rules by which the answer that a resume shows was made, and the events that show it, each with what it is."""
     call = run.call_of(event.actor) if run else None
@@ -426,7 +450,7 @@ def rules_of_answer(event, run):
     if panics:
         what = f"answered by this {'' if len(panics) == 1 else 'or another '}panic, and by no reply"
         return [rule_of_panic()], notes + [(panic, what) for panic in panics]
-    is_handle = CONNECTION in kinds and event.outcome == "value" and int(event.shown[0]) > 0
+    is_handle = gives_handle(event, kinds)
     rules = [rule_of_reply(kinds, None if is_handle or not event.shown else event.shown[0], not may_panic)]
     return rules + [rule_of_panic(is_sure=False)] * may_panic, notes
 
@@ -473,6 +497,12 @@ def rules_of_event(event, run):
         rules += more
     elif event.word == "resume":
         more, notes = rules_of_answer(event, run)
+        call = run.call_of(event.actor) if run else None
+        if gives_handle(event, ASKED_BY.get(call.word, []) if call else ANSWERED_BY.get(event.outcome, [])):
+            rules[0].words.append((" ", f"Which number a handle has: Handles and their names ({place_of(HANDLES)})"))
+        rules += more
+    elif event.word == "load" and event.outcome == "number" and run:
+        more, notes = rules_of_load(event, run)
         rules += more
     elif event.word == "wait" and event.outcome == "signals":
         rule, notes = rule_of_signals(event, run)
@@ -497,14 +527,15 @@ def rules_of(text, number=0, run=None):
 
 def run_around(lines, place):
     """The run around a line: the events before it, and those behind it as far as they are lines of a trace."""
-    events = []
+    events, is_later = [], False
     for number, line in enumerate(lines[:place], 1):
         if VERDICT.fullmatch(line) or RESTART.fullmatch(line):
             events.clear()
+            is_later = bool(RESTART.fullmatch(line))
         else:
             events.append(event_of(line, number))
     behind = takewhile(lambda numbered: is_event(numbered[1]), enumerate(lines[place + 1:], place + 2))
-    return Run(events, [event_of(line, number) for number, line in behind])
+    return Run(events, [event_of(line, number) for number, line in behind], is_later)
 
 
 # ---- definitions, clauses, wrong bodies and tests
@@ -685,6 +716,8 @@ def answer(words):
     refusal = REFUSAL.fullmatch(text)
     if refusal:
         return told_of_refusal(text, refusal[1])
+    if JUDGEMENT.fullmatch(text):
+        raise Unknown(f"{text}: no line of a trace, but what `replay` or `audit` says of one (README.md, Judging a trace)")
     return told(text, number, run_around(lines, number - 1) if number else None)
 
 
