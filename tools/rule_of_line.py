@@ -651,7 +651,7 @@ def runs_of(row):
     for column in (name for name in row if name.startswith("Worked") or name == "Tests"):
         for item in items_of(row[column], column):
             yield "test" if column == "Tests" and "machine_examples" not in item.path.parts else "worked run", item.told()
-    for path, more in re.findall(r"\]\(\.\./([^)#]+)\)([^;]*)", row["Tests"]):
+    for path, more in re.findall(r"\]\(\.\./([^)#]+(?<!\.rt))\)([^;]*)", row["Tests"]):
         yield "example", path + more
 
 
