@@ -13,7 +13,6 @@ use Rattle.spm_tables.specs.declared.item.QueuedMessage.{QueuedMessage}
 use Rattle.spm_tables.specs.TablesView.{TablesView, MadeFor}
 use Rattle.slot_names.specs.Named.{KeepsNames}
 use Rattle.slot_names.proofs.Changes.{names-added, names-same, names-freed, names-asked, names-connected}
-use Rattle.slot_names.proofs.Moves.{relinks-same}
 use Rattle.client_calls.specs.Sending.{message_on}
 use Rattle.spm_tables.proofs.PoolLemmas.{item-taken}
 use Rattle.client_calls.proofs.SendLemmas.{at-item}
@@ -67,4 +66,4 @@ names-held y d m new a k s c ph kind v h phased made kept same sent =
 pub names-asked-of : (y : System) (d new : TablesView) (x : QueuedMessage) → MadeFor d y → new.connections ≡ d.connections → IsSomeAnd (free_slot d.messages) (λ place. new.messages ≡ taken d.messages place x) → KeepsNames y d new
 names-asked-of y d new x made same sent =
     let at = placed d.messages new.messages x sent in
-    names-added y d new at.0 x made (relinks-same d.connections new.connections same) at.1 at.2
+    names-added y d new at.0 x made same at.1 at.2

@@ -29,11 +29,11 @@ use Rattle.counting_law.proofs.Parts.{phase_same}
 use Rattle.counting_law.proofs.Bounds.{few-connections}
 use Rattle.counting_law.proofs.Rooms.{panic-room}
 use Rattle.spm_tables.specs.TablesView.{TablesView, Shape, MadeFor, spm_of, shape_of, held_message, service_signal}
-use Rattle.slot_names.specs.Named.{KeepsNames}
+use Rattle.slot_names.specs.Named.{KeepsGiven, KeepsNames}
 use Rattle.slot_names.specs.Changes.{PairsOff, KeepsConnectionNames, TakesOn, names_of}
-use Rattle.slot_names.proofs.Given.{All-left}
+use Rattle.slot_names.proofs.Given.{All-left, given-filter, given-on, given-some}
 use Rattle.slot_names.proofs.Moves.{relinks-some}
-use Rattle.slot_names.proofs.Panics.{names-panicked, takes-first}
+use Rattle.slot_names.proofs.Panics.{follows-panicked, takes-first}
 use Rattle.slot_names.proofs.Removals.{fitting-pairs-off}
 use Rattle.panic_state.specs.Losses.{left_by, in_slot, held_without_service, held_without_client, as_client, disconnect_messages}
 use Rattle.panic_state.proofs.Lists.{map-left, map-kept}
@@ -178,18 +178,25 @@ few-disconnects s p d fit =
 -- ---- the names
 
 pub names-are : (s : System) (p : ℕ) (d mid new : TablesView) → MadeFor d s → ObjectsFit s (with_phase (spm_of d) p Running) → mid ≡ as_client s p d → spm_of new ≡ panic_effect s (spm_of d) p
-    → ((first : TablesView) (kept : List SlotName) → TakesOn (length mid.messages.generations) first kept 0 mid → TakesOn (length mid.messages.generations) first kept (length (disconnect_messages p mid.connections)) new) → KeepsNames s d new
-names-are s p d mid new made fit before effect more =
+    → ((first : TablesView) (kept : List SlotName) → TakesOn (length mid.messages.generations) first kept 0 mid → TakesOn (length mid.messages.generations) first kept (length (disconnect_messages p mid.connections)) new) → KeepsGiven mid new → KeepsNames s d new
+names-are s p d mid new made fit before effect more given =
     let off : PairsOff (with_phase (spm_of d) p Running) = fitting-pairs-off s (with_phase (spm_of d) p Running) fit in
     let pairs : PairsOff (spm_of d) = record { paired = off.paired; calls = off.calls; rising = off.rising } in
     let kept : List SlotName = names_of (λ h. not (is_service_of s p h.item.service)) d.messages in
     let size : length mid.messages.generations ≡ message_capacity s = ap (λ (x : TablesView). length x.messages.generations) before ∙ ap (λ (x : Shape). x.messages) made in
     let linked : KeepsConnectionNames d.connections (as_client s p d).connections =
-    relinks-some d.connections (held_without_service s p) (λ h g e. let it = stays-same h g (is_service_of s p h.item.service) (lost h.item.phase) e in (it.0, it.1, it.2)) in
+    relinks-some d.connections (held_without_service s p) (λ h g e. let it = stays-same h g (is_service_of s p h.item.service) (lost h.item.phase) e in (it.0, it.1)) in
     let gone : TakesOn (message_capacity s) d kept 0 (as_client s p d) = takes-first (message_capacity s) d (as_client s p d) (λ h. not (is_service_of s p h.item.service)) linked refl in
     let there : TakesOn (length mid.messages.generations) d kept 0 mid = subst (λ (n : ℕ). TakesOn n d kept 0 mid) (sym size) (subst (λ (x : TablesView). TakesOn (message_capacity s) d kept 0 x) (sym before) gone) in
     let all : TakesOn (message_capacity s) d kept (length (disconnect_messages p mid.connections)) new = subst (λ (n : ℕ). TakesOn n d kept (length (disconnect_messages p mid.connections)) new) size (more d kept there) in
-    names-panicked s d new p kept (length (disconnect_messages p mid.connections)) pairs effect refl all
+    let fresh : KeepsGiven d (as_client s p d) = record {
+      connections = given-some d.connections (held_without_service s p) (λ h g e. let it = stays-same h g (is_service_of s p h.item.service) (lost h.item.phase) e in (it.0, it.2));
+      messages = given-filter _ _ d.messages (λ h. not (is_service_of s p h.item.service));
+    } in
+    record {
+      names = follows-panicked s d new p kept (length (disconnect_messages p mid.connections)) pairs effect refl all;
+      given = given-on d mid new (subst (KeepsGiven d) (sym before) fresh) given;
+    }
 
 -- ---- the objects
 

@@ -16,6 +16,8 @@ use Rattle.object_pools.specs.Pool.{most_takes, Places, IsKept, free_slot, item_
 use Rattle.spm_tables.specs.declared.item.QueuedMessage.{QueuedMessage}
 use Rattle.spm_tables.specs.TablesView.{TablesView, held_message}
 use Rattle.slot_names.specs.Changes.{TakesOn}
+use Rattle.slot_names.specs.Named.{KeepsGiven}
+use Rattle.slot_names.proofs.Given.{given-freed, given-on, given-put, given-same, given-taken}
 use Rattle.slot_names.proofs.Moves.{relinks-item, relinks-without}
 use Rattle.slot_names.proofs.Panics.{takes-more, takes-connections}
 use Rattle.panic_state.specs.Losses.{in_slot, left_by, held_without_client, disconnect_message, disconnect_messages}
@@ -47,6 +49,7 @@ pub record Leaves (p : ℕ) (old : TablesView) (n : ℕ) (d : TablesView) : Type
   pub counted : sent + length (disconnect_messages_from p n d) ≡ length (disconnect_messages p old.connections)
   pub takes : d.messages.takes ≡ old.messages.takes + sent
   pub names : NamesGoOn old sent d
+  pub given : KeepsGiven old d
   pub services : All (IsServed old) (drop n d.connections.held)
 
 disconnects-all : (p n : ℕ) (d : TablesView) → length d.connections.held ≤ n → disconnect_messages_from p n d ≡ []
@@ -100,6 +103,7 @@ leaves-other p n old d h l here other =
       counted = omega (arith, l.counted, ap (λ (ms : List PendingMessage). length ms) same);
       takes = l.takes;
       names = l.names;
+      given = l.given;
       services = (served-next n old d h here l.services).1;
     }
 
@@ -126,6 +130,8 @@ leaves-dead p n old d new h l k here own dead after =
       takes = l.takes;
       names = λ first kept so_far.
           takes-connections (length old.messages.generations) first d (record d { connections = without d.connections h.slot }) kept l.sent (l.names first kept so_far) (relinks-without d.connections h.slot) refl;
+      given = given-on old d (record d { connections = without d.connections h.slot }) l.given
+          (record { connections = given-freed d.connections (without d.connections h.slot) h.slot refl; messages = given-same _ _ d.messages });
       services = subst (λ (hs : List (Held OpenConnection)). All (IsServed old) hs) (sym tail) (served-next n old d h here l.services).1;
     })
 
@@ -197,6 +203,8 @@ leaves-closing p n old d new h place m l k here live free own alive sent after =
       takes = omega (arith, l.takes);
       names = λ first kept so_far.
           takes-more (length old.messages.generations) first d (record d { connections = with_item d.connections h.slot (record h.item { phase = Closing }); messages = taken d.messages place m })
-          kept l.sent place m (l.names first kept so_far) l.size free (relinks-item 256 d.connections h.slot h.item (record h.item { phase = Closing }) k live refl (λ e. e)) refl;
+          kept l.sent place m (l.names first kept so_far) l.size free (relinks-item 256 d.connections h.slot h.item (record h.item { phase = Closing }) k live refl) refl;
+      given = given-on old d (record d { connections = with_item d.connections h.slot (record h.item { phase = Closing }); messages = taken d.messages place m }) l.given
+          (record { connections = given-put _ _ d.connections h.slot h.item (record h.item { phase = Closing }) live (λ e. e); messages = given-taken _ _ d.messages place m free });
       services = subst (λ (hs : List (Held OpenConnection)). All (IsServed old) hs) (sym tail) (served-next n old d h here l.services).1;
     })

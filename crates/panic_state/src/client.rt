@@ -6,6 +6,7 @@ ghost use Rattle.ffm_model.specs.Names.{SlotName};
 ghost use Rattle.object_pools.specs.Pool.{most_takes};
 ghost use Rattle.spm_tables.specs.TablesView.{TablesView, spm_of, fresh_message, queued_as};
 ghost use Rattle.slot_names.specs.Changes.{TakesOn};
+ghost use Rattle.slot_names.specs.Named.{KeepsGiven};
 ghost use Rattle.panic_state.specs.Losses.{left_by, held_without_client, disconnect_message, disconnect_messages};
 
 use crate::places::connection_at;
@@ -53,6 +54,7 @@ pub(crate) fn leave_services(tables: &mut Tables, partition: ActorId)
     ensures takes { tables.new.messages.takes ≡ tables.old.messages.takes + length (disconnect_messages partition.0 tables.old.connections) }
     ensures names { (first : TablesView) (kept : List SlotName) → TakesOn (length tables.old.messages.generations) first kept 0 tables.old
         → TakesOn (length tables.old.messages.generations) first kept (length (disconnect_messages partition.0 tables.old.connections)) tables.new }
+    ensures given { KeepsGiven tables.old tables.new }
 {
     let mut place = 0;
     while place < tables.connections().live() {

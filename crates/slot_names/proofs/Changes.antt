@@ -16,9 +16,9 @@ use Rattle.handle_table.specs.Table.{IsTable}
 use Rattle.handle_table.proofs.NameLemmas.{next-name}
 use Rattle.spm_tables.specs.declared.item.QueuedMessage.{QueuedMessage}
 use Rattle.spm_tables.specs.TablesView.{TablesView, MadeFor, Shape, held_message, spm_of}
-use Rattle.slot_names.specs.Named.{IsNamedBy, KeepsFreshConnections, KeepsNames, NamesAre}
+use Rattle.slot_names.specs.Named.{FollowsNames, IsNamedBy, KeepsNames, NamesAre}
 use Rattle.slot_names.specs.Changes.{KeepsConnectionNames, KeepsMessageNames, is_like}
-use Rattle.slot_names.proofs.Given.{given-message, given-taken}
+use Rattle.slot_names.proofs.Given.{given-connection, given-freed, given-message, given-put, given-still, given-taken, given-to, given-untouched}
 use Rattle.slot_names.proofs.Kept.{kept-all, message_list, stay-all, stay-own, stays-is}
 use Rattle.slot_names.proofs.Moves.{names-enqueued, names-started, names-stay, relinks-item, relinks-same, relinks-to, relinks-without, rewaits-item, rewaits-same, rewaits-to}
 
@@ -73,34 +73,57 @@ names-length d k was = ap (λ (ts : List SlotName). length ts) was.messages ∙ 
 
 -- ---- no connection or message comes, and no message goes
 
-pub names-changed : (s : System) (old new : TablesView) → KeepsConnectionNames old.connections new.connections → KeepsMessageNames old.messages new.messages → KeepsNames s old new
-names-changed s old new linked waiting = record {
-  names = λ k was.
-      let stay : All (λ h. list_any (is_like h) new.messages.held ≡ true) old.messages.held = λ i d lt. waiting.alike (get_or old.messages.held i d) ∙ stay-all old.messages.held i d lt in
-      let now : NamesAre new k = names-stay old new k was linked waiting in
-      subst (NamesAre new) (sym (after-is s old new k k.messages 0 (all-kept old new k was stay) (omega (arith, names-length new k now)) linked.takes)) now;
-  given = record { connections = linked.fresh; messages = waiting.fresh };
-}
+follows-changed : (s : System) (old new : TablesView) → KeepsConnectionNames old.connections new.connections → KeepsMessageNames old.messages new.messages → FollowsNames s old new
+follows-changed s old new linked waiting = λ k was.
+    let stay : All (λ h. list_any (is_like h) new.messages.held ≡ true) old.messages.held = λ i d lt. waiting.alike (get_or old.messages.held i d) ∙ stay-all old.messages.held i d lt in
+    let now : NamesAre new k = names-stay old new k was linked waiting in
+    subst (NamesAre new) (sym (after-is s old new k k.messages 0 (all-kept old new k was stay) (omega (arith, names-length new k now)) linked.takes)) now
+
+pub follows-same : (s : System) (old new : TablesView) → new.connections ≡ old.connections → new.messages ≡ old.messages → FollowsNames s old new
+follows-same s old new linked waiting = follows-changed s old new (relinks-same old.connections new.connections linked) (rewaits-same old.messages new.messages waiting)
 
 pub names-same : (s : System) (old new : TablesView) → new.connections ≡ old.connections → new.messages ≡ old.messages → KeepsNames s old new
-names-same s old new linked waiting = names-changed s old new (relinks-same old.connections new.connections linked) (rewaits-same old.messages new.messages waiting)
+names-same s old new linked waiting = record { names = follows-same s old new linked waiting; given = given-untouched old new linked waiting }
 
 -- a connection changes in its slot
+pub follows-connection : (s : System) (old new : TablesView) (slot : Slot) (c changed : OpenConnection) → IsKept 256 old.connections → item_at old.connections slot ≡ Some c → changed.serial ≡ c.serial
+    → new.connections ≡ with_item old.connections slot changed → new.messages ≡ old.messages → FollowsNames s old new
+follows-connection s old new slot c changed kept live serial linked waiting =
+    follows-changed s old new (relinks-to old.connections new.connections (with_item old.connections slot changed) linked (relinks-item 256 old.connections slot c changed kept live serial)) (rewaits-same old.messages new.messages waiting)
+
 pub names-connection : (s : System) (old new : TablesView) (slot : Slot) (c changed : OpenConnection) → IsKept 256 old.connections → item_at old.connections slot ≡ Some c → changed.serial ≡ c.serial
     → (is_some changed.handle ≡ false → is_some c.handle ≡ false) → new.connections ≡ with_item old.connections slot changed → new.messages ≡ old.messages → KeepsNames s old new
-names-connection s old new slot c changed kept live serial told linked waiting =
-    names-changed s old new (relinks-to old.connections new.connections (with_item old.connections slot changed) linked (relinks-item 256 old.connections slot c changed kept live serial told)) (rewaits-same old.messages new.messages waiting)
+names-connection s old new slot c changed kept live serial told linked waiting = record {
+  names = follows-connection s old new slot c changed kept live serial linked waiting;
+  given = record { connections = given-connection old.connections new.connections slot c changed live told linked; messages = given-still _ _ old.messages new.messages waiting };
+}
 
 -- a message changes in its slot
+pub follows-message : (s : System) (old new : TablesView) (slot : Slot) (m changed : QueuedMessage) → IsKept 304 old.messages → item_at old.messages slot ≡ Some m → changed.serial ≡ m.serial → changed.client ≡ m.client
+    → changed.kind ≡ m.kind → new.connections ≡ old.connections → new.messages ≡ with_item old.messages slot changed → FollowsNames s old new
+follows-message s old new slot m changed kept live serial client kind linked waiting =
+    follows-changed s old new (relinks-same old.connections new.connections linked) (rewaits-to old.messages new.messages (with_item old.messages slot changed) waiting (rewaits-item 304 old.messages slot m changed kept live serial client kind))
+
 pub names-message : (s : System) (old new : TablesView) (slot : Slot) (m changed : QueuedMessage) → IsKept 304 old.messages → item_at old.messages slot ≡ Some m → changed.serial ≡ m.serial → changed.client ≡ m.client
     → changed.kind ≡ m.kind → (changed.delivered ≡ false → m.delivered ≡ false) → new.connections ≡ old.connections → new.messages ≡ with_item old.messages slot changed → KeepsNames s old new
-names-message s old new slot m changed kept live serial client kind told linked waiting =
-    names-changed s old new (relinks-same old.connections new.connections linked) (rewaits-to old.messages new.messages (with_item old.messages slot changed) waiting (rewaits-item 304 old.messages slot m changed kept live serial client kind told))
+names-message s old new slot m changed kept live serial client kind told linked waiting = record {
+  names = follows-message s old new slot m changed kept live serial client kind linked waiting;
+  given = record {
+    connections = given-still _ _ old.connections new.connections linked;
+    messages = given-to _ _ old.messages new.messages (with_item old.messages slot changed) waiting (given-put _ _ old.messages slot m changed live told);
+  };
+}
 
 -- a connection is freed
+pub follows-freed : (s : System) (old new : TablesView) (slot : Slot) → new.connections ≡ without old.connections slot → new.messages ≡ old.messages → FollowsNames s old new
+follows-freed s old new slot linked waiting =
+    follows-changed s old new (relinks-to old.connections new.connections (without old.connections slot) linked (relinks-without old.connections slot)) (rewaits-same old.messages new.messages waiting)
+
 pub names-freed : (s : System) (old new : TablesView) (slot : Slot) → new.connections ≡ without old.connections slot → new.messages ≡ old.messages → KeepsNames s old new
-names-freed s old new slot linked waiting =
-    names-changed s old new (relinks-to old.connections new.connections (without old.connections slot) linked (relinks-without old.connections slot)) (rewaits-same old.messages new.messages waiting)
+names-freed s old new slot linked waiting = record {
+  names = follows-freed s old new slot linked waiting;
+  given = record { connections = given-freed old.connections new.connections slot linked; messages = given-still _ _ old.messages new.messages waiting };
+}
 
 -- ---- a message comes
 
@@ -118,21 +141,32 @@ pushed-length : (old new : TablesView) (k : NamesSoFar) (slot : Slot) (x : Queue
 pushed-length old new k slot x was waiting =
     ap (λ (p : Places QueuedMessage). length p.held) waiting ∙ omega (arith, length-append old.messages.held (record { slot = slot; item = x } ∷ []), names-length old k was)
 
-pub names-added : (s : System) (old new : TablesView) (slot : Slot) (x : QueuedMessage) → MadeFor old s → KeepsConnectionNames old.connections new.connections → free_slot old.messages ≡ Some slot → new.messages ≡ taken old.messages slot x → KeepsNames s old new
+follows-added : (s : System) (old new : TablesView) (slot : Slot) (x : QueuedMessage) → MadeFor old s → KeepsConnectionNames old.connections new.connections → free_slot old.messages ≡ Some slot → new.messages ≡ taken old.messages slot x → FollowsNames s old new
+follows-added s old new slot x made linked free waiting = λ k was.
+    let mid : TablesView = record old { connections = new.connections } in
+    let between : NamesAre mid k = names-stay old mid k was linked (rewaits-same old.messages old.messages refl) in
+    subst (NamesAre new) (sym (after-is s old new k k.messages 1 (all-kept old new k was (stay-pushed old new slot x waiting)) (pushed-length old new k slot x was waiting) linked.takes))
+    (names-enqueued mid new k slot x (message_capacity s) between (message_slots old s made) free refl waiting)
+
+-- of no connection
+pub names-added : (s : System) (old new : TablesView) (slot : Slot) (x : QueuedMessage) → MadeFor old s → new.connections ≡ old.connections → free_slot old.messages ≡ Some slot → new.messages ≡ taken old.messages slot x → KeepsNames s old new
 names-added s old new slot x made linked free waiting = record {
-  names = λ k was.
-      let mid : TablesView = record old { connections = new.connections } in
-      let between : NamesAre mid k = names-stay old mid k was linked (rewaits-same old.messages old.messages refl) in
-      subst (NamesAre new) (sym (after-is s old new k k.messages 1 (all-kept old new k was (stay-pushed old new slot x waiting)) (pushed-length old new k slot x was waiting) linked.takes))
-      (names-enqueued mid new k slot x (message_capacity s) between (message_slots old s made) free refl waiting);
-  given = record { connections = linked.fresh; messages = given-message old.messages new.messages slot x free waiting };
+  names = follows-added s old new slot x made (relinks-same old.connections new.connections linked) free waiting;
+  given = record { connections = given-still _ _ old.connections new.connections linked; messages = given-message old.messages new.messages slot x free waiting };
 }
 
--- the message of a connection that changes in its slot
+-- of a connection that changes in its slot
+pub follows-asked : (s : System) (old new : TablesView) (slot place : Slot) (c changed : OpenConnection) (x : QueuedMessage) → MadeFor old s → IsKept 256 old.connections → item_at old.connections slot ≡ Some c → changed.serial ≡ c.serial
+    → new.connections ≡ with_item old.connections slot changed → free_slot old.messages ≡ Some place → new.messages ≡ taken old.messages place x → FollowsNames s old new
+follows-asked s old new slot place c changed x made kept live serial linked free waiting =
+    follows-added s old new place x made (relinks-to old.connections new.connections (with_item old.connections slot changed) linked (relinks-item 256 old.connections slot c changed kept live serial)) free waiting
+
 pub names-asked : (s : System) (old new : TablesView) (slot place : Slot) (c changed : OpenConnection) (x : QueuedMessage) → MadeFor old s → IsKept 256 old.connections → item_at old.connections slot ≡ Some c → changed.serial ≡ c.serial
     → (is_some changed.handle ≡ false → is_some c.handle ≡ false) → new.connections ≡ with_item old.connections slot changed → free_slot old.messages ≡ Some place → new.messages ≡ taken old.messages place x → KeepsNames s old new
-names-asked s old new slot place c changed x made kept live serial told linked free waiting =
-    names-added s old new place x made (relinks-to old.connections new.connections (with_item old.connections slot changed) linked (relinks-item 256 old.connections slot c changed kept live serial told)) free waiting
+names-asked s old new slot place c changed x made kept live serial told linked free waiting = record {
+  names = follows-asked s old new slot place c changed x made kept live serial linked free waiting;
+  given = record { connections = given-connection old.connections new.connections slot c changed live told linked; messages = given-message old.messages new.messages place x free waiting };
+}
 
 -- ---- a connection comes, and its message
 
@@ -143,25 +177,29 @@ live-named ts (h ∷ hs) named =
     ap (λ (t : SlotName). t ∷ map (λ (c : OpenConnection). get_or ts c.serial no_slot) (map (λ (x : Held OpenConnection). x.item) hs)) (All-head (IsNamedBy ts) h hs named)
     ∙ ap (λ (us : List SlotName). slot_name h.slot ∷ us) (live-named ts hs (All-tail (IsNamedBy ts) h hs named))
 
+pub follows-connected : (s : System) (old new : TablesView) (slot place : Slot) (c : OpenConnection) (x : QueuedMessage) → MadeFor old s → IsTable old.connections → free_slot old.connections ≡ Some slot → c.serial ≡ old.connections.takes
+    → new.connections ≡ taken old.connections slot c → free_slot old.messages ≡ Some place → new.messages ≡ taken old.messages place x → FollowsNames s old new
+follows-connected s old new slot place c x made table free serial linked room waiting = λ k was.
+    let size : ℕ = capacity s in
+    let mid : TablesView = record old { connections = new.connections } in
+    let next : slot_name slot ≡ next_slot size (live_connections k (spm_of old)) k.connections =
+    next-name old.connections k.connections slot was.past_connections free
+    ∙ ap (λ n. next_slot n (live_names old.connections) k.connections) (connection_slots old s made)
+    ∙ ap (λ (ts : List SlotName). next_slot size ts k.connections) (sym (live-named k.connections old.connections.held was.connections)) in
+    let joined : SlotName → NamesSoFar = λ t. record k { connections = k.connections ++ t ∷ [] } in
+    let between : NamesAre mid (joined (slot_name slot)) = names-started old mid k slot c was table free serial linked refl in
+    let grown : new.connections.takes ≡ old.connections.takes + 1 = ap (λ (p : Places OpenConnection). p.takes) linked in
+    subst (NamesAre new)
+    (ap (λ t. with_messages (message_capacity s) 1 (joined t)) next
+    ∙ sym (after-joined s old new k k.messages 1 (all-kept old new k was (stay-pushed old new place x waiting)) (pushed-length old new k place x was waiting) grown))
+    (names-enqueued mid new (joined (slot_name slot)) place x (message_capacity s) between (message_slots old s made) room refl waiting)
+
 pub names-connected : (s : System) (old new : TablesView) (slot place : Slot) (c : OpenConnection) (x : QueuedMessage) → MadeFor old s → IsTable old.connections → free_slot old.connections ≡ Some slot → c.serial ≡ old.connections.takes
     → new.connections ≡ taken old.connections slot c → free_slot old.messages ≡ Some place → new.messages ≡ taken old.messages place x → KeepsNames s old new
 names-connected s old new slot place c x made table free serial linked room waiting = record {
-  names = λ k was.
-      let size : ℕ = capacity s in
-      let mid : TablesView = record old { connections = new.connections } in
-      let next : slot_name slot ≡ next_slot size (live_connections k (spm_of old)) k.connections =
-      next-name old.connections k.connections slot was.past_connections free
-      ∙ ap (λ n. next_slot n (live_names old.connections) k.connections) (connection_slots old s made)
-      ∙ ap (λ (ts : List SlotName). next_slot size ts k.connections) (sym (live-named k.connections old.connections.held was.connections)) in
-      let joined : SlotName → NamesSoFar = λ t. record k { connections = k.connections ++ t ∷ [] } in
-      let between : NamesAre mid (joined (slot_name slot)) = names-started old mid k slot c was table free serial linked refl in
-      let grown : new.connections.takes ≡ old.connections.takes + 1 = ap (λ (p : Places OpenConnection). p.takes) linked in
-      subst (NamesAre new)
-      (ap (λ t. with_messages (message_capacity s) 1 (joined t)) next
-      ∙ sym (after-joined s old new k k.messages 1 (all-kept old new k was (stay-pushed old new place x waiting)) (pushed-length old new k place x was waiting) grown))
-      (names-enqueued mid new (joined (slot_name slot)) place x (message_capacity s) between (message_slots old s made) room refl waiting);
+  names = follows-connected s old new slot place c x made table free serial linked room waiting;
   given = record {
-    connections = subst (KeepsFreshConnections old.connections) (sym linked) (given-taken _ _ old.connections slot c free);
+    connections = given-to _ _ old.connections new.connections (taken old.connections slot c) linked (given-taken _ _ old.connections slot c free);
     messages = given-message old.messages new.messages place x room waiting;
   };
 }

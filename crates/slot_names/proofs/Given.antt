@@ -1,22 +1,24 @@
 -- What changes of a pool leave of the handles that were given.
-use Rattle.std.proofs.Common.{ℕ, ◌≡◌, ◌<◌, ◌≤◌, ◌+◌, Bool, false, not, List, [], ◌∷◌, length, filter, get_or, arith, ◌∙◌, sym, refl, subst}
-use Rattle.std.specs.Prelude.{All, Option, Some, None, slice_set}
+use Rattle.std.proofs.Common.{ℕ, ◌≡◌, ◌<◌, ◌≤◌, ◌+◌, Bool, false, not, List, [], ◌∷◌, length, filter, get_or, arith, ◌∙◌, ap, sym, refl, subst}
+use Rattle.std.specs.Prelude.{All, Option, Some, None, is_some, slice_set}
 use Rattle.std.specs.List.{cons_option, filter_map, list_any}
 use Rattle.std.proofs.Math.ListN.{length-set}
 use Rattle.std.proofs.lemmas.Grind.{common_steps}
 use Rattle.std.proofs.lemmas.List.Elements.{All-cons, All-filter, All-head, All-nil, All-push, All-tail}
 use Rattle.ffm_model.specs.declared.machine.Handle.{Handle}
+use Rattle.ffm_model.specs.declared.objects.OpenConnection.{OpenConnection}
 use Rattle.object_pools.specs.declared.slot.Slot.{Slot}
 use Rattle.object_pools.specs.declared.slot.Held.{Held}
-use Rattle.object_pools.specs.Pool.{Places, free_slot, is_at, item_at, taken, with_item}
+use Rattle.object_pools.specs.Pool.{Places, free_slot, has_slot, is_at, item_at, taken, with_item, without}
 use Rattle.object_pools.proofs.Pigeons.{index-below}
 use Rattle.handle_table.specs.declared.handles.Family.{Family}
-use Rattle.handle_table.specs.declared.handles.Family.TheVariants.{Message}
+use Rattle.handle_table.specs.declared.handles.Family.TheVariants.{Connection}
+use Rattle.handle_table.specs.Handles.{handle_at, is_given}
 use Rattle.handle_table.proofs.FreshLemmas.{GivesFresh-put, IsUntold}
 use Rattle.handle_table.proofs.NameLemmas.{free-parts}
 use Rattle.spm_tables.specs.declared.item.QueuedMessage.{QueuedMessage}
 use Rattle.spm_tables.specs.TablesView.{TablesView}
-use Rattle.slot_names.specs.Named.{KeepsFresh, KeepsFreshMessages, KeepsGiven}
+use Rattle.slot_names.specs.Named.{KeepsFresh, KeepsFreshConnections, KeepsFreshMessages, KeepsGiven}
 
 -- what each item keeps as long as it is there, all that are left keep
 pub All-left : {X : Type 0} (P : X → Type 0) (f : X → Option X) → ((x y : X) → f x ≡ Some y → P x → P y) → (xs : List X) → All P xs → All P (filter_map f xs)
@@ -51,6 +53,10 @@ module _ {T : Type 0} (f : Family) (told : T → Bool) where
   pub given-put : (p : Places T) (s : Slot) (x y : T) → item_at p s ≡ Some x → (told y ≡ false → told x ≡ false) → KeepsFresh f told p (with_item p s y)
   given-put p s x y live stays = record { size = refl; generations = λ i. omega arith; fresh = λ few given v. GivesFresh-put f told p given s x y v live stays }
 
+  -- by another name of the new one
+  pub given-to : (old new changed : Places T) → new ≡ changed → KeepsFresh f told old changed → KeepsFresh f told old new
+  given-to old new changed same it = subst (KeepsFresh f told old) (sym same) it
+
   pub given-taken : (p : Places T) (s : Slot) (x : T) → free_slot p ≡ Some s → KeepsFresh f told p (taken p s x)
   given-taken p s x free =
       let parts = free-parts p s free in
@@ -65,9 +71,37 @@ module _ {T : Type 0} (f : Family) (told : T → Bool) where
         };
       }
 
+-- a connection changes in its slot
+pub given-connection : (old new : Places OpenConnection) (slot : Slot) (c changed : OpenConnection) → item_at old slot ≡ Some c → (is_some changed.handle ≡ false → is_some c.handle ≡ false) → new ≡ with_item old slot changed → KeepsFreshConnections old new
+given-connection old new slot c changed live told linked = given-to _ _ old new (with_item old slot changed) linked (given-put _ _ old slot c changed live told)
+
+-- or goes
+pub given-freed : (old new : Places OpenConnection) (slot : Slot) → new ≡ without old slot → KeepsFreshConnections old new
+given-freed old new slot linked = given-to _ _ old new (without old slot) linked (given-filter _ _ old (λ h. not (has_slot slot h)))
+
+-- some connections go, and others change in their slots
+pub given-some : (p : Places OpenConnection) (f : Held OpenConnection → Option (Held OpenConnection)) → ((h g : Held OpenConnection) → f h ≡ Some g → (g.slot ≡ h.slot) × (g.item.handle ≡ h.item.handle))
+    → KeepsFreshConnections p (record p { held = filter_map f p.held })
+given-some p f same =
+    given-held _ _ p (filter_map f p.held)
+    (λ given a.
+    All-left (IsUntold Connection (λ c. is_some c.handle) given) f
+    (λ h g e is off. let it = same h g e in ap (λ (s : Slot). is_given given (handle_at Connection s)) it.0 ∙ is (ap is_some (sym it.1) ∙ off)) p.held a)
+
 -- a message is taken in
 pub given-message : (old new : Places QueuedMessage) (slot : Slot) (x : QueuedMessage) → free_slot old ≡ Some slot → new ≡ taken old slot x → KeepsFreshMessages old new
-given-message old new slot x free waiting = subst (KeepsFreshMessages old) (sym waiting) (given-taken Message (λ m. m.delivered) old slot x free)
+given-message old new slot x free waiting = given-to _ _ old new (taken old slot x) waiting (given-taken _ _ old slot x free)
+
+-- or some go
+pub given-dropped : (old new : Places QueuedMessage) (q : Held QueuedMessage → Bool) → new ≡ record old { held = filter q old.held } → KeepsFreshMessages old new
+given-dropped old new q waiting = given-to _ _ old new (record old { held = filter q old.held }) waiting (given-filter _ _ old q)
+
+pub given-still : {T : Type 0} (f : Family) (told : T → Bool) (old new : Places T) → new ≡ old → KeepsFresh f told old new
+given-still f told old new same = given-to f told old new old same (given-same f told old)
+
+-- nothing changes
+pub given-untouched : (old new : TablesView) → new.connections ≡ old.connections → new.messages ≡ old.messages → KeepsGiven old new
+given-untouched old new linked waiting = record { connections = given-still _ _ old.connections new.connections linked; messages = given-still _ _ old.messages new.messages waiting }
 
 -- one change after another
 pub given-on : (a b c : TablesView) → KeepsGiven a b → KeepsGiven b c → KeepsGiven a c

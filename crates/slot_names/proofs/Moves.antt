@@ -1,6 +1,6 @@
 -- What a single change of the tables does to their names.
 use Rattle.std.proofs.Common.{ℕ, zero, suc, ◌≡◌, ◌<◌, ◌≤◌, ◌+◌, ◌==◌, Bool, true, false, cond, not, ◌&&◌, ◌||◌, List, [], ◌∷◌, ◌++◌, length, map, get_or, arith, ◌∙◌, ap, sym, refl, subst, length-append}
-use Rattle.std.specs.Prelude.{ℤ, All, Option, Some, count_by, find, is_some}
+use Rattle.std.specs.Prelude.{ℤ, All, Option, Some, count_by, find}
 use Rattle.std.specs.Ordering.{int_eq}
 use Rattle.std.specs.List.{list_any, filter_map}
 use Rattle.std.proofs.Math.Seq.{get_or-append_seam}
@@ -13,10 +13,8 @@ use Rattle.object_pools.specs.declared.slot.Slot.{Slot}
 use Rattle.object_pools.specs.declared.slot.Held.{Held}
 use Rattle.object_pools.specs.Pool.{Places, IsKept, free_slot, has_slot, item_at, item_put, taken, with_item, without}
 use Rattle.list_laws.proofs.Counts.{bit, count-cons}
-use Rattle.handle_table.specs.declared.handles.Family.TheVariants.{Connection}
-use Rattle.handle_table.specs.Handles.{handle_at, is_given, live_names, slot_name}
+use Rattle.handle_table.specs.Handles.{live_names, slot_name}
 use Rattle.handle_table.specs.Table.{IsTable, Rises, connections}
-use Rattle.handle_table.proofs.FreshLemmas.{IsUntold}
 use Rattle.handle_table.proofs.NameLemmas.{next-name, past-after}
 use Rattle.handle_table.proofs.SlotLemmas.{held-of, one_slot}
 use Rattle.handle_table.proofs.TableLemmas.{rises-bounds}
@@ -24,7 +22,7 @@ use Rattle.spm_tables.specs.declared.item.QueuedMessage.{QueuedMessage}
 use Rattle.spm_tables.specs.TablesView.{TablesView}
 use Rattle.slot_names.specs.Named.{NamesAre, IsNamedBy}
 use Rattle.slot_names.specs.Changes.{KeepsConnectionNames, KeepsMessageNames, is_like}
-use Rattle.slot_names.proofs.Given.{All-left, given-filter, given-held, given-put, given-same}
+use Rattle.slot_names.proofs.Given.{All-left}
 use Rattle.slot_names.proofs.Kept.{name_list}
 use Rattle.counting_law.proofs.Pairs.{member-counts}
 
@@ -35,7 +33,7 @@ pub relinks-to : (old new changed : Places OpenConnection) → new ≡ changed �
 relinks-to old new changed same it = subst (KeepsConnectionNames old) (sym same) it
 
 pub relinks-same : (old new : Places OpenConnection) → new ≡ old → KeepsConnectionNames old new
-relinks-same old new same = relinks-to old new old same (record { generations = refl; takes = refl; held = λ ts named. named; fresh = given-same _ _ old })
+relinks-same old new same = relinks-to old new old same (record { generations = refl; takes = refl; held = λ ts named. named })
 
 -- ---- an item changes in its slot
 
@@ -76,15 +74,13 @@ put-named ts s c h same named =
     elim [ true ↦ λ e. ap (λ n. get_or ts n no_slot) (sym (same e)) ∙ named | false ↦ λ e. named ] in
     go (has_slot s h) refl
 
-pub relinks-item : (capacity : ℕ) (p : Places OpenConnection) (s : Slot) (c changed : OpenConnection) → IsKept capacity p → item_at p s ≡ Some c → changed.serial ≡ c.serial → (is_some changed.handle ≡ false → is_some c.handle ≡ false)
-    → KeepsConnectionNames p (with_item p s changed)
-relinks-item capacity p s c changed kept live serial told = record {
+pub relinks-item : (capacity : ℕ) (p : Places OpenConnection) (s : Slot) (c changed : OpenConnection) → IsKept capacity p → item_at p s ≡ Some c → changed.serial ≡ c.serial → KeepsConnectionNames p (with_item p s changed)
+relinks-item capacity p s c changed kept live serial = record {
   generations = refl;
   takes = refl;
   held = λ ts named.
       All-map (IsNamedBy ts) (item_put s changed) p.held
       (λ k d lt. put-named ts s changed (get_or p.held k d) (λ e. ap (λ (x : OpenConnection). x.serial) (only-item capacity p s c kept live k d lt e) ∙ sym serial) (named k d lt));
-  fresh = given-put _ _ p s c changed live told;
 }
 
 pub relinks-without : (p : Places OpenConnection) (s : Slot) → KeepsConnectionNames p (without p s)
@@ -92,28 +88,23 @@ relinks-without p s = record {
   generations = refl;
   takes = refl;
   held = λ ts named. All-filter (λ h. not (has_slot s h)) (IsNamedBy ts) p.held named;
-  fresh = given-filter _ _ p (λ h. not (has_slot s h));
 }
 
 -- some connections go, and others change in their slots
 pub relinks-some : (p : Places OpenConnection) (f : Held OpenConnection → Option (Held OpenConnection))
-    → ((h g : Held OpenConnection) → f h ≡ Some g → (g.slot ≡ h.slot) × (g.item.serial ≡ h.item.serial) × (g.item.handle ≡ h.item.handle))
+    → ((h g : Held OpenConnection) → f h ≡ Some g → (g.slot ≡ h.slot) × (g.item.serial ≡ h.item.serial))
     → KeepsConnectionNames p (record p { held = filter_map f p.held })
 relinks-some p f same = record {
   generations = refl;
   takes = refl;
   held = λ ts named. All-left (IsNamedBy ts) f (λ h g e is. let it = same h g e in ap (λ n. get_or ts n no_slot) it.1 ∙ is ∙ ap slot_name (sym it.0)) p.held named;
-  fresh = given-held _ _ p (filter_map f p.held)
-      (λ given a.
-      All-left (IsUntold Connection (λ c. is_some c.handle) given) f
-      (λ h g e is off. let it = same h g e in ap (λ (s : Slot). is_given given (handle_at Connection s)) it.0 ∙ is (ap is_some (sym it.2) ∙ off)) p.held a);
 }
 
 pub rewaits-to : (old new changed : Places QueuedMessage) → new ≡ changed → KeepsMessageNames old changed → KeepsMessageNames old new
 rewaits-to old new changed same it = subst (KeepsMessageNames old) (sym same) it
 
 pub rewaits-same : (old new : Places QueuedMessage) → new ≡ old → KeepsMessageNames old new
-rewaits-same old new same = rewaits-to old new old same (record { generations = refl; takes = refl; names = refl; alike = λ h. refl; fresh = given-same _ _ old })
+rewaits-same old new same = rewaits-to old new old same (record { generations = refl; takes = refl; names = refl; alike = λ h. refl })
 
 names-put : (s : Slot) (m : QueuedMessage) (hs : List (Held QueuedMessage)) → name_list (map (item_put s m) hs) ≡ name_list hs
 names-put s m [] = refl
@@ -146,8 +137,8 @@ likes-put s m x (h ∷ hs) same =
     ap (λ b. b || list_any (is_like x) (map (item_put s m) hs)) (like-put s m x h (All-head P h hs same)) ∙ ap (λ b. is_like x h || b) (likes-put s m x hs (All-tail P h hs same))
 
 pub rewaits-item : (capacity : ℕ) (p : Places QueuedMessage) (s : Slot) (m changed : QueuedMessage) → IsKept capacity p → item_at p s ≡ Some m → changed.serial ≡ m.serial → changed.client ≡ m.client → changed.kind ≡ m.kind
-    → (changed.delivered ≡ false → m.delivered ≡ false) → KeepsMessageNames p (with_item p s changed)
-rewaits-item capacity p s m changed kept live serial client kind told = record {
+    → KeepsMessageNames p (with_item p s changed)
+rewaits-item capacity p s m changed kept live serial client kind = record {
   generations = refl;
   takes = refl;
   names = names-put s changed p.held;
@@ -160,7 +151,6 @@ rewaits-item capacity p s m changed kept live serial client kind told = record {
         client = ap (λ (y : QueuedMessage). y.client) it ∙ sym client;
         kind = ap (λ (y : QueuedMessage). y.kind) it ∙ sym kind;
       });
-  fresh = given-put _ _ p s m changed live told;
 }
 
 -- ---- the names of changed tables

@@ -5,11 +5,11 @@ use Rattle.std.proofs.lemmas.List.Elements.{All-head, All-tail}
 use Rattle.std.proofs.lemmas.List.Sums.{length-filter}
 use Rattle.ffm_model.specs.declared.system.System.{System}
 use Rattle.ffm_model.specs.declared.objects.PendingMessage.{PendingMessage}
-use Rattle.ffm_model.specs.Names.{NamesSoFar, SlotName, is_same_connection, names_after, slots_kept, stays}
+use Rattle.ffm_model.specs.Names.{NamesSoFar, SlotName, is_same_connection, slots_kept, stays}
 use Rattle.counting_law.proofs.Slots.{kept-length, same-self}
 use Rattle.counting_law.proofs.Takes.{same_message}
 use Rattle.spm_tables.specs.TablesView.{TablesView, held_message, spm_of}
-use Rattle.slot_names.specs.Named.{KeepsNames, NamesAre}
+use Rattle.slot_names.specs.Named.{FollowsNames, KeepsNames, NamesAre}
 use Rattle.slot_names.proofs.Given.{given-on}
 use Rattle.slot_names.proofs.Kept.{any-at, message_list}
 use Rattle.slot_names.proofs.Changes.{after-is, after-still, kept_names, names-length}
@@ -80,25 +80,23 @@ stay-part r ms gone = λ i d lt.
     go (r m) refl
 
 -- where the first change only removes messages, and no removed one is like one of the messages that are left then, or at the end
-pub names-joined : (s : System) (old mid new : TablesView) (r : PendingMessage → Bool) → KeepsNames s old mid → KeepsNames s mid new → (spm_of mid).messages ≡ filter r (spm_of old).messages
+pub follows-joined : (s : System) (old mid new : TablesView) (r : PendingMessage → Bool) → FollowsNames s old mid → FollowsNames s mid new → (spm_of mid).messages ≡ filter r (spm_of old).messages
     → mid.connections.takes ≡ old.connections.takes → new.connections.takes ≡ mid.connections.takes
-    → All (λ m. r m ≡ false → (stays (spm_of mid).messages m ≡ false) × (stays (spm_of new).messages m ≡ false)) (spm_of old).messages → KeepsNames s old new
-names-joined s old mid new r one two messages made still gone = record { names = joined; given = given-on old mid new one.given two.given } where
-  joined : (k : NamesSoFar) → NamesAre old k → NamesAre new (names_after s (spm_of old) (spm_of new) k)
-  joined k was =
-      let ms : List PendingMessage = message_list old.messages.held in
-      let ns : List PendingMessage = message_list new.messages.held in
-      let ts : List SlotName = slots_kept r ms k.messages in
-      let us : List SlotName = slots_kept (stays ns) ms k.messages in
-      let number : length k.messages ≡ length ms = omega (arith, names-length old k was, length-map old.messages.held held_message) in
-      let part : All (λ m. stays (filter r ms) m ≡ r m) ms = stay-part r ms (λ i d lt e. ap (λ (xs : List PendingMessage). stays xs (get_or ms i d)) (sym messages) ∙ (gone i d lt e).0) in
-      let first_kept : kept_names old mid k.messages ≡ ts = ap (λ (xs : List PendingMessage). slots_kept (stays xs) ms k.messages) messages ∙ kept-same (stays (filter r ms)) r ms k.messages part in
-      let short : length mid.messages.held ≡ length ts + 0 =
-      omega (arith, length-map mid.messages.held held_message, ap (λ (xs : List PendingMessage). length xs) messages, length-filter r ms, kept-length r ms k.messages number) in
-      let k' : NamesSoFar = record k { messages = ts } in
-      let first : NamesAre mid k' = subst (NamesAre mid) (after-is s old mid k ts 0 first_kept short made) (one.names k was) in
-      let second_kept : kept_names mid new ts ≡ us = ap (λ (xs : List PendingMessage). slots_kept (stays ns) xs ts) messages ∙ kept-twice (stays ns) r ms k.messages (λ i d lt e. (gone i d lt e).1) in
-      subst (NamesAre new) (after-still s mid new k' us second_kept still ∙ sym (after-still s old new k us refl (still ∙ made))) (two.names k' first)
+    → All (λ m. r m ≡ false → (stays (spm_of mid).messages m ≡ false) × (stays (spm_of new).messages m ≡ false)) (spm_of old).messages → FollowsNames s old new
+follows-joined s old mid new r one two messages made still gone = λ k was.
+    let ms : List PendingMessage = message_list old.messages.held in
+    let ns : List PendingMessage = message_list new.messages.held in
+    let ts : List SlotName = slots_kept r ms k.messages in
+    let us : List SlotName = slots_kept (stays ns) ms k.messages in
+    let number : length k.messages ≡ length ms = omega (arith, names-length old k was, length-map old.messages.held held_message) in
+    let part : All (λ m. stays (filter r ms) m ≡ r m) ms = stay-part r ms (λ i d lt e. ap (λ (xs : List PendingMessage). stays xs (get_or ms i d)) (sym messages) ∙ (gone i d lt e).0) in
+    let first_kept : kept_names old mid k.messages ≡ ts = ap (λ (xs : List PendingMessage). slots_kept (stays xs) ms k.messages) messages ∙ kept-same (stays (filter r ms)) r ms k.messages part in
+    let short : length mid.messages.held ≡ length ts + 0 =
+    omega (arith, length-map mid.messages.held held_message, ap (λ (xs : List PendingMessage). length xs) messages, length-filter r ms, kept-length r ms k.messages number) in
+    let k' : NamesSoFar = record k { messages = ts } in
+    let first : NamesAre mid k' = subst (NamesAre mid) (after-is s old mid k ts 0 first_kept short made) (one k was) in
+    let second_kept : kept_names mid new ts ≡ us = ap (λ (xs : List PendingMessage). slots_kept (stays ns) xs ts) messages ∙ kept-twice (stays ns) r ms k.messages (λ i d lt e. (gone i d lt e).1) in
+    subst (NamesAre new) (after-still s mid new k' us second_kept still ∙ sym (after-still s old new k us refl (still ∙ made))) (two k' first)
 
 -- ---- a reply that owes a panic, in the machine's words
 
@@ -203,9 +201,9 @@ held-request s b a h m i d fits found request lt shown =
     go (D n) refl
 
 -- a reply, and the panic of the client that it owes
-pub names-owed : (s : System) (old mid new : TablesView) (a p : ℕ) (h : Handle) (status : ℤ) → ObjectsFit s (spm_of old) → reply_on s (spm_of old) a h status ≡ Some (record { spm = spm_of mid; owing = Some p })
-    → spm_of new ≡ panic_effect s (spm_of mid) p → KeepsNames s old mid → KeepsNames s mid new → KeepsNames s old new
-names-owed s old mid new a p h status fits reply effect one two =
+pub follows-owed : (s : System) (old mid new : TablesView) (a p : ℕ) (h : Handle) (status : ℤ) → ObjectsFit s (spm_of old) → reply_on s (spm_of old) a h status ≡ Some (record { spm = spm_of mid; owing = Some p })
+    → spm_of new ≡ panic_effect s (spm_of mid) p → FollowsNames s old mid → FollowsNames s mid new → FollowsNames s old new
+follows-owed s old mid new a p h status fits reply effect one two =
     let b : SpmState = spm_of old in
     let ms : List PendingMessage = b.messages in
     let r : PendingMessage → Bool = λ x. not (has_handle x.handle h) in
@@ -218,7 +216,7 @@ names-owed s old mid new a p h status fits reply effect one two =
     let svc : PendingMessage → Bool = λ x. not (is_service_of s p x.service) in
     let last : (spm_of new).messages ≡ filter svc (spm_of mid).messages ++ disconnect_messages s p (spm_of mid).connections = ap (λ (x : SpmState). x.messages) is_new in
     let request : int_eq PSA_IPC_DISCONNECT it.m.kind ≡ false = owed-request s it.m status (int_eq PSA_IPC_DISCONNECT it.m.kind ≡ false) it.owes (λ n e. request_kind it.m.kind n e) in
-    names-joined s old mid new r one two messages made (ap (λ (x : SpmState). x.connections_made) is_new)
+    follows-joined s old mid new r one two messages made (ap (λ (x : SpmState). x.connections_made) is_new)
     (λ i d lt off.
     let n : PendingMessage = get_or ms i d in
     let shown : has_handle n.handle h ≡ true = not_off (has_handle n.handle h) off in
@@ -234,3 +232,10 @@ names-owed s old mid new a p h status fits reply effect one two =
       not_off : (x : Bool) → not x ≡ false → x ≡ true
       not_off true e = refl
       not_off false e = cc
+
+pub names-owed : (s : System) (old mid new : TablesView) (a p : ℕ) (h : Handle) (status : ℤ) → ObjectsFit s (spm_of old) → reply_on s (spm_of old) a h status ≡ Some (record { spm = spm_of mid; owing = Some p })
+    → spm_of new ≡ panic_effect s (spm_of mid) p → KeepsNames s old mid → KeepsNames s mid new → KeepsNames s old new
+names-owed s old mid new a p h status fits reply effect one two = record {
+  names = follows-owed s old mid new a p h status fits reply effect one.names two.names;
+  given = given-on old mid new one.given two.given;
+}

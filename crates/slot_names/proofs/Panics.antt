@@ -14,7 +14,7 @@ use Rattle.ffm_model.specs.declared.objects.ConnPhase.{ConnPhase}
 use Rattle.ffm_model.specs.Actors.{is_service_of}
 use Rattle.ffm_model.specs.State.{SpmState}
 use Rattle.ffm_model.specs.Panic.{is_dead, panic_effect}
-use Rattle.ffm_model.specs.Names.{NamesSoFar, SlotName, is_same_connection, message_capacity, names_after, next_slot, stays, with_messages}
+use Rattle.ffm_model.specs.Names.{NamesSoFar, SlotName, is_same_connection, message_capacity, next_slot, stays, with_messages}
 use Rattle.object_pools.specs.declared.slot.Slot.{Slot}
 use Rattle.object_pools.specs.declared.slot.Held.{Held}
 use Rattle.object_pools.specs.Pool.{Places, free_slot, taken}
@@ -29,9 +29,8 @@ use Rattle.counting_law.proofs.Slots.{same-self}
 use Rattle.counting_law.proofs.Takes.{same_message}
 use Rattle.spm_tables.specs.declared.item.QueuedMessage.{QueuedMessage}
 use Rattle.spm_tables.specs.TablesView.{TablesView, held_message, spm_of}
-use Rattle.slot_names.specs.Named.{KeepsFreshMessages, KeepsNames, NamesAre}
+use Rattle.slot_names.specs.Named.{FollowsNames, NamesAre}
 use Rattle.slot_names.specs.Changes.{OneMessageEach, PairsOff, KeepsConnectionNames, KeepsMessageNames, TakesOn, names_of}
-use Rattle.slot_names.proofs.Given.{given-filter, given-message, given-on}
 use Rattle.slot_names.proofs.Kept.{kept-where, message_list}
 use Rattle.slot_names.proofs.Moves.{messages-more, names-enqueued, names-stay, names-with, one_more, rewaits-same}
 use Rattle.slot_names.proofs.Changes.{after-is, kept_names, names-length}
@@ -43,19 +42,13 @@ use Rattle.slot_names.proofs.Removals.{one-message}
 -- all at once, before the first take
 pub takes-first : (size : ℕ) (old new : TablesView) (q : Held QueuedMessage → Bool) → KeepsConnectionNames old.connections new.connections → new.messages ≡ record old.messages { held = filter q old.messages.held }
     → TakesOn size old (names_of q old.messages) 0 new
-takes-first size old new q linked waiting = record {
-  names = λ k was.
-      names-with old new k (names_of q old.messages) was linked (ap (λ (p : Places QueuedMessage). p.generations) waiting) (ap (λ (p : Places QueuedMessage). p.takes) waiting)
-      (ap live_names (sym waiting));
-  given = record { connections = linked.fresh; messages = subst (KeepsFreshMessages old.messages) (sym waiting) (given-filter _ _ old.messages q) };
-}
+takes-first size old new q linked waiting = λ k was.
+    names-with old new k (names_of q old.messages) was linked (ap (λ (p : Places QueuedMessage). p.generations) waiting) (ap (λ (p : Places QueuedMessage). p.takes) waiting)
+    (ap live_names (sym waiting))
 
 -- connections go or change in their slots, and messages change in theirs
 pub takes-stay : (size : ℕ) (old d new : TablesView) (kept : List SlotName) (n : ℕ) → TakesOn size old kept n d → KeepsConnectionNames d.connections new.connections → KeepsMessageNames d.messages new.messages → TakesOn size old kept n new
-takes-stay size old d new kept n so_far linked waiting = record {
-  names = λ k was. names-stay d new (with_messages size n (record k { messages = kept })) (so_far.names k was) linked waiting;
-  given = given-on old d new so_far.given (record { connections = linked.fresh; messages = waiting.fresh });
-}
+takes-stay size old d new kept n so_far linked waiting = λ k was. names-stay d new (with_messages size n (record k { messages = kept })) (so_far k was) linked waiting
 
 pub takes-connections : (size : ℕ) (old d new : TablesView) (kept : List SlotName) (n : ℕ) → TakesOn size old kept n d → KeepsConnectionNames d.connections new.connections → new.messages ≡ d.messages → TakesOn size old kept n new
 takes-connections size old d new kept n so_far linked waiting = takes-stay size old d new kept n so_far linked (rewaits-same d.messages new.messages waiting)
@@ -63,14 +56,11 @@ takes-connections size old d new kept n so_far linked waiting = takes-stay size 
 -- a message is taken in
 pub takes-more : (size : ℕ) (old d new : TablesView) (kept : List SlotName) (n : ℕ) (slot : Slot) (x : QueuedMessage) → TakesOn size old kept n d → length d.messages.generations ≡ size → free_slot d.messages ≡ Some slot
     → KeepsConnectionNames d.connections new.connections → new.messages ≡ taken d.messages slot x → TakesOn size old kept (n + 1) new
-takes-more size old d new kept n slot x so_far wide free linked waiting = record {
-  names = λ k was.
-      let k' : NamesSoFar = record k { messages = kept } in
-      let mid : TablesView = record d { connections = new.connections } in
-      let between : NamesAre mid (with_messages size n k') = names-stay d mid (with_messages size n k') (so_far.names k was) linked (rewaits-same d.messages d.messages refl) in
-      subst (NamesAre new) (sym (messages-more size n k') ∙ ap (λ m. with_messages size m k') (sym (add-one n))) (names-enqueued mid new (with_messages size n k') slot x size between wide free refl waiting);
-  given = given-on old d new so_far.given (record { connections = linked.fresh; messages = given-message d.messages new.messages slot x free waiting });
-}
+takes-more size old d new kept n slot x so_far wide free linked waiting = λ k was.
+    let k' : NamesSoFar = record k { messages = kept } in
+    let mid : TablesView = record d { connections = new.connections } in
+    let between : NamesAre mid (with_messages size n k') = names-stay d mid (with_messages size n k') (so_far k was) linked (rewaits-same d.messages d.messages refl) in
+    subst (NamesAre new) (sym (messages-more size n k') ∙ ap (λ m. with_messages size m k') (sym (add-one n))) (names-enqueued mid new (with_messages size n k') slot x size between wide free refl waiting)
 
 -- ---- the event as a whole
 
@@ -81,25 +71,23 @@ more-messages size (suc n) k =
     omega (arith, more-messages size n (one_more size k), length-append k.messages (t ∷ []))
 
 -- the messages that pass the test stay, the others go, and those that come are like none of them
-pub names-closed : (s : System) (old new : TablesView) (r : PendingMessage → Bool) (added : List PendingMessage) (kept : List SlotName) (n : ℕ) → TakesOn (message_capacity s) old kept n new
+follows-closed : (s : System) (old new : TablesView) (r : PendingMessage → Bool) (added : List PendingMessage) (kept : List SlotName) (n : ℕ) → TakesOn (message_capacity s) old kept n new
     → kept ≡ names_of (λ h. r (held_message h)) old.messages → new.connections.takes ≡ old.connections.takes → (spm_of new).messages ≡ filter r (spm_of old).messages ++ added
-    → OneMessageEach (spm_of old) → All (λ m. r m ≡ false → stays added m ≡ false) (spm_of old).messages → KeepsNames s old new
-names-closed s old new r added kept n so_far names made messages one apart = record { names = closed; given = so_far.given } where
-  closed : (k : NamesSoFar) → NamesAre old k → NamesAre new (names_after s (spm_of old) (spm_of new) k)
-  closed k was =
-      let hs : List (Held QueuedMessage) = old.messages.held in
-      let ms : List PendingMessage = message_list hs in
-      let now : NamesAre new (with_messages (message_capacity s) n (record k { messages = kept })) = so_far.names k was in
-      let part : All (λ m. stays (filter r ms ++ added) m ≡ r m) ms = like-kept same_message same-self r ms added one apart in
-      let stay : All (λ h. stays (message_list new.messages.held) (held_message h) ≡ r (held_message h)) hs =
-      λ i d lt.
-      let h : Held QueuedMessage = get_or hs i d in
-      let at : get_or ms i (held_message d) ≡ held_message h = get_or-map held_message hs i d (held_message d) lt in
-      ap (λ (ns : List PendingMessage). stays ns (held_message h)) messages
-      ∙ subst (λ (m : PendingMessage). stays (filter r ms ++ added) m ≡ r m) at (part i (held_message d) (omega (arith, lt, length-map hs held_message))) in
-      let is_kept : kept_names old new k.messages ≡ kept = ap (kept_names old new) was.messages ∙ kept-where (stays (message_list new.messages.held)) (λ h. r (held_message h)) hs stay ∙ sym names in
-      let longer : length new.messages.held ≡ length kept + n = omega (arith, names-length new (with_messages (message_capacity s) n (record k { messages = kept })) now, more-messages (message_capacity s) n (record k { messages = kept })) in
-      subst (NamesAre new) (sym (after-is s old new k kept n is_kept longer made)) now
+    → OneMessageEach (spm_of old) → All (λ m. r m ≡ false → stays added m ≡ false) (spm_of old).messages → FollowsNames s old new
+follows-closed s old new r added kept n so_far names made messages one apart = λ k was.
+    let hs : List (Held QueuedMessage) = old.messages.held in
+    let ms : List PendingMessage = message_list hs in
+    let now : NamesAre new (with_messages (message_capacity s) n (record k { messages = kept })) = so_far k was in
+    let part : All (λ m. stays (filter r ms ++ added) m ≡ r m) ms = like-kept same_message same-self r ms added one apart in
+    let stay : All (λ h. stays (message_list new.messages.held) (held_message h) ≡ r (held_message h)) hs =
+    λ i d lt.
+    let h : Held QueuedMessage = get_or hs i d in
+    let at : get_or ms i (held_message d) ≡ held_message h = get_or-map held_message hs i d (held_message d) lt in
+    ap (λ (ns : List PendingMessage). stays ns (held_message h)) messages
+    ∙ subst (λ (m : PendingMessage). stays (filter r ms ++ added) m ≡ r m) at (part i (held_message d) (omega (arith, lt, length-map hs held_message))) in
+    let is_kept : kept_names old new k.messages ≡ kept = ap (kept_names old new) was.messages ∙ kept-where (stays (message_list new.messages.held)) (λ h. r (held_message h)) hs stay ∙ sym names in
+    let longer : length new.messages.held ≡ length kept + n = omega (arith, names-length new (with_messages (message_capacity s) n (record k { messages = kept })) now, more-messages (message_capacity s) n (record k { messages = kept })) in
+    subst (NamesAre new) (sym (after-is s old new k kept n is_kept longer made)) now
 
 -- ---- a panic in the machine's words
 
@@ -165,9 +153,9 @@ disconnects-apart s b p h = λ i d lt off.
       and_false true = refl
       and_false false = refl
 
-pub names-panicked : (s : System) (old new : TablesView) (p : ℕ) (kept : List SlotName) (n : ℕ) → PairsOff (spm_of old) → spm_of new ≡ panic_effect s (spm_of old) p
-    → kept ≡ names_of (λ h. not (is_service_of s p h.item.service)) old.messages → TakesOn (message_capacity s) old kept n new → KeepsNames s old new
-names-panicked s old new p kept n pairs effect names so_far =
+pub follows-panicked : (s : System) (old new : TablesView) (p : ℕ) (kept : List SlotName) (n : ℕ) → PairsOff (spm_of old) → spm_of new ≡ panic_effect s (spm_of old) p
+    → kept ≡ names_of (λ h. not (is_service_of s p h.item.service)) old.messages → TakesOn (message_capacity s) old kept n new → FollowsNames s old new
+follows-panicked s old new p kept n pairs effect names so_far =
     let is_after = effect ∙ after_panic-is s (spm_of old) p in
-    names-closed s old new (λ m. not (is_service_of s p m.service)) (disconnect_messages s p (spm_of old).connections) kept n so_far names
+    follows-closed s old new (λ m. not (is_service_of s p m.service)) (disconnect_messages s p (spm_of old).connections) kept n so_far names
     (ap (λ (b : SpmState). b.connections_made) is_after) (ap (λ (b : SpmState). b.messages) is_after) (one-message (spm_of old) pairs) (disconnects-apart s (spm_of old) p pairs)

@@ -9,7 +9,7 @@ use Rattle.list_laws.proofs.Counts.{bit, both-le-left, both-le-right, count-le}
 use Rattle.ffm_model.specs.declared.system.System.{System}
 use Rattle.ffm_model.specs.declared.objects.OpenConnection.{OpenConnection}
 use Rattle.ffm_model.specs.State.{SpmState}
-use Rattle.ffm_model.specs.Names.{NamesSoFar, is_same_connection, is_same_message, names_after, stays}
+use Rattle.ffm_model.specs.Names.{is_same_connection, is_same_message, stays}
 use Rattle.object_pools.specs.declared.slot.Slot.{Slot}
 use Rattle.object_pools.specs.declared.slot.Held.{Held}
 use Rattle.object_pools.specs.Pool.{Places, IsKept, has_slot, item_at, with_item, without}
@@ -20,9 +20,9 @@ use Rattle.counting_law.proofs.Slots.{one-call}
 use Rattle.counting_law.proofs.Parts.{unique}
 use Rattle.spm_tables.specs.declared.item.QueuedMessage.{QueuedMessage}
 use Rattle.spm_tables.specs.TablesView.{TablesView, held_message, spm_of}
-use Rattle.slot_names.specs.Named.{KeepsFreshMessages, KeepsNames, NamesAre}
+use Rattle.slot_names.specs.Named.{FollowsNames, KeepsFreshConnections, KeepsGiven, KeepsNames, NamesAre}
 use Rattle.slot_names.specs.Changes.{OneMessageEach, PairsOff, KeepsConnectionNames, is_like}
-use Rattle.slot_names.proofs.Given.{given-filter}
+use Rattle.slot_names.proofs.Given.{given-connection, given-dropped, given-freed, given-still}
 use Rattle.slot_names.proofs.Kept.{kept-where, like_itself, message_list, name_list, stays-is}
 use Rattle.slot_names.proofs.Moves.{names-with, relinks-item, relinks-same, relinks-to, relinks-without}
 use Rattle.slot_names.proofs.Changes.{after-is, kept_names}
@@ -67,43 +67,63 @@ pub one-item : (d : TablesView) → OneMessageEach (spm_of d) → (h : Held Queu
 one-item d one h = omega (arith, one (held_message h), count-map held_message (is_same_message (held_message h)) d.messages.held)
 
 -- the messages that pass the test stay, and the others go
-pub names-removed : (s : System) (old new : TablesView) (q : Held QueuedMessage → Bool) → OneMessageEach (spm_of old) → KeepsConnectionNames old.connections new.connections
-    → new.messages ≡ record old.messages { held = filter q old.messages.held } → KeepsNames s old new
-names-removed s old new q one linked waiting = record { names = names; given = record { connections = linked.fresh; messages = subst (KeepsFreshMessages old.messages) (sym waiting) (given-filter _ _ old.messages q) } } where
-  names : (k : NamesSoFar) → NamesAre old k → NamesAre new (names_after s (spm_of old) (spm_of new) k)
-  names k was =
-      let hs : List (Held QueuedMessage) = old.messages.held in
-      let ts = name_list (filter q hs) in
-      let held : new.messages.held ≡ filter q hs = ap (λ (p : Places QueuedMessage). p.held) waiting in
-      let apart : All (λ h. list_any (is_like h) (filter q hs ++ []) ≡ q h) hs =
-      like-kept is_like like_itself q hs [] (one-item old one) (λ i d lt e. refl) in
-      let stay : All (λ h. stays (message_list new.messages.held) (held_message h) ≡ q h) hs =
-      λ i d lt.
-      let h : Held QueuedMessage = get_or hs i d in
-      ap (λ (ns : List (Held QueuedMessage)). stays (message_list ns) (held_message h)) (held ∙ sym (append-nil (filter q hs))) ∙ stays-is (filter q hs ++ []) h ∙ apart i d lt in
-      let kept : kept_names old new k.messages ≡ ts = ap (kept_names old new) was.messages ∙ kept-where (stays (message_list new.messages.held)) q hs stay in
-      let longer : length new.messages.held ≡ length ts + 0 =
-      ap (λ (ns : List (Held QueuedMessage)). length ns) held ∙ omega (arith, length-map (filter q hs) (λ (h : Held QueuedMessage). slot_name h.slot)) in
-      subst (NamesAre new) (sym (after-is s old new k ts 0 kept longer linked.takes))
-      (names-with old new k ts was linked (ap (λ (p : Places QueuedMessage). p.generations) waiting) (ap (λ (p : Places QueuedMessage). p.takes) waiting) (ap name_list (sym held)))
+follows-removed : (s : System) (old new : TablesView) (q : Held QueuedMessage → Bool) → OneMessageEach (spm_of old) → KeepsConnectionNames old.connections new.connections
+    → new.messages ≡ record old.messages { held = filter q old.messages.held } → FollowsNames s old new
+follows-removed s old new q one linked waiting = λ k was.
+    let hs : List (Held QueuedMessage) = old.messages.held in
+    let ts = name_list (filter q hs) in
+    let held : new.messages.held ≡ filter q hs = ap (λ (p : Places QueuedMessage). p.held) waiting in
+    let apart : All (λ h. list_any (is_like h) (filter q hs ++ []) ≡ q h) hs =
+    like-kept is_like like_itself q hs [] (one-item old one) (λ i d lt e. refl) in
+    let stay : All (λ h. stays (message_list new.messages.held) (held_message h) ≡ q h) hs =
+    λ i d lt.
+    let h : Held QueuedMessage = get_or hs i d in
+    ap (λ (ns : List (Held QueuedMessage)). stays (message_list ns) (held_message h)) (held ∙ sym (append-nil (filter q hs))) ∙ stays-is (filter q hs ++ []) h ∙ apart i d lt in
+    let kept : kept_names old new k.messages ≡ ts = ap (kept_names old new) was.messages ∙ kept-where (stays (message_list new.messages.held)) q hs stay in
+    let longer : length new.messages.held ≡ length ts + 0 =
+    ap (λ (ns : List (Held QueuedMessage)). length ns) held ∙ omega (arith, length-map (filter q hs) (λ (h : Held QueuedMessage). slot_name h.slot)) in
+    subst (NamesAre new) (sym (after-is s old new k ts 0 kept longer linked.takes))
+    (names-with old new k ts was linked (ap (λ (p : Places QueuedMessage). p.generations) waiting) (ap (λ (p : Places QueuedMessage). p.takes) waiting) (ap name_list (sym held)))
 
 -- ---- a reply
 
 -- the message of a slot goes
-pub names-dropped : (s : System) (old new : TablesView) (place : Slot) → OneMessageEach (spm_of old) → KeepsConnectionNames old.connections new.connections → new.messages ≡ without old.messages place → KeepsNames s old new
-names-dropped s old new place one linked waiting = names-removed s old new (λ h. not (has_slot place h)) one linked waiting
+follows-dropped : (s : System) (old new : TablesView) (place : Slot) → OneMessageEach (spm_of old) → KeepsConnectionNames old.connections new.connections → new.messages ≡ without old.messages place → FollowsNames s old new
+follows-dropped s old new place one linked waiting = follows-removed s old new (λ h. not (has_slot place h)) one linked waiting
+
+given-gone : (old new : TablesView) (place : Slot) → KeepsFreshConnections old.connections new.connections → new.messages ≡ without old.messages place → KeepsGiven old new
+given-gone old new place fresh waiting = record { connections = fresh; messages = given-dropped old.messages new.messages (λ h. not (has_slot place h)) waiting }
 
 -- and its connection stays as it is
+pub follows-replied : (s : System) (old new : TablesView) (place : Slot) → OneMessageEach (spm_of old) → new.connections ≡ old.connections → new.messages ≡ without old.messages place → FollowsNames s old new
+follows-replied s old new place one linked waiting = follows-dropped s old new place one (relinks-same old.connections new.connections linked) waiting
+
 pub names-replied : (s : System) (old new : TablesView) (place : Slot) → OneMessageEach (spm_of old) → new.connections ≡ old.connections → new.messages ≡ without old.messages place → KeepsNames s old new
-names-replied s old new place one linked waiting = names-dropped s old new place one (relinks-same old.connections new.connections linked) waiting
+names-replied s old new place one linked waiting = record {
+  names = follows-replied s old new place one linked waiting;
+  given = given-gone old new place (given-still _ _ old.connections new.connections linked) waiting;
+}
 
 -- or changes in its slot
+pub follows-answered : (s : System) (old new : TablesView) (place slot : Slot) (c changed : OpenConnection) → OneMessageEach (spm_of old) → IsKept 256 old.connections → item_at old.connections slot ≡ Some c → changed.serial ≡ c.serial
+    → new.connections ≡ with_item old.connections slot changed → new.messages ≡ without old.messages place → FollowsNames s old new
+follows-answered s old new place slot c changed one kept live serial linked waiting =
+    follows-dropped s old new place one (relinks-to old.connections new.connections (with_item old.connections slot changed) linked (relinks-item 256 old.connections slot c changed kept live serial)) waiting
+
 pub names-answered : (s : System) (old new : TablesView) (place slot : Slot) (c changed : OpenConnection) → OneMessageEach (spm_of old) → IsKept 256 old.connections → item_at old.connections slot ≡ Some c → changed.serial ≡ c.serial
     → (is_some changed.handle ≡ false → is_some c.handle ≡ false) → new.connections ≡ with_item old.connections slot changed → new.messages ≡ without old.messages place → KeepsNames s old new
-names-answered s old new place slot c changed one kept live serial told linked waiting =
-    names-dropped s old new place one (relinks-to old.connections new.connections (with_item old.connections slot changed) linked (relinks-item 256 old.connections slot c changed kept live serial told)) waiting
+names-answered s old new place slot c changed one kept live serial told linked waiting = record {
+  names = follows-answered s old new place slot c changed one kept live serial linked waiting;
+  given = given-gone old new place (given-connection old.connections new.connections slot c changed live told linked) waiting;
+}
 
 -- or goes too
+pub follows-ended : (s : System) (old new : TablesView) (place slot : Slot) → OneMessageEach (spm_of old) → new.connections ≡ without old.connections slot → new.messages ≡ without old.messages place → FollowsNames s old new
+follows-ended s old new place slot one linked waiting =
+    follows-dropped s old new place one (relinks-to old.connections new.connections (without old.connections slot) linked (relinks-without old.connections slot)) waiting
+
 pub names-ended : (s : System) (old new : TablesView) (place slot : Slot) → OneMessageEach (spm_of old) → new.connections ≡ without old.connections slot → new.messages ≡ without old.messages place → KeepsNames s old new
-names-ended s old new place slot one linked waiting =
-    names-dropped s old new place one (relinks-to old.connections new.connections (without old.connections slot) linked (relinks-without old.connections slot)) waiting
+names-ended s old new place slot one linked waiting = record {
+  names = follows-ended s old new place slot one linked waiting;
+  given = given-gone old new place (given-freed old.connections new.connections slot linked) waiting;
+}

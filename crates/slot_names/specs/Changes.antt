@@ -13,35 +13,32 @@ use Rattle.handle_table.specs.Handles.{live_names, slot_name}
 use Rattle.counting_law.specs.Objects.{Mark, RisesTo, called_by, connection_marked, message_marked}
 use Rattle.spm_tables.specs.declared.item.QueuedMessage.{QueuedMessage}
 use Rattle.spm_tables.specs.TablesView.{TablesView}
-use Rattle.slot_names.specs.Named.{IsNamedBy, KeepsFreshConnections, KeepsFreshMessages, KeepsGiven, NamesAre}
+use Rattle.slot_names.specs.Named.{IsNamedBy, NamesAre}
 
--- no connection is made, and those that are there have the slots and serial numbers that they had: what names the old ones names them; none has its handle taken away
+-- no connection is made, and those that are there have the slots and serial numbers that they had: what names the old ones names them
 pub record KeepsConnectionNames (old new : Places OpenConnection) : Type 0 where
   pub generations : new.generations ≡ old.generations
   pub takes : new.takes ≡ old.takes
   pub held : (ts : List SlotName) → All (IsNamedBy ts) old.held → All (IsNamedBy ts) new.held
-  pub fresh : KeepsFreshConnections old new
 
 -- a message of the same connection, client and kind
 abbrev pub is_like : Held QueuedMessage → Held QueuedMessage → Bool
 is_like h n = is_same_connection n.item.serial h.item.serial && ((n.item.client.0 == h.item.client.0) && int_eq n.item.kind h.item.kind)
 
--- no message comes or goes, each has the slot, connection, client and kind that it had, and what was delivered stays so
+-- no message comes or goes, and each has the slot, connection, client and kind that it had
 pub record KeepsMessageNames (old new : Places QueuedMessage) : Type 0 where
   pub generations : new.generations ≡ old.generations
   pub takes : new.takes ≡ old.takes
   pub names : live_names new ≡ live_names old
   pub alike : (h : Held QueuedMessage) → list_any (is_like h) new.held ≡ list_any (is_like h) old.held
-  pub fresh : KeepsFreshMessages old new
 
 -- the slots of the messages that pass the test
 abbrev pub names_of : (Held QueuedMessage → Bool) → Places QueuedMessage → List SlotName
 names_of q p = map (λ (h : Held QueuedMessage). slot_name h.slot) (filter q p.held)
 
 -- since the tables `old`, only the messages whose slots are `kept` stayed, and then n more were taken in
-pub record TakesOn (size : ℕ) (old : TablesView) (kept : List SlotName) (n : ℕ) (d : TablesView) : Type 0 where
-  pub names : (k : NamesSoFar) → NamesAre old k → NamesAre d (with_messages size n (record k { messages = kept }))
-  pub given : KeepsGiven old d
+abbrev pub TakesOn : ℕ → TablesView → List SlotName → ℕ → TablesView → Type 0
+TakesOn size old kept n d = (k : NamesSoFar) → NamesAre old k → NamesAre d (with_messages size n (record k { messages = kept }))
 
 -- no two messages are of one connection, client and kind
 abbrev pub OneMessageEach : SpmState → Type 0

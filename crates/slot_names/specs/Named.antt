@@ -47,9 +47,11 @@ pub record KeepsGiven (old new : TablesView) : Type 0 where
   pub connections : KeepsFreshConnections old.connections new.connections
   pub messages : KeepsFreshMessages old.messages new.messages
 
--- an event puts back one slot for each connection and message that it removes, then takes one for each that it adds, and touches no other
+-- whichever names there were so far, an event puts back one slot for each connection and message that it removes, then takes one for each that it adds, and touches no other
+abbrev pub FollowsNames : System → TablesView → TablesView → Type 0
+FollowsNames s old new = (k : NamesSoFar) → NamesAre old k → NamesAre new (names_after s (spm_of old) (spm_of new) k)
+
+-- what an event leaves of the names, and of the handles given
 pub record KeepsNames (s : System) (old new : TablesView) : Type 0 where
-  -- whichever names there were so far
-  pub names : (k : NamesSoFar) → NamesAre old k → NamesAre new (names_after s (spm_of old) (spm_of new) k)
-  -- and whichever handles were given
+  pub names : FollowsNames s old new
   pub given : KeepsGiven old new

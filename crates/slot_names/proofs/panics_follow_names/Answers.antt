@@ -1,5 +1,5 @@
-use Rattle.slot_names.proofs.Owed.{names-joined, names-owed}
-use Rattle.slot_names.proofs.Panics.{names-panicked, takes-first, takes-more, takes-connections}
+use Rattle.slot_names.proofs.Owed.{follows-joined, follows-owed}
+use Rattle.slot_names.proofs.Panics.{follows-panicked, takes-first, takes-more, takes-connections}
 use Rattle.slot_names.proofs.panics_follow_names.Goals as goal
 
 pub returns : goal.returns
@@ -7,7 +7,7 @@ returns c = record {
   messages_go = takes-first;
   connections_go = takes-connections;
   message_comes = takes-more;
-  panic = names-panicked;
-  both = names-joined;
-  owed = names-owed;
+  panic = follows-panicked;
+  both = follows-joined;
+  owed = follows-owed;
 }

@@ -1,16 +1,16 @@
-use Rattle.slot_names.proofs.Changes.{names-asked, names-connected, names-connection, names-freed, names-message, names-same}
-use Rattle.slot_names.proofs.Removals.{names-answered, names-ended, names-replied}
+use Rattle.slot_names.proofs.Changes.{follows-asked, follows-connected, follows-connection, follows-freed, follows-message, follows-same}
+use Rattle.slot_names.proofs.Removals.{follows-answered, follows-ended, follows-replied}
 use Rattle.slot_names.proofs.slots_follow_names.Goals as goal
 
 pub returns : goal.returns
 returns c = record {
-  untouched = names-same;
-  connection_changes = names-connection;
-  message_changes = names-message;
-  connection_is_made = names-connected;
-  message_is_sent = names-asked;
-  connection_goes = names-freed;
-  message_goes = names-replied;
-  message_is_answered = names-answered;
-  both_go = names-ended;
+  untouched = follows-same;
+  connection_changes = follows-connection;
+  message_changes = follows-message;
+  connection_is_made = follows-connected;
+  message_is_sent = follows-asked;
+  connection_goes = follows-freed;
+  message_goes = follows-replied;
+  message_is_answered = follows-answered;
+  both_go = follows-ended;
 }

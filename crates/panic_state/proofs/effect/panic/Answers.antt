@@ -51,7 +51,7 @@ returns-clause-names c =
     let s = c.args.system.now in
     let p = c.args.partition.0 in
     let effect = effect-is s p c.args.tables.now c.end_services.new.tables c.leave_services.new.tables c.end_services.ensures c.leave_services.ensures.connections c.leave_services.ensures.messages c.leave_services.ensures.rest in
-    names-are s p c.args.tables.now c.end_services.new.tables c.leave_services.new.tables c.requires.made c.requires.fits c.end_services.ensures effect c.leave_services.ensures.names
+    names-are s p c.args.tables.now c.end_services.new.tables c.leave_services.new.tables c.requires.made c.requires.fits c.end_services.ensures effect c.leave_services.ensures.names c.leave_services.ensures.given
 
 pub returns-clause-shape : goal.returns-clause-shape
 returns-clause-shape c =
