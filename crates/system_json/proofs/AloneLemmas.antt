@@ -1,8 +1,6 @@
 -- Steps that ask for no file, one after the other.
-use Rattle.std.proofs.Common.{◌≡◌, ℕ, ◌+◌, ◌<◌, ◌≤◌, List, [], ◌∷◌, ◌++◌, length, get_or, Some, None, Result, Ok, Err, refl, subst, ◌∙◌, sym}
+use Rattle.std.proofs.Common.{◌≡◌, ℕ, ◌+◌, ◌<◌, ◌≤◌, List, [], ◌∷◌, ◌++◌, length, get_or, Result, Ok, Err, refl, subst, ◌∙◌, sym}
 use Rattle.std.proofs.lemmas.List.{drop_all}
-use Rattle.serde_json.specs.Data.{Data}
-use Rattle.serde_json.specs.Find.{as_str}
 use Rattle.serde_json.specs.View.{view}
 use Rattle.serde_json.specs.declared.value.Value.{Value}
 use Rattle.ffm_model.specs.declared.manifest.Manifest.{Manifest}

@@ -26,6 +26,9 @@ use std::alloc::{AllocError, Global};
 
 const MAX_MANIFESTS: usize = 256;
 
+/// More than the trees of two files take.
+const ROOM_OF_TREES: usize = 24 << 20;
+
 /// The refusal of a part of the system file.
 fn refused_in_system(alloc: Global, steps: &[PathStep], code: u8) -> ReadError
     ensures { IsReadRefusal result (record { code = code; place = record { root = Root.System; steps = steps.now }; cycle = [] }) }
@@ -194,6 +197,17 @@ fn manifest_items(alloc: Global, tree: &Value) -> Result<&[Value], ReadError>
     Ok(items)
 }
 
+/// Where several manifests are files of their own, takes a large piece of memory and gives it back.
+///
+/// From then on the C library keeps what one file's tree gives back for the next one's. It would
+/// else return it to the operating system and ask for it again, page by page, with each file. Where
+/// there is no such piece nothing is lost.
+fn keep_freed_memory(alloc: Global, items: &[Value]) {
+    if 1 < items.iter().filter(|item| item.is_string()).count() {
+        drop(Vec::<u8>::with_capacity(alloc, ROOM_OF_TREES));
+    }
+}
+
 /// The manifests of a system file.
 #[tactic(auto, unfolding(ffm_model::specs::Systems::manifests_of), using(crate::proofs::ReadingSteps::reading_steps, crate::proofs::ReadingSteps::reading_alone))]
 fn manifests<F: Files>(
@@ -214,6 +228,7 @@ fn manifests<F: Files>(
     ensures steady { (IsErrOf result PartsError.ReadFault → ⊥) → F.faults files.new ≡ F.faults files.old }
 {
     let items = manifest_items(alloc, tree)?;
+    keep_freed_memory(alloc, items);
     manifests_from(alloc, files, items)
 }
 
