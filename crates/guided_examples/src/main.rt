@@ -7,12 +7,13 @@ use outside_io::{HostFiles, StdoutSink};
 use std::alloc::{AllocError, Global};
 use std::io;
 
-const EXAMPLES: [&str; 25] = [
+const EXAMPLES: [&str; 26] = [
     "two_requests",
     "rhandle",
     "version_policies",
     "busy_connection",
     "panic_and_its_clients",
+    "error_replies",
     "doorbell",
     "interrupt_driver",
     "interrupt_control",
