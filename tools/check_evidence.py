@@ -24,7 +24,7 @@ NAMES = {path.parent.name for path in CRATES.glob("*/src")}
 PROVED = pathlib.Path("docs/proved.md")
 PAGES = [pathlib.Path("docs") / name for name in ("evidence.md", "machine.md", "architecture.md")] + [PROVED]
 CITED = (
-    "Definition", "Contract", "Contract and body", "Wrong bodies, refused", "Worked run in machine_examples/src", "Tests", "Here",
+    "Definition", "Contract", "Contract and body", "Wrong bodies, refused", "Worked run", "Tests", "Here",
     "Where", "Definitions that its clauses cite", "A caller that is proved",
 )
 TOKEN = re.compile(r"[\w/]+\.(?:rt|antt)|`[\w:]+`|\b[a-z]\w*\b|;")

@@ -320,7 +320,7 @@ def checked(checks, path, kind=None):
     count, wrong = 1, [f"{path}, a {kind}: {problem}" for problem in problems(checks[kind], tree)]
     for manifest in named_manifests(tree, path) if kind == "system" else ():
         more, problems_there = checked(checks, manifest, "manifest")
-        count, wrong = count + more, wrong + problems_there
+        count, wrong = count + more, wrong + [f"{path}, its manifest {problem}" for problem in problems_there]
     return count, wrong
 
 

@@ -106,7 +106,7 @@ def statuses():
 
 # The forms in which pages state figures, with what is counted for each {}.
 FIGURES = [
-    ("({} of {}; the others stand in wrong_bodies/", lambda: [edits(), edits() + further_edits()]),
+    ("The gate tries {} of {} |", lambda: [edits(), edits() + further_edits()]),
     ("{} crates, {} wrong bodies in the gate and {} beside it, {} tests",
      lambda: [len(NAMES), edits(), further_edits(), sum(map(tests_of, NAMES))]),
     ("with the figures below N is {}", lambda: [len(NAMES) + edits()]),

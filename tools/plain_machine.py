@@ -5,7 +5,7 @@
     python3 tools/plain_machine.py audit SYSTEM SCENARIO TRACE
 
 Prints what `ffm replay`, or `ffm audit`, has to print for these files, and ends with the status that it has to
-give.
+give. Where the words are others it prints a usage line to standard error, and the status is 2.
 
 This is a model for readers. It is written from the rules of the calls alone and shares nothing with the
 program: one list of connections, one list of messages in order of arrival, and a map of bytes; signals are
@@ -24,6 +24,7 @@ import re
 import sys
 from dataclasses import dataclass
 
+USAGE = "usage: plain_machine.py [audit] SYSTEM SCENARIO TRACE"
 FRAMEWORK_VERSION = 0x0101
 CONNECT, DISCONNECT = -1, -2
 PROGRAMMER_ERROR, REFUSED, BUSY, FAILURE = -129, -130, -131, -145
@@ -844,10 +845,11 @@ def answer_of_files(system, scenario, trace, audits, stand=pathlib.Path()):
 
 
 def main():
-    *word, system, scenario, trace = sys.argv[1:]
-    if word not in ([], ["audit"]):
-        sys.exit("usage: plain_machine.py [audit] SYSTEM SCENARIO TRACE")
-    status, text = answer_of_files(system, scenario, trace, audits=bool(word))
+    word, files = sys.argv[1:-3], sys.argv[1:][-3:]
+    if len(files) < 3 or word not in ([], ["audit"]):
+        print(USAGE, file=sys.stderr)
+        sys.exit(2)
+    status, text = answer_of_files(*files, audits=bool(word))
     print(text)
     sys.exit(status)
 

@@ -8,11 +8,13 @@ The first form takes a file and the number of a line in it, counted from 1, the 
 rule that bears on the line it prints four things, with their places from the top of the repository:
 1. the rule in words, with > before what the outcome shows, or ? where the line doesn't tell,
 2. the definition,
-3. the function with its contract, with > before the clause,
+3. the function with its contract, with > before the clause, and the definitions of its own crate that the clause cites;
+   of a long contract the signature and the clause, with .. for the rest,
 4. wrong bodies that are refused, worked runs and tests.
 The answer that a `resume` shows was made by another event. With a trace the call and that event are found; with the
 text alone the rules that may have made the answer are told by their places. Of signals, and of the message of a `get`,
-the events behind them are found as far as the trace tells them.
+the events behind them are found as far as the trace tells them. Why a `connect` is answered -130 the tool tells where
+the system's file, system.json, lies beside the trace.
 A line `refused ..` is of no trace: the rows of its code in docs/formats.md are printed.
 
 All of it is read from the tables of docs/machine.md and docs/evidence.md, the words of traces from docs/formats.md.
@@ -33,10 +35,11 @@ from typing import NamedTuple
 from check_evidence import CRATES, ITEM, TEST, TOKEN, WRONG_BODIES, file_of, rows, sources, without_links
 from check_links import HEADING, anchor
 from example_files import examples
+from plain_machine import read_system
 
 TOP = pathlib.Path(__file__).resolve().parents[1]
-PAGES = ("machine.md", "evidence.md", "formats.md", "view.md")
-MACHINE, EVIDENCE, FORMATS, VIEW = (pathlib.Path("docs") / name for name in PAGES)
+PAGES = ("machine.md", "evidence.md", "formats.md", "view.md", "reading_a_clause.md")
+MACHINE, EVIDENCE, FORMATS, VIEW, READING = (pathlib.Path("docs") / name for name in PAGES)
 USAGE = "usage: rule_of_line.py TRACE NUMBER | rule_of_line.py 'LINE', with the line in quotation marks"
 EVENT = re.compile(r"([pn][1-9]\d*|dev) (\w+)((?: \S+)*) -> (\w+)((?: \S+)*)")
 VERDICT, RESTART = re.compile(r"(quiet|stalled|full) \d+"), re.compile(r"restart \d+")
@@ -46,12 +49,21 @@ OPERANDS = {"d": r"-?\d+", "h": r"0x[0-9a-fA-F]+", "u": r"\d+"}
 
 # The sections of docs/machine.md that outcomes add to the table of the calls.
 CALLS, RIGHTS, ERROR, REPLY, PANIC = "the-calls", "who-has-which-call", "what-a-programmer-error-does", "reply", "panic"
+TRACE, RESTART_FORM, SIGNS = "trace", "restart K", "the-signs"
 SIGNALS, MESSAGE, RESETS, VERDICTS = "signals", "the-message", "resets", "runs-verdicts-and-judgements"
-HANDLES = "handles-and-their-names"
+HANDLES, MEMORY, INTERRUPTS = "handles-and-their-names", "memory", "interrupts"
 # The kinds of messages in the section Reply, by the calls that send them, or by the outcomes of their returns.
 REQUEST, CONNECTION, DISCONNECTION = "request", "-1", "-2"
 ASKED_BY = {"connect": [CONNECTION], "call": [REQUEST], "close": [DISCONNECTION]}
 ANSWERED_BY = {"value": [CONNECTION, REQUEST], "done": [DISCONNECTION]}
+# The definitions of what a reply makes ready, by these kinds; the one that a request answered with -129 alone has.
+READY_BY = {CONNECTION: ("connect_answered",), REQUEST: ("request_answered", "request_failed"), DISCONNECTION: ("close_answered",)}
+FAILED = "request_failed"
+# The tests of memory accesses with the sizes that these may have, and the handlers by the calls that forward interrupts.
+ACCESSES, SIZES = {"load": "may read", "store": "may write"}, ("1", "2", "4")
+HANDLERS = {"raise": ("SLIH",), "eoi": ("SLIH",), "fire": ("FLIH",), "irq_enable": ("SLIH", "FLIH")}
+# A contract with more lines is printed without its comment and its other clauses.
+LONG = 40
 # The doorbell's bit, the calls with the signal of a source, and how many events are told of which one asserted it.
 DOORBELL, CALLS_OF_SOURCES, FEW, PERHAPS = 0x8, ("eoi", "reset_signal", "irq_enable", "irq_disable"), 6, "perhaps"
 
@@ -139,10 +151,11 @@ def is_event(text):
 
 
 class Run:
-    """The events of a run before a line, and those behind it, and whether the run is one behind a reset."""
+    """The events of a run before a line, and those behind it, whether the run is one behind a reset, and the system where
+    its file is known."""
 
-    def __init__(self, events, behind=(), is_later=False):
-        self.events, self.behind, self.is_later = events, behind, is_later
+    def __init__(self, events, behind=(), is_later=False, system=None):
+        self.events, self.behind, self.is_later, self.system = events, behind, is_later, system
         self.messages = {event.shown[1]: event for event in events if event.outcome == "message"}
 
     def answered(self, reply):
@@ -159,6 +172,22 @@ class Run:
 
     def some_panicked(self):
         return any(self.panicked(event) for event in self.events)
+
+    def panic_of(self, partition):
+        """The event in which a partition panicked."""
+        return next((event for event in self.events if self.panicked(event) == partition), None)
+
+    def fault_of(self, connect):
+        """Which PROGRAMMER ERROR a `connect` is by the system, in the words of its row, and the partition that has the
+        service; None for what isn't so."""
+        place = self.system.service_at(int(connect.given[0], 16))
+        if place is None:
+            return "no service has the SID", None
+        service, asked = self.system.services[place], int(connect.given[1])
+        fits = asked == service.version if service.strict else asked <= service.version
+        is_permitted = (self.system.actors().get(connect.actor), place) in self.system.budgets
+        faults = ((service.index, "the service is stateless"), (not is_permitted, "the caller isn't permitted"), (not fits, "the version doesn't fit"))
+        return next((what for is_so, what in faults if is_so), None), f"p{service.owner + 1}"
 
     def maker_of(self, message):
         """The event that made the message which an event shows: the call in which its client is blocked, or the panic in
@@ -314,13 +343,15 @@ def evidence_of(words):
 @dataclass
 class Rule:
     """A rule that bears on a line: its title, the place of its words and the words, each line with a mark, its row in
-    docs/evidence.md with the number of that line, and the row of the table of the calls that it is about."""
+    docs/evidence.md with the number of that line, the row of the table of the calls that it is about, and the definitions
+    of its row that don't bear on the line."""
     title: str
     place: str
     words: list
     row: tuple
     call: str = ""
     is_sure: bool = True
+    without: tuple = ()
 
 
 def explained(row, column):
@@ -342,12 +373,42 @@ def shows_error(event, run):
     if event.outcome == "panicked" or event.kind() == "partition" or event.word == "resume":
         return event.outcome == "panicked"
     if event.word == "connect" and event.answers("-130"):
+        fault, owner = run.fault_of(event) if run and run.system else (None, None)
+        if fault or owner and run.panic_of(owner):
+            return fault is not None
         return True if run and not run.some_panicked() else None
     if event.word == "close" and event.outcome == "done":
         if event.given[0] == "0" or event.is_stateless():
             return event.given[0] != "0"
         return not run.is_connected(event.actor, event.given[0]) if run else None
     return event.answers("-129")
+
+
+def cause_of(event, run):
+    """The line that says which of the conditions of a PROGRAMMER ERROR holds, or how to find it."""
+    if event.word in ACCESSES and event.kind() != "device":
+        size = event.given[1]
+        return f"Which of these holds: the size is {size}, so the {'second' if size in SIZES else 'first'}"
+    fault = run.fault_of(event)[0] if event.word == "connect" and run and run.system else None
+    if fault:
+        return f"Which of these holds: by system.json, {fault}"
+    asks = f"change the line's outcome in a copy of the trace, and ask the built program, `ffm_view why SYSTEM SCENARIO COPY` ({place_of('why', VIEW)})"
+    return f"Which of these holds: {asks}"
+
+
+def rows_beside(event, shown):
+    """The rows of other tables to which the row of a call links: the test of a memory access, the forwarding rule."""
+    if event.word in ACCESSES:
+        yield from rows_of(MEMORY, lambda test, *_: test in (ACCESSES[event.word], "valid buffer"), event.given[1] in SIZES)
+    if event.word in HANDLERS:
+        is_told = len(HANDLERS[event.word]) == 1 and shown is False and event.given[1:] != ("0",)
+        yield from rows_of(INTERRUPTS, lambda handler, *_: handler in HANDLERS[event.word], is_told)
+
+
+def rows_of(name, keeps, is_told):
+    """The rows of a section that are kept, with > where they are told by the line."""
+    heading = f"{section(name)[0][1].strip('# ')} ({place_of(name)})"
+    return [(">" if is_told else " ", f"{heading}: {text}") for mark, text in words_of(name, keeps) if mark == ">"]
 
 
 def rule_of_call(event, run):
@@ -359,11 +420,13 @@ def rule_of_call(event, run):
             mark = "?" if shown is None else ">" if shown == is_error else " "
             words.append((mark, f"{column}: {explained(row, column)}"))
         if is_error and shown is not False and ";" in words[-1][1]:
-            asks = f"change the line's outcome in a copy of the trace, and ask the built program, `ffm_view why SYSTEM SCENARIO COPY` ({place_of('why', VIEW)})"
-            words.append((" ", f"Which of these holds: {asks}"))
+            words.append((" ", cause_of(event, run)))
+    words += rows_beside(event, shown)
     words += [(" ", text) for _, text in terms_of(" ".join(row.values()))]
     title = f"call {name_of(event)}" + (f", {row['API'].strip('`')}" if row["API"] else "")
-    return Rule(title, f"{MACHINE}:{number}", words, evidence_of(row["API"] or f"`{event.word}`"), name_of(event))
+    # What a reply made ready is printed with the rule by which the answer was made.
+    without = tuple(name for names in READY_BY.values() for name in names) if event.word == "resume" else ()
+    return Rule(title, f"{MACHINE}:{number}", words, evidence_of(row["API"] or f"`{event.word}`"), name_of(event), without=without)
 
 
 def rule_of_stateless():
@@ -398,7 +461,9 @@ def rule_of_reply(kinds, status=None, is_sure=True):
         is_told = told == "any status" or (status in re.findall(r"-?\d+", told)) != ("other than" in told)
         return kind in kinds and (status is None or is_told)
 
-    return rule_of_section(REPLY, "`psa_reply`", keeps, "Reply", is_sure)
+    rule = rule_of_section(REPLY, "`psa_reply`", keeps, "Reply", is_sure)
+    rule.without = tuple(name for kind, names in READY_BY.items() for name in names if kind not in kinds or name == FAILED and status not in (None, "-129"))
+    return rule
 
 
 def rule_of_panic(is_sure=True):
@@ -494,13 +559,20 @@ def rules_of_event(event, run):
     elif event.word == "reply":
         (told, *more), notes = rules_of_reply(event, run)
         rules[0].words += told.words
+        rules[0].without = told.without
         rules += more
     elif event.word == "resume":
         more, notes = rules_of_answer(event, run)
         call = run.call_of(event.actor) if run else None
         if gives_handle(event, ASKED_BY.get(call.word, []) if call else ANSWERED_BY.get(event.outcome, [])):
             rules[0].words.append((" ", f"Which number a handle has: Handles and their names ({place_of(HANDLES)})"))
+        if event.answers("-129"):
+            rules[0].words.append((" ", f"The service replied this -129: {section(ERROR)[0][1].strip('# ')} ({place_of(ERROR)}) is no rule of this line"))
         rules += more
+    elif event.word == "connect" and shown is False and event.answers("-130") and run and run.system:
+        partition = run.fault_of(event)[1]
+        panic = run.panic_of(partition)
+        notes = [(panic, f"{partition}, which has the service by system.json, panics here")] if panic else []
     elif event.word == "load" and event.outcome == "number" and run:
         more, notes = rules_of_load(event, run)
         rules += more
@@ -521,11 +593,13 @@ def rules_of(text, number=0, run=None):
     if verdict:
         return [rule_of_section(VERDICTS, f"`{verdict[1]}`", lambda name, state: name == verdict[1])], []
     if RESTART.fullmatch(text):
-        return [rule_of_section(RESETS, f"#{RESETS})")], []
+        rule = rule_of_section(RESETS, f"#{RESETS})")
+        rule.words += [(">", f"Its text, {FORMATS}:{number}: {plain(line, FORMATS)}") for number, line in section(TRACE, FORMATS) if f"`{RESTART_FORM}`" in line]
+        return [rule], []
     return rules_of_event(event_of(text, number), run)
 
 
-def run_around(lines, place):
+def run_around(lines, place, system=None):
     """The run around a line: the events before it, and those behind it as far as they are lines of a trace."""
     events, is_later = [], False
     for number, line in enumerate(lines[:place], 1):
@@ -535,7 +609,19 @@ def run_around(lines, place):
         else:
             events.append(event_of(line, number))
     behind = takewhile(lambda numbered: is_event(numbered[1]), enumerate(lines[place + 1:], place + 2))
-    return Run(events, [event_of(line, number) for number, line in behind], is_later)
+    return Run(events, [event_of(line, number) for number, line in behind], is_later, system)
+
+
+@lru_cache(maxsize=None)
+def system_beside(trace):
+    """The system whose file lies beside a trace; None where none lies there that can be read. Manifests in files of their
+    own are looked for in the same folder, and in the one above it."""
+    for stand in (trace.parent, trace.parent.parent):
+        try:
+            return read_system((trace.parent / "system.json").relative_to(stand), stand)
+        except (OSError, LookupError, TypeError, ValueError, AttributeError):
+            continue
+    return None
 
 
 # ---- definitions, clauses, wrong bodies and tests
@@ -623,12 +709,45 @@ def definition_of(item, call):
 
 def contract_of(item):
     """The lines of a function without its body, with marks before its clauses, and their names: those that the row names,
-    else `answer`, else the one without a name, else all."""
+    else `answer`, else the one without a name, else all. Of a long one the signature and these clauses are left."""
     lines = block_of(item)
     found = [re.match(r" +ensures (\w*) ?\{", line) for line in lines]
     names = [clause[1] for clause in found if clause]
     names = list(item.clauses) or [name for name in ("answer", "") if name in names][:1] or names
-    return [(">" if clause and clause[1] in names else " ", line) for clause, line in zip(found, lines)], names
+    marked = [(">" if clause and clause[1] in names else " ", line) for clause, line in zip(found, lines)]
+    return shortened(marked) if len(marked) > LONG else marked, names
+
+
+def shortened(marked):
+    """The signature of a function, and its clauses with a mark."""
+    kept, keeps = [], False
+    for mark, line in marked:
+        is_clause = re.match(r" +(ensures|requires)\b", line)
+        keeps = mark == ">" if is_clause else keeps if line.strip() and not re.match(r" *//", line) else False
+        keeps = keeps or bool(re.match(r"(pub(\([a-z]+\))? )?fn ", line.strip()))
+        kept += [(mark, line)] if keeps else [(" ", "..")] if not kept or kept[-1] != (" ", "..") else []
+    return kept
+
+
+def imported_by(path):
+    """The names that a file imports from the definitions of its own crate, each with the file and the name there."""
+    crate = path.parts[len(CRATES.parts)]
+    imports = re.findall(rf"^ghost use Rattle\.{crate}\.specs\.(\w+)\.\{{([^}}]*)\}};", path.read_text(), re.M)
+    for module, names in imports:
+        for name, _, other in (part.strip().partition(" as ") for part in names.split(",")):
+            yield other or name, (CRATES / crate / "specs" / f"{module}.antt", name)
+
+
+def cited_by(item, lines):
+    """The definitions of its own crate that the marked clauses of a function cite."""
+    text, keeps = "", False
+    for mark, line in lines:
+        keeps = mark == ">" or keeps and not re.match(r" +(ensures|requires|//)", line)
+        text += f"{line}\n" if keeps else ""
+    words = re.findall(r"\w+", text)
+    for name, (path, there) in dict(imported_by(item.path)).items():
+        if name in words and path.is_file():
+            yield from found_in([path], there, (), "")
 
 
 def functions_of(row):
@@ -671,12 +790,15 @@ def text_of(rule, is_whole):
     for mark, text in rule.words if is_whole else ():
         yield from wrapped(mark, text)
     for item in items_of(row["Definition"], "Definition"):
+        if item.name in rule.without:
+            continue
         yield f"2. {item.told()}"
         yield from (f"   {line}" for line in definition_of(item, rule.call) if is_whole)
     for item in functions_of(row):
         lines, names = contract_of(item)
         yield f"3. {item.told(names)}"
         yield from (f" {mark} {line}" for mark, line in lines if is_whole)
+        yield from (f"   cites {cited.told()}" for cited in cited_by(item, lines) if is_whole)
     yield f"4. {EVIDENCE}:{number}"
     if is_whole:
         yield from (f"   wrong body: {path}" for path in wrong_bodies_of(row))
@@ -691,6 +813,8 @@ def told(text, number=0, run=None):
     for rule in rules:
         yield ""
         yield from (line.rstrip() for line in text_of(rule, is_whole=rule.is_sure or run is not None))
+    yield ""
+    yield f"The signs of definitions and clauses: {place_of(SIGNS, READING)}"
 
 
 def told_of_refusal(text, code):
@@ -707,7 +831,8 @@ def told_of_refusal(text, code):
 
 def answer(words):
     """The lines that are printed: of the one line that is given, or of that with a number in a trace."""
-    lines = pathlib.Path(words[0]).read_text().splitlines() if len(words) == 2 else []
+    trace = pathlib.Path(words[0]).resolve()
+    lines = trace.read_text().splitlines() if len(words) == 2 else []
     os.chdir(TOP)
     number = int(words[1]) if lines else 0
     if len(words) == 2 and not 1 <= number <= len(lines):
@@ -718,7 +843,7 @@ def answer(words):
         return told_of_refusal(text, refusal[1])
     if JUDGEMENT.fullmatch(text):
         raise Unknown(f"{text}: no line of a trace, but what `replay` or `audit` says of one (README.md, Judging a trace)")
-    return told(text, number, run_around(lines, number - 1) if number else None)
+    return told(text, number, run_around(lines, number - 1, system_beside(trace)) if number else None)
 
 
 # ---- all lines of the stored traces, for check_evidence.py
@@ -761,7 +886,7 @@ def kinds_and_lacks():
     for path, lines in stored_traces():
         for place, line in enumerate(lines):
             words = re.sub(r"(?<=[a-z])\d+| (?:0x[0-9a-f]+|\d+|-\d)\b", "", line)
-            for run in (None, run_around(lines, place)):
+            for run in (None, run_around(lines, place, system_beside(path.resolve()))):
                 try:
                     rules, _ = rules_of(line, place + 1, run)
                     kind = (words, *(rule.title for rule in rules))
