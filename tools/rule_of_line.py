@@ -1,10 +1,10 @@
 #!/usr/bin/env python3
 """Finds the rule of a line of a trace, with its definition, its clause, its wrong bodies and its tests.
 
-    python3 tools/rule_of_line.py TRACE NUMBER
-    python3 tools/rule_of_line.py 'n1 version 0x00000041 -> number 0'
+    python3 tools/rule_of_line.py [--rule] TRACE NUMBER
+    python3 tools/rule_of_line.py [--rule] 'n1 version 0x00000041 -> number 0'
 
-The first form takes a file and the number of a line in it, counted from 1, the second one the text of a line. For each
+With --rule the rules in words are all that is printed. The first form takes a file and the number of a line in it, counted from 1, the second one the text of a line. For each
 rule that bears on the line it prints four things, with their places from the top of the repository:
 1. the rule in words, with > before what the outcome shows, or ? where the line doesn't tell,
 2. the definition,
@@ -40,7 +40,7 @@ from plain_machine import read_system
 TOP = pathlib.Path(__file__).resolve().parents[1]
 PAGES = ("machine.md", "evidence.md", "formats.md", "view.md", "reading_a_clause.md")
 MACHINE, EVIDENCE, FORMATS, VIEW, READING = (pathlib.Path("docs") / name for name in PAGES)
-USAGE = "usage: rule_of_line.py TRACE NUMBER | rule_of_line.py 'LINE', with the line in quotation marks"
+USAGE = "usage: rule_of_line.py [--rule] TRACE NUMBER | rule_of_line.py [--rule] 'LINE', with the line in quotation marks"
 EVENT = re.compile(r"([pn][1-9]\d*|dev) (\w+)((?: \S+)*) -> (\w+)((?: \S+)*)")
 VERDICT, RESTART = re.compile(r"(quiet|stalled|full) \d+"), re.compile(r"restart \d+")
 REFUSAL, JUDGEMENT = re.compile(r"refused (\d+)\b.*"), re.compile(r"(legal|illegal|clean) \d+")
@@ -782,13 +782,18 @@ def wrapped(mark, text):
     return [f" {mark} {part}" for part in textwrap.wrap(text, 110)]
 
 
-def text_of(rule, is_whole):
-    """The lines that are printed of a rule: all of it, or the places alone."""
-    number, row = rule.row
+def words_told(rule, is_whole):
+    """The lines of the rule in words: all of them, or their place alone."""
     yield f"== {rule.title}{'' if rule.is_sure else ' (perhaps)'}"
     yield f"1. {rule.place}"
     for mark, text in rule.words if is_whole else ():
         yield from wrapped(mark, text)
+
+
+def text_of(rule, is_whole):
+    """The lines that are printed of a rule: all of it, or the places alone."""
+    number, row = rule.row
+    yield from words_told(rule, is_whole)
     for item in items_of(row["Definition"], "Definition"):
         if item.name in rule.without:
             continue
@@ -805,16 +810,17 @@ def text_of(rule, is_whole):
         yield from (f"   {what}: {text}" for what, text in runs_of(row))
 
 
-def told(text, number=0, run=None):
-    """All lines that are printed of a line."""
+def told(text, number=0, run=None, parts=text_of):
+    """All lines that are printed of a line, of each rule those that `parts` gives."""
     rules, notes = rules_of(text, number, run)
     yield f"line {number}: {text}" if number else text
     yield from (f"line {event.number}: {event.text} ({what})" for event, what in notes)
     for rule in rules:
         yield ""
-        yield from (line.rstrip() for line in text_of(rule, is_whole=rule.is_sure or run is not None))
-    yield ""
-    yield f"The signs of definitions and clauses: {place_of(SIGNS, READING)}"
+        yield from (line.rstrip() for line in parts(rule, is_whole=rule.is_sure or run is not None))
+    if parts is text_of:
+        yield ""
+        yield f"The signs of definitions and clauses: {place_of(SIGNS, READING)}"
 
 
 def told_of_refusal(text, code):
@@ -829,7 +835,7 @@ def told_of_refusal(text, code):
             yield from wrapped(">", f"{column}: {plain(cell, FORMATS)}")
 
 
-def answer(words):
+def answer(words, parts):
     """The lines that are printed: of the one line that is given, or of that with a number in a trace."""
     trace = pathlib.Path(words[0]).resolve()
     lines = trace.read_text().splitlines() if len(words) == 2 else []
@@ -843,7 +849,7 @@ def answer(words):
         return told_of_refusal(text, refusal[1])
     if JUDGEMENT.fullmatch(text):
         raise Unknown(f"{text}: no line of a trace, but what `replay` or `audit` says of one (README.md, Judging a trace)")
-    return told(text, number, run_around(lines, number - 1, system_beside(trace)) if number else None)
+    return told(text, number, run_around(lines, number - 1, system_beside(trace)) if number else None, parts)
 
 
 # ---- all lines of the stored traces, for check_evidence.py
@@ -901,12 +907,14 @@ def kinds_and_lacks():
 
 def main():
     words = sys.argv[1:]
+    parts = words_told if words[:1] == ["--rule"] else text_of
+    words = words[parts is words_told :]
     is_number = len(words) == 2 and re.fullmatch("[0-9]+", words[1])
     if len(words) != 1 and not is_number or words[0].startswith("-"):
         print(USAGE, file=sys.stderr)
         sys.exit(2)
     try:
-        print("\n".join(answer(words)), flush=True)
+        print("\n".join(answer(words, parts)), flush=True)
     except BrokenPipeError:
         # Who reads it has read enough, as head does.
         os.dup2(os.open(os.devnull, os.O_WRONLY), sys.stdout.fileno())
