@@ -19,7 +19,7 @@ MOST_MANIFESTS = 256
 
 
 def padded(text, size):
-    """The text with spaces behind it, up to a size."""
+    """The text with spaces after it, up to a size."""
     if len(text) > size:
         raise SystemExit(f"a made file has {len(text)} bytes and not {size}")
     return text + " " * (size - len(text))

@@ -37,7 +37,7 @@ def tests_of(crate):
 
 
 def named_behind(crate):
-    """The crates that crates.txt names behind a crate."""
+    """The crates that crates.txt names after a crate."""
     return re.search(rf"^{crate}:(.*)$", pathlib.Path("crates.txt").read_text(), re.M)[1].split()
 
 

@@ -3,7 +3,7 @@
 
     python3 tools/list_axioms.py [PROGRAM]
 
-Run at the top of the repository, behind .ci/run: it checks the one crate, ffm where none is named, over the libraries
+Run at the top of the repository, after .ci/run: it checks the one crate, ffm where none is named, over the libraries
 that the gate proved and left in crates/*/out/rlib, with the prover's flag --list-axioms. Prints the lines of the
 axioms and the verdict, and ends with the prover's status."""
 

@@ -12,10 +12,10 @@ program: one list of connections, one list of messages in order of arrival, and 
 computed where they are asked for. It takes system files and scenario files that hold by the rules of the
 formats, and doesn't look for what is wrong with others, but for `restarts`. Traces it reads exactly, as the program
 has to. Manifests may be of 1.0 and of 1.1. What an entry changed it finds by comparing the whole memory before it
-with that behind it.
+with that after it.
 
 An actor is numbered from 0: the partitions, then the clients, then the device. A call is its word in the
-trace with its numbers behind it, as `("connect", 64, 1)`, and so is an outcome, as `("value", -130)`. An
+trace with its numbers after it, as `("connect", 64, 1)`, and so is an outcome, as `("value", -130)`. An
 entry is an actor, a call and an outcome."""
 
 import json
@@ -741,9 +741,9 @@ def judged(system, memory, limit, entries, verdict):
     return None if machine.verdict(len(entries), limit) == verdict else len(entries) + 1
 
 
-def changed_bytes(before, behind):
+def changed_bytes(before, after):
     """The addresses at which two memories differ."""
-    return {address for address in before.keys() | behind.keys() if before.get(address, 0) != behind.get(address, 0)}
+    return {address for address in before.keys() | after.keys() if before.get(address, 0) != after.get(address, 0)}
 
 
 def outside_own_ram(system, actor, addresses):

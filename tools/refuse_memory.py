@@ -51,7 +51,7 @@ def stop(reason):
 
 
 def add_case(folder, case, words, expected=None):
-    """A case for the kit: no input, the words behind the program's name, and the output that it is compared with."""
+    """A case for the kit: no input, the words after the program's name, and the output that it is compared with."""
     (folder / case).touch()
     (folder / f"{case}.args").write_text("\n".join(words) + "\n")
     if expected is not None:

@@ -286,19 +286,19 @@ def altered_layout(lines):
         others += (line.replace(" ", "\xa0", 1), line.replace(" -> ", "->"), line.replace(" ", ""), "\xef\xbb\xbf" + line)
         for other in others:
             yield f"line {k + 1}: to {other!r}", replaced(lines, k, other)
-        yield f"line {k + 1}: a blank line behind", replaced(lines, k, line, "")
+        yield f"line {k + 1}: a blank line after", replaced(lines, k, line, "")
         yield f"line {k + 1}: a blank line before", replaced(lines, k, "", line)
         yield f"line {k + 1}: joined with the next", whole(lines[:k] + [line + "".join(lines[k + 1 : k + 2])] + lines[k + 2 :])
     text = whole(lines)
     for rest in (b"\n", b" ", b"\0", b"x", b"x\n", lines[-1].encode(), whole(lines[-1:]), whole(lines[:1]), b"\n\n", b"\r\n"):
-        yield f"behind the verdict: {rest!r}", text + rest
+        yield f"after the verdict: {rest!r}", text + rest
         yield f"in place of the last line end: {rest!r}", text[:-1] + rest
     yield "all line ends as on another system", text.replace(b"\n", b"\r\n")
     yield "twice", text + text
 
 
 def altered_verdict(lines):
-    """Each verdict behind each number of entries, and with wrong numbers."""
+    """Each verdict after each number of entries, and with wrong numbers."""
     for length in range(len(lines)):
         for word in VERDICTS:
             yield f"{length} entries, then {word}", whole(lines[:length] + [f"{word} {length}"])

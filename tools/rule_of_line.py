@@ -151,11 +151,11 @@ def is_event(text):
 
 
 class Run:
-    """The events of a run before a line, and those behind it, whether the run is one behind a reset, and the system where
+    """The events of a run before a line, and those after it, whether the run is one after a reset, and the system where
     its file is known."""
 
-    def __init__(self, events, behind=(), is_later=False, system=None):
-        self.events, self.behind, self.is_later, self.system = events, behind, is_later, system
+    def __init__(self, events, after=(), is_later=False, system=None):
+        self.events, self.after, self.is_later, self.system = events, after, is_later, system
         self.messages = {event.shown[1]: event for event in events if event.outcome == "message"}
 
     def answered(self, reply):
@@ -223,11 +223,11 @@ class Run:
         word = f"0x{bit:08x}"
         if bit == DOORBELL:
             return [(event, f"asserted {word}") for event in self.rings_of(actor)]
-        got = next((event for event in self.behind if event.names(actor, bit, "get")), None)
+        got = next((event for event in self.after if event.names(actor, bit, "get")), None)
         if got:
             maker = self.maker_of(got)
             return [(maker, f"made the message that asserts {word}"), (got, "takes that message")] if maker else []
-        is_source = any(event.names(actor, bit, *CALLS_OF_SOURCES) for event in (*self.events, *self.behind))
+        is_source = any(event.names(actor, bit, *CALLS_OF_SOURCES) for event in (*self.events, *self.after))
         found = self.interrupts_of(actor, bit) if is_source else []
         what = f"asserted {word}" if len(found) == 1 else f"{PERHAPS} asserted {word}"
         return [(event, what) for event in found] if len(found) <= FEW else []
@@ -470,8 +470,16 @@ def rule_of_panic(is_sure=True):
     return rule_of_section(PANIC, "`psa_panic`", call="Panic", is_sure=is_sure)
 
 
-def rule_of_signals(event, run):
-    """The section Signals, and the events that asserted the signals that are shown, as far as the lines tell."""
+def rule_of_closing_panic():
+    """The section Panic, with > before what it says of the messages by which the panicked client's connections close."""
+    rule = rule_of_panic()
+    rule.words = [(">" if f"of kind {DISCONNECTION} is made" in text else mark, text) for mark, text in rule.words]
+    return rule
+
+
+def rules_of_signals(event, run):
+    """The section Signals, and the events that asserted the signals that are shown, as far as the lines tell; the rule of
+    a panic that is one of them."""
     rule, notes, untold = rule_of_section(SIGNALS, f"#{SIGNALS})"), [], []
     for bit in (1 << place for place in range(32) if run and int(event.shown[0], 16) >> place & 1):
         found = run.asserted_by(event.actor, bit)
@@ -481,7 +489,8 @@ def rule_of_signals(event, run):
     if untold:
         asks = f"`ffm_view state SYSTEM SCENARIO TRACE {event.number}` ({place_of('state', VIEW)})"
         rule.words.append((" ", f"What asserts {', '.join(untold)} here: {asks}"))
-    return rule, notes
+    closes = any(run.panicked(maker) for maker, _ in notes)
+    return [rule] + [rule_of_closing_panic()] * closes, notes
 
 
 def gives_handle(event, kinds):
@@ -490,7 +499,7 @@ def gives_handle(event, kinds):
 
 
 def rules_of_load(event, run):
-    """What a load reads beside its own rule: the last store to these bytes, and behind a reset what that leaves."""
+    """What a load reads beside its own rule: the last store to these bytes, and after a reset what that leaves."""
     stored = run.stored_at(event)
     rules = [] if stored or not run.is_later else [rule_of_section(RESETS, f"#{RESETS})", is_sure=False)]
     what = "the last store to these bytes; a call that moved bytes since may have changed them too"
@@ -502,8 +511,8 @@ def rules_of_answer(event, run):
     call = run.call_of(event.actor) if run else None
     notes = [(call, "the call that returns")] if call else []
     if event.outcome == "signals":
-        rule, more = rule_of_signals(event, run)
-        return [rule], notes + more
+        rules, more = rules_of_signals(event, run)
+        return rules, notes + more
     kinds = ASKED_BY.get(call.word, []) if call else ANSWERED_BY.get(event.outcome, [])
     is_refused, is_lost = event.answers("-130") and CONNECTION in kinds, event.answers("-145") and REQUEST in kinds
     may_panic = event.outcome == "done" or is_refused or is_lost
@@ -542,9 +551,7 @@ def rules_of_message(event, run):
         words.append((" ", f"It was made by the client's `{call}` ({place}){panic}"))
     if not maker or maker.outcome == "blocked":
         return words, [], [(maker, "made this message")] if maker else []
-    rule = rule_of_panic()
-    rule.words = [(">" if f"of kind {DISCONNECTION} is made" in text else mark, text) for mark, text in rule.words]
-    return words, [rule], [(maker, "the client's panic, which made this message")]
+    return words, [rule_of_closing_panic()], [(maker, "the client's panic, which made this message")]
 
 
 def rules_of_event(event, run):
@@ -577,8 +584,8 @@ def rules_of_event(event, run):
         more, notes = rules_of_load(event, run)
         rules += more
     elif event.word == "wait" and event.outcome == "signals":
-        rule, notes = rule_of_signals(event, run)
-        rules.append(rule)
+        more, notes = rules_of_signals(event, run)
+        rules += more
     elif event.word == "get" and event.outcome == "message":
         words, more, notes = rules_of_message(event, run)
         rules[0].words += words
@@ -600,7 +607,7 @@ def rules_of(text, number=0, run=None):
 
 
 def run_around(lines, place, system=None):
-    """The run around a line: the events before it, and those behind it as far as they are lines of a trace."""
+    """The run around a line: the events before it, and those after it as far as they are lines of a trace."""
     events, is_later = [], False
     for number, line in enumerate(lines[:place], 1):
         if VERDICT.fullmatch(line) or RESTART.fullmatch(line):
@@ -608,8 +615,8 @@ def run_around(lines, place, system=None):
             is_later = bool(RESTART.fullmatch(line))
         else:
             events.append(event_of(line, number))
-    behind = takewhile(lambda numbered: is_event(numbered[1]), enumerate(lines[place + 1:], place + 2))
-    return Run(events, [event_of(line, number) for number, line in behind], is_later, system)
+    after = takewhile(lambda numbered: is_event(numbered[1]), enumerate(lines[place + 1:], place + 2))
+    return Run(events, [event_of(line, number) for number, line in after], is_later, system)
 
 
 @lru_cache(maxsize=None)
@@ -692,7 +699,7 @@ def block_of(item):
         start -= 1
     if start > 1 and lines[start - 1] == "" and lines[start - 2].startswith("-- ----"):
         start -= 2
-    # A body begins with a brace in a line of its own; behind a definition comes an empty line.
+    # A body begins with a brace in a line of its own; after a definition comes an empty line.
     stops = ("{", "{}") if item.path.suffix == ".rt" else ("",)
     while end < len(lines) and lines[end].strip() not in stops:
         end += 1

@@ -13,11 +13,11 @@ run, and told.
 What the page shows is looked for in what its commands wrote, and in the texts that stand beside the examples they
 name. Compared are:
 - blocks of lines that ffm writes: they come, in this order;
-- the block behind commands of ffm_view and of tools/rule_of_line.py: it is all that they write, where a line `..`
+- the block after commands of ffm_view and of tools/rule_of_line.py: it is all that they write, where a line `..`
   stands for any lines;
-- lines of a trace or an audit in the first cells of a table: they come, and one with its number behind it, as in
+- lines of a trace or an audit in the first cells of a table: they come, and one with its number after it, as in
   `quiet 31` (32), is that line; `..` stands for anything;
-- a last line, as `legal 6`, outside of the sections "To try": it comes, and with the status behind it;
+- a last line, as `legal 6`, outside of the sections "To try": it comes, and with the status after it;
 - a link [trace.txt](trace.txt), listing.txt or audit.txt: some block wrote that text;
 - the status of a block: 0, unless its last command is diff.
 
@@ -152,7 +152,7 @@ def is_line(quoted, line):
 
 
 def comes_in_order(quotes, lines):
-    """Whether the quotes are lines of a text, one behind the other."""
+    """Whether the quotes are lines of a text, one after the other."""
     left = iter(lines)
     return all(any(is_line(quoted, line) for line in left) for quoted in quotes)
 
@@ -247,7 +247,7 @@ def examples_of(commands):
 
 
 def wrong_wholes(parts, outputs, commands):
-    """The blocks behind commands of ffm_view and of tools/rule_of_line.py that aren't what these write."""
+    """The blocks after commands of ffm_view and of tools/rule_of_line.py that aren't what these write."""
     written = {block.line: output.text for block, output in zip(commands, outputs)}
     blocks = [part for part in parts if part.is_block]
     for before, block in zip(blocks, blocks[1:]):

@@ -9,7 +9,7 @@ crate="$(dirname "$(readlink -f "$0")")/../crates/${FFM_CRATE:-ffm}"
 data=()
 words=()
 for word in "$@"; do
-    # The program may read below its own folder alone, so each file behind the command gets a name there.
+    # The program may read below its own folder alone, so each file after the command gets a name there.
     if [ ${#words[@]} -gt 0 ] && [ -f "$word" ]; then
         name="given${#words[@]}"
         data+=(--data "$name=$(readlink -f "$word")")

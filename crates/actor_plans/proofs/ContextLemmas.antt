@@ -64,7 +64,7 @@ one-call script p =
     ap (λ (o : Option ℕ). option_map_or (λ k. get_or (c ∷ []) k (call.Stop false)) o (call.Stop (is_spent c || false))) (picked-one c)
     ∙ one-call-by c (is_stop c) refl
 
--- ---- behind it
+-- ---- after it
 
 caller-by : (b : Bool) → ◌≡◌ {A = ℕ} (unwrap_or (if b then None else Some 0) 0) 0
 caller-by true = refl

@@ -184,7 +184,7 @@ call-same : (p : Holder) (script : List Instruction) (x : Holding) → MapsNothi
 unfolding held_call call_at
 call-same p script x n c = call-of p x (slice_get script x.at.place) (maps-none script n x.at.place) c
 
--- ---- behind calls
+-- ---- after calls
 
 noted-by : (p : Holder) (o : Option Instruction) (k : Call) (u : Outcome) (t : List HeldMessage) → MapsNone o → table_noted p o k u t ≡ table_behind p k u (table_touched k t)
 noted-by p None k u t n = refl

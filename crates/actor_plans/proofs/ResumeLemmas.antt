@@ -1,4 +1,4 @@
--- No engine of a plan resumes by itself, so the plan resumes exactly behind Blocked.
+-- No engine of a plan resumes by itself, so the plan resumes exactly after Blocked.
 use Rattle.std.proofs.Common.{ℕ, zero, suc, ◌≡◌, Bool, true, false, List, [], ◌∷◌, get_or, refl, ap, sym, ◌∙◌}
 use Rattle.std.specs.Prelude.{Option, Some, None, if◌then◌else◌, ◌↔◌, slice_get}
 use Rattle.std.specs.List.{list_any}

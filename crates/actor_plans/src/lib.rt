@@ -1,4 +1,4 @@
-//! Laws of the plans of actors: they resume behind a blocked call alone, and a plan for several
+//! Laws of the plans of actors: they resume after a blocked call alone, and a plan for several
 //! scripts, or for one that may map vectors, is that of a script where it has just one, or maps
 //! nothing. No function here does anything.
 #![tactic(auto)]

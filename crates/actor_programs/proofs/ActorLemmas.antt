@@ -16,7 +16,7 @@ none_past [] a all = refl
 none_past (x ∷ xs) zero all = absurd (omega arith)
 none_past (x ∷ xs) (suc a) all = none_past xs a (omega arith)
 
--- an actor behind the partitions is none
+-- an actor after the partitions is none
 pub not_sfn : (s : System) (a : ℕ) → length s.partitions ≤ a → is_sfn s a ≡ false
 not_sfn s a all = none_past s.partitions a all
 

@@ -58,7 +58,7 @@ fn next_lines<'a>(
     own.get(count)
 }
 
-// Puts a program behind those of its actor.
+// Puts a program after those of its actor.
 fn add_program(
     alloc: Global,
     made: &mut Vec<List<Program>>,

@@ -21,7 +21,7 @@ use Rattle.admitted_systems.proofs.Services.{bare, service_at, services_are}
 
 -- ---- the services that an actor may use
 
--- the place of each item of a list, behind those in front
+-- the place of each item of a list, after those in front
 numbered_get : {A B : Type 0} (f : A → B) (k : ℕ) (xs : List A) (front : List B) → length front ≡ k → Each (λ e. slice_get (front ++ map f xs) e.0 ≡ Some (f e.1)) (enumerate_from k xs)
 numbered_get f k [] front e = tt
 numbered_get f k (x ∷ xs) front e = (

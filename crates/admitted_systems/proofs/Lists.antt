@@ -26,7 +26,7 @@ pub only_if_nil : {A : Type 0} (b : Bool) (x : A) → only_if b x ≡ [] → b �
 only_if_nil true x e = absurd cc
 only_if_nil false x e = refl
 
--- ---- the item behind those in front
+-- ---- the item after those in front
 
 pub get_behind : {A : Type 0} (front : List A) (x : A) (xs : List A) (k : ℕ) → length front ≡ k → slice_get (front ++ x ∷ xs) k ≡ Some x
 get_behind [] x xs k e = rw (← e) refl

@@ -73,7 +73,7 @@ functions_by true owned bytes size e h k = and_from _ _ (h refl) (let l : 48 ≤
 abbrev Fits : List Service → List Region → ℕ × Partition → Type 0
 Fits services regions e = (functions_fit services regions e ≡ true) × (nat_le e.1.heap (ram_size regions e.1) ≡ true)
 
--- the k-th partition and those behind it, whose RAM is behind the regions in front
+-- the k-th partition and those after it, whose RAM is after the regions in front
 fit_from : (services : List Service) (level k base : ℕ) (ms : List ManifestRecord) (front rest : List Region) → length front ≡ k → Each IsManifest ms → Each (Owned services) (enumerate_from k ms)
     → Each (Fits services (front ++ (rams_from level k base ms ++ rest))) (enumerate_from k (map (partition_of level) (enumerate_from k ms)))
 fit_from services level k base [] front rest e h owned = tt

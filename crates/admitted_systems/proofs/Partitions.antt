@@ -34,7 +34,7 @@ rams_found level k base (m ∷ ms) front rest e =
           (rams_found level (k + 1) (base + ram_needed m) ms (front ++ ram ∷ []) rest (let l = length-append front (ram ∷ []) in omega arith)),
     )
 
--- the regions behind the RAM aren't RAM
+-- the regions after the RAM aren't RAM
 front_or_other : (Q : Region → Type 0) (k : ℕ) (xs ys : List Region) → Each Q ys → Each (λ e. (e.0 < k + length xs) ⊎ Q e.1) (enumerate_from k (xs ++ ys))
 front_or_other Q k [] ys h = each_weaker (λ e. Q e.1) (λ e. (e.0 < k + 0) ⊎ Q e.1) (λ e q. inr q) (enumerate_from k ys) (each_numbered Q k ys h)
 front_or_other Q k (x ∷ xs) ys h = (

@@ -24,7 +24,7 @@ fn first_lines(text: &str, count: usize) -> &[u8] {
     }
 }
 
-// Each read fails in turn: 7, and nothing is written. A failing read behind the last one changes nothing.
+// Each read fails in turn: 7, and nothing is written. A failing read after the last one changes nothing.
 #[test]
 fn each_read_fails(rt: HostRuntime) -> Result<(), Fail> {
     for (words, text) in COMMANDS {

@@ -15,7 +15,7 @@ const DRIVER: &str = r#"{"isolation_level":1,"manifests":[
 "entry_point":"main","stack_size":"0x100","irqs":[{"source":17,"name":"TICK","handling":"FLIH"},
 {"source":18,"name":"UART","handling":"SLIH"}]}]}"#;
 
-// The device stands behind the partition.
+// The device stands after the partition.
 const DEVICE: ActorId = ActorId(1);
 
 const ERROR: Outcome = Outcome::Value(PSA_ERROR_PROGRAMMER_ERROR);

@@ -49,7 +49,7 @@ pub(crate) fn ready(alloc: Global, system: &System) -> Result<Tables, Fail>
     Ok(Tables::new(alloc, system)?)
 }
 
-// In the client's RAM the descriptor of a vector, and behind it the vector's four bytes.
+// In the client's RAM the descriptor of a vector, and after it the vector's four bytes.
 #[tactic(auto, using(memory_image::proofs::Systems::system_fits, ffm_model::proofs::RangeLemmas::regions_few))]
 pub(crate) fn image_of(rt: &impl Abort, alloc: Global, system: &System) -> Result<Image, Fail>
     ensures { IfOk result (λ image. regions_of image ≡ ranges_of system.now.regions) }

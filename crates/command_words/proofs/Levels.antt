@@ -57,7 +57,7 @@ level_from s names words has end is passes ends = rw (passes, is) ends
 abbrev stopped_at : Text → List Text → Walk
 stopped_at name words = record (walk_from nothing_held) { stopped = Some (name, words) }
 
--- each word behind a subcommand's name is one of the subcommand's
+-- each word after a subcommand's name is one of the subcommand's
 walked_behind : (c : List Rule) (names : Names) (name : Text) (before words : List Text)
     → fold (walked c names) (stopped_at name before) words ≡ stopped_at name (before ++ words)
 unfolding clap_on_literals

@@ -22,7 +22,7 @@ leaf a = built_leaf (inherited (with_leaf_noted (marked_built ffm_app.top)) a.to
 abbrev step : Shape → Walk → Text → Walk
 step s w word = to_positional s.rules (arg_by_index s.rules w.position) word w w.held
 
--- the words behind the subcommand's name are taken, and are the order's
+-- the words after the subcommand's name are taken, and are the order's
 record Reads (s : Shape) (words : List Text) (o : Order) : Type 0 where
   level : level_passes s [] nothing_held words false ≡ true
   arguments : HasArguments (rows_after s.rules [] words) o
@@ -139,7 +139,7 @@ make_reads x rounds e spells =
     let one = walked_file s.rules nothing_held 1 x e in
     reads_from s (x ∷ []) (make rounds) end one (passes_on s [] (at nothing_held 1) end x [] (turn_file s nothing_held 1 x e) one (passes_end s [] end)) refl spells
 
--- ---- the command, and the words behind it
+-- ---- the command, and the words after it
 
 -- the words are taken, and their matches ask for the order
 pub record Taken (words : List Text) (o : Order) : Type 0 where

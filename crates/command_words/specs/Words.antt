@@ -36,7 +36,7 @@ run_files threads system scenario = if is_file_word system && is_file_word scena
 abbrev pub is_flag : List ℕ → Bool
 is_flag word = bytes_eq word (codes "--threads")
 
--- SYSTEM SCENARIO, with the flag before, between or behind them
+-- SYSTEM SCENARIO, with the flag before, between or after them
 abbrev pub flagged_words : List ℕ → List ℕ → List ℕ → Option Order
 flagged_words first second third =
     if is_flag first then run_files true second third
@@ -54,7 +54,7 @@ abbrev pub trace_files : Inspection → List ℕ → List ℕ → List ℕ → O
 trace_files how system scenario trace =
     if is_file_word system && (is_file_word scenario && is_file_word trace) then Some (judge how system scenario trace) else None
 
--- SCENARIO TRACE, behind SYSTEM
+-- SCENARIO TRACE, after SYSTEM
 abbrev pub trace_over : Inspection → List ℕ → List (List ℕ) → Option Order
 trace_over how system (scenario ∷ trace ∷ []) = trace_files how system scenario trace
 trace_over how system _ = None
@@ -64,7 +64,7 @@ abbrev pub trace_words : Inspection → List (List ℕ) → Option Order
 trace_words how [] = None
 trace_words how (system ∷ words) = trace_over how system words
 
--- the number that n and the decimal digits behind it spell, where it is at most the limit
+-- the number that n and the decimal digits after it spell, where it is at most the limit
 abbrev pub rounds_behind : ℕ → List ℕ → Option ℕ
 rounds_behind n [] = Some n
 rounds_behind n (d ∷ ds) =

@@ -51,7 +51,7 @@ pub fn command_of(words: &Vec<String>) -> Option<Command<'_>>
     command_named(name.as_str(), words)
 }
 
-// The command with this name, of the words behind it.
+// The command with this name, of the words after it.
 fn command_named<'a>(name: &str, words: &'a [String]) -> Option<Command<'a>>
     ensures { option_map order result ≡ command_words name.now (map string_bytes words.now) }
 {

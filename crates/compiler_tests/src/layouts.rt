@@ -420,7 +420,7 @@ fn manifests_of(alloc: Global, lines: &str) -> Result<Vec<Manifest>, Fail>
     Ok(manifests)
 }
 
-// What comes of a layout's lines, with these words behind them.
+// What comes of a layout's lines, with these words after them.
 fn laid_out(alloc: Global, lines: &str, given: &str) -> Result<String, Fail> {
     let regions = regions_of(alloc, lines)?;
     let manifests = manifests_of(alloc, lines)?;

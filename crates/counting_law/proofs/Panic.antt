@@ -370,7 +370,7 @@ told-panicked s p a (c ∷ cs) ps h z =
     told-panicked s p a cs _ (told-panicked-step (is_service_of s p c.service) (c.client.0 == a) c.phase ps c.client.0 a refl (omega (arith, count-cons (lost_asking s p a) c cs)) h)
     (omega (arith, count-cons (lost_asking s p a) c cs))
 
--- the phases behind the panic of an actor, and how many answers another one loses by it
+-- the phases after the panic of an actor, and how many answers another one loses by it
 abbrev pub phases_told : System → SpmState → ℕ → List ActorPhase
 phases_told s b p = callers_answered s p b.messages (clients_answered s p b.connections (slice_set b.phases p Panicked))
 

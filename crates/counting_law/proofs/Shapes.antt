@@ -50,7 +50,7 @@ abbrev pub Connects : SpmState → SpmState → Type 0
 Connects b new = (q : ℕ → Option Handle → Bool) → (nat_lt b.connections_made new.connections_made ≡ true → q b.connections_made None ≡ false)
     → count_by (λ c. q c.serial c.handle) new.connections ≤ count_by (λ c. q c.serial c.handle) b.connections
 
--- those messages stay that pass q, in their order and but for their vectors, and others come behind them
+-- those messages stay that pass q, in their order and but for their vectors, and others come after them
 pub record Ordered (b new : SpmState) : Type 0 where
   pub q : PendingMessage → Bool
   pub f : PendingMessage → PendingMessage

@@ -185,7 +185,7 @@ and_assoc : (x y z : Bool) → (x && (y && z)) ≡ ((x && y) && z)
 and_assoc true y z = refl
 and_assoc false y z = refl
 
--- a panic behind a reply, or behind nothing
+-- a panic after a reply, or after nothing
 panic-spends : (s : System) (limit : Handle → ℕ) (b mid : SpmState) (q : PendingMessage → Bool) (p : ℕ) → Settles b mid q → Balanced s limit mid → p < length mid.phases → is_panicked (phase_of mid p) ≡ false → awaited_by mid.connections mid.messages p ≡ 0
     → Spends b (panic_effect s mid p)
 panic-spends s limit b mid q p it balanced inside alive quiet =

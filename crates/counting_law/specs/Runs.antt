@@ -8,7 +8,7 @@ use Rattle.ffm_model.specs.State.{State}
 use Rattle.ffm_model.specs.Step.{after}
 use Rattle.ffm_model.specs.Names.{NamedState, named_after}
 
--- for every system, opening memory and run, P holds of the system, the entries and the state behind them
+-- for every system, opening memory and run, P holds of the system, the entries and the state after them
 abbrev pub InEachRun : (System → List Entry → State → Type 0) → Type 0
 InEachRun P = (s : System) (m : ByteMap) (es : List Entry) (st : State) → after s m es ≡ Some st → P s es st
 

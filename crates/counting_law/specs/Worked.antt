@@ -79,7 +79,7 @@ second_connection =
     ∷ entry client (Connect (record { 0 = 0x40 }) 1) Blocked
     ∷ []
 
--- what is asked of the state behind the run
+-- what is asked of the state after the run
 abbrev pub behind : {X : Type 0} → (SpmState → X) → Option X
 behind f = option_map (λ st. f st.spm) (after vault_system zeros second_connection)
 

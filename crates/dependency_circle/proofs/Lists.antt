@@ -55,7 +55,7 @@ append_nil : (xs : List ℕ) → xs ++ [] ≡ xs
 append_nil [] = refl
 append_nil (x ∷ xs) = ap (λ t. x ∷ t) (append_nil xs)
 
--- what is left of a circle behind a front that is none
+-- what is left of a circle after a front that is none
 rest_begins : (n : ℕ) (edge : ℕ → ℕ → Bool) (front w : List ℕ) → is_circle n edge front ≡ false → is_circle n edge (front ++ w) ≡ true
     → (j : ℕ) × ((v : List ℕ) × ((w ≡ j ∷ v) × Begins n edge (front ++ j ∷ [])))
 rest_begins n edge front [] wide closed = absurd (clash (is_circle n edge front) wide (ap (is_circle n edge) (sym (append_nil front)) ∙ closed))

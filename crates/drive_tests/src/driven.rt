@@ -130,7 +130,7 @@ fn refused_at<R: Abort + Wait>(
 #[test]
 fn refused(rt: HostRuntime) -> Result<(), Fail> {
     let alloc = rt.alloc();
-    // At the limit; behind a panic; where no actor can go on.
+    // At the limit; after a panic; where no actor can go on.
     let on = Alone { over: false };
     refused_at(&rt, alloc, &on, 1, "version 7\nversion 7", 1, 102)?;
     refused_at(&rt, alloc, &on, 9, "panic\nversion 7", 1, 102)?;
@@ -183,7 +183,7 @@ fn vectors_mapped(rt: HostRuntime) -> Result<(), Fail> {
     let maps = script(&rt, alloc, MAPS)?;
     let log = Log::new(alloc, 0, 9, 0)?;
     let on = Alone { over: false };
-    // Behind the answer no message is held.
+    // After the answer no message is held.
     let log = one_actor(&rt, alloc, &on, log, maps, 102030405060708)?;
     let handle = Handle(5);
     let (input, output) = (0x3000_0400, 0x3000_0440);

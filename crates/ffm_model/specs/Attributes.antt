@@ -34,7 +34,7 @@ abbrev pub or_refuse : {A : Type 0} → ℕ → Option A → Result A PartRefusa
 or_refuse code None = refuse code
 or_refuse code (Some x) = Ok x
 
--- what a whole file's part gives, its refusal placed behind these steps of the file
+-- what a whole file's part gives, its refusal placed after these steps of the file
 abbrev pub placed : {A : Type 0} → Root → List PathStep → Result A PartRefusal → Result A Refusal
 placed root front (Ok x) = Ok x
 placed root front (Err r) = Err (record { code = r.code; place = record { root = root; steps = front ++ r.steps }; cycle = [] })
@@ -55,7 +55,7 @@ optional read default k d = within (step.Key k) (if_there read (Ok default) (get
 
 -- ---- lists, item by item
 
--- the items behind those in front, each read in the knowledge of all before it
+-- the items after those in front, each read in the knowledge of all before it
 unfoldable pub items_after : {A : Type 0} → (List A → Data → Result A PartRefusal) → List A → ℕ → Items → Result (List A) PartRefusal
 items_after read front i no_items = Ok front
 items_after read front i (item d ds) = do

@@ -21,12 +21,12 @@ use Rattle.ffm_model.specs.Signals.{signals_of, is_panicked}
 use Rattle.ffm_model.specs.Panic.{is_dead}
 use Rattle.ffm_model.specs.Binding.{◌>>=◌}
 
--- an outcome, and the state behind it of all but memory and the handles of the past
+-- an outcome, and the state after it of all but memory and the handles of the past
 pub record Move : Type 0 where
   pub outcome : Outcome
   pub spm : SpmState
 
--- an outcome, and the whole state behind it
+-- an outcome, and the whole state after it
 pub record Effect : Type 0 where
   pub outcome : Outcome
   pub state : State

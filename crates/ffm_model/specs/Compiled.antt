@@ -88,7 +88,7 @@ source_of framework owner e = record {
   enabled = framework == 256;
 }
 
--- a partition's interrupts have the signals behind those of its services
+-- a partition's interrupts have the signals after those of its services
 abbrev pub sources_of_manifest : ℕ × ManifestRecord → List Source
 sources_of_manifest e = map (source_of e.1.framework e.0) (enumerate_from (length e.1.services) e.1.irqs)
 

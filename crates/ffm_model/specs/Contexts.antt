@@ -18,7 +18,7 @@ pub record DeskView : Type 0 where
   pub count : ℕ
   pub turn : ℕ
 
--- the context behind one, and 0 behind the last
+-- the context after one, and 0 after the last
 abbrev pub next_context : ℕ → ℕ → ℕ
 next_context count context = if context + 1 == count then 0 else context + 1
 
@@ -74,7 +74,7 @@ contexts_call scripts x =
 abbrev pub caller : List (List Instruction) → Contexts → ℕ
 caller scripts x = unwrap_or (picked_context scripts x) x.turn
 
--- the outcome goes to the caller alone, and the turn to the context behind it; the local lines of the others still count from where they were
+-- the outcome goes to the caller alone, and the turn to the context after it; the local lines of the others still count from where they were
 unfoldable pub contexts_behind : List (List Instruction) → Outcome → Contexts → Contexts
 contexts_behind scripts o x =
     let k = caller scripts x in

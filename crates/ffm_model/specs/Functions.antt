@@ -63,7 +63,7 @@ abbrev pub function_line_call : Handle → List ℕ → SfnInstruction → Call
 function_line_call h registers (Plain i) = line_call registers i
 function_line_call h registers (Return operand) = answer h (value_of registers operand)
 
--- the call that is made at a point; behind its last line the function returns 0
+-- the call that is made at a point; after its last line the function returns 0
 unfoldable pub function_call_at : List SfnInstruction → Handle → Point → Call
 function_call_at lines h p = option_map_or (function_line_call h p.registers) (slice_get lines p.place) (answer h 0)
 

@@ -44,7 +44,7 @@ abbrev pub other_line : Holding → Instruction → Option Point → LineStep
 other_line x i (Some p) = leads (record x { at = p })
 other_line x i None = makes (if is_refused x.table (line_call x.at.registers i) then call.Panic else line_call x.at.registers i)
 
--- behind a line without a call
+-- after a line without a call
 abbrev pub next_line : Holding → List ℕ → List HeldMessage → Holding
 next_line x registers t = record { at = point registers (x.at.place + 1); table = t }
 
@@ -91,19 +91,19 @@ held_steps p script (suc n) x = option_map_or (held_steps p script n) (held_step
 unfoldable pub held_arrived : Holder → List Instruction → Holding → Holding
 held_arrived p script x = held_steps p script most_lines x
 
--- the call that is made there; behind the last line the script ends
+-- the call that is made there; after the last line the script ends
 unfoldable pub held_call : Holder → List Instruction → Holding → Call
 held_call p script x = option_map_or (λ i. call_made (line_step p x i)) (slice_get script x.at.place) (call.Stop false)
 
--- ---- behind a call
+-- ---- after a call
 
--- the table behind a call's outcome: psa_read for map_in leaves the vector mapped, psa_write for unmap_out unmapped, and any other call leaves its vector used
+-- the table after a call's outcome: psa_read for map_in leaves the vector mapped, psa_write for unmap_out unmapped, and any other call leaves its vector used
 abbrev pub table_noted : Holder → Option Instruction → Call → Outcome → List HeldMessage → List HeldMessage
 table_noted p (Some (line.Map MapIn operands)) (call.Read h index buffer len) o t = changed_at h (with_input mapped index) t
 table_noted p (Some (line.Map UnmapOut operands)) (call.Write h index buffer len) o t = changed_at h (with_output unmapped index) t
 table_noted p i c o t = table_behind p c o (table_touched c t)
 
--- the registers behind it: r0 is the window behind map_in
+-- the registers after it: r0 is the window after map_in
 abbrev pub registers_noted : Option Instruction → Call → Outcome → List ℕ → List ℕ
 registers_noted (Some (line.Map MapIn operands)) (call.Read h index buffer len) o registers = slice_set (noted o registers) 0 buffer
 registers_noted i c o registers = noted o registers

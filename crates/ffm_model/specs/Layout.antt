@@ -53,7 +53,7 @@ domain_of_rot ApplicationRot = 2
 abbrev pub domain_at : ℕ → RotType → ℕ → ℕ
 domain_at level rot id = if level == 1 then 1 else (if level == 2 then domain_of_rot rot else id)
 
--- the RAM of the partitions from the k-th on, one behind the other; a partition's ID is its place plus one
+-- the RAM of the partitions from the k-th on, one after the other; a partition's ID is its place plus one
 abbrev pub rams_from : ℕ → ℕ → ℕ → List ManifestRecord → List Region
 rams_from level k base [] = []
 rams_from level k base (m ∷ ms) =

@@ -51,7 +51,7 @@ abbrev pub permission_word : Bool → Word
 permission_word true = codes "READ-WRITE"
 permission_word false = codes "READ-ONLY"
 
--- a line: its first word, and the others behind one space each
+-- a line: its first word, and the others after one space each
 abbrev pub line_of : Word → List Word → List ℕ
 line_of front words = line (front ++ flat_map spaced words)
 

@@ -17,12 +17,12 @@ use Rattle.ffm_model.specs.Actors.{kind_of, is_partition, is_client}
 abbrev pub ByteMap : Type 0
 ByteMap = ℕ → ℕ
 
--- the bytes at an address and behind it
+-- the bytes at an address and after it
 abbrev pub bytes_at : ByteMap → ℕ → ℕ → List ℕ
 bytes_at m a zero = []
 bytes_at m a (suc n) = m a ∷ bytes_at m (a + 1) n
 
--- these bytes are put at an address and behind it
+-- these bytes are put at an address and after it
 abbrev pub write_bytes : ByteMap → ℕ → List ℕ → ByteMap
 write_bytes m a bytes x = if nat_le a x && nat_lt x (a + length bytes) then slice_index bytes (x - a) else m x
 
@@ -45,7 +45,7 @@ store_number m a size v = write_bytes m a (low_bytes size v)
 abbrev pub copy_bytes : ByteMap → ℕ → ℕ → ℕ → ByteMap
 copy_bytes m from to len = write_bytes m to (bytes_at m from len)
 
--- words of four bytes, one behind the other
+-- words of four bytes, one after the other
 abbrev pub words_stored : ByteMap → ℕ → List ℕ → ByteMap
 words_stored m at [] = m
 words_stored m at (w ∷ ws) = words_stored (store_number m at 4 w) (at + 4) ws

@@ -97,7 +97,7 @@ live_connections k b = map (λ c. get_or k.connections c.serial no_slot) b.conne
 abbrev pub with_connection : ℕ → SpmState → SpmState → NamesSoFar → NamesSoFar
 with_connection size old new k = if nat_lt old.connections_made new.connections_made then record k { connections = k.connections ++ next_slot size (live_connections k old) k.connections ∷ [] } else k
 
--- the slots behind an event; what it removes is free before it takes new ones
+-- the slots after an event; what it removes is free before it takes new ones
 abbrev pub names_after : System → SpmState → SpmState → NamesSoFar → NamesSoFar
 names_after s old new k =
     let kept = slots_kept (stays new.messages) old.messages k.messages in

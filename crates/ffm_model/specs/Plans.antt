@@ -11,7 +11,7 @@ use Rattle.ffm_model.specs.Records.{is_blocked_outcome, ends_blocked}
 abbrev pub Plan : Type 0
 Plan = List Outcome → Call
 
--- behind these outcomes, each call is the plan's after the outcomes before it
+-- from these outcomes on, each call is the plan's after the outcomes before it
 abbrev pub RunFrom : Plan → List Outcome → List Entry → Type 0
 RunFrom plan os [] = Unit {0}
 RunFrom plan os (e ∷ es) = (e.call ≡ plan os) × RunFrom plan (os ++ e.outcome ∷ []) es
@@ -22,7 +22,7 @@ PlanRun plan es = RunFrom plan [] es
 
 -- ---- engines
 
--- a state, the call that it makes next, and the state behind the call's outcome
+-- a state, the call that it makes next, and the state after the call's outcome
 pub record Engine (X : Type 0) : Type 0 where
   pub call : X → Call
   pub behind : Outcome → X → X

@@ -17,7 +17,7 @@ is_run_byte b = is_ascii_digit b || (b == 43) || (b == 45) || is_fraction_byte b
 unfoldable pub is_marked : List ℕ → Bool
 is_marked run = (is_ascii_digit (slice_index run 0) || (slice_index run 0 == 45)) && (list_any is_fraction_byte run || bytes_eq run (codes "-0") || nat_lt 19 (length run))
 
--- where a byte stands: in a run that gets marks or not, in a string, behind a backslash in a string, or elsewhere
+-- where a byte stands: in a run that gets marks or not, in a string, after a backslash in a string, or elsewhere
 pub data Where : Type 0 where
   outside : Where
   in_run : Bool → Where
@@ -34,7 +34,7 @@ after_other b = if b == 34 then in_string else outside
 abbrev pub after_string_byte : ℕ → Where
 after_string_byte b = if b == 34 then outside else (if b == 92 then behind_backslash else in_string)
 
--- a longest run of run bytes outside strings gets its marks before and behind it; all other bytes stay
+-- a longest run of run bytes outside strings gets its marks before and after it; all other bytes stay
 unfoldable pub quoted : Where → List ℕ → List ℕ
 quoted outside [] = []
 quoted outside (b ∷ bs) = if is_run_byte b

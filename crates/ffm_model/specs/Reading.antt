@@ -68,7 +68,7 @@ Reads view (Err read_error.Memory) r = Unit {0}
 abbrev pub FailedAmong : List (List ℕ) → Option (Option (List ℕ)) → Type 0
 FailedAmong names last = IfSome last (λ name. IsSomeAnd name (λ failed. Contains names failed))
 
--- a step that asks for files, where `last` is the last failed name behind it
+-- a step that asks for files, where `last` is the last failed name after it
 abbrev pub Gives : {X Y : Type 0} → (X → Y) → Option (Option (List ℕ)) → Result X PartsError → Reading Y → Type 0
 Gives view last (Ok x) reading = reading.gives ≡ Ok (view x)
 Gives view last (Err (parts_error.Refused r)) reading = reading.gives ≡ Err (refused r)

@@ -12,7 +12,7 @@ first (x ∷ xs) = Some x
 abbrev pub only_if : {A : Type 0} → Bool → A → List A
 only_if b x = if b then x ∷ [] else []
 
--- the items behind `front` that an earlier one is the same as
+-- the items after `front` that an earlier one is the same as
 abbrev pub repeated_after : {A : Type 0} → (A → A → Bool) → List A → List A → List A
 repeated_after same front [] = []
 repeated_after same front (x ∷ xs) = only_if (list_any (λ y. same y x) front) x ++ repeated_after same (front ++ x ∷ []) xs

@@ -53,7 +53,7 @@ memory_reset s first last x = if list_any (λ r. is_mmio r.class && covers r x) 
 
 -- `IsRun m r`: r is a run from the memory m
 module _ (s : System) (IsRun : ByteMap → FinishedRun → Type 0) (first : ByteMap) where
-  -- the runs from a memory on, where so many restarts are left: behind a run that ends with a panicked partition comes another, while a restart is left, and behind any other run none
+  -- the runs from a memory on, where so many restarts are left: after a run that ends with a panicked partition comes another, while a restart is left, and after any other run none
   abbrev pub RunsFrom : ByteMap → ℕ → List FinishedRun → Type 0
   RunsFrom m left [] = ⊥
   RunsFrom m left (r ∷ []) = IsRun m r × ((nat_lt 0 left && ends_panicked s m r) ≡ false)

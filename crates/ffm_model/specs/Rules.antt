@@ -100,7 +100,7 @@ has_service p k name = list_any (λ v. (v.manifest == k) && bytes_eq v.value.nam
 abbrev pub unknown_dependencies : PartsRecord → List Refusal
 unknown_dependencies p = map (λ d. refusal UNKNOWN_DEPENDENCY (at_item key.Dependencies d.manifest d.item)) (filter (λ d. not (is_known p d.value)) (dependencies_in p))
 
--- the service is the partition's own; it is a circle of one too, behind this refusal
+-- the service is the partition's own; it is a circle of one too, after this refusal
 abbrev pub self_dependencies : PartsRecord → List Refusal
 self_dependencies p = map (λ d. refusal SELF_DEPENDENCY (at_item key.Dependencies d.manifest d.item)) (filter (λ d. has_service p d.manifest d.value) (dependencies_in p))
 

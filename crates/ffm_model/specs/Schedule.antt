@@ -27,7 +27,7 @@ pub record IsNext (s : System) (schedule : List ActorId) (st : Option State) (t 
   pub on : enabled_in s st (turn_at s schedule u) ≡ true
   pub passed : (w : ℕ) → t ≤ w → w < u → enabled_in s st (turn_at s schedule w) ≡ false
 
--- from a state and turn t on, each entry is made in the next turn of an enabled actor; turn `end` comes behind the last one
+-- from a state and turn t on, each entry is made in the next turn of an enabled actor; turn `end` comes after the last one
 abbrev pub Turns : System → List ActorId → Option State → ℕ → List Entry → ℕ → Type 0
 Turns s schedule st t [] end = end ≡ t
 Turns s schedule st t (e ∷ es) end =

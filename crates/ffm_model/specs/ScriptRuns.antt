@@ -123,7 +123,7 @@ line_call registers (Jump target) = call.Stop true
 line_call registers (JumpIf c r v target) = call.Stop true
 line_call registers (Map n operands) = call.Stop false
 
--- the call that is made at a point; behind the last line the script ends
+-- the call that is made at a point; after the last line the script ends
 unfoldable pub call_at : List Instruction → Point → Call
 call_at script p = option_map_or (line_call p.registers) (slice_get script p.place) (call.Stop false)
 
@@ -148,11 +148,11 @@ noted outcome.Blocked registers = registers
 noted outcome.Done registers = registers
 noted outcome.Panicked registers = registers
 
--- the place behind the line at a place; behind the last line it stays
+-- the place after the line at a place; after the last line it stays
 abbrev pub place_behind : List Instruction → ℕ → ℕ
 place_behind script place = if nat_lt place (length script) then place + 1 else place
 
--- behind the call that was made at a point
+-- after the call that was made at a point
 abbrev pub behind : List Instruction → Outcome → Point → Point
 behind script o p = point (noted o p.registers) (place_behind script p.place)
 

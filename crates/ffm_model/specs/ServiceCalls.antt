@@ -142,7 +142,7 @@ psa_read s st a h index buffer len = do
   request ← request_held s st.spm a h index
   if valid_buffer s a buffer len then Some (read_of st h index buffer len request) else None
 
--- the bytes go behind those that were written
+-- the bytes go after those that were written
 abbrev pub write_of : State → Handle → ℕ → ℕ → ℕ → PendingMessage → Effect
 write_of st h index buffer len m =
     let v = output_at m index in

@@ -64,7 +64,7 @@ reached w = function_steps w.lines w.budget w.at
 abbrev pub work_call : Work → Call
 work_call w = if w.pending then call.Resume else function_call_at w.lines w.handle (reached w)
 
--- behind a call; a blocked call stays pending, and the outcome of its return counts as its own
+-- after a call; a blocked call stays pending, and the outcome of its return counts as its own
 abbrev pub work_behind : Work → Outcome → Work
 work_behind w o =
     if is_blocked_outcome o

@@ -53,7 +53,7 @@ level_of d = do
 abbrev pub manifest_items_of : Data → Result Items PartRefusal
 manifest_items_of d = required (items_up_to 256) key.Manifests d
 
--- what stands behind the manifests, and the whole
+-- what stands after the manifests, and the whole
 unfoldable pub parts_with : ℕ → List Manifest → Data → Result Parts PartRefusal
 parts_with level manifests d = do
   regions ← optional (list_of region_of) [] key.Regions d

@@ -24,7 +24,7 @@ abbrev pub stopped : {A : Type 0} → Result A Refusal → Result A Stop
 stopped (Ok x) = Ok x
 stopped (Err r) = Err (refused r)
 
--- what a part gives, its refusal placed behind these steps of the system file
+-- what a part gives, its refusal placed after these steps of the system file
 abbrev pub behind : {A : Type 0} → List PathStep → Result A PartRefusal → Result A Stop
 behind front r = stopped (placed root.System front r)
 
@@ -53,7 +53,7 @@ manifest_from of k None d = manifest_here k d
 abbrev pub manifest_item : Contents → ℕ → Data → Reading Manifest
 manifest_item of k d = manifest_from of k (as_str d) d
 
--- the manifests behind those in front, each in its turn
+-- the manifests after those in front, each in its turn
 unfoldable pub manifests_after : Contents → List Manifest → ℕ → Items → Reading (List Manifest)
 manifests_after of front k no_items = asks_nothing (Ok front)
 manifests_after of front k (item d ds) = do

@@ -13,7 +13,7 @@ is_word_byte b = is_ascii_alphanumeric b || (b == 95)
 unfoldable pub is_name : List ℕ → Bool
 is_name s = nat_lt 0 (length s) && nat_le (length s) 64 && not (is_ascii_digit (slice_index s 0)) && not (bytes_eq s (codes "device")) && list_all is_word_byte s
 
--- the number that hexadecimal digits spell behind those that spell n
+-- the number that hexadecimal digits spell after those that spell n
 abbrev pub hex_behind : ℕ → List ℕ → Option ℕ
 hex_behind n [] = Some n
 hex_behind n (d ∷ ds) = if is_digit d 16 then hex_behind (n * 16 + digit_value d) ds else None

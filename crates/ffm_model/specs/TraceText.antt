@@ -103,7 +103,7 @@ outcome_phrase outcome.Blocked = named (codes "blocked") []
 outcome_phrase outcome.Done = named (codes "done") []
 outcome_phrase outcome.Panicked = named (codes "panicked") []
 
--- a word behind a space
+-- a word after a space
 abbrev pub spaced : Word → List ℕ
 spaced word = 32 ∷ word
 

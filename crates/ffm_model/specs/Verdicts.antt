@@ -44,7 +44,7 @@ verdict_eq Stalled Stalled = true
 verdict_eq Full Full = true
 verdict_eq _ _ = false
 
--- the judgement of the entries behind n others that led to a state; the first entry that is no step or exceeds the limit counts, and behind all entries the verdict
+-- the judgement of the entries after n others that led to a state; the first entry that is no step or exceeds the limit counts, and after all entries the verdict
 abbrev pub judged_from : System → ℕ → Verdict → ℕ → List Entry → State → Judgement
 judged_from s limit v n [] st = if option_map_or (verdict_eq v) (verdict_at s limit n st.spm) false then Legal else IllegalAt (n + 1)
 judged_from s limit v n (e ∷ es) st =

@@ -88,7 +88,7 @@ pub enum Call {
         rhandle: u32,
     },
     /// `psa_read` of `psa/service.h`: copies at most `len` bytes of a request's input vector, the one at
-    /// `index` from 0 to 3, to the address `buffer`, behind what was read or skipped of it.
+    /// `index` from 0 to 3, to the address `buffer`, after what was read or skipped of it.
     Read {
         handle: Handle,
         index: u32,
@@ -103,7 +103,7 @@ pub enum Call {
         len: u32,
     },
     /// `psa_write` of `psa/service.h`: copies `len` bytes from the address `buffer` to a request's output
-    /// vector, the one at `index` from 0 to 3, behind what was written to it.
+    /// vector, the one at `index` from 0 to 3, after what was written to it.
     Write {
         handle: Handle,
         index: u32,

@@ -68,7 +68,7 @@ impl Lines {
     }
 }
 
-/// Bytes at an address and behind it.
+/// Bytes at an address and after it.
 #[derive(Debug, Drop)]
 pub struct Bytes {
     pub address: u32,

@@ -43,12 +43,12 @@ root_text root.System = codes "system"
 root_text root.Scenario = codes "scenario"
 root_text root.Trace = codes "trace"
 
--- an attribute's name or an item's number behind a slash
+-- an attribute's name or an item's number after a slash
 abbrev pub step_text : PathStep → List ℕ
 step_text (step.Key key) = 47 ∷ key_text key
 step_text (step.Index i) = 47 ∷ decimal i
 
--- a path behind a space, where it isn't empty
+-- a path after a space, where it isn't empty
 abbrev pub path_text : List PathStep → List ℕ
 path_text [] = []
 path_text (s ∷ steps) = 32 ∷ flat_map step_text (s ∷ steps)

@@ -83,7 +83,7 @@ fn put_change<S: Sink>(out: &mut S, change: &Change) -> Result<(), Failed>
     put_all(out, line.as_slice())
 }
 
-/// Puts the lines of changes, one behind the other.
+/// Puts the lines of changes, one after the other.
 pub fn put_changes<S: Sink>(out: &mut S, changes: &[Change]) -> Result<(), Failed>
     ensures puts { Puts (S.taken out.old) (S.taken out.new) result (change_lines changes.now) }
     ensures later { S.faults out.old ≤ S.faults out.new }

@@ -82,7 +82,7 @@ fn put_trace<S: Sink>(out: &mut S, counts: Counts, trace: &Trace) -> Result<(), 
     put_verdict(out, trace.verdict, count)
 }
 
-// The line before the run behind so many others. None where it is the first.
+// The line before the run after so many others. None where it is the first.
 #[tactic(auto, unfolding(crate::specs::Runs::restart_line), using(crate::proofs::RunTexts::count_length))]
 fn restart_line(count: usize) -> Line
     ensures { result.items ≡ restart_line count }
@@ -96,7 +96,7 @@ fn restart_line(count: usize) -> Line
     text
 }
 
-// Puts the trace of the run behind so many others, and the line before it.
+// Puts the trace of the run after so many others, and the line before it.
 fn put_run<S: Sink>(out: &mut S, counts: Counts, count: usize, trace: &Trace) -> Result<(), Failed>
     requires { fits_counts counts trace.now ≡ true }
     ensures puts { Puts (S.taken out.old) (S.taken out.new) result (run_text counts count (finished trace.now)) }
@@ -109,7 +109,7 @@ fn put_run<S: Sink>(out: &mut S, counts: Counts, count: usize, trace: &Trace) ->
     put_trace(out, counts, trace)
 }
 
-// Puts the traces of runs, one behind the other.
+// Puts the traces of runs, one after the other.
 fn put_runs<S: Sink>(out: &mut S, runs: &Runs) -> Result<(), Failed>
     ensures puts { Puts (S.taken out.old) (S.taken out.new) result (runs_text (counts_of runs.now.system) 0 (map finished runs.now.traces.items)) }
     ensures later { S.faults out.old ≤ S.faults out.new }

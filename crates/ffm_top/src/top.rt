@@ -349,10 +349,11 @@ pub fn ffm_alone<F: Files, S: Sink>(
     // A status below 7 comes with a text that is due with it, written whole: for `compile` the
     // listing of the system, for `run` the trace of a run of the FF-M machine in which each actor's
     // events are its script's calls with the machine's answers, in the turns of the schedule, and
-    // behind it, after a panic and while a restart is left, that of the run after the reset, and so
+    // where a partition panicked and a restart is left, then that of the run after the reset, and so
     // on; for `replay` the judgement of the trace file's trace by that machine, for `audit` with a line
-    // for each entry of it that changed a byte, or the refusal of its first wrong line, and for `make` the summary of such a run of the generated system. So 6 comes
-    // exactly with `illegal N`, and N is the place that the machine gives.
+    // for each entry of it that changed a byte, or the refusal of its first wrong line, and for `make`
+    // the summary of such a run of the generated system. So 6 comes exactly with `illegal N`, and N is
+    // the place that the machine gives.
     ensures due { result < 7 → IfSome (F.held files.old) (λ of.
         WritesDue (map string_bytes words.now.items) of (S.taken out.old) (S.taken out.new) result) }
 
@@ -431,11 +432,11 @@ pub fn ffm<R: Threads + Wait + Sync, F: Files, S: Sink, G: Gate + Sync>(
     // A status below 7 comes with a text that is due with it, written whole: for `compile` the
     // listing of the system, for `run` the trace of a run of the FF-M machine in which each actor's
     // events are its script's calls with the machine's answers, without `--threads` in the turns of
-    // the schedule, and behind it, after a panic and while a restart is left, that of the run after
+    // the schedule, and where a partition panicked and a restart is left, then that of the run after
     // the reset, and so on; for `replay` the judgement of the trace file's trace by that machine, for
     // `audit` with a line for each entry of it that changed a byte, or the refusal of its first wrong
-    // line, and for `make` the summary of such a run of the generated system, by a schedule. So 6 comes exactly with `illegal N`, and N is the place that the machine
-    // gives.
+    // line, and for `make` the summary of such a run of the generated system, by a schedule. So 6
+    // comes exactly with `illegal N`, and N is the place that the machine gives.
     ensures due { result < 7 → IfSome (F.held files.old) (λ of.
         WritesDue (map string_bytes words.now.items) of (S.taken out.old) (S.taken out.new) result) }
 

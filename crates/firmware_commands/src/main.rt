@@ -1,5 +1,5 @@
 //! Runs commands over the firmware example, one after the other: the words of each stand before its text, and its
-//! status behind it. Behind those that are answered stand some that are refused. The program ends with the status of
+//! status after it. After those that are answered stand some that are refused. The program ends with the status of
 //! the last one.
 #![tactic(auto)]
 

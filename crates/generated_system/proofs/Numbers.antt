@@ -5,7 +5,7 @@ use Rattle.std.proofs.lemmas.List.{append-nil}
 use Rattle.std.proofs.lemmas.List.Concat.{flat_map-cons}
 use Rattle.generated_system.specs.Texts.{numbers}
 
--- a number and those behind it
+-- a number and those after it
 unfoldable pub left : ℕ → List ℕ
 left n = range_with_len n (17 - n)
 

@@ -9,7 +9,7 @@ use Rattle.ffm_model.specs.TraceText.{hexadecimal_digit}
 unfoldable pub numbers : List ℕ
 numbers = range_with_len 1 16
 
--- the parts of a text, one behind the other
+-- the parts of a text, one after the other
 abbrev pub joined : List (List ℕ) → List ℕ
 joined parts = flat_map (λ part. part) parts
 
@@ -53,7 +53,7 @@ partition_script number base =
     ∷ codes "\",\"jeq r1 0 req\",\"reply r2 0\",\"jmp top\",\"req:\",\"read r2 0 " ∷ decimal (base + 256)
     ∷ codes " 4\",\"write r2 0 " ∷ decimal (base + 256) ∷ codes " 4\",\"reply r2 0\",\"jmp top\"]}" ∷ [])
 
--- the descriptors of a client's two vectors at an address, each with an address behind it and the length 4, the lowest byte first; they differ in a digit
+-- the descriptors of a client's two vectors at an address, each with an address after it and the length 4, the lowest byte first; they differ in a digit
 unfoldable pub descriptors : ℕ → ℕ → ℕ → List ℕ
 descriptors number base digit =
     joined (comma number ∷ codes "{\"address\":" ∷ decimal base ∷ codes ",\"bytes\":\"200" ∷ (digit ∷ [])

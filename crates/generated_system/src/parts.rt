@@ -47,7 +47,7 @@ fn append_part(text: &mut Vec<u8>, part: Part<'_>) -> Result<(), AllocError>
     }
 }
 
-/// Appends parts, one behind the other.
+/// Appends parts, one after the other.
 pub fn append_parts(text: &mut Vec<u8>, parts: &[Part<'_>]) -> Result<(), AllocError>
     ensures { OnOk result (text.new.items ≡ text.old.items ++ joined (map part_text parts.now)) }
 {

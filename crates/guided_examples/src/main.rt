@@ -1,4 +1,4 @@
-//! Runs the guided examples, one after the other, and writes the trace of each behind its name. Then the trace that
+//! Runs the guided examples, one after the other, and writes the trace of each after its name. Then the trace that
 //! lies beside the example is judged and audited, or refused where the scenario has restarts.
 #![tactic(auto)]
 
@@ -52,7 +52,7 @@ fn words_of(
     Ok(words)
 }
 
-// Does what the words ask for over the host's files, without threads, and writes the status behind its text.
+// Does what the words ask for over the host's files, without threads, and writes the status after its text.
 fn write(rt: &HostRuntime, words: &Vec<String>) -> io::Result<()> {
     if asks_threads(words) {
         return Ok(());

@@ -1,4 +1,4 @@
--- Each entry of a run is a step from the state behind those before it.
+-- Each entry of a run is a step from the state after those before it.
 use Rattle.std.proofs.Common.{◌≡◌, List, [], ◌∷◌, ◌++◌, refl, subst}
 use Rattle.std.specs.Prelude.{Option, Some, None, IsSome, fold}
 use Rattle.ffm_model.proofs.RunLemmas.{none-stays}

@@ -24,7 +24,7 @@ pub record AllInUse (s : System) (b : SpmState) (a : ℕ) (sid : Sid) : Type 0 w
   pub declared : budget_of s a service ≡ Some (in_use b a service)
   pub alive : is_service_panicked s b service ≡ false
 
--- the state behind some entries, and the entry that comes next
+-- the state after some entries, and the entry that comes next
 pub record IsNextEntry (s : System) (m : ByteMap) (es : List Entry) (st : State) (e : Entry) : Type 0 where
   pub before : List Entry
   pub later : List Entry

@@ -325,7 +325,7 @@ none-within ranges = record {
   descriptors = λ k below. absurd (omega arith);
 }
 
--- a place behind the last vector moves none
+-- a place after the last vector moves none
 input-kept : (s : System) (v : Vectors) (index n : ℕ) → n ≤ rest_of (input_of v index) → AreWithin (ranges_of s.regions) v → AreWithin (ranges_of s.regions) (with_input_moved v index n)
 input-kept s v index n fits within =
     elim (cases_lt index (length v.input)) [

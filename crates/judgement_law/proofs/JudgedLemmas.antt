@@ -93,7 +93,7 @@ wrong-next s m limit es done left n st v j b is wrong not = record {
       subst P (same-place j (n + 1) k is e) (record { wrong = wrong; least = λ i one below. b.clean i one (omega (arith, below)) });
 }
 
--- ---- behind all entries
+-- ---- after all entries
 
 at-end : (s : System) (m : ByteMap) (limit : ℕ) (es done : List Entry) (n : ℕ) (st : State) → Behind s m limit es done [] n st → es ≡ done
 at-end s m limit es done n st b = b.parts ∙ append-nil done
@@ -156,7 +156,7 @@ step-right s m limit es done e left n st new b below is (inl w) =
 step-right s m limit es done e left n st new b below is (inr (inl w)) = absurd (omega (arith, below, w))
 step-right s m limit es done e left n st new b below is (inr (inr w)) = absurd (omega (arith, w, long s m limit es done e left n st b))
 
--- behind it
+-- after it
 further : (s : System) (m : ByteMap) (limit : ℕ) (es done : List Entry) (e : Entry) (left : List Entry) (n : ℕ) (st new : State) → Behind s m limit es done (e ∷ left) n st
     → n < limit → step s st e ≡ Some new → Behind s m limit es (done ++ e ∷ []) left (n + 1) new
 further s m limit es done e left n st new b below is = record {
@@ -171,7 +171,7 @@ further s m limit es done e left n st new b below is = record {
       ];
 }
 
--- behind n entries, the judgement of the others is plain
+-- after n entries, the judgement of the others is plain
 judged-plainly : (s : System) (m : ByteMap) (limit : ℕ) (v : Verdict) (es done left : List Entry) (n : ℕ) (st : State) → Behind s m limit es done left n st
     → Comes s m limit es v (judged_from s limit v n left st)
 judged-plainly s m limit v es done [] n st b = ended s m limit es done n st v b _ refl

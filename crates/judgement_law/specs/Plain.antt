@@ -14,7 +14,7 @@ pub record IsLegal (s : System) (m : ByteMap) (limit : ℕ) (es : List Entry) (v
   pub within : length es ≤ limit
   pub verdict : verdict_of s m limit es ≡ Some v
 
--- the entry at place n, counted from 1, is no step of the machine behind the entries before it
+-- the entry at place n, counted from 1, is no step of the machine after the entries before it
 pub record IsNoStep (s : System) (m : ByteMap) (es : List Entry) (n : ℕ) : Type 0 where
   pub before : List Entry
   pub entry : Entry
@@ -23,7 +23,7 @@ pub record IsNoStep (s : System) (m : ByteMap) (es : List Entry) (n : ℕ) : Typ
   pub place : n ≡ length before + 1
   pub none : step_on s (after s m before) entry ≡ None
 
--- what may be wrong at a place: the entry is no step, or it is above the limit, or the place is the verdict's, one behind all entries
+-- what may be wrong at a place: the entry is no step, or it is above the limit, or the place is the verdict's, one after all entries
 abbrev pub MayBeWrong : System → ByteMap → ℕ → List Entry → ℕ → Type 0
 MayBeWrong s m limit es n = IsNoStep s m es n ⊎ ((limit < n) ⊎ (n ≡ length es + 1))
 

@@ -13,7 +13,7 @@ ghost use Rattle.judgement_law.specs.Plain.{JudgedPlainly};
 
 /// A trace is judged legal exactly where its entries are a run of the machine, at most as many as the limit, and its
 /// verdict is that of the run. Else it is judged illegal at the first place, counted from 1, at which the entry is no
-/// step behind those before it, or is above the limit, or which is one behind all entries.
+/// step after those before it, or is above the limit, or which is one after all entries.
 pub fn traces_are_judged_plainly()
     ensures { (s : System) (m : ByteMap) (limit : ℕ) (es : List Entry) (v : Verdict) → JudgedPlainly s m limit es v }
 {}

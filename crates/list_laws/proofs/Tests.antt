@@ -26,7 +26,7 @@ list_all-at p [] i x h e = absurd (cc)
 list_all-at p (y ∷ ys) zero x h e = let same : y ≡ x = cc in ap p (sym same) ∙ (and_parts (p y) (list_all p ys) h).0
 list_all-at p (y ∷ ys) (suc i) x h e = list_all-at p ys i x (and_parts (p y) (list_all p ys) h).1 e
 
--- what holds of the first item if it passes and of what is found behind it, holds of what is found
+-- what holds of the first item if it passes and of what is found after it, holds of what is found
 found : {X : Type 0} (P : X → Type 0) (b : Bool) (y x : X) (rest : Option X) → (b ≡ true → P y) → (rest ≡ Some x → P x) → cond b (Some y) rest ≡ Some x → P x
 found P true y x rest here later h = let it : y ≡ x = cc in subst P it (here refl)
 found P false y x rest here later h = later h

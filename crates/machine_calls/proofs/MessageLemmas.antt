@@ -109,7 +109,7 @@ got_due s old new given a signal msg i h x shown words at first room is words_ar
 
 -- ---- psa_reply
 
--- the messages that are left, where no call behind it changes one
+-- the messages that are left, where no call after it changes one
 pub removed_fit : (regions : List (ℕ × ℕ)) (o n p : Objects) (h : Handle) → spm_of_objects n ≡ without_message (spm_of_objects o) h → p.messages ≡ n.messages → MessagesFit regions o → MessagesFit regions p
 removed_fit regions o n p h is same fits =
     All-same (λ x. VectorsFit regions x.vectors) _ _ (ap (λ v. v.items) same ∙ ap (λ b. b.messages) is) (All-filter (λ m. not (has_handle m.handle h)) (λ x. VectorsFit regions x.vectors) o.messages.items fits)

@@ -1,4 +1,4 @@
--- The state behind entries that were followed.
+-- The state after entries that were followed.
 use Rattle.std.proofs.Common.{ℕ, ◌≡◌, ◌<◌, ◌≤◌, ◌+◌, inl, inr, ⊎_elim, Bool, true, false, List, [], ◌∷◌, ◌++◌, length, take, refl, ap, sym, subst, arith, ◌∙◌, append_assoc, append-nil, length-append}
 use Rattle.std.specs.Prelude.{Option, Some, None, IsSome, Ok, fold, nat_le, option_and_then}
 use Rattle.std.specs.Option.{option_map_or}
@@ -37,7 +37,7 @@ behind_none s m c start = record {
   made = omega (arith, start.made);
 }
 
--- the entry is a step behind those before it, or none, as it is at their state
+-- the entry is a step after those before it, or none, as it is at their state
 pub one_more : (s : System) (m : ByteMap) (front : List Entry) (c : Checker) (k : IsBehind s m front c) (e : Entry) → after s m (front ++ e ∷ []) ≡ step s (state_of c.machine k.handles) e
 one_more s m front c k e = after-push s m front e ∙ ap (option_and_then (λ x. step s x e)) k.state
 
@@ -111,7 +111,7 @@ no_second_stop s m limit es n i k again =
 
 -- ---- the judgement
 
--- the entries of a run within the limit leave it to those behind them
+-- the entries of a run within the limit leave it to those after them
 pub judged_behind : (s : System) (limit : ℕ) (v : Verdict) (n : ℕ) (front back : List Entry) (st new : State) → fold (step_on s) (Some st) front ≡ Some new → n + length front ≤ limit
     → judged_from s limit v n (front ++ back) st ≡ judged_from s limit v (n + length front) back new
 judged_behind s limit v n [] back st new is within =

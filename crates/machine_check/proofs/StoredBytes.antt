@@ -82,7 +82,7 @@ pub no_change : (P : Option Change → Type 0) (here : Option Change) (later : L
 no_change P None later e p = p
 no_change P (Some c) later e p = absurd cc
 
--- an entry that changed nothing leaves all changes to those behind it
+-- an entry that changed nothing leaves all changes to those after it
 pub none_here : (P : Option Change → Type 0) (here : Option Change) (changes later : List Change) → ((c : Change) → P (Some c) → ⊥) → changes ≡ cons_option here later → P here → changes ≡ later
 none_here P None changes later never e p = e
 none_here P (Some c) changes later never e p = absurd (never c p)

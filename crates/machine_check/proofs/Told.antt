@@ -52,7 +52,7 @@ system-apart s =
     let parts = and_parts (each_pair share_no_byte rs) (list_all (λ e. nat_le (e.0 + e.1) 4294967296) rs) (and_parts (each_pair share_no_byte rs && list_all (λ e. nat_le (e.0 + e.1) 4294967296) rs) _ fit).0 in
     regions-apart rs parts.0 parts.1
 
--- behind all of the first n
+-- after all of the first n
 above : (first len n x : ℕ) → len ≤ 8 → first + 8 * n ≤ x → any_covers (ranges_from first len n) x ≡ false
 above first len zero x small high = refl
 above first len (suc n) x small high = or_from (range_covers (first + 8 * n, len) x) (any_covers (ranges_from first len n) x) (grind (arith, nat_tests)) (above first len n x small (omega arith))

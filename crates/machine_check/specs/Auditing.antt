@@ -33,7 +33,7 @@ pub record IsChange (s : System) (k a : ℕ) (old new : ByteMap) (change : Chang
   pub count : change.count ≡ count_in (differs old new) (ranges_of s.regions)
   pub outside : IsLeast (λ x. differs old new x && not (own_ram s a x)) change.outside
 
--- an entry has a change where a byte differs behind it, and none where no byte does
+-- an entry has a change where a byte differs after it, and none where no byte does
 abbrev pub IsChangeOf : System → ℕ → ℕ → ByteMap → ByteMap → Option Change → Type 0
 IsChangeOf s k a old new None = IsLeast (differs old new) None
 IsChangeOf s k a old new (Some change) = IsChange s k a old new change

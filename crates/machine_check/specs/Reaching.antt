@@ -1,4 +1,4 @@
--- The state behind the first entries of a trace, and what the machine answers there.
+-- The state after the first entries of a trace, and what the machine answers there.
 -- Source: this simulator's; `after` and `step` of the model.
 use Rattle.std.specs.Prelude.{ℕ, ◌≡◌, ◌+◌, ◌≤◌, ◌⊎◌, List, length, take, Option, Some, None, IsSome}
 use Rattle.ffm_model.specs.declared.system.System.{System}
@@ -13,7 +13,7 @@ use Rattle.machine_calls.specs.Machine.{state_of, IsMachineOf}
 use Rattle.machine_check.specs.declared.judging.Checker.{Checker}
 use Rattle.machine_check.specs.Performed.{Knows}
 
--- the entries are a run, and the state behind them is the one that is kept
+-- the entries are a run, and the state after them is the one that is kept
 pub record IsBehind (s : System) (m : ByteMap) (es : List Entry) (c : Checker) : Type 0 where
   pub count : c.count ≡ length es
   pub handles : List Handle
@@ -26,7 +26,7 @@ pub record IsBehind (s : System) (m : ByteMap) (es : List Entry) (c : Checker) :
 abbrev pub IsLast : System → ByteMap → ℕ → List Entry → ℕ → Type 0
 IsLast s m limit es n = (n ≡ length es) ⊎ ((n ≡ limit) ⊎ (after s m (take (n + 1) es) ≡ None))
 
--- the state is that behind as many entries as are a run within the limit
+-- the state is that after as many entries as are a run within the limit
 pub record IsReached (s : System) (m : ByteMap) (limit : ℕ) (es : List Entry) (c : Checker) : Type 0 where
   pub few : c.count ≤ length es
   pub within : c.count ≤ limit

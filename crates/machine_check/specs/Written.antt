@@ -20,7 +20,7 @@ use Rattle.machine_check.specs.declared.written.Ranges.{Ranges}
 use Rattle.machine_check.specs.declared.differences.Differences.{Differences}
 use Rattle.machine_check.specs.Auditing.{own_ram}
 
--- n ranges of one length, each 8 bytes behind the one before; the last one first
+-- n ranges of one length, each 8 bytes after the one before; the last one first
 abbrev pub ranges_from : ℕ → ℕ → ℕ → List (ℕ × ℕ)
 ranges_from first len zero = []
 ranges_from first len (suc n) = (first + 8 * n, len) ∷ ranges_from first len n
@@ -39,7 +39,7 @@ one_range first len = if len == 0 then nothing else record { first = first; len 
 abbrev pub next_bytes : Span → ℕ → Ranges
 next_bytes v len = one_range (v.base + v.moved) (min len (rest_of v))
 
--- psa_reply: the length words of a request's output vectors, each behind its base
+-- psa_reply: the length words of a request's output vectors, each after its base
 abbrev pub length_words : PendingMessage → Ranges
 length_words m = if int_lt m.kind PSA_IPC_CALL || (m.vectors.out_len == 0) then nothing else record { first = m.vectors.out_vec + 4; len = 4; times = m.vectors.out_len }
 

@@ -19,7 +19,7 @@ use ffm_model::{ActorId, Entry, List, Memory, System, Trace};
 use memory_image::Image;
 use std::alloc::Global;
 
-/// What an entry changed: the bytes that differ behind it from those before it.
+/// What an entry changed: the bytes that differ after it from those before it.
 #[derive(Clone, Copy, Debug, PartialEq, Eq)]
 pub struct Change {
     /// The place of the entry, counted from 1.

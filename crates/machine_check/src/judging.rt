@@ -24,8 +24,8 @@ use std::collections::BTreeSet;
 pub enum Checked {
     /// Its entries are a run of the machine, at most as many as the limit, and its verdict is that run's.
     Legal,
-    /// The first place, counted from 1, at which it isn't: an entry that is no step behind those before it or exceeds the
-    /// limit, or, one behind all entries, the verdict.
+    /// The first place, counted from 1, at which it isn't: an entry that is no step after those before it or exceeds the
+    /// limit, or, one after all entries, the verdict.
     IllegalAt(u32),
 }
 
@@ -80,7 +80,7 @@ fn is_some_blocked(objects: &Objects, system: &System) -> bool
     (0..system.actor_count()).any(|actor| matches!(objects.phase(actor), ActorPhase::Blocked))
 }
 
-/// A trace as far as it was checked: the state of the machine behind its first entries.
+/// A trace as far as it was checked: the state of the machine after its first entries.
 #[derive(Drop)]
 pub struct Checker {
     /// Connections, messages, what each actor does, doorbells, interrupts and memory.
@@ -148,7 +148,7 @@ impl Checker {
         }
     }
 
-    /// Judges by the verdict, behind all entries.
+    /// Judges by the verdict, after all entries.
     pub fn finish(&self, system: &System, limit: u32, verdict: Verdict) -> Checked
         requires { self.now.count < 2 ^ 31 }
         ensures { (j : Judgement) → ChecksTo system.now limit verdict j self.now [] → judgement result ≡ j }
@@ -190,7 +190,7 @@ fn follow(
     Ok(Followed::All(checker))
 }
 
-/// The state behind the first entries of a trace, from this memory: behind as many as are steps of the
+/// The state after the first entries of a trace, from this memory: after as many as are steps of the
 /// machine one after the other, and at most as many as the limit.
 ///
 /// It needs memory for the state, for one copy of the image and for the handles that the entries give, and

@@ -1,5 +1,5 @@
 //! Judges whether a trace is a run of the FF-M machine, says which bytes each of its entries changed, and
-//! shows the state behind the first of them and what the machine answers there.
+//! shows the state after the first of them and what the machine answers there.
 //!
 //! Each entry is followed by the machine's own calls, in the crate below; the handles of the past are an ordered set.
 //! What an entry changed is looked for in the few ranges that its call may write. Nothing of the manager is used.

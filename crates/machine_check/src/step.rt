@@ -303,7 +303,7 @@ pub fn perform(
     }
 }
 
-/// Whether an entry is the machine's next step. Where it is, the machine is the one behind it, and a handle that it
+/// Whether an entry is the machine's next step. Where it is, the machine is the one after it, and a handle that it
 /// gives is among those given. Where it isn't, the machine is of no more use.
 pub fn step(
     machine: &mut Machine,

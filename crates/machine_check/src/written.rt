@@ -14,7 +14,7 @@ use ffm_model::{
 use machine_calls::Machine;
 use memory_image::Image;
 
-/// Ranges of `len` bytes each: the first one begins at `first`, and each other one 8 bytes behind the
+/// Ranges of `len` bytes each: the first one begins at `first`, and each other one 8 bytes after the
 /// one before.
 #[derive(Clone, Copy)]
 pub struct Ranges {
@@ -43,7 +43,7 @@ fn one_range(first: u32, len: u32) -> Ranges
     }
 }
 
-// The next bytes of an output vector, no more than its rest. Behind its last one there may be no address.
+// The next bytes of an output vector, no more than its rest. After its last one there may be no address.
 fn next_bytes(memory: &Image, span: &Span, len: u32) -> Ranges
     requires { SpanFits (regions_of memory.now) span.now }
     ensures { result ≡ next_bytes span.now len }
@@ -56,7 +56,7 @@ fn next_bytes(memory: &Image, span: &Span, len: u32) -> Ranges
     one_range(span.base + span.moved, count)
 }
 
-// The length words of a request's output vectors, each behind its base.
+// The length words of a request's output vectors, each after its base.
 fn length_words(memory: &Image, message: &PendingMessage) -> Ranges
     requires { VectorsFit (regions_of memory.now) message.now.vectors }
     ensures { result ≡ length_words message.now }

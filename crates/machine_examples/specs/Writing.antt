@@ -40,11 +40,11 @@ message kind h client rhandle input output =
 abbrev pub zeros : ByteMap
 zeros = λ x. 0
 
--- the entries are a run, and behind them the machine takes this entry
+-- the entries are a run, and after them the machine takes this entry
 abbrev pub takes_next : System → ByteMap → List Entry → Entry → Bool
 takes_next s m es e = is_some (after s m (es ++ e ∷ []))
 
--- the entries are a run, and behind them the machine doesn't take this entry
+-- the entries are a run, and after them the machine doesn't take this entry
 abbrev pub refuses_next : System → ByteMap → List Entry → Entry → Bool
 refuses_next s m es e = is_some (after s m es) && not (takes_next s m es e)
 
@@ -56,7 +56,7 @@ with_entry place e es = take (place - 1) es ++ e ∷ drop place es
 abbrev pub clients_left : System → ByteMap → List Entry → Option (List ℕ)
 clients_left s m es = option_map (λ st. map (λ c. c.client.0) st.spm.connections) (after s m es)
 
--- whether an actor reaches an address behind a run, to read
+-- whether an actor reaches an address after a run, to read
 abbrev pub may_read_after : System → ByteMap → List Entry → ℕ → ℕ → Option Bool
 may_read_after s m es a x = option_map (λ st. read_reach s st.spm a x) (after s m es)
 

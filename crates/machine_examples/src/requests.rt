@@ -35,7 +35,7 @@ pub fn rhandle_of_a_connection()
     ensures kept_for_the_disconnection { refuses_next vault_system request_memory (take 20 rhandle_set) (entry vault (Get 0x10 0x30000000) (Got (message PSA_IPC_DISCONNECT 3584 (minus 1) 0 [] []))) ≡ true }
 {}
 
-/// Input is read and skipped from where the last read or skip ended, and output goes behind what was
+/// Input is read and skipped from where the last read or skip ended, and output goes after what was
 /// written.
 pub fn bytes_moved_in_order()
     ensures run { verdict_of vault_system request_memory 4096 moved_in_pieces ≡ Some Quiet }

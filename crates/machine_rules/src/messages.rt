@@ -19,7 +19,7 @@ pub fn sizes_of(vectors: [Span; 4]) -> [u32; 4]
     ]
 }
 
-// Three times four words, one behind the other.
+// Three times four words, one after the other.
 fn joined(head: [u32; 4], input: [u32; 4], output: [u32; 4]) -> [u32; 12]
     ensures { result ≡ head ++ (input ++ output) }
 {

@@ -42,7 +42,7 @@ pub fn advance(vectors: &mut Vectors, index: u32, len: u32) -> bool
     true
 }
 
-// The address of a vector's next byte. Behind its last one there may be no address.
+// The address of a vector's next byte. After its last one there may be no address.
 fn next_byte(memory: &Image, span: &Span) -> u32
     requires inside { is_inside span.now.base span.now.len (regions_of memory.now) ≡ true }
     requires left { span.now.moved < span.now.len }
@@ -94,7 +94,7 @@ fn put_lengths(memory: &mut Image, at: u32, spans: &[Span])
 }
 
 /// Tells the client how many bytes were written of each given output vector, in the length words of their descriptors,
-/// each four bytes behind its base (`psa/client.h`, psa_outvec). The vectors fit the memory.
+/// each four bytes after its base (`psa/client.h`, psa_outvec). The vectors fit the memory.
 pub fn tell_lengths(memory: &mut Image, vectors: &Vectors)
     requires { VectorsFit (regions_of memory.old) vectors.now }
     ensures bytes { byte_at memory.new ≡ lengths_written (byte_at memory.old) vectors.now.out_vec (take vectors.now.out_len vectors.now.output) }

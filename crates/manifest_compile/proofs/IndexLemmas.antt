@@ -68,7 +68,7 @@ turned true false = refl
 turned false true = refl
 turned false false = refl
 
--- one index more, behind the others
+-- one index more, after the others
 pub taken_behind : (taken : List ℕ) (i : ℕ) (xs : List (Located ServiceRecord)) → services_from (i ∷ taken) xs ≡ services_from (taken ++ i ∷ []) xs
 taken_behind taken i xs = services_same (i ∷ taken) (taken ++ i ∷ []) xs (λ j. turned (i == j) (is_taken taken j) ∙ sym (list_any-append (λ t. t == j) taken (i ∷ [])))
 

@@ -33,7 +33,7 @@ first_of_more : (rules more : List Refusal) (r : Refusal) → first rules ≡ So
 first_of_more [] more r e = cc
 first_of_more (x ∷ rules) more r e = e
 
--- the rules behind those of which one is broken
+-- the rules after those of which one is broken
 first_more : (e : ReadError) (rules more : List Refusal) → IsFirst e rules → IsFirst e (rules ++ more)
 first_more (Refused r) rules more k = first_of_more rules more r k
 first_more Memory rules more k = tt
@@ -52,7 +52,7 @@ pub since_indices : (p : PartsRecord) → too_many_partitions p ≡ [] → too_m
     → duplicate_indices p ++ too_many_stateless p ≡ since_partitions p
 since_indices p a b c d e = sym (rw (a, b, c, d, e) refl)
 
--- rules behind some of which none is broken
+-- rules after some of which none is broken
 pub behind : (front rest all : List Refusal) → front ≡ [] → front ++ rest ≡ all → rest ≡ all
 behind front rest all none is = ap (λ rules. rules ++ rest) (sym none) ∙ is
 

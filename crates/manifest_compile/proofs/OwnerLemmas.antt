@@ -57,7 +57,7 @@ last_owner-known name xs = known_from name None xs
 abbrev owns : List ℕ → ℕ → Located ServiceRecord → Bool
 owns name k v = (v.manifest == k) && bytes_eq v.value.name name
 
--- a service of this name is behind
+-- a service of this name is after
 unnamed : (name : List ℕ) (o : Option ℕ) (xs : List (Located ServiceRecord)) → Each (λ v. is_named name v ≡ false) xs → fold (newer name) o xs ≡ o
 unnamed name o [] h = refl
 unnamed name o (x ∷ xs) h = ap (λ b. fold (newer name) (cond b (Some x.manifest) o) xs) h.0 ∙ unnamed name o xs h.1
@@ -69,7 +69,7 @@ none_own name k (x ∷ xs) h = or_from _ _ (and_right (x.manifest == k) _ h.0) (
 pub bytes_eq-flip : (xs ys : List ℕ) → bytes_eq xs ys ≡ bytes_eq ys xs
 bytes_eq-flip xs ys = same_from_decides (bytes_eq xs ys) (bytes_eq ys xs) (bytes_eq-Decides xs ys) (Decides-like (bytes_eq ys xs) sym sym (bytes_eq-Decides ys xs))
 
--- those behind a service of this name have other names
+-- those after a service of this name have other names
 others : (name : List ℕ) (x : Located ServiceRecord) (xs : List (Located ServiceRecord)) → is_named name x ≡ true
     → Each (λ y. bytes_eq x.value.name y.value.name ≡ false) xs → Each (λ v. is_named name v ≡ false) xs
 others name x xs e h =

@@ -114,7 +114,7 @@ fn add_partitions<'a>(
     Ok(())
 }
 
-// Adds the pairs of all clients, whose places are behind those of so many partitions.
+// Adds the pairs of all clients, whose places are after those of so many partitions.
 fn add_clients<'a>(
     found: &mut Vec<Pair<'a>>,
     partitions: u32,

@@ -1,4 +1,4 @@
--- Reading a list item by item, each behind those before it.
+-- Reading a list item by item, each after those before it.
 use Rattle.std.proofs.Common.{◌≡◌, ℕ, suc, ◌+◌, ◌<◌, ◌≤◌, List, [], ◌∷◌, ◌++◌, length, drop, get_or, Result, Ok, Err, refl, sym, ap, ◌∙◌, drop-cons, add-one}
 use Rattle.std.proofs.lemmas.List.{drop_all}
 use Rattle.serde_json.specs.Data.{Data}
@@ -11,7 +11,7 @@ use Rattle.manifest_json.specs.declared.error.PartError.{PartError}
 use Rattle.manifest_json.specs.declared.error.PartError.TheVariants as part_error
 use Rattle.manifest_json.specs.Gives.{Fails}
 
--- one item and those behind it
+-- one item and those after it
 front_item : (vs : List Value) (i : ℕ) (v : Value) → i < length vs → v ≡ get_or vs i v → drop i vs ≡ v ∷ drop (i + 1) vs
 front_item vs i v lt is = rw (add-one) (drop-cons vs i v lt ∙ ap (λ x. x ∷ drop (suc i) vs) (sym is))
 

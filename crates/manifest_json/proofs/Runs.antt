@@ -126,7 +126,7 @@ unfolding quoted
 string_ends [] some is = absurd (omega arith)
 string_ends (b ∷ bs) some is = (omega arith, rw is refl)
 
--- a backslash and the byte behind it, if there is one
+-- a backslash and the byte after it, if there is one
 pub escape_leads : (bytes : List ℕ) → 0 < length bytes → get_or bytes 0 0 ≡ 92 → Leads in_string (min (length bytes) 2) in_string bytes
 unfolding quoted
 escape_leads [] some is = absurd (omega arith)

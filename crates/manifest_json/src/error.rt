@@ -83,7 +83,7 @@ pub fn under<T: Drop>(step: PathStep, read: Result<T, PartError>) -> Result<T, P
     }
 }
 
-/// What was read of a file's part, its refusal placed behind these steps of the file.
+/// What was read of a file's part, its refusal placed after these steps of the file.
 pub fn placed<T: Drop>(
     root: Root,
     front: Vec<PathStep>,

@@ -91,7 +91,7 @@ fn text_len(bytes: &[u8]) -> usize
     bytes.iter().take_while(|b| is_text_byte(**b)).count()
 }
 
-/// How many bytes a string has behind its opening mark, with its closing one: all where it has none.
+/// How many bytes a string has after its opening mark, with its closing one: all where it has none.
 fn string_len(bytes: &[u8]) -> usize
     ensures { Leads in_string result outside bytes.now }
 {

@@ -71,13 +71,13 @@ pub trait ReaderAfter {
     /// The item that is read.
     type Out: Drop;
 
-    /// What a tree stands for behind these items, or its first refusal.
+    /// What a tree stands for after these items, or its first refusal.
     ghost gives: { Self → List Self.Out → Data → Result Self.Out PartRefusal };
 
     /// The range that each item keeps.
     ghost keeps: { Self → Self.Out → Type 0 } = { λ _ _. Unit {0} };
 
-    /// The item that a tree stands for behind `front`, or its first refusal, with the place counted
+    /// The item that a tree stands for after `front`, or its first refusal, with the place counted
     /// from that tree. Memory where no memory was found.
     fn read_after(
         &self,

@@ -17,7 +17,7 @@ use std::alloc::Global;
 /// The largest number that a file may write without quotation marks: nineteen nines.
 const LARGEST_WHOLE: u64 = 9_999_999_999_999_999_999;
 
-/// The most characters of the name of an interrupt: `_SIGNAL` behind it leaves a name.
+/// The most characters of the name of an interrupt: `_SIGNAL` after it leaves a name.
 const LONGEST_INTERRUPT_NAME: usize = 57;
 
 /// Whether a text is a name: 1 to 64 letters, digits and `_`, no digit first, and not `device`.

@@ -104,7 +104,7 @@ is_vector_call (call.Write h index buffer len) = true
 is_vector_call (call.Reply h status) = true
 is_vector_call _ = false
 
--- P holds behind each kind of change that the call d of the actor a makes
+-- P holds after each kind of change that the call d of the actor a makes
 pub record EachChange (s : System) (b : SpmState) (a : ℕ) (d : Call) (P : SpmState → Type 0) : Type 0 where
   pub same : (new : SpmState) → new.messages ≡ b.messages → P new
   pub pushes : (new : SpmState) (m : PendingMessage) → is_none m.handle ≡ true → AreNew m.vectors → new.messages ≡ b.messages ++ m ∷ [] → P new

@@ -18,7 +18,7 @@ use Rattle.mapped_runs.specs.Windows.{EachIsEvent, IsEvent, IsOwnEvent, RunsKeep
 use Rattle.mapped_runs.proofs.Copies.{inputs-are-copied, outputs-are-copied}
 use Rattle.mapped_runs.proofs.Lengths.{lengths-are-told}
 
--- behind what is no step there is no state
+-- after what is no step there is no state
 none-behind : (s : System) (xs : List Entry) (P : Type 0) → IsSome (fold (step_on s) None xs) → P
 none-behind s [] P h = cc
 none-behind s (x ∷ xs) P h = none-behind s xs P h

@@ -92,7 +92,7 @@ kinds-grow s b given a d = record {
 pub step-grows : (s : System) (st new : State) (e : Entry) → step s st e ≡ Some new → (k : Handle) → times st.handles_given k ≤ times new.handles_given k
 step-grows s st new e h = (step-kind s st new e (λ o spm all. (k : Handle) → times st.handles_given k ≤ times all k) (kinds-grow s st.spm st.handles_given e.actor.0 e.call) h).2
 
--- ---- behind the outcomes
+-- ---- after the outcomes
 
 -- the script stands at x, its table fits, and where its last call waits, the call concerns no message
 pub record Follows (s : System) (a : ℕ) (T : Handle → ℕ → ℕ → Type 0) (script : List Instruction) (x : Holding) (blocked : Bool) (st : State) : Type 0 where
@@ -106,7 +106,7 @@ standing s a script os = engine_after (held_engine (holder_of s a) script) holdi
 abbrev pub FollowsAt : System → ℕ → (Handle → ℕ → ℕ → Type 0) → List Instruction → List Outcome → State → Type 0
 FollowsAt s a T script os st = Follows s a T script (standing s a script os) (ends_blocked os) st
 
--- what was unmapped behind the entries
+-- what was unmapped after the entries
 abbrev pub unmapped_in : System → ℕ → List Instruction → List Entry → Handle → ℕ → ℕ → Type 0
 unmapped_in s a script es h index len = WasUnmapped s a script es h index len
 

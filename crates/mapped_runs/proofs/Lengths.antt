@@ -93,7 +93,7 @@ request-low (negsuc n) e = cc
 abbrev told_memory : State → PendingMessage → ByteMap
 told_memory st m = if int_lt m.kind PSA_IPC_CALL then st.memory else lengths_written st.memory m.vectors.out_vec (outputs_given m)
 
--- the memory behind a reply that is done
+-- the memory after a reply that is done
 reply-memory : (s : System) (old new : State) (a : ℕ) (h : Handle) (status : Status) (m : PendingMessage) → kind_of s a ≡ Partition → message_held s old.spm a h ≡ Some m → Own s old new a (call.Reply h status) outcome.Done → new.memory ≡ told_memory old m
 reply-memory s old new a h status m kind there own =
     let Q : Effect → Type 0 = λ f. outcome_eq f.outcome outcome.Done ≡ true → f.state.memory ≡ told_memory old m in

@@ -72,7 +72,7 @@ pub arrived-has : (p : Holder) (script : List Instruction) (P : List HeldMessage
 unfolding held_arrived
 arrived-has p script P x keeps old = steps-has p script P most_lines x keeps old
 
--- ---- the table behind a call
+-- ---- the table after a call
 
 -- no other call changes it
 pub other-noted : (p : Holder) (i : Option Instruction) (c : Call) (o : Outcome) (t : List HeldMessage) → is_vector_call c ≡ false → table_noted p i c o t ≡ table_behind p c o (table_touched c t)

@@ -1,4 +1,4 @@
--- The messages that a partition holds, behind each kind of change.
+-- The messages that a partition holds, after each kind of change.
 use Rattle.std.proofs.Common.{ℕ, ◌≡◌, ◌≤◌, ◌+◌, ◌==◌, Bool, true, false, not, ◌&&◌, List, [], ◌∷◌, ◌++◌, refl, ap, sym, ◌∙◌, subst, arith, eqb-true}
 use Rattle.std.specs.Prelude.{ℤ, pos, Option, Some, None, option_and_then, find, count_by, filter, map, is_none, if◌then◌else◌, slice_get}
 use Rattle.std.specs.List.{AllByRecursion, filter_map, cons_option}
@@ -194,7 +194,7 @@ owed-still s limit b x a h k status n m kind balanced there request apart alive 
 
 -- ---- each kind of change
 
--- where the partition isn't panicked, it holds the same messages behind an event
+-- where the partition isn't panicked, it holds the same messages after an event
 abbrev pub IsKept : System → SpmState → ℕ → SpmState → Type 0
 IsKept s b a new = is_panicked (phase_of new a) ≡ false → HoldsStill s b a new
 

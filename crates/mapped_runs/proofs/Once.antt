@@ -224,7 +224,7 @@ set-gone k i t maps y e =
 
 -- ---- its own event
 
--- the handle that the call behind the outcomes gives is new
+-- the handle that the call after the outcomes gives is new
 fresh-call : (s : System) (a : ℕ) (script : List Instruction) (y : Holding) (st new : State) (e : Entry) (b : Bool) → kind_of s a ≡ Partition → step s st e ≡ Some new → e.actor.0 ≡ a
     → (b ≡ true → is_vector_call (held_call (holder_of s a) script y) ≡ false) → e.call ≡ (if b then call.Resume else held_call (holder_of s a) script y)
     → (signal msg : ℕ) (m : Message) → held_call (holder_of s a) script y ≡ call.Get signal msg → e.outcome ≡ outcome.Got m → list_any (handle_eq m.handle) st.handles_given ≡ false

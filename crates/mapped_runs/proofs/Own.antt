@@ -1,4 +1,4 @@
--- A partition's own calls on its messages, with the table behind them.
+-- A partition's own calls on its messages, with the table after them.
 use Rattle.std.proofs.Common.{ℕ, zero, suc, ◌≡◌, ◌≤◌, Bool, true, false, ◌&&◌, List, [], ◌∷◌, ◌++◌, length, refl, ap, sym, ◌∙◌, subst, arith}
 use Rattle.std.specs.Prelude.{◌==◌, Option, Some, None, IfSome, find, count_by, map, get_or, nat_lt, if◌then◌else◌}
 use Rattle.std.specs.List.{list_any}
@@ -50,7 +50,7 @@ use Rattle.counting_law.proofs.Returns.{blocked-alike}
 pub own-has : (Q : Effect → Type 0) (s : System) (st : State) (a : ℕ) (c : Call) (h : Handle) → kind_of s a ≡ Partition → Q (effect outcome.Panicked (record st { spm = panic_effect s st.spm a })) → IfSome (call_case s st a c h) Q → Q (effect_of s st a c h)
 own-has Q s st a c h kind error made = effect-has Q s st a c h (subst (λ (k : ActorKind). Q (error_effect k s st a c)) (sym kind) error) made
 
--- ---- behind a call
+-- ---- after a call
 
 -- each handle of the table was given, once at most
 abbrev pub AreGiven : List HeldMessage → List Handle → Type 0
@@ -70,7 +70,7 @@ own-behind : (T : Handle → ℕ → ℕ → Type 0) (s : System) (st new : Stat
 own-behind T s st new a c o t kind own error made =
     subst (λ (x : State). Behind s a T t o x) own.state (own-has (λ (e : Effect). outcome_eq e.outcome o ≡ true → Behind s a T t o e.state) s st a c (handle_shown o) kind error made own.outcome)
 
--- behind a PROGRAMMER ERROR it is panicked
+-- after a PROGRAMMER ERROR it is panicked
 dead-behind : (T : Handle → ℕ → ℕ → Type 0) (s : System) (st : State) (a : ℕ) (o : Outcome) (t : List HeldMessage) → Balanced s (times st.handles_given) st.spm → phase_of st.spm a ≡ Running → AreGiven t st.handles_given → outcome_eq outcome.Panicked o ≡ true
     → Behind s a T t o (record st { spm = panic_effect s st.spm a })
 dead-behind T s st a o t balanced running given e = record {

@@ -1,4 +1,4 @@
--- The table of held messages: what is found in it behind each change, and the states of its vectors.
+-- The table of held messages: what is found in it after each change, and the states of its vectors.
 use Rattle.std.proofs.Common.{ℕ, zero, suc, ◌≡◌, ◌≤◌, ◌<◌, ◌+◌, Bool, true, false, List, [], ◌∷◌, length, refl, ap, sym, ◌∙◌, subst, arith}
 use Rattle.std.specs.Prelude.{Option, Some, None, count_by, map, get_or, slice_set, if◌then◌else◌}
 use Rattle.std.specs.Option.{option_map}

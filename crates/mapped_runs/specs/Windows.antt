@@ -26,7 +26,7 @@ use Rattle.ffm_model.specs.HeldPlans.{Holding, holding_none, held_arrived, held_
 pub record IsEvent (s : System) (m : ByteMap) (a : ℕ) (script : List Instruction) (es : List Entry) (e : Entry) (old new : State) : Type 0 where
   pub partition : a < length s.partitions
   pub own : e.actor.0 ≡ a
-  -- the state before the event and the one behind it
+  -- the state before the event and the one after it
   pub before : after s m es ≡ Some old
   pub behind : step s old e ≡ Some new
   pub run : PlanRun (held_plan (holder_of s a) script) (entries_of a (es ++ e ∷ []))
@@ -36,7 +36,7 @@ abbrev pub EachIsEvent : Type 0
 EachIsEvent = (s : System) (m : ByteMap) (a : ℕ) (script : List Instruction) (es : List Entry) (e : Entry) (later : List Entry) → a < length s.partitions → e.actor.0 ≡ a → Run s m (es ++ e ∷ later)
     → PlanRun (held_plan (holder_of s a) script) (entries_of a (es ++ e ∷ later)) → (old : State) × (new : State) × IsEvent s m a script es e old new
 
--- where the script stands behind the entries when it makes its next call, and the line there
+-- where the script stands after the entries when it makes its next call, and the line there
 abbrev pub standing_at : System → ℕ → List Instruction → List Entry → Holding
 standing_at s a script es = held_arrived (holder_of s a) script (engine_after (held_engine (holder_of s a) script) holding_none (outcomes_of (entries_of a es)))
 
@@ -60,7 +60,7 @@ pub record IsCopiedOut (s : System) (a : ℕ) (h : Handle) (index buffer len : �
   pub answered : o ≡ outcome.Done
   pub copied : bytes_at new.memory (output_at message index).base len ≡ bytes_at old.memory buffer len
 
--- behind the entries, an unmap_out of the handle's output vector has copied len bytes
+-- after the entries, an unmap_out of the handle's output vector has copied len bytes
 pub record WasUnmapped (s : System) (a : ℕ) (script : List Instruction) (es : List Entry) (h : Handle) (index len : ℕ) : Type 0 where
   pub earlier : List Entry
   pub entry : Entry
@@ -76,7 +76,7 @@ pub record WasUnmapped (s : System) (a : ℕ) (script : List Instruction) (es : 
 abbrev pub length_word : PendingMessage → ℕ → ℕ
 length_word m index = m.vectors.out_vec + 8 * index + 4
 
--- right behind the psa_reply the client's length word of an output vector in the state u has len, its lowest byte first
+-- right after the psa_reply the client's length word of an output vector in the state u has len, its lowest byte first
 pub record IsLengthTold (s : System) (a : ℕ) (script : List Instruction) (es : List Entry) (h : Handle) (index : ℕ) (u : VectorState) (old new : State) : Type 0 where
   pub message : PendingMessage
   pub held : message_held s old.spm a h ≡ Some message
@@ -107,7 +107,7 @@ LengthsAreTold = (s : System) (m : ByteMap) (a : ℕ) (script : List Instruction
 
 -- ---- at each event of a run
 
--- an event of the partition among the entries: the entries before it, the state before it, and the one behind it
+-- an event of the partition among the entries: the entries before it, the state before it, and the one after it
 pub record IsOwnEvent (s : System) (m : ByteMap) (a : ℕ) (es earlier : List Entry) (e : Entry) (old new : State) : Type 0 where
   pub later : List Entry
   pub split : es ≡ earlier ++ e ∷ later

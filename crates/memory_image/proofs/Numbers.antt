@@ -13,7 +13,7 @@ pow_three (suc (suc (suc (suc k)))) h = absurd (omega arith)
 pub fits_word : (k b r : ℕ) → k ≤ 3 → b < 256 → r < 256 ^ k → b + 256 * r < 4294967296
 fits_word k b r few byte small = let most : 256 ^ k ≤ 16777216 = pow_three k few in omega arith
 
--- behind the first of at most four bytes there are at most three
+-- after the first of at most four bytes there are at most three
 pub few_behind : (bytes : List ℕ) → length bytes ≤ 4 → length (take (length bytes - 1) (drop 1 bytes)) ≤ 3
 few_behind bytes few = omega (arith, length-take {A = ℕ})
 

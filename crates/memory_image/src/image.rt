@@ -157,7 +157,7 @@ impl Image {
         self.store_bytes(address, &bytes[..size as usize]);
     }
 
-    /// Puts words of four bytes at an address, one behind the other, as the twelve words of a
+    /// Puts words of four bytes at an address, one after the other, as the twelve words of a
     /// `psa_msg_t`. The range lies whole in one region.
     #[tactic(auto, using(crate::proofs::Stored::stay_apart))]
     pub fn store_words(&mut self, address: u32, words: &[u32])
@@ -204,7 +204,7 @@ impl Image {
         }
     }
 
-    /// Puts bytes at an address and behind it. Their range is empty or lies whole in one region.
+    /// Puts bytes at an address and after it. Their range is empty or lies whole in one region.
     #[tactic(auto, using(crate::proofs::Stored::stay_apart))]
     pub fn store_bytes(&mut self, address: u32, bytes: &[u8])
         requires { is_inside address (length bytes.now) (regions_of self.old) ≡ true }

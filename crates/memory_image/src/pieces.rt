@@ -29,7 +29,7 @@ pub fn zero_pieces(alloc: Global, regions: &[Region]) -> Result<Vec<Bytes>, Memo
     Ok(pieces)
 }
 
-// The bytes are put at a place and behind it.
+// The bytes are put at a place and after it.
 fn put_bytes(content: &mut [u8], place: usize, bytes: &[u8])
     requires { place + length bytes.now ≤ length content.old }
     ensures { (x : ℕ) → slice_index content.new x ≡ write_bytes (λ y. slice_index content.old y) place bytes.now x }
@@ -79,7 +79,7 @@ fn store_word_among(pieces: &mut [Bytes], place: usize, address: u32, word: u32)
     store_among(pieces, place, address, &word.to_le_bytes());
 }
 
-/// Puts words of four bytes into the piece at a place, one behind the other.
+/// Puts words of four bytes into the piece at a place, one after the other.
 pub fn store_words_among(pieces: &mut [Bytes], place: usize, address: u32, words: &[u32])
     requires exists { place < length pieces.old }
     requires inside { has_range address (4 * length words.now) (range_of (get_or pieces.old place no_piece)) ≡ true }

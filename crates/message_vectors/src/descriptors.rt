@@ -28,7 +28,7 @@ fn span_at(image: &Image, at: u32) -> Span
     }
 }
 
-// Four vectors, of which the first ones are read from descriptors one behind the other.
+// Four vectors, of which the first ones are read from descriptors one after the other.
 fn vectors_read(image: &Image, at: u32, count: u32) -> [Span; 4]
     requires few { count ≤ PSA_MAX_IOVEC }
     requires inside { is_inside at (8 * count) (regions_of image.now) ≡ true }

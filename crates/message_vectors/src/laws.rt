@@ -40,7 +40,7 @@ pub fn load_tells_range()
     ensures { (one other : ByteMap) → (at size : ℕ) → AgreeWhere (λ x. range_covers (at, size) x) one other → load_number one at size ≡ load_number other at size }
 {}
 
-/// Storing words one behind the other, as `psa_get` does with the twelve of a `psa_msg_t`, changes no
+/// Storing words one after the other, as `psa_get` does with the twelve of a `psa_msg_t`, changes no
 /// byte outside of them, four bytes a word.
 pub fn words_change_range()
     ensures { (m : ByteMap) → (at x : ℕ) → (words : List ℕ) → range_covers (at, 4 * length words) x ≡ false → words_stored m at words x ≡ m x }

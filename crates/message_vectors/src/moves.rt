@@ -28,7 +28,7 @@ pub fn skip(vectors: &mut Vectors, index: u32, len: u32) -> u32
     count
 }
 
-// The address of a vector's next byte. Behind its last one there may be no address.
+// The address of a vector's next byte. After its last one there may be no address.
 fn next_byte(image: &Image, span: &Span) -> u32
     requires inside { is_inside span.now.base span.now.len (regions_of image.now) ≡ true }
     requires left { span.now.moved < span.now.len }
@@ -80,7 +80,7 @@ fn advance(vectors: &mut Vectors, index: u32, len: u32) -> Result<(), Fault>
 }
 
 /// `psa_write` (`psa/service.h`): copies the `len` bytes of the buffer to output vector `index`, which
-/// is below four, behind what was written of it, as if all were read before the first one is
+/// is below four, after what was written of it, as if all were read before the first one is
 /// written. All `len` bytes of the buffer lie in one region, and the vectors meet the condition on
 /// vectors, before the call and after it. Fault exactly where the bytes are more than what is left of
 /// the vector, and then memory and vectors are as before.

@@ -134,14 +134,14 @@ unmappable-by p h t i len (Some m) at w e =
 pub unmappable-out : (p : Holder) (t : List HeldMessage) (h : Handle) (i len : ℕ) → HasWindows p t → can_unmap_out t h i len ≡ true → 0 < window_size p
 unmappable-out p t h i len w e = unmappable-by p h t i len (held t h) refl w e
 
--- ---- behind lines
+-- ---- after lines
 
 pub windows-done : (p : Holder) (l : MmLine) (t : List HeldMessage) → HasWindows p t → can_do p t l ≡ true → HasWindows p (table_done l t)
 windows-done p (UnmapIn h i) t w e = windows-input p h unmapped i t w
 windows-done p (MapOut h i) t w e = λ none. absurd (omega (arith, mappable-out p t h i e))
 windows-done p _ t w e = w
 
--- ---- behind calls
+-- ---- after calls
 
 read-by : (p : Holder) (b : Bool) (h : Handle) (i : ℕ) (t : List HeldMessage) → HasWindows p t
     → HasWindows p (if b then changed_at h (with_input mapped i) t else changed_at h (λ m. record m { input = touched i m.input }) t)

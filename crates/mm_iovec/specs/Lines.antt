@@ -36,7 +36,7 @@ step_done p t (Read h index buffer len) = Calls (call.Read h index buffer len)
 step_done p t (Skip h index len) = Calls (call.Skip h index len)
 step_done p t (Write h index buffer len) = Calls (call.Write h index buffer len)
 
--- the table behind it: a line with a call leaves it to the call's outcome
+-- the table after it: a line with a call leaves it to the call's outcome
 abbrev pub table_done : MmLine → List HeldMessage → List HeldMessage
 table_done (UnmapIn h index) t = changed_at h (with_input unmapped index) t
 table_done (MapOut h index) t = changed_at h (with_output mapped index) t
@@ -63,14 +63,14 @@ engine_line p x (Read h index buffer len) = made_unless_refused x (call.Read h i
 engine_line p x (Skip h index len) = made_unless_refused x (call.Skip h index len)
 engine_line p x (Write h index buffer len) = made_unless_refused x (call.Write h index buffer len)
 
--- a step where a script stands, with the table behind it
+-- a step where a script stands, with the table after it
 abbrev pub engine_step : Holding → MmStep → List HeldMessage → LineStep
 engine_step x (Calls c) t = makes c
 engine_step x (Local None) t = leads (next_line x x.at.registers t)
 engine_step x (Local (Some r0)) t = leads (next_line x (slice_set x.at.registers 0 r0) t)
 engine_step x Fault t = makes call.Panic
 
--- ---- behind a call
+-- ---- after a call
 
 -- it was made by a line that maps an input
 abbrev pub maps_in : Option Instruction → Bool

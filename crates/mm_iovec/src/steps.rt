@@ -106,7 +106,7 @@ pub(crate) fn change(messages: &mut Messages, line: MmLine)
     }
 }
 
-// ---- behind calls
+// ---- after calls
 
 fn maps_in(instruction: Option<Instruction>) -> bool
     ensures { result ≡ maps_in instruction }
@@ -132,7 +132,7 @@ fn unmaps_out(instruction: Option<Instruction>) -> bool
     )
 }
 
-/// Behind `psa_read` of an input vector.
+/// After `psa_read` of an input vector.
 pub(crate) fn note_read(
     messages: &mut Messages,
     instruction: Option<Instruction>,
@@ -148,7 +148,7 @@ pub(crate) fn note_read(
     }
 }
 
-/// Behind `psa_write` to an output vector.
+/// After `psa_write` to an output vector.
 pub(crate) fn note_write(
     messages: &mut Messages,
     instruction: Option<Instruction>,
@@ -173,7 +173,7 @@ pub(crate) fn got(holder: &Holder, messages: &mut Messages, signal: u32, message
     }
 }
 
-/// Behind `psa_get` with a signal.
+/// After `psa_get` with a signal.
 pub(crate) fn note_get(holder: &Holder, messages: &mut Messages, signal: u32, outcome: Outcome)
     ensures { (msg : ℕ) → map message_of messages.new.items ≡ table_behind holder.now (call.Get signal msg) outcome (map message_of messages.old.items) }
 {
@@ -182,7 +182,7 @@ pub(crate) fn note_get(holder: &Holder, messages: &mut Messages, signal: u32, ou
     }
 }
 
-/// Behind `psa_reply` to a message.
+/// After `psa_reply` to a message.
 pub(crate) fn note_reply(messages: &mut Messages, handle: Handle, outcome: Outcome)
     ensures { (p : HolderView) (status : Status) → map message_of messages.new.items ≡ table_behind p (call.Reply handle status) outcome (map message_of messages.old.items) }
 {

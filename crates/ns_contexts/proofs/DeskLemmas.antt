@@ -43,7 +43,7 @@ first-within count ended (suc n) at h =
 
 -- ---- all contexts are passed
 
--- the context j places behind one
+-- the context j places after one
 next_many : ℕ → ℕ → ℕ → ℕ
 next_many count at zero = at
 next_many count at (suc j) = next_many count (next_context count at) j
@@ -105,7 +105,7 @@ none-found count ended (suc n) at h =
     let first : get_or ended at false ≡ true = h 0 (omega arith) in
     rw first (none-found count ended n (next_context count at) (λ j low. h (suc j) (omega arith)))
 
--- each context is some places behind the turn
+-- each context is some places after the turn
 pub pick-none : (d : DeskView) (ended : List Bool) → d.turn < d.count → picked d ended ≡ None → (k : ℕ) → k < d.count → get_or ended k false ≡ true
 pick-none d ended inside h k low =
     elim (cases_lt k d.turn) [

@@ -78,7 +78,7 @@ impl Desk {
         first_from(self.count, &ended, self.turn, self.count)
     }
 
-    /// The turn is the context behind this one, which was let in, and 0 behind the last.
+    /// The turn is the context after this one, which was let in, and 0 after the last.
     pub fn served(&mut self, context: u32)
         requires { context < self.old.count }
         ensures { self.new ≡ record self.old { turn = next_context self.old.count context } }

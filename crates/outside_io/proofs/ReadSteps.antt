@@ -25,7 +25,7 @@ read_then (Some a) (Some b) (Some c) xs ys p q = q ∙ ap (λ (s : List (List �
 pub all_read : (a b : Option (List (List ℕ))) (xs : List (List ℕ)) → ReadBetween a b xs → FrontReadBetween a b xs
 all_read a b xs p = record { front = xs; rest = []; whole = sym (append-nil xs); read = p }
 
--- The same of more names behind them.
+-- The same of more names after them.
 pub front_read_of_more : (a b : Option (List (List ℕ))) (xs ys : List (List ℕ)) → FrontReadBetween a b xs → FrontReadBetween a b (xs ++ ys)
 front_read_of_more a b xs ys p = record {
   front = p.front;

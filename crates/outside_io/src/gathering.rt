@@ -14,7 +14,7 @@ const GATHERED_BYTES: usize = 8192;
 
 /// A sink that gathers up to 8 KiB before it hands them on to another sink: where the next piece
 /// finds no room, and at each `flush`. A piece that is longer than the room goes to the sink itself,
-/// behind all that was gathered.
+/// after all that was gathered.
 ///
 /// It tells what its sink took, and then what it still holds, where the sink tells its bytes. What
 /// was gathered is gone after a hand-on that failed, and from then on it tells nothing.

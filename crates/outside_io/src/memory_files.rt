@@ -90,7 +90,7 @@ impl MemoryFiles {
     }
 }
 
-// Keeps one more name behind those before.
+// Keeps one more name after those before.
 fn keep(names: &mut Vec<String>, alloc: Global, name: &str) -> Result<(), FileError>
     ensures kept { OnOk result (map string_bytes names.new.items ≡ map string_bytes names.old.items ++ name.now ∷ []) }
     ensures not_kept { OnErr result (map string_bytes names.new.items ≡ map string_bytes names.old.items) }

@@ -1,4 +1,4 @@
--- A runner, before and behind the outcomes of its calls.
+-- A runner, before and after the outcomes of its calls.
 use Rattle.std.proofs.Common.{ℕ, zero, suc, ◌<◌, ◌≡◌, Bool, true, false, List, [], ◌∷◌, ◌++◌, length, get_or, refl, ap, ap₂, sym, ◌∙◌, subst, arith}
 use Rattle.std.specs.Prelude.{Option, if◌then◌else◌, slice_set, map, replicate}
 use Rattle.std.specs.Option.{option_map_or, unwrap_or}
@@ -97,7 +97,7 @@ planned scripts os r o c f e is =
 pub asked-follows : (scripts : List (List Instruction)) (os : List Outcome) (r : ClientStanding) → AskedAll scripts os r → FollowsAll scripts os r
 asked-follows scripts os r a = record { waits = a.waits; desk_is = a.desk_is; each = λ k low. still _ _ _ (a.each k low) }
 
--- ---- behind an outcome
+-- ---- after an outcome
 
 pub behind-blocked : (scripts : List (List Instruction)) (os : List Outcome) (o : Outcome) (old new : ClientStanding) → is_blocked_outcome o ≡ true → new.waiting ≡ true → new.desk ≡ old.desk
     → new.contexts ≡ old.contexts → AskedAll scripts os old → FollowsAll scripts (os ++ o ∷ []) new
@@ -112,7 +112,7 @@ behind-blocked scripts os o old new b w d c a =
           (subst (λ (cs : List Context). EachReaches scripts x.points cs) (sym c) (λ k low. still _ _ _ (a.each k low)));
     }
 
--- the outcome goes to one context, and the turn to the one behind it
+-- the outcome goes to one context, and the turn to the one after it
 abbrev moved : List (List Instruction) → Outcome → Contexts → ℕ → Contexts
 moved scripts o x k = record {
   points = slice_set x.points k (behind (script_of scripts k) o (arrived (script_of scripts k) (get_or x.points k start)));

@@ -1,4 +1,4 @@
--- The lines of a partition's script, and a runner before and behind the outcomes of its calls.
+-- The lines of a partition's script, and a runner before and after the outcomes of its calls.
 use Rattle.std.proofs.Common.{length, get_or, ℕ, zero, suc, ◌≡◌, ◌<◌, ◌-◌, ◌+◌, Bool, true, false, List, [], ◌∷◌, ◌++◌, refl, ap, ap₂, sym, ◌∙◌, arith, subst}
 use Rattle.std.specs.Prelude.{Option, Some, None, IfSome, IfNone, slice_get, if◌then◌else◌}
 use Rattle.std.proofs.lemmas.Option.{slice_get-get_or}

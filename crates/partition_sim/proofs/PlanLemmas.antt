@@ -39,7 +39,7 @@ HeldResumes = (p : Holder) (script : List Instruction) → ResumesBehindBlocked 
 abbrev pub ContextsResume : Type 0
 ContextsResume = (scripts : List (List Instruction)) → ResumesBehindBlocked (context_plan scripts)
 
--- the next call is Resume exactly behind Blocked
+-- the next call is Resume exactly after Blocked
 pub plan-resume : HeldResumes → ContextsResume → (role : Role) (parts : List (List Instruction)) (os : List Outcome) → is_resume (plan_of_role role parts os) ≡ ends_blocked os
 plan-resume held contexts (holds p) parts os = resume-by (held_plan p (only_part parts) os) (ends_blocked os) (held p (only_part parts) os)
 plan-resume held contexts takes_turns parts os = resume-by (context_plan parts os) (ends_blocked os) (contexts parts os)

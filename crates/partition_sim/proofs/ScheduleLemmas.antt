@@ -69,7 +69,7 @@ in_order-made schedule o old new t a e at m f =
       passed = λ w h k. absurd (omega arith);
     })
 
--- the facts behind a turn, at the opening that the manager had before it
+-- the facts after a turn, at the opening that the manager had before it
 pub record Behind (schedule : List ActorId) (o : Opening) (new : List Entry) (t : ℕ) : Type 0 where
   pub in_order : InOrder schedule o new t
   pub is_state : IsSome (state_after o new)

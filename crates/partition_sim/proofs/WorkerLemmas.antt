@@ -17,7 +17,7 @@ use Rattle.partition_sim.specs.Workers.{IsGood}
 use Rattle.partition_sim.proofs.PlanLemmas.{RunFrom-push, HeldResumes, ContextsResume, plan-resume}
 use Rattle.partition_sim.proofs.TurnLemmas.{role-is}
 
--- the plan's call is a return exactly behind Blocked
+-- the plan's call is a return exactly after Blocked
 pub plan-due : HeldResumes → ContextsResume → (role : Role) (parts : List (List Instruction)) (es : List Entry) (c : Call) → c ≡ plan_of_role role parts (outcomes_of es)
     → is_resume c ≡ ends_blocked (outcomes_of es)
 plan-due held contexts role parts es c called = ap is_resume called ∙ plan-resume held contexts role parts (outcomes_of es)

@@ -76,7 +76,7 @@ Turned o old a (Err over) new = IsOver o old new
 
 -- ---- all turns
 
--- the entries are in order up to turn t: turn `end` comes behind the last one, and from there no turn before t has an enabled actor
+-- the entries are in order up to turn t: turn `end` comes after the last one, and from there no turn before t has an enabled actor
 pub record InOrder (schedule : List ActorId) (o : Opening) (history : List Entry) (t : ℕ) : Type 0 where
   pub end : ℕ
   pub turns : Turns o.system schedule (Some (opening o.system (byte_at o.memory))) 0 history end

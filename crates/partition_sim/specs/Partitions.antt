@@ -14,7 +14,7 @@ use Rattle.ffm_model.specs.ScriptRuns.{most_lines, place_behind, point}
 abbrev pub holding : List ℕ → ℕ → List HeldMessage → Holding
 holding registers place table = record { at = point registers place; table = table }
 
--- behind psa_read for map_in, r0 is the window that it filled
+-- after psa_read for map_in, r0 is the window that it filled
 abbrev pub with_window : Call → List ℕ → List ℕ
 with_window (call.Read h index buffer len) registers = slice_set registers 0 buffer
 with_window _ registers = registers
@@ -33,13 +33,13 @@ pub record PartitionStanding : Type 0 where
 abbrev pub holding_after : Holder → List Instruction → List Outcome → Holding
 holding_after p script os = engine_after (held_engine p script) holding_none os
 
--- the runner has seen these outcomes, and runs to the call behind them
+-- the runner has seen these outcomes, and runs to the call after them
 pub record FollowsHeld (p : Holder) (script : List Instruction) (outcomes : List Outcome) (r : PartitionStanding) : Type 0 where
   pub holder_is : r.holder ≡ p
   pub waits : r.waiting ≡ ends_blocked outcomes
   pub way : held_steps p script (most_lines - r.ran) r.at ≡ held_arrived p script (holding_after p script outcomes)
 
--- it has seen them, and stands at the call behind them
+-- it has seen them, and stands at the call after them
 pub record AskedHeld (p : Holder) (script : List Instruction) (outcomes : List Outcome) (r : PartitionStanding) : Type 0 where
   pub holder_is : r.holder ≡ p
   pub waits : r.waiting ≡ ends_blocked outcomes

@@ -191,7 +191,7 @@ pub fn held_call(held: &mut Held, registers: &[u32; 16], line: &Instruction) -> 
     }
 }
 
-// ---- behind a call
+// ---- after a call
 
 fn maps_in(line: Option<Instruction>) -> bool
     ensures { result ≡ maps_in line }
@@ -214,7 +214,7 @@ fn put_window(registers: &mut [u32; 16], call: Call)
     }
 }
 
-/// Puts the outcome of a call into the registers, with the line that made the call: behind a line that
+/// Puts the outcome of a call into the registers, with the line that made the call: after a line that
 /// maps an input, r0 is the window.
 pub fn note_held(
     registers: &mut [u32; 16],

@@ -48,7 +48,7 @@ pub fn line_effect(registers: &mut [u32; 16], place: usize, line: &Instruction) 
     }
 }
 
-/// The place behind the line at a place; behind the last line it stays.
+/// The place after the line at a place; after the last line it stays.
 pub fn place_behind(script: &[Instruction], place: usize) -> usize
     ensures { result ≡ place_behind script.now place }
 {

@@ -77,7 +77,7 @@ fn ask<A: Api, R: Wait>(rt: &R, api: &A, pass: &mut A::Pass, call: Call) -> Answ
     }
 }
 
-// One try of a worker's next event, behind the gate. Where its actor can't go on yet, a worker that is
+// One try of a worker's next event, after the gate. Where its actor can't go on yet, a worker that is
 // alone rests a while.
 fn visit<A: Api, G: Gate, R: Wait>(
     rt: &R,

@@ -24,7 +24,7 @@ mmio_regions|[{"base":"0x40000000","size":16,"permission":"READ-WRITE"}]
 dependencies|["LOG","LOG"]
 "#;
 
-/// Puts an attribute behind others, where its value isn't empty.
+/// Puts an attribute after others, where its value isn't empty.
 fn put_attribute(text: &mut String, name: &str, value: &str) -> Result<(), AllocError> {
     if !value.is_empty() {
         write!(text, ",\"{name}\":{value}")?;

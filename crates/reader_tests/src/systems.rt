@@ -73,7 +73,7 @@ fn answer_of_system(alloc: Global, text: &str) -> Result<String, Fail> {
     }
 }
 
-/// By line: what comes of a system file, and the file, or what it says behind the level 1 and no
+/// By line: what comes of a system file, and the file, or what it says after the level 1 and no
 /// manifests.
 const SYSTEMS: &str = r#"1|
 1|{"isolation_level":

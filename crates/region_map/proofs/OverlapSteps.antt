@@ -88,7 +88,7 @@ overlap_found fs xs i x below here some =
     ap (λ t. first (overlapping (fs ++ regions_in (take i xs)) t)) (rest xs i x below here)
     ∙ met (fs ++ regions_in (take i xs)) (located_of x) (map located_of (drop (i + 1) xs)) some
 
--- ---- regions one behind the other
+-- ---- regions one after the other
 
 -- each region ends by this address
 abbrev pub EndBy : ℕ → List Region → Type 0

@@ -52,7 +52,7 @@ fn meets_any(ram: u64, non_secure: u64, earlier: &BTreeMap<u32, u32>, region: &R
         || meets_earlier(earlier, region)
 }
 
-// Whether each MMIO region lies behind the one before it, and none shares a byte with RAM: the usual
+// Whether each MMIO region lies after the one before it, and none shares a byte with RAM: the usual
 // case, which needs no map.
 fn follow_each_other(parts: &Parts, placed: &[Placed]) -> bool
     ensures { IsTrue result → first (overlapping (rams_of parts.now ++ non_secure_of parts.now ∷ []) (map located_of placed.now)) ≡ None }

@@ -52,7 +52,7 @@ pub fn domain_at(level: u32, rot: RotType, id: u32) -> u32
     }
 }
 
-/// Adds the RAM of each partition, one behind the other.
+/// Adds the RAM of each partition, one after the other.
 pub fn add_rams(
     regions: &mut Vec<Region>,
     level: u32,

@@ -5,14 +5,14 @@ use crate::written::{expect, expect_audit, expect_replay, run};
 use std::alloc::Global;
 use std::test::Fail;
 
-// The refusal of the line behind these bytes.
+// The refusal of the line after these bytes.
 fn refusal_behind(alloc: Global, bytes: &[u8]) -> Result<String, Fail> {
     let ends = bytes.iter().filter(|byte| **byte == b'\n').count();
     let line = ends.saturating_add(1);
     Ok(format!(in alloc; "refused 24 TraceSyntax trace /{line}")?)
 }
 
-// The bytes, and a byte and the others behind it.
+// The bytes, and a byte and the others after it.
 fn joined(alloc: Global, before: &[u8], byte: u8, behind: &[u8]) -> Result<Vec<u8>, Fail> {
     let mut bytes = before.to_vec(alloc)?;
     bytes.push(byte)?;

@@ -116,7 +116,7 @@ fn signal_and_place_of_a_get(rt: HostRuntime) -> Result<(), Fail> {
                 ],
                 "illegal 6",
             ),
-            // The message has 48 bytes, and the region ends before the last, or behind it.
+            // The message has 48 bytes, and the region ends before the last, or after it.
             (
                 &[(4, 1, "p1 get 0x00000010 0x300003d1 -> panicked\n")],
                 "illegal 5",

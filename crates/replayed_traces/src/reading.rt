@@ -104,7 +104,7 @@ const PLACES: [(&[Change<'static>], usize); 9] = [
     (&[(26, 1, "")], 26),
     (&[(26, 1, "quiet 25")], 26),
     (&[(25, 2, "n1 stop end -> done")], 25),
-    // Something behind the verdict.
+    // Something after the verdict.
     (&[(27, 0, "\n")], 27),
     (&[(27, 0, "x")], 27),
     (&[(27, 0, "quiet 25\n")], 27),

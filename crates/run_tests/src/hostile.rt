@@ -4,7 +4,7 @@ use crate::systems::VAULT;
 use crate::worked::{Worked, check, check_audit};
 use std::test::Fail;
 
-// A client's wrong calls change nothing: the connection serves a request behind them.
+// A client's wrong calls change nothing: the connection serves a request after them.
 static RUN: Worked = Worked {
     system: VAULT,
     scenario: r##"{"event_limit":21,"scripts":[

@@ -47,7 +47,7 @@ fn system(alloc: Global, heap: u32, mapping: &str) -> Result<String, AllocError>
     )
 }
 
-// Asserts what comes of lines behind the `get` of a request, whose input has 4 bytes and whose output has 8.
+// Asserts what comes of lines after the `get` of a request, whose input has 4 bytes and whose output has 8.
 fn check_behind_get(
     rt: &impl Abort,
     alloc: Global,
@@ -143,7 +143,7 @@ const FAULTS: [(&str, &str); 27] = [
     ),
 ];
 
-// What is written behind the `get` where the service panics.
+// What is written after the `get` where the service panics.
 fn panicked(alloc: Global, call: &str) -> Result<String, AllocError> {
     let count = if call.is_empty() { 7 } else { 8 };
     format!(in alloc;
@@ -168,7 +168,7 @@ const TWO_CLIENTS: &str =
 "services":[{"name":"MAPPER","sid":"0x50","non_secure_clients":true,"connection_based":false,
 "mm_iovec":"enable"}]}],"clients":["NS","NS2"]}"#;
 
-// Asserts what comes of lines behind the `get`s of two requests, each with an input of 4 bytes and an output of 8.
+// Asserts what comes of lines after the `get`s of two requests, each with an input of 4 bytes and an output of 8.
 fn check_behind_two(rt: &impl Abort, alloc: Global, lines: &str, trace: &str) -> Result<(), Fail> {
     let scenario = format!(in alloc;
         r#"{{"schedule":["NS","NS2"],"scripts":[{{"actor":"MAPPER","lines":[
@@ -301,7 +301,7 @@ fn services_without_windows(rt: HostRuntime) -> Result<(), Fail> {
     Ok(())
 }
 
-// A map line as the 100,000th local line, as the one behind it, and one behind it that breaks a rule.
+// A map line as the 100,000th local line, as the one after it, and one after it that breaks a rule.
 #[test]
 fn map_lines_at_the_limit(rt: HostRuntime) -> Result<(), Fail> {
     let alloc = rt.alloc();

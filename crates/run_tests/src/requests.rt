@@ -168,7 +168,7 @@ n1 connect 0x00000040 1 -> blocked
 stalled 2
 ",
     },
-    // What is skipped of an input vector isn't read, and nothing is left behind its end.
+    // What is skipped of an input vector isn't read, and nothing is left after its end.
     Worked {
         system: CLOCK,
         scenario: r##"{"scripts":[

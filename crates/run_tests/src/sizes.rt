@@ -5,7 +5,7 @@ use crate::worked::{check, check_legal, run};
 use std::alloc::{AllocError, Global};
 use std::test::Fail;
 
-// Adds an item to a list, behind a comma where it isn't the first.
+// Adds an item to a list, after a comma where it isn't the first.
 fn add(list: &mut String, item: &str) -> Result<(), AllocError> {
     if !list.is_empty() {
         list.push_str(",")?;

@@ -1,5 +1,5 @@
 -- A run in which each actor is done in a front has a verdict.
--- An actor that is gone stays so, and behind a front with a verdict a run doesn't go on.
+-- An actor that is gone stays so, and after a front with a verdict a run doesn't go on.
 use Rattle.std.proofs.Common.{ℕ, zero, suc, ◌≡◌, ◌<◌, ◌≤◌, ◌+◌, ◌==◌, ◌&&◌, Bool, true, false, true≢false, List, [], ◌∷◌, ◌++◌, append-nil, length, length-append, get_or, ◌⊎◌, inl, inr, refl, sym, ap, ◌∙◌, subst, arith}
 use Rattle.std.specs.Prelude.{Option, Some, None, IsSome, nat_lt, fold, option_and_then, if◌then◌else◌}
 use Rattle.std.specs.Option.{option_map_or}
@@ -79,7 +79,7 @@ run-sound : (s : System) (m : ByteMap) (es : List Entry) (st : State) → after 
 run-sound s m es st h =
     run-has s m (λ xs x. Sound s x) (record { balanced = opening-balanced s; sound = λ a. open-phase is_sound true refl refl (actor_count s) a }) (λ xs x new e w k. (step-turns s x new e w k).0) es st h
 
--- ---- the entries behind a front
+-- ---- the entries after a front
 
 -- an actor that is gone stays gone
 gone-behind : (s : System) (es : List Entry) (st new : State) (x : ℕ) → Sound s st → fold (step_on s) (Some st) es ≡ Some new → is_gone (phase_of st.spm x) ≡ true → is_gone (phase_of new.spm x) ≡ true
@@ -107,7 +107,7 @@ verdict_some true true blocked h on = refl
 verdict_some true false blocked h on = absurd (true≢false (sym h))
 verdict_some false full blocked h on = cc
 
--- behind a verdict nothing stands
+-- after a verdict nothing stands
 nothing-behind : (s : System) (m : ByteMap) (limit : ℕ) (front rest : List Entry) → IsSome (after s m (front ++ rest)) → length (front ++ rest) ≤ limit → IsSome (verdict_of s m limit front) → rest ≡ []
 nothing-behind s m limit front [] run within verdict = refl
 nothing-behind s m limit front (e ∷ es) run within verdict =

@@ -1,4 +1,4 @@
--- Runs behind each other: one more in front, other words for each of them, and whose events they have.
+-- Runs after each other: one more in front, other words for each of them, and whose events they have.
 use Rattle.std.proofs.Common.{ℕ, suc, ◌≡◌, ◌≤◌, ◌-◌, ◌&&◌, Bool, true, false, List, [], ◌∷◌, ◌++◌, length, map, append_assoc, refl, ap, sym, subst, ◌∙◌, arith}
 use Rattle.std.specs.Prelude.{Option, Some, IfSome, Result, Ok, Err, IfOk, nat_lt, slice_get}
 use Rattle.std.specs.List.{list_all}
@@ -28,7 +28,7 @@ use Rattle.scenario_runs.specs.Runs.{RanBy}
 use Rattle.scenario_runs.proofs.Programs.{ran_programs}
 use Rattle.scenario_runs.proofs.Unmapped.{UnmappedRuns}
 
--- a run, and behind it the runs from the next memory
+-- a run, and after it the runs from the next memory
 pub runs_on : (s : System) (P : ByteMap → FinishedRun → Type 0) (first m next : ByteMap) (left : ℕ) (r : FinishedRun) (rs : List FinishedRun) → P m r → (nat_lt 0 left && ends_panicked s m r) ≡ true
     → next ≡ memory_reset s first (memory_behind s m r.entries) → RunsFrom s P first next (left - 1) rs → RunsFrom s P first m left (r ∷ rs)
 runs_on s P first m next left r [] ran more is rest = absurd rest

@@ -1,4 +1,4 @@
--- The runs of a scenario over a system: one, and others behind it after a panic.
+-- The runs of a scenario over a system: one, and after a panic others that follow it.
 -- Source: this simulator's.
 use Rattle.std.specs.Prelude.{ℕ, ◌+◌, nat_le, nat_lt, Bool, ◌&&◌, List, length, if◌then◌else◌}
 use Rattle.std.specs.List.{list_all}

@@ -43,8 +43,8 @@ pub record RanBy (s : System) (m : ByteMap) (c : Scenario) (programs : List Prog
   pub verdict : verdict_of s m c.limit es ≡ Some v
   -- each actor's entries are, each once and in order, the calls of its program, with the machine's answers
   pub programmed : (a : ℕ) → a < actor_count s → ProgramRun s a (get_or programs a (Plain [])) (entries_of a es)
-  -- of each partition's mapped vectors: behind the psa_read of a map_in the window has the client's bytes, behind the psa_write of an unmap_out the client's
-  -- vector has the window's, and behind the psa_reply the client's length word has as many as were unmapped
+  -- of each partition's mapped vectors: after the psa_read of a map_in the window has the client's bytes, after the psa_write of an unmap_out the client's
+  -- vector has the window's, and after the psa_reply the client's length word has as many as were unmapped
   pub mapped : (a : ℕ) → a < length s.partitions → KeepsMapped s m a (get_or programs a (Plain [])) es
   -- each handle is the name of its connection or message
   pub named : names s m es ≡ true

@@ -106,7 +106,7 @@ pub(crate) fn alone(alloc: Global, ran: Ran) -> Result<Runs, AllocError>
 }
 
 /// The runs of programs, one for each actor, over a system, each in the turns of the scenario's
-/// schedule: the first one from the scenario's memory, and behind a run that came to an end with a
+/// schedule: the first one from the scenario's memory, and after a run that came to an end with a
 /// panicked partition another one, while a restart is left. Memory where no memory was found.
 pub fn run_in_turns(
     alloc: Global,

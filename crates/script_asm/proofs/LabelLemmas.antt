@@ -61,7 +61,7 @@ place-below-by true w s o h = omega arith
 place-below-by false w s None h = tt
 place-below-by false w s (Some k) h = omega (arith, h)
 
--- a label leads behind at most all instructions
+-- a label leads after at most all instructions
 pub place-within : (n : Word) (xs : List Line) → IfSome (place_of n xs) (λ k. k ≤ sum_by width xs)
 unfolding place_of
 place-within n [] = tt
@@ -110,7 +110,7 @@ lines-before old new xs x l n i e h kept has =
     ∙ has
     ∙ ap (λ ls. is_some (place_of n ls)) (sym (take-append-le i xs (x ∷ []) h))
 
--- behind the line, all labels of all lines are there
+-- after the line, all labels of all lines are there
 lines-behind : (old new : BTreeMap (Bor Word) FirstLabel) (xs : List Line) (x : Line) (l : FirstLabel) (n : Word) (i : ℕ) → l.line ≡ length xs → length xs < i
     → label_in new n ≡ option_or (label_in old n) (if is_label n x then Some l else None)
     → option_map (λ k. k.place) (label_in old n) ≡ place_of n xs

@@ -16,6 +16,6 @@ raised source (Some answer) = Make name.Fire (filled 6 (Number source ∷ Number
 abbrev pub raise : RaiseItem → Instruction
 raise x = raised x.source x.result
 
--- the interrupts in order; behind the last one it ends. It has one part
+-- the interrupts in order; after the last one it ends. It has one part
 unfoldable pub device_script : List RaiseItem → List (List Instruction)
 device_script raises = map raise raises ∷ []

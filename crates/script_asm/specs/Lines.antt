@@ -70,7 +70,7 @@ is_label n passed = false
 is_label n (label m) = bytes_eq m n
 is_label n (order ws) = false
 
--- where a jump to a label leads: behind the instructions that stand before the label
+-- where a jump to a label leads: after the instructions that stand before the label
 unfoldable pub place_of : Word → List Line → Option ℕ
 place_of n [] = None
 place_of n (l ∷ ls) = if is_label n l then Some 0 else option_map (λ k. width l + k) (place_of n ls)
@@ -174,7 +174,7 @@ made_of kind all i passed = Some []
 made_of kind all i (label n) = if is_some (place_of n (take i all)) then None else Some []
 made_of kind all i (order ws) = option_map (λ x. x ∷ []) (instruction_of kind all ws)
 
--- what a line makes before what the lines behind it make; a wrong line counts before them
+-- what a line makes before what the lines after it make; a wrong line counts before them
 abbrev pub line_then : {A : Type 0} → Option (List A) → ℕ → Result (List A) ℕ → Result (List A) ℕ
 line_then None i rest = Err i
 line_then (Some xs) i (Ok ys) = Ok (xs ++ ys)

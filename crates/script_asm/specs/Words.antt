@@ -28,7 +28,7 @@ words_of line = filter (λ w. not (length w == 0)) (slice_split is_blank line)
 
 -- ---- numbers
 
--- the number that n and the decimal digits behind it spell, where it is at most the limit
+-- the number that n and the decimal digits after it spell, where it is at most the limit
 abbrev pub decimal_behind : ℕ → ℕ → List ℕ → Option ℕ
 decimal_behind limit n [] = Some n
 decimal_behind limit n (d ∷ ds) =

@@ -27,7 +27,7 @@ fn instructions_of(alloc: Global, raises: &[RaiseItem]) -> Result<Vec<Instructio
 }
 
 /// The script of the device: for each of these items in order it raises an interrupt of the source at
-/// that place, or fires it with the answer of its first-level handler, and it ends behind the last
+/// that place, or fires it with the answer of its first-level handler, and it ends after the last
 /// one. Err where no memory was found.
 #[tactic(auto, unfolding(crate::specs::Device::device_script))]
 pub fn device_script(alloc: Global, raises: &List<RaiseItem>) -> Result<Script, Memory>

@@ -114,7 +114,7 @@ pub fn read(
     Ok(count)
 }
 
-/// `psa_write`: copies the `len` bytes at the buffer to output vector `index` of a request, behind those that were written. `Fault`
+/// `psa_write`: copies the `len` bytes at the buffer to output vector `index` of a request, after those that were written. `Fault`
 /// exactly where the handle isn't that of a request that the partition holds, the index is 4 or more, the `len` bytes at the buffer
 /// aren't a valid buffer of the partition, or they are more than the vector has left; then nothing changed.
 pub fn write(

@@ -61,7 +61,7 @@ kept-next fs f kept fresh fits short = record {
   short = AllByRecursion-push (λ f. length f.instructions ≤ MAX_SCRIPT_LINES) fs f kept.short short;
 }
 
--- ---- behind the last line
+-- ---- after the last line
 
 pub below-end : (s : System) (a : ℕ) (above : List SfnFunction) (ls : List code.Line) (at : ℕ) → length ls ≤ at → functions_below s a above (sections at (lines_view (drop at ls))) ≡ Ok above
 unfolding functions_below sections

@@ -81,7 +81,7 @@ lines-more to xs i v old now new h so added =
     ∙ (append_assoc now (line_code to (get_or xs i v)) (lines_code to (drop (i + 1) xs))
     ∙ (ap (λ (l : List Instruction). now ++ l) (sym (lines-drop to xs i v h)) ∙ so))
 
--- behind the last line
+-- after the last line
 pub lines-done : {E : Type 0} (r : Result (Unit {0}) E) (to : ℕ → ℕ) (xs : List SfnInstruction) (i : ℕ) (old now new : List Instruction) → length xs ≤ i
     → now ++ lines_code to (drop i xs) ≡ old ++ lines_code to xs → OnOk r (new ≡ now ++ reply_code (Number 0)) → OnOk r (new ≡ old ++ lines_code to xs)
 lines-done (Ok u) to xs i old now new h so added = added ∙ (ap (λ (l : List Instruction). now ++ l) (sym (lines-end to xs i h)) ∙ so)

@@ -1,4 +1,4 @@
--- The loop's tests: from behind psa_wait to the psa_get of the lowest signal.
+-- The loop's tests: from after psa_wait to the psa_get of the lowest signal.
 use Rattle.std.proofs.Common.{ℕ, suc, ◌+◌, ◌*◌, ◌≤◌, ◌≡◌, ◌==◌, List, [], ◌∷◌, ◌++◌, length, get_or, refl, ap, ap₂, ◌∙◌, subst, arith, Bool, true, false, length-append}
 use Rattle.std.specs.Prelude.{Some, slice_set, if◌then◌else◌, not, find, bit_and}
 use Rattle.ffm_model.specs.declared.script.Operand.TheVariants.{Register, Number}
@@ -31,7 +31,7 @@ service_code-length base at v =
 
 -- ---- one test
 
--- what stands behind the test of a signal that is asserted
+-- what stands after the test of a signal that is asserted
 abbrev pub IsGet : List Instruction → ℕ → ℕ → SfnService → Type 0
 IsGet code place base v =
     StandsAt code place (call_line name.Get (Number v.signal) (Number base) ∷ (Change Set 14 (Register 2) ∷ function_code v.lines (place + 2)))

@@ -43,7 +43,7 @@ stands-moved code at to xs e s = subst (λ n. StandsAt code n xs) e s
 
 -- ---- a function's code
 
--- what stands where a line of the function stood, and behind its last line
+-- what stands where a line of the function stood, and after its last line
 abbrev pub code_of : (ℕ → ℕ) → Option SfnInstruction → Instruction
 code_of to None = call_line name.Reply (Register 14) (Number 0)
 code_of to (Some (Plain i)) = moved to i
@@ -57,7 +57,7 @@ code-at to (Return v ∷ xs) zero = refl
 code-at to (Plain i ∷ xs) (suc t) = let e : 1 + place_in xs t ≡ suc (place_in xs t) = omega arith in rw e (code-at to xs t)
 code-at to (Return v ∷ xs) (suc t) = let e : 2 + place_in xs t ≡ suc (suc (place_in xs t)) = omega arith in rw e (code-at to xs t)
 
--- behind a reply the loop goes back
+-- after a reply the loop goes back
 abbrev pub IsReturning : Option SfnInstruction → Type 0
 IsReturning None = Unit {0}
 IsReturning (Some (Plain i)) = ⊥

@@ -1,4 +1,4 @@
--- Fourteen registers of a function, and the two of the loop behind them.
+-- Fourteen registers of a function, and the two of the loop after them.
 use Rattle.std.proofs.Common.{ℕ, zero, suc, ◌<◌, ◌≡◌, List, [], ◌∷◌, ◌++◌, length, get_or, refl, ap, ◌∙◌, arith, lit<}
 use Rattle.std.specs.Prelude.{slice_set}
 use Rattle.std.proofs.Math.ListN.{set}

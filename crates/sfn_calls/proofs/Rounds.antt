@@ -11,7 +11,7 @@ use Rattle.ffm_model.specs.Plans.{RunFrom, engine_answered, plan_of}
 use Rattle.ffm_model.specs.Records.{is_blocked_outcome, ends_blocked}
 use Rattle.ffm_model.specs.ScriptRuns.{Point, start, arrived, call_at, point_after, script_engine, script_plan}
 
--- the point behind an outcome
+-- the point after an outcome
 abbrev pub answered : List Instruction → Outcome → Point → Point
 answered code o p = engine_answered (script_engine code) o p
 

@@ -84,7 +84,7 @@ at-outcome code q es o u e h = subst (λ (x : Outcome). RunAt code (is_blocked_o
 work-due : (p : SfnPartition) (w : Work) (q : Point) (b : Bool) → w.pending ≡ b → AtWork (expanded p) w q → due (expanded p) w.pending q ≡ work_call w
 work-due p w q b e a = ap (λ (c : Call). if w.pending then call.Resume else c) (work-call (expanded p) w q a)
 
--- behind a call of the function, whatever is answered
+-- after a call of the function, whatever is answered
 pub record Behind (p : SfnPartition) (w : Work) (q : Point) (o : Outcome) : Type 0 where
   pub stands : Stands p (stage_behind w o) (answered (expanded p) o q)
   pub opens : is_open (stage_behind w o) ≡ is_blocked_outcome o

@@ -48,7 +48,7 @@ pub wait-call : (p : SfnPartition) (rs : List ℕ) → call_at (expanded p) (poi
 unfolding call_at
 wait-call p rs = rw (wait-line p) refl
 
--- behind a line that is there
+-- after a line that is there
 pub place-behind : (code : List Instruction) (place : ℕ) (i : Instruction) → slice_get code place ≡ Some i → place_behind code place ≡ place + 1
 place-behind code place i e = let inside : place < length code = slice_get_within code place i e in grind (arith, inside)
 
@@ -162,7 +162,7 @@ steps-begin code lines m rs r14 r15 place long stands fine =
     steps-next code first_budget _ _ put
     ∙ (ap (local_steps code first_budget) at ∙ steps-same code lines (place + 1) h r15 first_budget (point (with_message m rs) 0) (stands-tail code place _ _ stands) fine long2)
 
--- behind psa_get
+-- after psa_get
 pub to-work : (p : SfnPartition) (rs : List ℕ) (signals : ℕ) (q : Point) (v : SfnService) (m : Message) → IsFunction v.lines → IsHandle m.handle
     → (a : AfterWait rs signals q) (g : Dispatched (expanded p) p.base most_lines (slice_set rs 0 signals) a.r14 a.r15 1 v)
     → AtWork (expanded p) (begun v m rs) (answered (expanded p) (outcome.Got m) q)
@@ -187,7 +187,7 @@ to-work p rs signals q v m fine handle a g =
       stays = λ e. cc;
     }
 
--- ---- behind a call of the function
+-- ---- after a call of the function
 
 -- a blocked call
 pub stays-open : (code : List Instruction) (w : Work) (q : Point) → AtWork code w q → returns_at w.lines (reached w) ≡ false → AtWork code (record w { pending = true }) q
@@ -214,7 +214,7 @@ return-at None e = tt
 return-at (Some (Plain i)) e = cc
 return-at (Some (Return v)) e = tt
 
--- another outcome: the function goes on behind the call
+-- another outcome: the function goes on after the call
 pub goes-on : (code : List Instruction) (w : Work) (q : Point) (o : Outcome) → AtWork code w q → returns_at w.lines (reached w) ≡ false
     → AtWork code (record w { budget = most_lines; at = point (noted o (reached w).registers) ((reached w).place + 1); pending = false }) (behind code o (arrived code q))
 unfolding arrived reached returns_at
@@ -240,7 +240,7 @@ goes-on code w q o a r =
       stays = λ e. cc;
     }
 
--- behind its reply the loop goes back to psa_wait
+-- after its reply the loop goes back to psa_wait
 steps-back : (p : SfnPartition) (rs : List ℕ) (place : ℕ) → slice_get (expanded p) place ≡ Some (Jump 0) → local_steps (expanded p) (suc first_budget) (point rs place) ≡ point rs 0
 steps-back p rs place jump =
     steps-next (expanded p) first_budget (point rs place) (point rs 0) (step-at (expanded p) (point rs place) _ jump)

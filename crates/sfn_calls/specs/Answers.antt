@@ -37,7 +37,7 @@ pub record AreAnswered (p : SfnPartition) (es : List Entry) : Type 0 where
   -- it returns with the signal of a service
   pub returns : (before behind : List Entry) (w e : Entry) → es ≡ before ++ w ∷ (e ∷ behind) → IsBlockedWait p w → e.call ≡ call.Resume
       → (signals : ℕ) × ((e.outcome ≡ outcome.Signals signals) × IsSome (lowest p.services signals))
-  -- right behind it psa_get of the lowest such signal gives a message
+  -- right after it psa_get of the lowest such signal gives a message
   pub gets : (before behind : List Entry) (w r e : Entry) (signals : ℕ) (v : SfnService) → es ≡ before ++ w ∷ (r ∷ (e ∷ behind)) → IsBlockedWait p w → IsReturn r signals
       → lowest p.services signals ≡ Some v → e.call ≡ call.Get v.signal p.base → (m : Message) × ((e.outcome ≡ outcome.Got m) × IsHandle m.handle)
   -- psa_reply is answered at once, and tells nothing

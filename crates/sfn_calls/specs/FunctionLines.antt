@@ -94,7 +94,7 @@ functions_below s a above (x ∷ xs) = do
 unfoldable pub functions_of : System → ℕ → List Line → Result (List SfnFunction) ℕ
 functions_of s a lines = option_map_or Err (position is_used (before lines)) (functions_below s a [] (sections 0 lines))
 
--- of more lines than a script may have, the line behind as many is wrong, unless an earlier one is
+-- of more lines than a script may have, the line after as many is wrong, unless an earlier one is
 abbrev pub limited : ℕ → Result (List SfnFunction) ℕ → Result (List SfnFunction) ℕ
 limited count (Ok functions) = if nat_le count MAX_SCRIPT_LINES then Ok functions else Err MAX_SCRIPT_LINES
 limited count (Err line) = Err (min line MAX_SCRIPT_LINES)

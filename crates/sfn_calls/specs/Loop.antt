@@ -25,7 +25,7 @@ abbrev pub width : SfnInstruction → ℕ
 width (Plain i) = 1
 width (Return operand) = 2
 
--- how far behind the function's first instruction a place of the function lies
+-- how far after the function's first instruction a place of the function lies
 unfoldable pub place_in : List SfnInstruction → ℕ → ℕ
 place_in [] t = 0
 place_in (x ∷ xs) zero = 0
@@ -47,7 +47,7 @@ abbrev pub line_code : (ℕ → ℕ) → SfnInstruction → List Instruction
 line_code to (Plain i) = moved to i ∷ []
 line_code to (Return v) = reply_code v
 
--- the lines of a function, and behind the last one its return of 0
+-- the lines of a function, and after the last one its return of 0
 unfoldable pub lines_code : (ℕ → ℕ) → List SfnInstruction → List Instruction
 lines_code to [] = reply_code (Number 0)
 lines_code to (x ∷ xs) = line_code to x ++ lines_code to xs
@@ -58,7 +58,7 @@ function_code lines at = lines_code (λ t. at + place_in lines t) lines
 
 -- ---- a service
 
--- the test of a service's signal, which leads behind the service's code where the signal isn't asserted; psa_get; and the handle kept
+-- the test of a service's signal, which leads after the service's code where the signal isn't asserted; psa_get; and the handle kept
 abbrev pub dispatch_code : ℕ → ℕ → ℕ → List Instruction
 dispatch_code signal base behind =
     Change Set 15 (Register 0) ∷ (Change And 15 (Number signal) ∷ (JumpIf Equal 15 (Number 0) behind

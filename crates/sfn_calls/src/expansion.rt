@@ -35,7 +35,7 @@ fn width(line: &SfnInstruction) -> u32
     }
 }
 
-// How far behind the function's first instruction a place of the function lies.
+// How far after the function's first instruction a place of the function lies.
 fn place_in(lines: &[SfnInstruction], t: u32) -> u32
     requires { length lines.now ≤ 4096 }
     ensures place { result ≡ place_in lines.now t }
@@ -51,7 +51,7 @@ fn place_in(lines: &[SfnInstruction], t: u32) -> u32
     place
 }
 
-// A line of a function whose targets lie behind a place of the loop.
+// A line of a function whose targets lie after a place of the loop.
 fn moved(lines: &[SfnInstruction], from: u32, line: Instruction) -> Instruction
     requires short { length lines.now ≤ 4096 }
     requires room { from < 2 ^ 31 }
@@ -105,7 +105,7 @@ fn push_line(
     }
 }
 
-// The lines of a function, and behind the last one its return of 0.
+// The lines of a function, and after the last one its return of 0.
 fn push_function(
     code: &mut Vec<Instruction>,
     lines: &[SfnInstruction],

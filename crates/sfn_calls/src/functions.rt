@@ -68,7 +68,7 @@ fn is_function_instruction(instruction: Instruction) -> bool
     }
 }
 
-// The return of a value; None where the words behind `return` are wrong.
+// The return of a value; None where the words after `return` are wrong.
 fn return_of(words: &[&[u8]]) -> Option<SfnInstruction>
     ensures gives { result ≡ return_of (map (λ w. w.now) words.now) }
     ensures fits { (count : ℕ) → IfSome result (IsFunctionLine count) }

@@ -1,4 +1,4 @@
--- The state behind a run with names stands in the tables whose slots have those names.
+-- The state after a run with names stands in the tables whose slots have those names.
 use Rattle.std.proofs.Common.{ℕ, zero, suc, ◌≡◌, ◌<◌, ◌≤◌, ◌+◌, ◌*◌, ◌==◌, Bool, true, false, not, ◌&&◌, List, [], ◌∷◌, map, get_or, arith, ◌∙◌, ap, sym, refl}
 use Rattle.std.specs.Prelude.{All, Option, Some, None, count_by, is_none, is_some, nat_lt, pos}
 use Rattle.std.proofs.lemmas.Bool.Decides.{Decides-int_eq, nat_tests}

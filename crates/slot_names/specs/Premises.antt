@@ -1,4 +1,4 @@
--- What a call of an actor rests on: each asks its own part, and the manager knows all of it of its tables and its image behind each event of a run.
+-- What a call of an actor rests on: each asks its own part, and the manager knows all of it of its tables and its image after each event of a run.
 -- Source: this manager's; that handles have generations up to 0xfffff is this profile's, and FF-M 1.0 leaves open how many objects a manager can make.
 use Rattle.std.specs.Prelude.{◌≡◌, ℕ, ◌+◌, ◌≤◌, List, All}
 use Rattle.ffm_model.specs.declared.scenario.Bytes.{Bytes}

@@ -63,7 +63,7 @@ named-run s m es w h =
     [] es (Some (first_named s m)) w
     (λ x e. let it : first_named s m ≡ x = cc in ap (λ (n : NamedState). Some n.state) it) h
 
--- ---- the state behind the history
+-- ---- the state after the history
 
 -- the state is that of the tables and the bytes, with some handles given
 pub record IsStateOf (s : System) (m : ByteMap) (es : List Entry) (d : TablesView) (bytes : List Bytes) : Type 0 where

@@ -99,7 +99,7 @@ pub record IsCalled (s : System) (d : TablesView) (bytes : List Bytes) (a : ℕ)
   pub shown : ShowsName s a c d (byte_at bytes) o
   pub names : KeepsNames s d new
 
--- a state with the names behind it, of these tables and bytes
+-- a state with the names after it, of these tables and bytes
 abbrev named_of : TablesView → List Handle → ByteMap → NamesSoFar → NamedState
 named_of d given m k = record { state = state_with d given m; names = k }
 

@@ -30,7 +30,7 @@ pub record Managed : Type 0 where
   pub history : List Entry
   pub bytes : List Bytes
 
--- the state of the machine behind a history, or nothing where the history is no run
+-- the state of the machine after a history, or nothing where the history is no run
 abbrev pub state_after : Opening → List Entry → Option State
 state_after o history = after o.system (byte_at o.memory) history
 
@@ -60,7 +60,7 @@ refusal_at s limit count b a =
     then Some answer.Full
     else (if enabled s b a then None else Some answer.NotYet)))
 
--- why an actor's event isn't made behind a history, or nothing where it is made
+-- why an actor's event isn't made after a history, or nothing where it is made
 abbrev pub refusal : Opening → List Entry → ℕ → Option Answer
 refusal o history a = option_and_then (λ st. refusal_at o.system o.limit (length history) st.spm a) (state_after o history)
 

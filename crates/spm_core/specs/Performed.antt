@@ -64,7 +64,7 @@ Does s a c old bytes o new after = (given : List Handle) → IsEffect (effect_of
 
 -- ---- what a manager keeps
 
--- the state and the names behind the history are those of the tables and the bytes
+-- the state and the names after the history are those of the tables and the bytes
 pub record Holds (d : TablesView) (bytes : List Bytes) (w : NamedState) : Type 0 where
   pub stands : Stands d bytes w.state
   pub names : NamesAre d w.names

@@ -36,7 +36,7 @@ all_keep h [] fit k p at = absurd (cc)
 all_keep h (q ∷ ps) fit zero p at = let same : q ≡ p = cc in subst (Keeps h) same record { begins = fit.0.0; own = fit.0.1 }
 all_keep h (q ∷ ps) fit (suc k) p at = all_keep h ps fit.1 k p at
 
--- what stands behind the passes that were taken in
+-- what stands after the passes that were taken in
 slice_get_next : {A : Type 0} (xs ys : List A) (x : A) → slice_get (xs ++ x ∷ ys) (length xs) ≡ Some x
 slice_get_next [] ys x = refl
 slice_get_next (z ∷ xs) ys x = slice_get_next xs ys x

@@ -1,4 +1,4 @@
--- The state that the tables stand for behind an event.
+-- The state that the tables stand for after an event.
 use Rattle.std.proofs.Common.{ℕ, ◌≡◌, ◌≤◌, Bool, true, false, cond, List, [], ◌∷◌, ◌++◌, get_or, arith, ◌∙◌, ap, sym, refl, subst, zero, suc, ◌<◌, ◌+◌, not, ◌&&◌, ◌||◌}
 use Rattle.std.specs.Prelude.{All, Option, Some, None, count_by, find, if◌then◌else◌, is_some, map, option_and_then, IfSome}
 use Rattle.std.proofs.lemmas.Bool.{and_parts, and_from}
@@ -148,7 +148,7 @@ object-shown d k h some =
       of-connection s (Some y) its e = (refl, sym its ∙ handle-same y h e)
       of-connection s None its e = cc
 
--- ---- the state behind an event
+-- ---- the state after an event
 
 pub stands-behind : (s : System) (d new : TablesView) (bytes after : List Bytes) (st next : State) (shown : List Handle) → AreKept d → AreKept new → Stands d bytes st → KeepsNames s d new
     → next.spm ≡ spm_of new → next.memory ≡ byte_at after → next.handles_given ≡ st.handles_given ++ shown → All (λ h. 1 ≤ objects_with next.spm h) shown → Stands new after next

@@ -1,4 +1,4 @@
-//! The law of what tables stand for: behind each event and each run, the machine's state.
+//! The law of what tables stand for: after each event and each run, the machine's state.
 //!
 //! The functions here do nothing. Each one's contract is a law of the tables and the image of a manager, for
 //! every system.
@@ -22,18 +22,18 @@ ghost use Rattle.slot_names.specs.Stands.{Stands};
 ghost use Rattle.spm_tables.specs.TablesView.{TablesView, spm_of};
 ghost use Rattle.standing_law.specs.Kept.{AreKept};
 
-/// Tables and an image whose connections, messages, phases and bytes are those behind a run, and whose
-/// slots have the names that the run gave, stand for the state behind it, its given handles included.
+/// Tables and an image whose connections, messages, phases and bytes are those after a run, and whose
+/// slots have the names that the run gave, stand for the state after it, its given handles included.
 /// Each call of the manager says the first by its clauses on the answer, and the second by `names`.
 pub fn tables_stand_in_runs()
     ensures { InEachNamedRun (λ s es w. (d : TablesView) (bytes : List Bytes) → NamesAre d w.names → w.state.spm ≡ spm_of d → w.state.memory ≡ byte_at bytes → Stands d bytes w.state) }
 {}
 
-/// Tables and an image that stand for a state, whatever led to it, stand behind an event for each state with
+/// Tables and an image that stand for a state, whatever led to it, stand after an event for each state with
 /// the connections, messages, phases and bytes that they then have, if the event keeps names and handles
 /// (`KeepsNames`), and gives no handles but those of connections and messages that are then there. Each call
 /// of the manager says the first by its clause `names`, and by its clauses on the answer which state that is;
-/// so behind each call the tables stand for its case's new state, with no run behind it.
+/// so after each call the tables stand for its case's new state, whatever led to it.
 ///
 /// `AreKept` is what all tables keep of their pools, as `Tables::law` says. `event` says this of whichever handles
 /// the event gives; `quiet` of an event that gives none, as each call but `psa_get`, and as the panic of a

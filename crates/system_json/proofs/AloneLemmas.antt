@@ -53,7 +53,7 @@ item_alone of found vs i v lt is left none =
     first_none (manifest_item of i (view v)) (λ n. rest_of of (found ++ n ∷ []) (i + 1) vs)
     (subst (λ (r : Reading (List Manifest)). r.names ≡ []) (left ∙ one_step of found vs i v lt is) none)
 
--- and what is left behind an item is the whole
+-- and what is left after an item is the whole
 pub goes_on_alone : (of : Contents) (found : List Manifest) (vs : List Value) (i : ℕ) (v : Value) (m : Manifest) → i < length vs → v ≡ get_or vs i v
     → whole_of of vs ≡ rest_of of found i vs → (whole_of of vs).names ≡ [] → (manifest_item of i (view v)).gives ≡ Ok m → whole_of of vs ≡ rest_of of (found ++ m ∷ []) (i + 1) vs
 goes_on_alone of found vs i v m lt is left none given =

@@ -37,7 +37,7 @@ ends_read (Some of) a b c last e found vs i v lt is so_far failed read =
     read_after_err (List Manifest) b c (λ (m : Manifest). m) last e (manifest_item of i (view v)) (λ n. rest_of of (found ++ n ∷ []) (i + 1) vs) failed read in
     so_far c (Err e) (rw (one_step of found vs i v lt is) behind_it)
 
--- behind the last item
+-- after the last item
 pub is_done_read : (held : Option Contents) (a b : Option (List (List ℕ))) (found : List Manifest) (vs : List Value) (i : ℕ) → length vs ≤ i
     → IfSome held (λ of. LeadsRead a b (rest_of of found i vs) (whole_of of vs)) → IfSome held (λ of. HasRead a b (Ok found) (whole_of of vs).names)
 unfolding manifests_after

@@ -42,7 +42,7 @@ manifest_at_tree bytes d is = rw is refl
 abbrev pub Leads : Reading (List Manifest) → Reading (List Manifest) → Type 0
 Leads rest whole = (last : Option (Option (List ℕ))) (r : Result (List Manifest) PartsError) → Gives (λ ms. ms) last r rest → Gives (λ ms. ms) last r whole
 
--- what is still to be read behind the manifests that were found
+-- what is still to be read after the manifests that were found
 abbrev pub rest_of : Contents → List Manifest → ℕ → List Value → Reading (List Manifest)
 rest_of of found i vs = manifests_after of found i (items_view (drop i vs))
 

@@ -84,7 +84,7 @@ impl Reader for NewActorReader<'_> {
     }
 }
 
-/// The script of an actor, behind those before it.
+/// The script of an actor, after those before it.
 #[derive(Clone, Copy)]
 pub(crate) struct ScriptReader<'a> {
     pub system: &'a System,
@@ -133,7 +133,7 @@ fn no_scripts(alloc: Global, count: u32) -> Result<Vec<List<Lines>>, AllocError>
     Ok(scripts)
 }
 
-/// Puts a script behind those of its actor.
+/// Puts a script after those of its actor.
 fn add_script(
     alloc: Global,
     by_actor: &mut Vec<List<Lines>>,

@@ -241,7 +241,7 @@ fn level_here(alloc: Global, tree: &Value) -> Result<u32, ReadError>
     placed(Root::System, Vec::new(alloc), read)
 }
 
-/// The whole, with what stands behind the manifests.
+/// The whole, with what stands after the manifests.
 fn parts_here(
     alloc: Global,
     level: u32,

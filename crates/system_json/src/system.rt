@@ -85,7 +85,7 @@ pub(crate) fn level(alloc: Global, tree: &Value) -> Result<u32, PartError>
     required(alloc, &whole, tree, Key::IsolationLevel)
 }
 
-/// The whole, with what stands behind the manifests.
+/// The whole, with what stands after the manifests.
 #[tactic(auto, unfolding(ffm_model::specs::SystemAttributes::parts_with))]
 pub(crate) fn parts_with(
     alloc: Global,

@@ -43,7 +43,7 @@ fn append_word(text: &mut Vec<u8>, word: Word<'_>) -> Result<(), AllocError>
     }
 }
 
-/// Appends words, each behind a space.
+/// Appends words, each after a space.
 pub fn append_words(text: &mut Vec<u8>, words: &[Word<'_>]) -> Result<(), AllocError>
     ensures { OnOk result (text.new.items ≡ text.old.items ++ flat_map spaced (map word_text words.now)) }
 {

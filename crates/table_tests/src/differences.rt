@@ -192,7 +192,7 @@ fn one_byte_differs(rt: HostRuntime) -> Result<(), Fail> {
     Ok(())
 }
 
-// Two bytes among the second 32 of the region of 1,000 bytes, and one behind the last 32.
+// Two bytes among the second 32 of the region of 1,000 bytes, and one after the last 32.
 const THREE: &[(u32, &[u8])] = &[
     (0x3000_0021, &[0x7f]),
     (0x3000_003f, &[0xfe]),

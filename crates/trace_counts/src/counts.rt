@@ -29,7 +29,7 @@ pub struct Moved {
 pub struct Wait {
     /// The place of the entry that made the call; 0 where there is none.
     pub from: u32,
-    /// How many entries later it returned, or how many entries came behind it.
+    /// How many entries later it returned, or how many entries came after it.
     pub entries: u32,
     pub is_over: bool,
     /// The place of the call's name among the names.
@@ -93,7 +93,7 @@ fn bytes_of(entry: &Entry) -> Option<(Handle, u32)> {
     }
 }
 
-// The bytes that an entry moves, where it is a step behind this state.
+// The bytes that an entry moves, where it is a step after this state.
 fn move_of(system: &System, objects: &Objects, entry: &Entry) -> Option<Move> {
     let (handle, bytes) = bytes_of(entry)?;
     let message = objects.message_held(system, entry.actor.0, handle)?;

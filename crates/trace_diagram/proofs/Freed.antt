@@ -61,7 +61,7 @@ loses-message s limit b p a h =
       count-ext (connection_marked t) (lost_of s p a) (λ c. turned (is_awaited c.phase) (is_service_of s p c.service) (c.client.0 == a)) b.connections,
     )
 
--- one that is Blocked before a panic and not behind it
+-- one that is Blocked before a panic and not after it
 freed-loses : (s : System) (limit : Handle → ℕ) (b : SpmState) (p a : ℕ) → Balanced s limit b → (a == p) ≡ false → phase_of b a ≡ Blocked → is_blocked (phase_of (panic_effect s b p) a) ≡ false → 1 ≤ count_by (is_lost s p a) b.messages
 freed-loses s limit b p a h apart blocked freed =
     phase_after s limit b p a (1 ≤ count_by (is_lost s p a) b.messages) h apart

@@ -52,7 +52,7 @@ use Rattle.trace_diagram.proofs.Issues.{IsIssued, own-connection, step-issues}
 abbrev pub Each : (ℕ → ℕ → ℤ → Type 0) → List PendingMessage → Type 0
 Each R ms = AllByRecursion (λ (m : PendingMessage). R m.client.0 m.service m.kind) ms
 
--- and of each message behind an event of the actor a, but for its own and those whose client is not Blocked
+-- and of each message after an event of the actor a, but for its own and those whose client is not Blocked
 abbrev OtherHas : (ℕ → ℕ → ℤ → Type 0) → ℕ → List ActorPhase → PendingMessage → Type 0
 OtherHas R a phases m = (m.client.0 == a) ≡ false → get_or phases m.client.0 Ended ≡ Blocked → R m.client.0 m.service m.kind
 
@@ -244,7 +244,7 @@ blocked-is : (o p : Outcome) → outcome_eq o p ≡ true → is_blocked_outcome 
 blocked-is outcome.Blocked outcome.Blocked e k = refl
 blocked-is o p e k = cc
 
--- who is Blocked behind its entry was answered Blocked
+-- who is Blocked after its entry was answered Blocked
 pub was-due : (s : System) (st new : State) (e : Entry) → Balanced s (times st.handles_given) st.spm → is_sound (phase_of st.spm e.actor.0) ≡ true → step s st e ≡ Some new → phase_of new.spm e.actor.0 ≡ Blocked → e.outcome ≡ outcome.Blocked
 was-due s st new e balanced sound is phase =
     let a : ℕ = e.actor.0 in

@@ -41,7 +41,7 @@ placed k b last a = record { place = k; arrow = a; answers = answered_place b la
 abbrev pub arrows_at : System → Part → ℕ → SpmState → List ℕ → Entry → List PlacedArrow
 arrows_at s part k b last e = if is_in_part part k then map (placed k b last) (arrows_of s b e) else []
 
--- the arrows of the entries behind n others that led to a state, up to the first that is no step or exceeds the limit
+-- the arrows of the entries after n others that led to a state, up to the first that is no step or exceeds the limit
 abbrev pub arrows_from : System → ℕ → Part → ℕ → List ℕ → List Entry → State → List PlacedArrow
 arrows_from s limit part n last [] st = []
 arrows_from s limit part n last (e ∷ es) st =

@@ -99,7 +99,7 @@ pub record SendsMessage (s : System) (b : SpmState) (e : Entry) : Type 0 where
   pub owner : owner_of s service ≡ Some partition
   pub sends : arrows_of s b e ≡ arrow e.actor.0 partition (meaning.Message service kind) ∷ []
 
--- in each step of a run behind which the entry's actor is Blocked; psa_wait leaves its actor Waiting
+-- in each step of a run after which the entry's actor is Blocked; psa_wait leaves its actor Waiting
 abbrev pub EachCallHasArrow : Type 0
 EachCallHasArrow = (s : System) (m : ByteMap) (es : List Entry) (st new : State) (e : Entry) → after s m es ≡ Some st → step s st e ≡ Some new → phase_of new.spm e.actor.0 ≡ phase.Blocked → SendsMessage s st.spm e
 
@@ -121,7 +121,7 @@ pub record IsReleased (s : System) (m : ByteMap) (es : List Entry) (b : SpmState
   pub waits : IsWaiting s m es place actor service kind
   pub released : Contains (arrows_of s b e) (arrow partition actor (meaning.Release service kind))
 
--- in each step of a run in which a partition panics, each other actor that is Blocked before it and not behind it; a partition that panics for a reply is answered by that reply
+-- in each step of a run in which a partition panics, each other actor that is Blocked before it and not after it; a partition that panics for a reply is answered by that reply
 abbrev pub EachFreedHasArrow : Type 0
 EachFreedHasArrow = (s : System) (m : ByteMap) (es : List Entry) (st new : State) (e : Entry) (partition actor : ℕ) → after s m es ≡ Some st → step s st e ≡ Some new → panicking s st.spm e ≡ Some partition → (actor == partition) ≡ false
     → phase_of st.spm actor ≡ phase.Blocked → is_blocked (phase_of new.spm actor) ≡ false → IsReleased s m es st.spm e partition actor

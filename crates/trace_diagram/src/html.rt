@@ -75,7 +75,7 @@ fn push_heading(out: &mut String, trace: &Trace, part: Part) -> Result<(), Alloc
     write!(out, "Entries {from} to {to} of {count}</h1>\n")
 }
 
-// A name, which may be broken behind each `_`.
+// A name, which may be broken after each `_`.
 fn push_name(out: &mut String, name: &str) -> Result<(), AllocError> {
     for (place, word) in name.split('_').enumerate() {
         if place > 0 {

@@ -84,7 +84,7 @@ fn refused_name(call: Call) -> &'static str {
     }
 }
 
-// Appends a name behind those that stand there.
+// Appends a name after those that stand there.
 fn push_listed(out: &mut String, is_first: &mut bool, name: &str) -> Result<(), AllocError> {
     if !*is_first {
         out.push_str(", ")?;

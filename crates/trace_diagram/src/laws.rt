@@ -18,7 +18,7 @@ pub fn calls_are_answered_once()
     ensures { EachIsAnsweredOnce }
 {}
 
-/// Each entry behind which its actor is Blocked is a call for a message to a service. It has one arrow, from
+/// Each entry after which its actor is Blocked is a call for a message to a service. It has one arrow, from
 /// the client to the service's partition, with that message. A call for a message that answers Blocked leaves
 /// its actor Blocked. Each reply has its arrow, which goes to the client of its message.
 pub fn calls_and_replies_have_arrows()

@@ -7,7 +7,7 @@ use Rattle.trace_print.specs.Lines.{IsEntryText, IsVerdictText, IsWrong, unended
 use Rattle.trace_print.proofs.Traces.{head_is}
 use Rattle.trace_print.proofs.Verdicts.{not_both}
 
--- an entry's text, with room for it and another part behind it, isn't wrong
+-- an entry's text, with room for it and another part after it, isn't wrong
 entry_is_right : (counts : ActorCounts) (n : ℕ) {texts : List Word} {k : ℕ} → IsWrong counts n texts k → (text : Word) (rest : List Word) → IsEntryText counts text → n < MAX_ENTRIES → (rest ≡ [] → ⊥) → texts ≡ text ∷ rest → ⊥
 entry_is_right counts n (unended other) text rest is_entry room some e = some (sym (head_is other text [] rest e).1)
 entry_is_right counts n (neither other others no_entry no_verdict) text rest is_entry room some e = no_entry (subst (IsEntryText counts) (sym (head_is other text others rest e).0) is_entry)
@@ -22,7 +22,7 @@ no_first : (counts : ActorCounts) {n : ℕ} {texts : List Word} {k : ℕ} → Is
 no_first counts (here n texts k w) e = nothing_wrong counts n w e
 no_first counts (later n text rest k is_entry room w) e = absurd cc
 
--- what stands behind the verdict is wrong, and nothing before it
+-- what stands after the verdict is wrong, and nothing before it
 past_is : (counts : ActorCounts) (n : ℕ) {texts : List Word} {k : ℕ} → IsWrong counts n texts k → (text next : Word) (rest : List Word) → IsVerdictText n text → texts ≡ text ∷ next ∷ rest → k ≡ n + 2
 past_is counts n (unended other) text next rest is_verdict e = absurd cc
 past_is counts n (neither other others no_entry no_verdict) text next rest is_verdict e = absurd (no_verdict (subst (IsVerdictText n) (sym (head_is other text others (next ∷ rest) e).0) is_verdict))

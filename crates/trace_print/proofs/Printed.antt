@@ -47,11 +47,11 @@ signed_word (b ∷ bs) =
 
 -- ---- words
 
--- what is read of words behind a front: the front and the words are what it spells and the words that are left, and it is in range
+-- what is read of words after a front: the front and the words are what it spells and the words that are left, and it is in range
 Behind : {X : Type 0} → (X → List Word) → (X → Type 0) → Option (X × List Word) → List Word → List Word → Type 0
 Behind spell Fits o front ws = Gives o (λ a. (front ++ ws ≡ spell a.0 ++ a.1) × Fits a.0)
 
--- the same of a reader, behind no front
+-- the same of a reader, after no front
 record Reads {X : Type 0} (read : List Word → Option (X × List Word)) (spell : X → List Word) (Fits : X → Type 0) : Type 0 where
   pub each : (ws : List Word) → Behind spell Fits (read ws) [] ws
 

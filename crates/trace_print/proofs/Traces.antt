@@ -18,7 +18,7 @@ texts_of counts es = map (entry_text counts) es
 abbrev pub lines_of : ActorCounts → List Entry → List ℕ
 lines_of counts es = flat_map (λ e. line (entry_text counts e)) es
 
--- the parts of lines of entries, and of what stands behind them
+-- the parts of lines of entries, and of what stands after them
 pub parts_behind : (counts : ActorCounts) (es : List Entry) (rest : List ℕ) → parts 10 (lines_of counts es ++ rest) ≡ texts_of counts es ++ parts 10 rest
 parts_behind counts [] rest = refl
 parts_behind counts (e ∷ es) rest =
@@ -26,7 +26,7 @@ parts_behind counts (e ∷ es) rest =
     let first = split_word 10 31 (entry_text counts e) (lines_of counts es ++ rest) (lit≤ tt) (text_of_entry counts e) in
     ap (parts 10) regrouped ∙ (first ∙ ap (λ (ws : List Word). entry_text counts e ∷ ws) (parts_behind counts es rest))
 
--- the first wrong line behind lines of entries
+-- the first wrong line after lines of entries
 pub wrong_behind : (counts : ActorCounts) (n : ℕ) (es : List Entry) (texts : List Word) (k : ℕ) → AllByRecursion (EntryFits counts) es → n + length es ≤ MAX_ENTRIES
     → IsFirstWrong counts (n + length es) texts k → IsFirstWrong counts n (texts_of counts es ++ texts) k
 wrong_behind counts n [] texts k fits le w = let e : n + 0 ≡ n = omega arith in subst (λ (m : ℕ). IsFirstWrong counts m texts k) e w
@@ -35,7 +35,7 @@ wrong_behind counts n (e ∷ es) texts k fits le w =
     later n (entry_text counts e) (texts_of counts es ++ texts) k (e, fits.0, refl) (omega arith)
     (wrong_behind counts (n + 1) es texts k fits.1 (omega arith) (subst (λ (m : ℕ). IsFirstWrong counts m texts k) moved w))
 
--- the parts that are left of a trace's text behind n entries
+-- the parts that are left of a trace's text after n entries
 abbrev pub left : ActorCounts → ℕ → List Entry → Verdict → List Word
 left counts n es v = texts_of counts es ++ (verdict_text v (n + length es) ∷ [] ∷ [])
 

@@ -14,7 +14,7 @@ use Rattle.trace_print.specs.declared.whole.TraceLine.TheVariants as part
 use Rattle.trace_print.specs.View.{parts}
 use Rattle.trace_print.specs.Lines.{IsWrong, IsFirstWrong}
 
--- an entry's line stands in front of a text, with room for it behind n entries
+-- an entry's line stands in front of a text, with room for it after n entries
 pub record BeginsWithEntry (counts : ActorCounts) (n : ℕ) (text : List ℕ) (e : Entry) (length_of_line : ℕ) : Type 0 where
   pub line : text ≡ line (entry_text counts e) ++ drop length_of_line text
   pub some : 0 < length_of_line
@@ -22,7 +22,7 @@ pub record BeginsWithEntry (counts : ActorCounts) (n : ℕ) (text : List ℕ) (e
   pub fits : EntryFits counts e
   pub room : n < MAX_ENTRIES
 
--- what the first line of a text is, behind n entries, or that it is wrong
+-- what the first line of a text is, after n entries, or that it is wrong
 abbrev pub ReadsLine : ActorCounts → ℕ → List ℕ → Result TraceLine ℕ → Type 0
 ReadsLine counts n text (Ok (part.Entry e len)) = BeginsWithEntry counts n text e len
 ReadsLine counts n text (Ok (part.Verdict v)) = text ≡ line (verdict_text v n)

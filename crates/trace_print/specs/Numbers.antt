@@ -19,7 +19,7 @@ more base n d = if nat_lt d base && nat_lt (n * base + d) (2 ^ 32) then Some (n 
 abbrev pub with_digit : ℕ → ℕ → ℕ → Option ℕ
 with_digit base n b = digit_at b >>= more base n
 
--- the number that digits spell behind those of n
+-- the number that digits spell after those of n
 unfoldable pub number_after : ℕ → ℕ → List ℕ → Option ℕ
 number_after base n [] = Some n
 number_after base n (b ∷ bs) = with_digit base n b >>= λ m. number_after base m bs
@@ -44,7 +44,7 @@ negative n = if nat_le 1 n && nat_le n (2 ^ 31) then Some (neg_ℤ (pos n)) else
 abbrev pub positive : ℕ → Option ℤ
 positive n = if nat_lt n (2 ^ 31) then Some (pos n) else None
 
--- behind a `-` a negative number
+-- after a `-` a negative number
 abbrev pub signed_of : Word → Option ℤ
 signed_of [] = None
 signed_of (b ∷ bs) = if b == 45 then unsigned_of bs >>= negative else unsigned_of (b ∷ bs) >>= positive

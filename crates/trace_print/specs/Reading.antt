@@ -12,12 +12,12 @@ use Rattle.ffm_model.specs.TraceText.{Word}
 use Rattle.trace_print.specs.Numbers.{◌>>=◌, unsigned_of, signed_of, hexadecimal_of}
 use Rattle.trace_print.specs.View.{parts}
 
--- the first word, and the words behind it
+-- the first word, and the words after it
 abbrev pub word_at : List Word → Option (Word × List Word)
 word_at [] = None
 word_at (w ∷ ws) = Some (w, ws)
 
--- what the first word says, and the words behind it
+-- what the first word says, and the words after it
 abbrev pub first_by : {A : Type 0} → (Word → Option A) → List Word → Option (A × List Word)
 first_by f [] = None
 first_by f (w ∷ ws) = f w >>= λ x. Some (x, ws)
@@ -268,7 +268,7 @@ outcome_at (name ∷ ws) = outcome_named name ws
 abbrev pub place_of : ℕ → Word → Option ℕ
 place_of count digits = unsigned_of digits >>= λ k. if nat_le 1 k && nat_le k count then Some (k - 1) else None
 
--- behind `p` a partition, behind `n` a client, and `dev` is the device
+-- after `p` a partition, after `n` a client, and `dev` is the device
 unfoldable pub actor_of : ActorCounts → Word → Option ℕ
 actor_of counts [] = None
 actor_of counts (b ∷ digits) =
@@ -276,12 +276,12 @@ actor_of counts (b ∷ digits) =
     else (if b == 110 then (place_of counts.clients digits >>= λ k. Some (counts.partitions + k))
     else (if counts.device && bytes_eq (b ∷ digits) (codes "dev") then Some (counts.partitions + counts.clients) else None))
 
--- the words behind `->`
+-- the words after `->`
 abbrev pub behind_arrow : List Word → Option (List Word)
 behind_arrow [] = None
 behind_arrow (w ∷ ws) = if bytes_eq w (codes "->") then Some ws else None
 
--- no word is left behind the outcome
+-- no word is left after the outcome
 unfoldable pub entry_at : ActorCounts → List Word → Option Entry
 entry_at counts ws = do
   actor ← first_by (actor_of counts) ws

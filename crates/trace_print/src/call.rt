@@ -8,7 +8,7 @@ ghost use Rattle.trace_print.specs.View.{words_of, seen};
 use crate::number::{Words, hexadecimal, signed, unsigned, word};
 use ffm_model::{Call, Handle, Sid, Status};
 
-/// A call, and the words behind it.
+/// A call, and the words after it.
 pub type CallAndRest<'a> = Option<(Call, Words<'a>)>;
 
 #[tactic(auto, unfolding(crate::specs::Reading::version_at))]
@@ -328,7 +328,7 @@ fn message_call<'a>(name: &[u8], words: Words<'a>) -> CallAndRest<'a>
     }
 }
 
-/// The call that the first words spell, and the words behind it.
+/// The call that the first words spell, and the words after it.
 #[tactic(auto, unfolding(crate::specs::Reading::call_named))]
 pub fn call<'a>(words: Words<'a>) -> CallAndRest<'a>
     ensures { option_map seen result ≡ call_at (words_of words.entry) }

@@ -8,7 +8,7 @@ use thiserror::Error;
 #[derive(Clone, Copy, Debug, Drop, PartialEq, Eq, Error)]
 pub enum TraceError {
     /// The first wrong line: a line that is neither an entry's nor the verdict's, an entry's line
-    /// behind as many as a trace may have, or a line behind the verdict's. Where each line is right
+    /// after as many as a trace may have, or a line after the verdict's. Where each line is right
     /// and the verdict's line or the last line feed is missing, it is the number of line feeds and
     /// one.
     #[error("line {line} is wrong")]

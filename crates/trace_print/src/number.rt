@@ -12,7 +12,7 @@ use memchr::memchr;
 /// word.
 pub type Words<'a> = Option<&'a [u8]>;
 
-/// The bytes before the first separator, and those behind it where there is one.
+/// The bytes before the first separator, and those after it where there is one.
 pub fn split_once(separator: u8, text: &[u8]) -> (&[u8], Option<&[u8]>)
     ensures parts { parts separator text.now ≡ result.0.now ∷ parts_left separator result.1 }
     ensures joined { IfSome result.1 (λ rest. text.now ≡ result.0.now ++ separator ∷ rest.now) }
@@ -23,7 +23,7 @@ pub fn split_once(separator: u8, text: &[u8]) -> (&[u8], Option<&[u8]>)
     }
 }
 
-/// The bytes before the first line feed, and those behind it where there is one.
+/// The bytes before the first line feed, and those after it where there is one.
 pub fn split_line(text: &[u8]) -> (&[u8], Option<&[u8]>)
     ensures parts { parts 10 text.now ≡ result.0.now ∷ parts_left 10 result.1 }
     ensures joined { IfSome result.1 (λ rest. text.now ≡ result.0.now ++ 10 ∷ rest.now) }
@@ -34,7 +34,7 @@ pub fn split_line(text: &[u8]) -> (&[u8], Option<&[u8]>)
     }
 }
 
-/// The first word, and the words behind it.
+/// The first word, and the words after it.
 pub fn word<'a>(words: Words<'a>) -> Option<(&'a [u8], Words<'a>)>
     ensures { option_map seen_word result ≡ word_at (words_of words.entry) }
 {
@@ -129,7 +129,7 @@ fn signed_of(word: &[u8]) -> Option<i32>
     }
 }
 
-/// The first word as an unsigned number, and the words behind it.
+/// The first word as an unsigned number, and the words after it.
 pub fn unsigned<'a>(words: Words<'a>) -> Option<(u32, Words<'a>)>
     ensures { option_map seen result ≡ unsigned_at (words_of words.entry) }
 {
@@ -137,7 +137,7 @@ pub fn unsigned<'a>(words: Words<'a>) -> Option<(u32, Words<'a>)>
     Some((unsigned_of(word)?, words))
 }
 
-/// The first word as a hexadecimal number, and the words behind it.
+/// The first word as a hexadecimal number, and the words after it.
 pub fn hexadecimal<'a>(words: Words<'a>) -> Option<(u32, Words<'a>)>
     ensures { option_map seen result ≡ hexadecimal_at (words_of words.entry) }
 {
@@ -145,7 +145,7 @@ pub fn hexadecimal<'a>(words: Words<'a>) -> Option<(u32, Words<'a>)>
     Some((hexadecimal_of(word)?, words))
 }
 
-/// The first word as a signed number, and the words behind it.
+/// The first word as a signed number, and the words after it.
 pub fn signed<'a>(words: Words<'a>) -> Option<(i32, Words<'a>)>
     ensures { option_map seen result ≡ signed_at (words_of words.entry) }
 {

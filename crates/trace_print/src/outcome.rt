@@ -8,7 +8,7 @@ ghost use Rattle.trace_print.specs.View.{words_of, seen};
 use crate::number::{Words, hexadecimal, signed, unsigned, word};
 use ffm_model::{Handle, Message, Outcome};
 
-/// An outcome, and the words behind it.
+/// An outcome, and the words after it.
 pub type OutcomeAndRest<'a> = Option<(Outcome, Words<'a>)>;
 
 #[tactic(auto, unfolding(crate::specs::Reading::sizes_at))]
@@ -67,7 +67,7 @@ fn signals<'a>(words: Words<'a>) -> OutcomeAndRest<'a>
     Some((Outcome::Signals(n), words))
 }
 
-/// The outcome that the first words spell, and the words behind it.
+/// The outcome that the first words spell, and the words after it.
 #[tactic(auto, unfolding(crate::specs::Reading::outcome_named))]
 pub fn outcome<'a>(words: Words<'a>) -> OutcomeAndRest<'a>
     ensures { option_map seen result ≡ outcome_at (words_of words.entry) }

@@ -46,7 +46,7 @@ fn has_ended(words: Words<'_>) -> bool
     words.is_none()
 }
 
-// The entry that words spell: an actor, a call, `->`, and an outcome, with no word behind it.
+// The entry that words spell: an actor, a call, `->`, and an outcome, with no word after it.
 #[tactic(auto, unfolding(crate::specs::Reading::entry_at))]
 fn entry_at(counts: Counts, words: Words<'_>) -> Option<Entry>
     ensures { result ≡ entry_at counts (words_of words.entry) }

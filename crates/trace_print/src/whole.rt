@@ -25,7 +25,7 @@ pub enum TraceLine {
     Verdict(Verdict),
 }
 
-// The verdict whose text this is, behind so many entries.
+// The verdict whose text this is, after so many entries.
 #[tactic(auto, unfolding(crate::specs::Lines::verdict_of))]
 fn verdict_of(count: u32, text: &[u8]) -> Option<Verdict>
     ensures { result ≡ verdict_of count text.now }
@@ -41,7 +41,7 @@ fn verdict_of(count: u32, text: &[u8]) -> Option<Verdict>
     }
 }
 
-// The first line of a text, behind so many entries, or the number of the line that is wrong.
+// The first line of a text, after so many entries, or the number of the line that is wrong.
 fn first_line(counts: Counts, count: u32, text: &[u8]) -> Result<TraceLine, u32>
     requires { count ≤ MAX_ENTRIES }
     ensures { ReadsLine counts count text.now result }

@@ -35,7 +35,7 @@ left_over s m limit es v r it =
 all_gone : (s : System) (limit : ℕ) (v : Verdict) (n : ℕ) (xs : List Entry) (st : State) → xs ≡ [] → judged_from s limit v n xs st ≡ (if option_map_or (verdict_eq v) (verdict_at s limit n st.spm) false then Legal else IllegalAt (n + 1))
 all_gone s limit v n xs st none = rw none refl
 
--- the entry behind those that were reached is illegal
+-- the entry after those that were reached is illegal
 next_is_illegal : (s : System) (m : ByteMap) (limit : ℕ) (es : List Entry) (r : Checker) (e : Entry) (it : IsReached s m limit es r) → r.count < length es
     → take (r.count + 1) es ≡ take r.count es ++ e ∷ [] → IsIllegal s limit r.count (state_of r.machine it.behind.handles) e
 next_is_illegal s m limit es r e it below more = which it.last where

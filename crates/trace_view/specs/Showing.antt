@@ -1,4 +1,4 @@
--- The state behind a place of a trace.
+-- The state after a place of a trace.
 -- Source: this simulator's; `after` and `judged` of the model.
 use Rattle.std.specs.Prelude.{ℕ, ◌≡◌, ◌<◌, ◌≤◌, ◌+◌, ◌-◌, ◌⊎◌, List, All, length, take, drop, get_or, slice_get, None, IsSome, IsSomeAnd}
 use Rattle.ffm_model.specs.declared.system.System.{System}
@@ -22,7 +22,7 @@ pub record AreLastPlaces (s : System) (es : List Entry) (places : List ℕ) : Ty
   pub actors : length places ≡ actor_count s
   pub each : (a : ℕ) → a < actor_count s → IsLastPlace es a (get_or places a 0)
 
--- the state behind the first k of these entries, which are within the limit
+-- the state after the first k of these entries, which are within the limit
 pub record IsStateBehind (s : System) (m : ByteMap) (limit : ℕ) (es : List Entry) (k : ℕ) (b : StateBehind) : Type 0 where
   pub within : k ≤ limit
   pub behind : IsBehind s m (take k es) b.checker
@@ -30,7 +30,7 @@ pub record IsStateBehind (s : System) (m : ByteMap) (limit : ℕ) (es : List Ent
   pub total : b.total ≡ length es
   pub last : AreLastPlaces s (take k es) b.last.items
 
--- the entry at place n, counted from 1, is the first that exceeds the limit or is no step behind those before it
+-- the entry at place n, counted from 1, is the first that exceeds the limit or is no step after those before it
 pub record IsIllegalAt (s : System) (m : ByteMap) (limit : ℕ) (es : List Entry) (n : ℕ) : Type 0 where
   pub before : ℕ
   pub place : n ≡ before + 1
@@ -39,13 +39,13 @@ pub record IsIllegalAt (s : System) (m : ByteMap) (limit : ℕ) (es : List Entry
   pub run : IsSome (after s m (take before es))
   pub illegal : (limit ≡ before) ⊎ (after s m (take n es) ≡ None)
 
--- what is behind place k: a state; or none, where there are fewer entries, or as many and one up to it is illegal
+-- what is after place k: a state; or none, where there are fewer entries, or as many and one up to it is illegal
 abbrev pub IsPlace : System → ByteMap → ℕ → List Entry → ℕ → Place → Type 0
 IsPlace s m limit es k (place.State b) = IsStateBehind s m limit es k b
 IsPlace s m limit es k place.Beyond = length es < k
 IsPlace s m limit es k (place.Illegal n) = (k ≤ length es) × ((n ≤ k) × IsIllegalAt s m limit es n)
 
--- the state behind all entries, or behind those before the first illegal one
+-- the state after all entries, or after those before the first illegal one
 pub record IsLastLegal (s : System) (m : ByteMap) (limit : ℕ) (es : List Entry) (b : StateBehind) : Type 0 where
   pub reached : IsReached s m limit es b.checker
   pub total : b.total ≡ length es

@@ -81,7 +81,7 @@ pub record IsOther (s : System) (st : State) (e : Entry) (answer : Outcome) : Ty
   pub is_answer : IsAnswer s st e answer
   pub unlike : e.outcome ≡ answer_like s st e e.outcome answer → ⊥
 
--- what a rule says of an entry that is no step behind a state; no two of them hold of one entry
+-- what a rule says of an entry that is no step after a state; no two of them hold of one entry
 abbrev pub Breaks : System → State → Entry → Rule → Type 0
 Breaks s st e rule.BeyondLimit = ⊥
 Breaks s st e rule.NoSuchActor = actor_count s ≤ e.actor.0
@@ -93,12 +93,12 @@ Breaks s st e (rule.StaleHandle answer) = IsStale s st e answer
 Breaks s st e (rule.OtherHandle answer) = IsOther s st e answer × (gives s st e ≡ true)
 Breaks s st e (rule.OtherAnswer answer) = IsOther s st e answer × (gives s st e ≡ false)
 
--- the rule by which an entry behind n others that led to a state is illegal: it exceeds the limit, or it is no step
+-- the rule by which an entry after n others that led to a state is illegal: it exceeds the limit, or it is no step
 abbrev pub IsRule : System → ℕ → ℕ → State → Entry → Rule → Type 0
 IsRule s limit n st e rule.BeyondLimit = limit ≤ n
 IsRule s limit n st e r = (n < limit) × ((step s st e ≡ None) × Breaks s st e r)
 
--- the entry is illegal behind n others that led to a state
+-- the entry is illegal after n others that led to a state
 abbrev pub IsIllegal : System → ℕ → ℕ → State → Entry → Type 0
 IsIllegal s limit n st e = (limit ≤ n) ⊎ (step s st e ≡ None)
 
@@ -115,7 +115,7 @@ abbrev pub refusal_shown : Call → Rule → Option Bool
 refusal_shown (call.Invoke h kind in_vec in_len out_vec out_len) (rule.OtherAnswer answer) = Some (is_refusal answer)
 refusal_shown _ _ = None
 
--- what is told of the call of an entry behind a state: its conditions, which mean what they say, and whether it is a PROGRAMMER ERROR, where the rule shows that
+-- what is told of the call of an entry after a state: its conditions, which mean what they say, and whether it is a PROGRAMMER ERROR, where the rule shows that
 pub record TellsOfCall (s : System) (st : State) (e : Entry) (i : IllegalEntry) : Type 0 where
   pub table : e.actor.0 < actor_count s → map told i.conditions.items ≡ conditions_of s st.spm e.actor.0 e.call
   pub none : actor_count s ≤ e.actor.0 → i.conditions.items ≡ []
@@ -125,14 +125,14 @@ pub record TellsOfCall (s : System) (st : State) (e : Entry) (i : IllegalEntry) 
 
 -- ---- the first illegal entry, and the verdict
 
--- the entry behind these others, and, where it is illegal, the rule by which it is
+-- the entry after these others, and, where it is illegal, the rule by which it is
 pub record BreaksRule (s : System) (limit : ℕ) (r : Checker) (e : Entry) (i : IllegalEntry) : Type 0 where
   pub place : i.place ≡ r.count + 1
   pub entry : i.entry ≡ e
   pub rule : (handles : List Handle) → Knows r.given handles → IsIllegal s limit r.count (state_of r.machine handles) e → IsRule s limit r.count (state_of r.machine handles) e i.rule
   pub call : (handles : List Handle) → Knows r.given handles → IsIllegal s limit r.count (state_of r.machine handles) e → TellsOfCall s (state_of r.machine handles) e i
 
--- the first illegal entry of a trace, behind n others
+-- the first illegal entry of a trace, after n others
 pub record IsIllegalEntry (s : System) (m : ByteMap) (limit : ℕ) (es : List Entry) (v : Verdict) (i : IllegalEntry) : Type 0 where
   pub before : ℕ
   pub place : i.place ≡ before + 1

@@ -1,4 +1,4 @@
-//! The state behind a part of a trace.
+//! The state after a part of a trace.
 ghost use Rattle.std.specs.Prelude.{◌≡◌, ◌<◌, ◌^◌, IfOk, length, slice_set};
 ghost use Rattle.ffm_model.specs.Ranges.{ranges_of};
 ghost use Rattle.memory_image.specs.Pieces.{byte_at, regions_of};
@@ -9,7 +9,7 @@ use machine_check::{Checker, reached};
 use memory_image::Image;
 use std::alloc::Global;
 
-/// The state behind the first entries of a trace.
+/// The state after the first entries of a trace.
 #[derive(Drop)]
 pub struct StateBehind {
     /// The judge's machine there, and how many entries led to it.
@@ -20,13 +20,13 @@ pub struct StateBehind {
     pub last: Vec<u32>,
 }
 
-/// What is behind the entry at a place.
+/// What is after the entry at a place.
 #[derive(Drop)]
 pub enum Place {
     State(StateBehind),
     /// The trace has fewer entries.
     Beyond,
-    /// An entry up to the place, this one, is no step or exceeds the limit, and so no state is behind it.
+    /// An entry up to the place, this one, is no step or exceeds the limit, and so no state is after it.
     Illegal(u32),
 }
 
@@ -54,7 +54,7 @@ fn last_entries(alloc: Global, system: &System, entries: &[Entry]) -> Result<Vec
     Ok(last)
 }
 
-/// The state behind the entry at a place, counted from 1. At place 0 it is the opening.
+/// The state after the entry at a place, counted from 1. At place 0 it is the opening.
 ///
 /// It needs memory for the state, for one copy of the image and for the handles that the entries give. The memory has
 /// the system's regions, and the trace has fewer than 2^31 entries.
@@ -87,7 +87,7 @@ pub fn behind_place(
     }))
 }
 
-/// The state behind the last legal entry of a trace.
+/// The state after the last legal entry of a trace.
 ///
 /// It needs what `behind_place` does. Where an entry is illegal, those before it are followed twice.
 pub fn behind_last(

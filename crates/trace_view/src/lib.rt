@@ -1,4 +1,4 @@
-//! What a trace shows: the state behind each of its entries, and why an entry is refused.
+//! What a trace shows: the state after each of its entries, and why an entry is refused.
 //!
 //! The state is the one that the judge's machine keeps. Texts name actors, services and signals as the
 //! system does.

@@ -23,7 +23,7 @@ use machine_check::{Checker, reached};
 use memory_image::Image;
 use std::alloc::Global;
 
-/// The rule by which an entry is illegal behind those before it: the first that it breaks, in this order.
+/// The rule by which an entry is illegal after those before it: the first that it breaks, in this order.
 #[derive(Clone, Copy, Debug, PartialEq, Eq)]
 pub enum Rule {
     /// The run has as many entries as it may have.
@@ -93,7 +93,7 @@ fn returns_when_due(call: Call, phase: ActorPhase) -> bool
     }
 }
 
-// The rule that an entry behind so many others breaks whatever it answers. None where its call may be made.
+// The rule that an entry after so many others breaks whatever it answers. None where its call may be made.
 #[tactic(auto, using(crate::proofs::Rules::no_such_actor, crate::proofs::Rules::not_enabled, crate::proofs::Rules::return_due, crate::proofs::Rules::no_return_due, crate::proofs::Rules::may_be_made))]
 fn broken_before(
     system: &System,
@@ -211,7 +211,7 @@ fn refusal_shown(call: Call, rule: Rule) -> Option<bool>
     }
 }
 
-// An entry that is no step behind those that were followed, or exceeds the limit.
+// An entry that is no step after those that were followed, or exceeds the limit.
 fn illegal_entry(
     alloc: Global,
     system: &System,

@@ -362,7 +362,7 @@ fn put_place(text: &mut Vec<u8>, behind: &StateBehind) -> Result<(), AllocError>
         put_words(
             text,
             &[
-                Word::Text("state behind entry "),
+                Word::Text("state after entry "),
                 Word::Number(behind.checker.count),
                 Word::Text(" of "),
             ],

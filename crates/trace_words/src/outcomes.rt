@@ -15,7 +15,7 @@ pub fn put_entry(text: &mut Vec<u8>, system: &System, entry: &Entry) -> Result<(
     }
 }
 
-// What stands behind the arrow of a line, without its line feed.
+// What stands after the arrow of a line, without its line feed.
 fn behind_arrow(line: &[u8]) -> &[u8] {
     let start = match line.iter().position(|byte| *byte == b'>') {
         Some(place) => place + 1,

@@ -38,7 +38,7 @@ pub fn put_words(text: &mut Vec<u8>, words: &[Word<'_>]) -> Result<(), AllocErro
     Ok(())
 }
 
-/// Appends spaces until what stands behind a place of the text has so many bytes.
+/// Appends spaces until what stands after a place of the text has so many bytes.
 pub fn pad(text: &mut Vec<u8>, start: usize, width: usize) -> Result<(), AllocError> {
     let used = text.len().saturating_sub(start);
     for _ in used..width {
@@ -54,7 +54,7 @@ pub fn put_left(text: &mut Vec<u8>, word: Word<'_>, width: usize) -> Result<(), 
     pad(text, start, width)
 }
 
-/// Appends a number behind spaces, together at least so many bytes.
+/// Appends a number after spaces, together at least so many bytes.
 pub fn put_right(text: &mut Vec<u8>, number: u32, width: usize) -> Result<(), AllocError> {
     let mut buffer = Buffer::new();
     let digits = buffer.format(number);

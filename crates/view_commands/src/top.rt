@@ -151,7 +151,7 @@ fn write<S: Sink>(out: &mut S, text: &[u8]) -> Result<(), Failed>
 /// Shows what the words ask for over these files: writes the text, and answers the status to end with.
 ///
 /// 0: the text that was asked for, and for `why` that the trace is legal. 6: the trace is illegal, and so there is
-/// no state behind the place that was asked for, or `why` says why. 1: a file is refused, by ffm's own line. 2: the
+/// no state after the place that was asked for, or `why` says why. 1: a file is refused, by ffm's own line. 2: the
 /// words are no command, or name a place that the trace doesn't have. 7: a file that is asked for can't be read, and
 /// nothing is written. 8: the text can't be written whole. 9: no memory was found, and nothing is written.
 #[tactic(auto, using(crate::proofs::Answered::part_due))]
@@ -165,8 +165,8 @@ pub fn ffm_view<F: Files, S: Sink>(
 
     // A status below 7 comes with a text, written whole: for words that `clap` doesn't take, or that ask for help or
     // the version, with the status of its answer; for files that are refused with ffm's own line; and else there is
-    // what is shown: the state behind the place, or how the trace is judged and why, or counts of its legal entries,
-    // or a diagram; or the line that the trace has no such place, or that no state is behind it.
+    // what is shown: the state after the place, or how the trace is judged and why, or counts of its legal entries,
+    // or a diagram; or the line that the trace has no such place, or that no state is after it.
     ensures due { result < 7 → IfSome (F.held files.old) (λ of.
         WritesDue (map string_bytes words.now) of (S.taken out.old) (S.taken out.new) result) }
     ensures handed_on { result < 7 → S.is_handed_on out.new }

@@ -22,11 +22,11 @@ use view_words::{Aspect, Format};
 /// What is shown.
 #[derive(Drop)]
 pub enum View {
-    /// The state behind an entry.
+    /// The state after an entry.
     State(StateBehind),
     /// That the trace has no such place, but so many entries.
     NoPlace { place: u32, total: u32 },
-    /// That no state is behind a place, since an entry up to it is illegal.
+    /// That no state is after a place, since an entry up to it is illegal.
     NoState { illegal: u32, place: u32 },
     Why(Finding),
     /// A diagram, and its text.
@@ -144,7 +144,7 @@ fn no_state(alloc: Global, illegal: u32, place: u32) -> Result<String, AllocErro
     ensures { IfOk result (λ line. string_bytes line ≡ no_state_line illegal place) }
 {
     format!(in alloc;
-        "entry {illegal} is illegal: no state behind entry {place}; ffm_view why tells more\n"
+        "entry {illegal} is illegal: no state after entry {place}; ffm_view why tells more\n"
     )
 }
 

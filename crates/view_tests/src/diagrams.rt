@@ -14,7 +14,7 @@ const TRACE: &str =
 const ILLEGAL: &str =
     "p1 wait 0x00000010 0x80000000 -> blocked\nn1 connect 0x00000040 1 -> blocked\np1 resume -> signals 0x00000010\np1 get 0x00000010 0x30000000 -> message -1 1536 -1 0x00000000 0 0 0 0 0 0 0 0\np1 reply 1536 -131 -> done\nn1 stop end -> done\nquiet 6\n";
 
-/// What stands behind the files, a trace, and what comes of them.
+/// What stands after the files, a trace, and what comes of them.
 struct Case {
     options: &'static [&'static str],
     trace: &'static str,
@@ -61,7 +61,7 @@ static CASES: [Case; 8] = [
     Note over p1,n1: quiet 12
 ",
     },
-    // The first place is behind the second.
+    // The first place is after the second.
     Case {
         options: &["--from", "7", "--to", "6"],
         trace: TRACE,
@@ -94,7 +94,7 @@ static CASES: [Case; 8] = [
     Note over p1,n1: illegal at 6
 ",
     },
-    // The part is behind the illegal entry.
+    // The part is after the illegal entry.
     Case {
         options: &["--from", "6"],
         trace: ILLEGAL,

@@ -98,7 +98,7 @@ fn refusals(rt: HostRuntime) -> Result<(), Fail> {
 fn no_state_behind_an_illegal_entry(rt: HostRuntime) -> Result<(), Fail> {
     let words = ["ffm_view", "state", "system", "scenario", "trace", "2"];
     let trace = "p1 stop end -> done\np1 stop end -> done\nquiet 2\n";
-    let wanted = "entry 2 is illegal: no state behind entry 2; ffm_view why tells more\n";
+    let wanted = "entry 2 is illegal: no state after entry 2; ffm_view why tells more\n";
     assert_tells(&rt, rt.alloc(), &words, ("{}", trace), (6, wanted))
 }
 

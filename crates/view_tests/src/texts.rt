@@ -28,7 +28,7 @@ const NOT_GIVEN: &str =
 const CAME: &str =
     "p1 irq_disable 0x00000020 -> number 1\np1 wait 0x00000030 0x80000000 -> blocked\ndev raise 0 -> done\nn1 connect 0x00000040 1 -> blocked\nfull 4\n";
 
-/// A command with what may stand behind its files, a trace, and what comes of them.
+/// A command with what may stand after its files, a trace, and what comes of them.
 struct Shown {
     command: &'static str,
     /// Nothing where none stands there.
@@ -44,7 +44,7 @@ static SHOWN: [Shown; 11] = [
         place: "",
         trace: MOVING,
         status: 0,
-        text: "state behind entry 17 of 17\nactors, each with the place of its last entry\n  CRYPTO  p1     15  runs\n  LOG     p2     16  runs\n  NS      n1     12  blocked in psa_call at HASH of CRYPTO\n  device  dev    17  runs\nconnections\n  NS     -> HASH    busy     handle 1024  rhandle 0x00000007\nmessages, oldest first, with the bytes moved of each vector\n  NS     -> HASH    psa_call    held by CRYPTO as 1537  type 3  in0 3/4  out0 2/8\ndoorbells asserted: CRYPTO\ninterrupts\n  TICK_SIGNAL of CRYPTO  enabled, asserted\n",
+        text: "state after entry 17 of 17\nactors, each with the place of its last entry\n  CRYPTO  p1     15  runs\n  LOG     p2     16  runs\n  NS      n1     12  blocked in psa_call at HASH of CRYPTO\n  device  dev    17  runs\nconnections\n  NS     -> HASH    busy     handle 1024  rhandle 0x00000007\nmessages, oldest first, with the bytes moved of each vector\n  NS     -> HASH    psa_call    held by CRYPTO as 1537  type 3  in0 3/4  out0 2/8\ndoorbells asserted: CRYPTO\ninterrupts\n  TICK_SIGNAL of CRYPTO  enabled, asserted\n",
     },
     Shown {
         command: "state",
@@ -65,7 +65,7 @@ static SHOWN: [Shown; 11] = [
         place: "",
         trace: CIRCLE,
         status: 0,
-        text: "state behind entry 4 of 4\nactors, each with the place of its last entry\n  CRYPTO  p1      1  waits for DOORBELL\n  LOG     p2      2  blocked in psa_connect at HASH of CRYPTO\n  NS      n1      3  blocked in psa_connect at HASH of CRYPTO\n  device  dev     4  has ended\nconnections\n  LOG    -> HASH    opening  no handle yet\n  NS     -> HASH    opening  no handle yet\nmessages, oldest first, with the bytes moved of each vector\n  LOG    -> HASH    psa_connect queued\n  NS     -> HASH    psa_connect queued\nno doorbell asserted\ninterrupts\n  TICK_SIGNAL of CRYPTO  enabled\nstalled: no actor can go on\n  CRYPTO  waits for DOORBELL from LOG\n  LOG     blocked in psa_connect at HASH of CRYPTO; CRYPTO has to take the message and waits itself\n  NS      blocked in psa_connect at HASH of CRYPTO; CRYPTO has to take the message and waits itself\ncircle: CRYPTO -> LOG -> CRYPTO\n",
+        text: "state after entry 4 of 4\nactors, each with the place of its last entry\n  CRYPTO  p1      1  waits for DOORBELL\n  LOG     p2      2  blocked in psa_connect at HASH of CRYPTO\n  NS      n1      3  blocked in psa_connect at HASH of CRYPTO\n  device  dev     4  has ended\nconnections\n  LOG    -> HASH    opening  no handle yet\n  NS     -> HASH    opening  no handle yet\nmessages, oldest first, with the bytes moved of each vector\n  LOG    -> HASH    psa_connect queued\n  NS     -> HASH    psa_connect queued\nno doorbell asserted\ninterrupts\n  TICK_SIGNAL of CRYPTO  enabled\nstalled: no actor can go on\n  CRYPTO  waits for DOORBELL from LOG\n  LOG     blocked in psa_connect at HASH of CRYPTO; CRYPTO has to take the message and waits itself\n  NS      blocked in psa_connect at HASH of CRYPTO; CRYPTO has to take the message and waits itself\ncircle: CRYPTO -> LOG -> CRYPTO\n",
     },
     Shown {
         command: "why",
@@ -79,28 +79,28 @@ static SHOWN: [Shown; 11] = [
         place: "",
         trace: NOT_TAKEN,
         status: 0,
-        text: "state behind entry 4 of 4\nactors, each with the place of its last entry\n  CRYPTO  p1      1  has ended\n  LOG     p2      2  has ended\n  NS      n1      4  blocked in psa_connect at HASH of CRYPTO\n  device  dev     3  has ended\nconnections\n  NS     -> HASH    opening  no handle yet\nmessages, oldest first, with the bytes moved of each vector\n  NS     -> HASH    psa_connect queued\nno doorbell asserted\ninterrupts\n  TICK_SIGNAL of CRYPTO  enabled\nstalled: no actor can go on\n  NS      blocked in psa_connect at HASH of CRYPTO; CRYPTO has to take the message and has ended\nno circle: they wait for actors that are gone or for signals that nobody gives\n",
+        text: "state after entry 4 of 4\nactors, each with the place of its last entry\n  CRYPTO  p1      1  has ended\n  LOG     p2      2  has ended\n  NS      n1      4  blocked in psa_connect at HASH of CRYPTO\n  device  dev     3  has ended\nconnections\n  NS     -> HASH    opening  no handle yet\nmessages, oldest first, with the bytes moved of each vector\n  NS     -> HASH    psa_connect queued\nno doorbell asserted\ninterrupts\n  TICK_SIGNAL of CRYPTO  enabled\nstalled: no actor can go on\n  NS      blocked in psa_connect at HASH of CRYPTO; CRYPTO has to take the message and has ended\nno circle: they wait for actors that are gone or for signals that nobody gives\n",
     },
     Shown {
         command: "state",
         place: "",
         trace: LONG_CIRCLE,
         status: 0,
-        text: "state behind entry 4 of 4\nactors, each with the place of its last entry\n  CRYPTO  p1      1  waits for TICK_SIGNAL, DOORBELL\n  LOG     p2      2  waits for LOG\n  NS      n1      3  blocked in psa_connect at HASH of CRYPTO\n  device  dev     4  has ended\nconnections\n  NS     -> HASH    opening  no handle yet\nmessages, oldest first, with the bytes moved of each vector\n  NS     -> HASH    psa_connect queued\nno doorbell asserted\ninterrupts\n  TICK_SIGNAL of CRYPTO  enabled\nstalled: no actor can go on\n  CRYPTO  waits for TICK_SIGNAL from nobody, or DOORBELL from LOG\n  LOG     waits for LOG from NS\n  NS      blocked in psa_connect at HASH of CRYPTO; CRYPTO has to take the message and waits itself\ncircle: CRYPTO -> LOG -> NS -> CRYPTO\n",
+        text: "state after entry 4 of 4\nactors, each with the place of its last entry\n  CRYPTO  p1      1  waits for TICK_SIGNAL, DOORBELL\n  LOG     p2      2  waits for LOG\n  NS      n1      3  blocked in psa_connect at HASH of CRYPTO\n  device  dev     4  has ended\nconnections\n  NS     -> HASH    opening  no handle yet\nmessages, oldest first, with the bytes moved of each vector\n  NS     -> HASH    psa_connect queued\nno doorbell asserted\ninterrupts\n  TICK_SIGNAL of CRYPTO  enabled\nstalled: no actor can go on\n  CRYPTO  waits for TICK_SIGNAL from nobody, or DOORBELL from LOG\n  LOG     waits for LOG from NS\n  NS      blocked in psa_connect at HASH of CRYPTO; CRYPTO has to take the message and waits itself\ncircle: CRYPTO -> LOG -> NS -> CRYPTO\n",
     },
     Shown {
         command: "state",
         place: "",
         trace: NOT_GIVEN,
         status: 0,
-        text: "state behind entry 6 of 6\nactors, each with the place of its last entry\n  CRYPTO  p1      3  waits for TICK_SIGNAL, DOORBELL\n  LOG     p2      1  has ended\n  NS      n1      6  blocked in psa_connect at HASH of CRYPTO\n  device  dev     5  has ended\nconnections\n  NS     -> HASH    opening  no handle yet\nmessages, oldest first, with the bytes moved of each vector\n  NS     -> HASH    psa_connect queued\nno doorbell asserted\ninterrupts\n  TICK_SIGNAL of CRYPTO  disabled, pending\nstalled: no actor can go on\n  CRYPTO  waits for TICK_SIGNAL from nobody while it is disabled, or DOORBELL from nobody\n  NS      blocked in psa_connect at HASH of CRYPTO; CRYPTO has to take the message and waits itself\nno circle: they wait for actors that are gone or for signals that nobody gives\n",
+        text: "state after entry 6 of 6\nactors, each with the place of its last entry\n  CRYPTO  p1      3  waits for TICK_SIGNAL, DOORBELL\n  LOG     p2      1  has ended\n  NS      n1      6  blocked in psa_connect at HASH of CRYPTO\n  device  dev     5  has ended\nconnections\n  NS     -> HASH    opening  no handle yet\nmessages, oldest first, with the bytes moved of each vector\n  NS     -> HASH    psa_connect queued\nno doorbell asserted\ninterrupts\n  TICK_SIGNAL of CRYPTO  disabled, pending\nstalled: no actor can go on\n  CRYPTO  waits for TICK_SIGNAL from nobody while it is disabled, or DOORBELL from nobody\n  NS      blocked in psa_connect at HASH of CRYPTO; CRYPTO has to take the message and waits itself\nno circle: they wait for actors that are gone or for signals that nobody gives\n",
     },
     Shown {
         command: "state",
         place: "",
         trace: CAME,
         status: 0,
-        text: "state behind entry 4 of 4\nactors, each with the place of its last entry\n  CRYPTO  p1      2  waits for HASH, TICK_SIGNAL; asserted: HASH\n  LOG     p2      -  runs\n  NS      n1      4  blocked in psa_connect at HASH of CRYPTO\n  device  dev     3  runs\nconnections\n  NS     -> HASH    opening  no handle yet\nmessages, oldest first, with the bytes moved of each vector\n  NS     -> HASH    psa_connect queued\nno doorbell asserted\ninterrupts\n  TICK_SIGNAL of CRYPTO  disabled, pending\n",
+        text: "state after entry 4 of 4\nactors, each with the place of its last entry\n  CRYPTO  p1      2  waits for HASH, TICK_SIGNAL; asserted: HASH\n  LOG     p2      -  runs\n  NS      n1      4  blocked in psa_connect at HASH of CRYPTO\n  device  dev     3  runs\nconnections\n  NS     -> HASH    opening  no handle yet\nmessages, oldest first, with the bytes moved of each vector\n  NS     -> HASH    psa_connect queued\nno doorbell asserted\ninterrupts\n  TICK_SIGNAL of CRYPTO  disabled, pending\n",
     },
     Shown {
         command: "why",

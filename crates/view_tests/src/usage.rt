@@ -97,7 +97,7 @@ const HELP: &str = "Shows what a trace of ffm says: the files are those of ffm r
 Usage: ffm_view <COMMAND>
 
 Commands:
-  state    Shows the state behind an entry, and at a stall who waits for whom
+  state    Shows the state after an entry, and at a stall who waits for whom
   why      Says why a trace is illegal, and what the machine answers there
   diagram  Draws a sequence diagram
   stats    Counts calls, bytes moved, waits and live objects

@@ -27,7 +27,7 @@ file_rule id = record (new_rule id) { required = true; action = Some Set; value_
 abbrev pub place_rule : Rule
 place_rule = record (new_rule (codes "place")) { action = Some Set; value_names = 1; parser = Some (parser.Signed (pos 0) (pos 4294967295)) }
 
--- the place of an entry, behind an option
+-- the place of an entry, after an option
 abbrev pub option_rule : Text → Rule
 option_rule id = record (new_rule id) { long = Some id; action = Some Set; value_names = 1; parser = Some (parser.Signed (pos 1) (pos 4294967295)) }
 

@@ -35,7 +35,7 @@ pub enum Format {
 /// What is to be shown.
 #[derive(Clone, Copy, Debug, PartialEq, Eq)]
 pub enum Aspect {
-    /// The state behind the entry at a place, or behind the last legal one.
+    /// The state after the entry at a place, or after the last legal one.
     State(Option<u32>),
     Why,
     /// The entries between two places, or from the first and up to the last one.
@@ -89,7 +89,7 @@ fn place_option<'a>(alloc: Global, id: &'a str, help: &'a str) -> Arg<'a>
         .help(help)
 }
 
-// The place behind which the state is shown.
+// The place after which the state is shown.
 fn place_argument<'a>(alloc: Global) -> Arg<'a>
     ensures rule { rule_of result ≡ place_rule }
     ensures own { result.global ≡ false }
@@ -98,14 +98,14 @@ fn place_argument<'a>(alloc: Global) -> Arg<'a>
         .action(ArgAction::Set)
         .value_name("PLACE")
         .value_parser(value_parser!(u32))
-        .help("Behind this entry, counted from 1; 0 is the opening; by default the last legal one")
+        .help("After this entry, counted from 1; 0 is the opening; by default the last legal one")
 }
 
 fn state_command<'a>(alloc: Global) -> Result<Command<'a>, AllocError>
     ensures app { IfOk result (λ c. app_of c ≡ state_app) }
     ensures own { IfOk result (λ c. (fields_of c).has_globals ≡ false) }
 {
-    let about = "Shows the state behind an entry, and at a stall who waits for whom";
+    let about = "Shows the state after an entry, and at a stall who waits for whom";
     view_command(alloc, "state", about)?.arg(place_argument(alloc))
 }
 
