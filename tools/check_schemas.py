@@ -174,6 +174,11 @@ def validators():
     return {name: jsonschema.Draft202012Validator(tree, registry=registry) for name, tree in trees.items()}
 
 
+def tree_of(path):
+    """The tree of a file, with a decimal as a text, as ffm reads it."""
+    return json.loads(path.read_text(), parse_float=str)
+
+
 def likeness(name, known):
     """How much a name is one of these: 1 where it is one, 0 where it is like none."""
     ratios = [difflib.SequenceMatcher(None, name.lower(), other).ratio() for other in known]
@@ -188,12 +193,28 @@ def kind_of(checks, tree):
 
 
 def inner(error):
-    """The wrong place itself, where a list of choices was tried. A wrong manifest is told by what is wrong in it,
-    and not as no name of a file."""
-    while error.context:
-        objects = [e for e in error.context if e.validator != "type"] or list(error.context)
-        error = max(objects, key=lambda e: len(e.absolute_path))
-    return error
+    """What is wrong itself, where choices were tried: what is wrong by each choice of the value's type. A wrong
+    manifest is told by all that is wrong in it, and not as no name of a file."""
+    of_other_types = {e.schema_path[0] for e in error.context if e.validator == "type" and not e.path}
+    fitting = [e for e in error.context if e.schema_path[0] not in of_other_types]
+    if not fitting:
+        yield error
+    for e in fitting:
+        yield from inner(e)
+
+
+def types_of(error):
+    """The types of which none is a value's, where that is what is wrong."""
+    tried = list(error.context) or [error]
+    return [e.validator_value for e in tried if e.validator == "type" and isinstance(e.validator_value, str)]
+
+
+def meant(error):
+    """For names that aren't allowed, the allowed ones that they are like."""
+    known = error.schema.get("properties", {})
+    unknown = [name for name in error.instance if name not in known]
+    found = [(name, difflib.get_close_matches(name, known, 1, 0.75)) for name in unknown]
+    return "".join(f"; for '{name}' perhaps '{like[0]}'" for name, like in found if like)
 
 
 def is_of_1_0(tree, place):
@@ -203,10 +224,15 @@ def is_of_1_0(tree, place):
 
 
 def problems(validator, tree):
-    for error in sorted(validator.iter_errors(tree), key=lambda e: list(map(str, e.absolute_path))):
-        error = inner(error)
+    found = (error for choice in validator.iter_errors(tree) for error in inner(choice))
+    for error in sorted(found, key=lambda e: list(map(str, e.absolute_path))):
         place = "".join(f"/{step}" for step in error.absolute_path)
         message = error.message if len(error.message) < 300 else f"is not as the schema's {error.validator} asks"
+        types = types_of(error)
+        if types:
+            message = f"{json.dumps(error.instance)[:80]} is not of type {' or '.join(types)}"
+        elif error.validator in ("additionalProperties", "unevaluatedProperties"):
+            message += meant(error)
         if (error.validator, error.validator_value) == ("not", {}):
             where = "in a manifest of 1.0" if is_of_1_0(tree, list(error.absolute_path)) else "here"
             message = f"isn't allowed {where}"
@@ -287,7 +313,7 @@ def files_of_examples():
 def check_examples(checks):
     wrong, right = [], 0
     for path in files_of_examples():
-        tree = json.loads(path.read_text())
+        tree = tree_of(path)
         kind = path.stem if path.stem in KINDS else "manifest"
         wrong += [f"{path}: {problem}" for problem in problems(checks[kind], tree)]
         for place, other in [((), tree), *misspelt(tree)]:
@@ -311,7 +337,7 @@ def named_manifests(tree, system):
 def checked(checks, path, kind=None):
     """How many files were looked at, and what is wrong in them."""
     try:
-        tree = json.loads(path.read_text())
+        tree = tree_of(path)
     except OSError as error:
         return 1, [f"{path}: {error.strerror}"]
     except ValueError as error:

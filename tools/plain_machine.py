@@ -10,8 +10,8 @@ give. Where the words are others it prints a usage line to standard error, and t
 This is a model for readers. It is written from the rules of the calls alone and shares nothing with the
 program: one list of connections, one list of messages in order of arrival, and a map of bytes; signals are
 computed where they are asked for. It takes system files and scenario files that hold by the rules of the
-formats, and doesn't look for what is wrong with others, but for `restarts`. Traces it reads exactly, as the program
-has to. Manifests may be of 1.0 and of 1.1. What an entry changed it finds by comparing the whole memory before it
+formats, and doesn't look for broken rules or wrong script lines, but for `restarts`; where a file can't be read it
+says which, status 7, and where it can't be used it says so, status 1. Traces it reads exactly, as the program has to. Manifests may be of 1.0 and of 1.1. What an entry changed it finds by comparing the whole memory before it
 with that after it.
 
 An actor is numbered from 0: the partitions, then the clients, then the device. A call is its word in the
@@ -836,20 +836,42 @@ def answer(system, scenario, text, audits):
     return 0 if place is None else 6, "\n".join([*lines, line])
 
 
-def answer_of_files(system, scenario, trace, audits, stand=pathlib.Path()):
-    """The same for the files of these names, as seen from the folder `stand`. A scenario with restarts has several
-    runs, and a trace is of one."""
+def files_of(system, scenario, trace, stand=pathlib.Path()):
+    """What the files of these names say, as seen from the folder `stand`, if ffm takes them; None where the scenario
+    has restarts: then it has several runs, and a trace is of one."""
     if json.loads((stand / scenario).read_text()).get("restarts", 0) > 0:
-        return 1, "refused 4 BadValue scenario /restarts"
-    return answer(read_system(system, stand), read_scenario(stand / scenario), (stand / trace).read_bytes(), audits)
+        return None
+    return read_system(system, stand), read_scenario(stand / scenario), (stand / trace).read_bytes()
+
+
+def answer_to(said, audits):
+    """The same for what files say."""
+    return answer(*said, audits) if said else (1, "refused 4 BadValue scenario /restarts")
+
+
+def answer_of_files(system, scenario, trace, audits, stand=pathlib.Path()):
+    """The same for the files of these names."""
+    return answer_to(files_of(system, scenario, trace, stand), audits)
+
+
+def given_files(names):
+    """What the files say. Where one can't be read, or isn't as ffm takes it in a way that shows here, a line and the end."""
+    try:
+        return files_of(*names)
+    except OSError as error:
+        print(f"{error.filename}: {error.strerror}", file=sys.stderr)
+        sys.exit(7)
+    except (AttributeError, LookupError, TypeError, ValueError) as error:
+        print(f"these aren't files that ffm takes ({error!r}); tools/check_schemas.py may say more", file=sys.stderr)
+        sys.exit(1)
 
 
 def main():
-    word, files = sys.argv[1:-3], sys.argv[1:][-3:]
-    if len(files) < 3 or word not in ([], ["audit"]):
+    word, names = sys.argv[1:-3], sys.argv[1:][-3:]
+    if len(names) < 3 or word not in ([], ["audit"]):
         print(USAGE, file=sys.stderr)
         sys.exit(2)
-    status, text = answer_of_files(*files, audits=bool(word))
+    status, text = answer_to(given_files(names), audits=bool(word))
     print(text)
     sys.exit(status)
 

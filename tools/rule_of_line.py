@@ -35,7 +35,7 @@ from typing import NamedTuple
 from check_evidence import CRATES, ITEM, TEST, TOKEN, WRONG_BODIES, file_of, rows, sources, without_links
 from check_links import HEADING, anchor
 from example_files import examples
-from plain_machine import read_system
+from plain_machine import MOST_STATELESS, STATELESS_HANDLE, read_system
 
 TOP = pathlib.Path(__file__).resolve().parents[1]
 PAGES = ("machine.md", "evidence.md", "formats.md", "view.md", "reading_a_clause.md")
@@ -49,7 +49,7 @@ OPERANDS = {"d": r"-?\d+", "h": r"0x[0-9a-fA-F]+", "u": r"\d+"}
 
 # The sections of docs/machine.md that outcomes add to the table of the calls.
 CALLS, RIGHTS, ERROR, REPLY, PANIC = "the-calls", "who-has-which-call", "what-a-programmer-error-does", "reply", "panic"
-TRACE, RESTART_FORM, SIGNS = "trace", "restart K", "the-signs"
+TRACE, RESTART_FORM, RUNS, SIGNS = "trace", "restart K", "runs-after-a-reset", "the-signs"
 SIGNALS, MESSAGE, RESETS, VERDICTS = "signals", "the-message", "resets", "runs-verdicts-and-judgements"
 HANDLES, MEMORY, INTERRUPTS = "handles-and-their-names", "memory", "interrupts"
 # The kinds of messages in the section Reply, by the calls that send them, or by the outcomes of their returns.
@@ -59,6 +59,8 @@ ANSWERED_BY = {"value": [CONNECTION, REQUEST], "done": [DISCONNECTION]}
 # The definitions of what a reply makes ready, by these kinds; the one that a request answered with -129 alone has.
 READY_BY = {CONNECTION: ("connect_answered",), REQUEST: ("request_answered", "request_failed"), DISCONNECTION: ("close_answered",)}
 FAILED = "request_failed"
+# The calls on a message's handle besides the reply, and the definitions of a call on a connection.
+ON_MESSAGES, ON_CONNECTIONS = ("read", "skip", "write", "set_rhandle"), ("connection_called", "call_on")
 # The tests of memory accesses with the sizes that these may have, and the handlers by the calls that forward interrupts.
 ACCESSES, SIZES = {"load": "may read", "store": "may write"}, ("1", "2", "4")
 HANDLERS = {"raise": ("SLIH",), "eoi": ("SLIH",), "fire": ("FLIH",), "irq_enable": ("SLIH", "FLIH")}
@@ -94,7 +96,7 @@ class Event(NamedTuple):
 
     def is_stateless(self):
         """Whether it names a stateless handle."""
-        return self.word in ("call", "close") and 0x40000000 < int(self.given[0]) <= 0x40000000 + 32
+        return self.word in ("call", "close") and STATELESS_HANDLE < int(self.given[0]) <= STATELESS_HANDLE + MOST_STATELESS
 
     def answers(self, *values):
         """Whether the outcome is one of these values."""
@@ -151,16 +153,40 @@ def is_event(text):
 
 
 class Run:
-    """The events of a run before a line, and those after it, whether the run is one after a reset, and the system where
-    its file is known."""
+    """The events of a run before a line, and those after it, whether the run is one after a reset, whether the trace has
+    resets at all, and the system where its file is known."""
 
-    def __init__(self, events, after=(), is_later=False, system=None):
-        self.events, self.after, self.is_later, self.system = events, after, is_later, system
+    def __init__(self, events, after=(), is_later=False, is_reset=False, system=None):
+        self.events, self.after, self.is_later, self.is_reset, self.system = events, after, is_later, is_reset, system
         self.messages = {event.shown[1]: event for event in events if event.outcome == "message"}
 
-    def answered(self, reply):
-        """The event that delivered the message which a reply answers."""
-        return self.messages.get(reply.given[0])
+    def answered(self, call):
+        """The event that delivered the message whose handle a call names, as the one that a reply answers."""
+        return self.messages.get(call.given[0])
+
+    def service_asked(self, event):
+        """The place of the service that a `call` asks, by its handle and the `connect` that gave it; None where that isn't
+        told."""
+        if event.is_stateless():
+            index = int(event.given[0]) - STATELESS_HANDLE
+            return next((place for place, service in enumerate(self.system.services) if service.index == index), None)
+        asked = {}
+        for one in self.events:
+            if one.actor == event.actor and one.word == "connect":
+                asked = one
+            if one.actor == event.actor and one.word == "resume" and one.shown[:1] == event.given[:1] and asked:
+                return self.system.service_at(int(asked.given[0], 16))
+        return None
+
+    def panic_at(self, event):
+        """The panic of the partition that a `call` asks, where the system and the lines tell."""
+        place = self.service_asked(event) if self.system else None
+        return None if place is None else self.panic_of(f"p{self.system.services[place].owner + 1}")
+
+    def blocked_calls(self):
+        """The calls for whose answers actors wait after these events."""
+        last = {event.actor: event for event in self.events}
+        return [event for event in last.values() if event.outcome == "blocked" and event.word in ASKED_BY]
 
     def panicked(self, event):
         """The partition that panics in an event: its actor, or the one whose request is answered with -129."""
@@ -393,7 +419,8 @@ def cause_of(event, run):
     if fault:
         return f"Which of these holds: by system.json, {fault}"
     asks = f"change the line's outcome in a copy of the trace, and ask the built program, `ffm_view why SYSTEM SCENARIO COPY` ({place_of('why', VIEW)})"
-    return f"Which of these holds: {asks}"
+    alone = f"; first make the run a trace of its own ({place_of(RUNS, FORMATS)})" if run and run.is_reset else ""
+    return f"Which of these holds: {asks}{alone}"
 
 
 def rows_beside(event, shown):
@@ -426,6 +453,7 @@ def rule_of_call(event, run):
     title = f"call {name_of(event)}" + (f", {row['API'].strip('`')}" if row["API"] else "")
     # What a reply made ready is printed with the rule by which the answer was made.
     without = tuple(name for names in READY_BY.values() for name in names) if event.word == "resume" else ()
+    without += ON_CONNECTIONS if event.word == "call" and event.is_stateless() else ()
     return Rule(title, f"{MACHINE}:{number}", words, evidence_of(row["API"] or f"`{event.word}`"), name_of(event), without=without)
 
 
@@ -503,7 +531,8 @@ def rules_of_load(event, run):
     stored = run.stored_at(event)
     rules = [] if stored or not run.is_later else [rule_of_section(RESETS, f"#{RESETS})", is_sure=False)]
     what = "the last store to these bytes; a call that moved bytes since may have changed them too"
-    return rules, [(stored, what)] if stored else []
+    words = [] if stored else [(" ", "No `store` of this run wrote these bytes: they are as at its opening, or a call put them there that moves bytes")]
+    return words, rules, [(stored, what)] if stored else []
 
 
 def rules_of_answer(event, run):
@@ -581,7 +610,8 @@ def rules_of_event(event, run):
         panic = run.panic_of(partition)
         notes = [(panic, f"{partition}, which has the service by system.json, panics here")] if panic else []
     elif event.word == "load" and event.outcome == "number" and run:
-        more, notes = rules_of_load(event, run)
+        words, more, notes = rules_of_load(event, run)
+        rules[0].words += words
         rules += more
     elif event.word == "wait" and event.outcome == "signals":
         more, notes = rules_of_signals(event, run)
@@ -590,6 +620,12 @@ def rules_of_event(event, run):
         words, more, notes = rules_of_message(event, run)
         rules[0].words += words
         rules += more
+    elif event.word == "call" and event.answers("-145"):
+        panic = run.panic_at(event) if run else None
+        rules.append(rule_of_panic())
+        notes = [(panic, "the panic of the partition that has the service")] if panic else []
+    if run and event.word in ON_MESSAGES and run.answered(event):
+        notes = [(run.answered(event), "the message of this handle"), *notes]
     return rules, notes
 
 
@@ -598,7 +634,8 @@ def rules_of(text, number=0, run=None):
     known."""
     verdict = VERDICT.fullmatch(text)
     if verdict:
-        return [rule_of_section(VERDICTS, f"`{verdict[1]}`", lambda name, state: name == verdict[1])], []
+        blocked = run.blocked_calls() if run else []
+        return [rule_of_section(VERDICTS, f"`{verdict[1]}`", lambda name, state: name == verdict[1])], [(event, "waits for its answer") for event in blocked]
     if RESTART.fullmatch(text):
         rule = rule_of_section(RESETS, f"#{RESETS})")
         rule.words += [(">", f"Its text, {FORMATS}:{number}: {plain(line, FORMATS)}") for number, line in section(TRACE, FORMATS) if f"`{RESTART_FORM}`" in line]
@@ -616,7 +653,8 @@ def run_around(lines, place, system=None):
         else:
             events.append(event_of(line, number))
     after = takewhile(lambda numbered: is_event(numbered[1]), enumerate(lines[place + 1:], place + 2))
-    return Run(events, [event_of(line, number) for number, line in after], is_later, system)
+    is_reset = any(RESTART.fullmatch(line) for line in lines)
+    return Run(events, [event_of(line, number) for number, line in after], is_later, is_reset, system)
 
 
 @lru_cache(maxsize=None)
@@ -737,16 +775,15 @@ def shortened(marked):
 
 
 def imported_by(path):
-    """The names that a file imports from the definitions of its own crate, each with the file and the name there."""
-    crate = path.parts[len(CRATES.parts)]
-    imports = re.findall(rf"^ghost use Rattle\.{crate}\.specs\.(\w+)\.\{{([^}}]*)\}};", path.read_text(), re.M)
-    for module, names in imports:
+    """The names that a file imports from the definitions of this repository, each with the file and the name there."""
+    imports = re.findall(r"^ghost use Rattle\.(\w+)\.specs\.(\w+)\.\{([^}]*)\};", path.read_text(), re.M)
+    for crate, module, names in imports:
         for name, _, other in (part.strip().partition(" as ") for part in names.split(",")):
             yield other or name, (CRATES / crate / "specs" / f"{module}.antt", name)
 
 
 def cited_by(item, lines):
-    """The definitions of its own crate that the marked clauses of a function cite."""
+    """The definitions of this repository that the marked clauses of a function cite."""
     text, keeps = "", False
     for mark, line in lines:
         keeps = mark == ">" or keeps and not re.match(r" +(ensures|requires|//)", line)
@@ -789,7 +826,7 @@ def wrapped(mark, text):
     return [f" {mark} {part}" for part in textwrap.wrap(text, 110)]
 
 
-def words_told(rule, is_whole):
+def words_told(rule, is_whole, seen=frozenset()):
     """The lines of the rule in words: all of them, or their place alone."""
     yield f"== {rule.title}{'' if rule.is_sure else ' (perhaps)'}"
     yield f"1. {rule.place}"
@@ -797,20 +834,25 @@ def words_told(rule, is_whole):
         yield from wrapped(mark, text)
 
 
-def text_of(rule, is_whole):
-    """The lines that are printed of a rule: all of it, or the places alone."""
+def text_of(rule, is_whole, seen):
+    """The lines that are printed of a rule: all of it, or the places alone, as of the items that were seen before."""
     number, row = rule.row
     yield from words_told(rule, is_whole)
     for item in items_of(row["Definition"], "Definition"):
         if item.name in rule.without:
             continue
-        yield f"2. {item.told()}"
-        yield from (f"   {line}" for line in definition_of(item, rule.call) if is_whole)
+        is_new = is_whole and (item.path, item.place) not in seen
+        yield f"2. {item.told()}{'' if is_new or not is_whole else ', as above'}"
+        yield from (f"   {line}" for line in definition_of(item, rule.call) if is_new)
+        seen.add((item.path, item.place))
     for item in functions_of(row):
         lines, names = contract_of(item)
-        yield f"3. {item.told(names)}"
-        yield from (f" {mark} {line}" for mark, line in lines if is_whole)
-        yield from (f"   cites {cited.told()}" for cited in cited_by(item, lines) if is_whole)
+        is_new = is_whole and (item.path, item.place) not in seen
+        yield f"3. {item.told(names)}{'' if is_new or not is_whole else ', as above'}"
+        yield from (f" {mark} {line}" for mark, line in lines if is_new)
+        cited = [one for one in cited_by(item, lines) if is_new and (one.path, one.place) not in seen]
+        yield from (f"   cites {one.told()}" for one in cited)
+        seen.add((item.path, item.place))
     yield f"4. {EVIDENCE}:{number}"
     if is_whole:
         yield from (f"   wrong body: {path}" for path in wrong_bodies_of(row))
@@ -820,11 +862,12 @@ def text_of(rule, is_whole):
 def told(text, number=0, run=None, parts=text_of):
     """All lines that are printed of a line, of each rule those that `parts` gives."""
     rules, notes = rules_of(text, number, run)
+    seen = set()
     yield f"line {number}: {text}" if number else text
     yield from (f"line {event.number}: {event.text} ({what})" for event, what in notes)
     for rule in rules:
         yield ""
-        yield from (line.rstrip() for line in parts(rule, is_whole=rule.is_sure or run is not None))
+        yield from (line.rstrip() for line in parts(rule, rule.is_sure or run is not None, seen))
     if parts is text_of:
         yield ""
         yield f"The signs of definitions and clauses: {place_of(SIGNS, READING)}"
@@ -913,10 +956,12 @@ def kinds_and_lacks():
 
 
 def main():
-    words = sys.argv[1:]
-    parts = words_told if words[:1] == ["--rule"] else text_of
-    words = words[parts is words_told :]
+    words = [word for word in sys.argv[1:] if word != "--rule"]
+    parts = words_told if "--rule" in sys.argv[1:] else text_of
     is_number = len(words) == 2 and re.fullmatch("[0-9]+", words[1])
+    if words in (["--help"], ["-h"]):
+        print(f"{USAGE}\n\n{__doc__}")
+        sys.exit(0)
     if len(words) != 1 and not is_number or words[0].startswith("-"):
         print(USAGE, file=sys.stderr)
         sys.exit(2)

@@ -1,5 +1,5 @@
 -- The programs of all actors, and the scripts by which they run.
-use Rattle.std.proofs.Common.{ℕ, ◌≡◌, ◌<◌, ◌≤◌, ◌+◌, ◌++◌, Bool, true, false, List, [], ◌∷◌, ⊎_elim, length, map, get_or, append-nil, refl, ap, sym, ◌∙◌, subst, arith, rules}
+use Rattle.std.proofs.Common.{ℕ, ◌≡◌, ◌<◌, ◌≤◌, ◌+◌, ◌++◌, Bool, true, false, List, [], ◌∷◌, ⊎_elim, length, map, get_or, refl, ap, sym, ◌∙◌, subst, arith, rules}
 use Rattle.std.specs.Prelude.{if◌then◌else◌}
 use Rattle.std.specs.List.{AllByRecursion, IsDistinct, enumerate_from, flat_map}
 use Rattle.std.proofs.lemmas.List.FromFn.{length-enumerate_from, get_or-enumerate_from}
@@ -116,10 +116,6 @@ own-kept s made front behind own n are whole here =
     )
 
 -- ---- the scripts by which programs run
-
-pub all-yielded : {X : Type 0} (ys rest all : List X) → ys ++ rest ≡ all → length rest ≡ 0 → ys ≡ all
-all-yielded ys [] all h none = sym (append-nil ys) ∙ h
-all-yielded ys (x ∷ xs) all h none = absurd (omega arith)
 
 pub scripts_none : (s : System) → AreScriptsOf s [] []
 scripts_none s = record { long = refl; each = λ a lt. absurd (omega arith) }

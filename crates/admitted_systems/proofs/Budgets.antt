@@ -14,10 +14,11 @@ use Rattle.ffm_model.specs.Layout.{Located}
 use Rattle.ffm_model.specs.Permissions.{services_in, Permitted, permitted_to, depends_on, permitted_to_partition, permitted_to_client, permitted, count_for, budgets_of}
 use Rattle.ffm_model.specs.Compiled.{services_of}
 use Rattle.ffm_model.specs.Rules.{has_service, self_dependencies, too_many_connections}
-use Rattle.admitted_systems.proofs.Lists.{get_behind, three, filter_nil, only_if_nil, none_any, each_weaker, each_both, each_append, each_map, each_filter_map, all_from, Pairs, pairs_test, pairs_weaker, pairs_map, pairs_append, pairs_filter_map, across_from, across_turned}
+use Rattle.admitted_systems.proofs.Lists.{get_behind, three, filter_nil, none_any, each_weaker, each_both, each_append, each_map, each_filter_map, all_from, Pairs, pairs_test, pairs_weaker, pairs_map, pairs_append, pairs_filter_map, across_from, across_turned}
 use Rattle.admitted_systems.proofs.Numbered.{Among, each_numbered, numbers_of, numbers_rise, flat_each, flat_pairs}
 use Rattle.admitted_systems.proofs.Located.{each_item, items_below}
 use Rattle.admitted_systems.proofs.Services.{bare, service_at, services_are}
+use Rattle.ffm_model.proofs.RuleLemmas.{only_if_nil}
 
 -- ---- the services that an actor may use
 

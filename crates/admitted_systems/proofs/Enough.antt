@@ -10,8 +10,9 @@ use Rattle.ffm_model.specs.Layout.{Located}
 use Rattle.ffm_model.specs.Permissions.{services_in}
 use Rattle.ffm_model.specs.Compiled.{free_index, index_for, services_from, stated_indices, services_of}
 use Rattle.ffm_model.specs.Rules.{too_many_stateless}
-use Rattle.admitted_systems.proofs.Lists.{only_if_nil, each_weaker}
+use Rattle.admitted_systems.proofs.Lists.{each_weaker}
 use Rattle.admitted_systems.proofs.Stateless.{is_taken, found, all_taken}
+use Rattle.ffm_model.proofs.RuleLemmas.{only_if_nil}
 
 -- ---- how many indices are free
 

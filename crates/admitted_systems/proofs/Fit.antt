@@ -20,7 +20,7 @@ use Rattle.ffm_model.specs.Permissions.{services_in, budgets_of}
 use Rattle.ffm_model.specs.Reading.{refused}
 use Rattle.ffm_model.proofs.PartsLemmas.{system_of_parts}
 use Rattle.ffm_model.specs.Rules.{broken, duplicate_partitions, duplicate_sids, unknown_dependencies, self_dependencies, dependency_cycle, too_many_signals, unknown_regions, overlapping_regions, too_many_partitions, too_many_connections, budgets_without_permission, duplicate_sources, memory_too_large, duplicate_indices, too_many_stateless}
-use Rattle.admitted_systems.proofs.Lists.{each_weaker, only_if_nil, four, eight}
+use Rattle.admitted_systems.proofs.Lists.{each_weaker, four, eight}
 use Rattle.admitted_systems.proofs.Models.{models_do_fit}
 use Rattle.admitted_systems.proofs.Stateless.{items_right, stateless_do_fit}
 use Rattle.admitted_systems.proofs.Enough.{all_have_indices}
@@ -28,6 +28,7 @@ use Rattle.admitted_systems.proofs.Partitions.{length_partitions, partitions_do_
 use Rattle.admitted_systems.proofs.Regions.{regions_do_fit, few_regions}
 use Rattle.admitted_systems.proofs.Services.{sids_differ, few_services, all_signals_fit}
 use Rattle.admitted_systems.proofs.Budgets.{budgets_do_fit}
+use Rattle.ffm_model.proofs.RuleLemmas.{only_if_nil}
 
 -- the rules on which the parts' fitting rests
 record Kept (p : PartsRecord) : Type 0 where

@@ -5,6 +5,7 @@ use Rattle.std.proofs.lemmas.Bool.{and_from, or_parts}
 use Rattle.list_laws.proofs.Lists.{append_nil}
 use Rattle.ffm_model.specs.WellFormed.{each_pair}
 use Rattle.ffm_model.specs.Repeats.{only_if, repeated, repeated_after}
+use Rattle.ffm_model.proofs.RuleLemmas.{only_if_nil}
 
 -- ---- several tests
 
@@ -19,12 +20,6 @@ five a b c d e h i j k l = rw (h, i, j, k, l) refl
 
 pub eight : (a b c d e f g h : Bool) → a ≡ true → b ≡ true → c ≡ true → d ≡ true → e ≡ true → f ≡ true → g ≡ true → h ≡ true → (a && b && c && d && e && f && g && h) ≡ true
 eight a b c d e f g h i j k l m n o p = rw (i, j, k, l, m, n, o, p) refl
-
--- ---- lists that are empty
-
-pub only_if_nil : {A : Type 0} (b : Bool) (x : A) → only_if b x ≡ [] → b ≡ false
-only_if_nil true x e = absurd cc
-only_if_nil false x e = refl
 
 -- ---- the item after those in front
 

@@ -13,16 +13,15 @@ use Rattle.ffm_model.specs.declared.system.Service.{Service}
 use Rattle.ffm_model.specs.ManifestItems.{ManifestRecord, ServiceRecord, IsManifest}
 use Rattle.ffm_model.specs.PartsItems.{PartsRecord, IsParts}
 use Rattle.ffm_model.specs.WellFormed.{ram_size, functions_fit, models_fit}
-use Rattle.ffm_model.specs.Layout.{Located, located_in, located_from, rounded, ram_needed, domain_at, rams_from, non_secure_of, mmio_of, regions_laid_out}
+use Rattle.ffm_model.specs.Layout.{Located, located_in, located_from, ram_needed, domain_at, rams_from, non_secure_of, mmio_of, regions_laid_out}
 use Rattle.ffm_model.specs.Permissions.{services_in}
 use Rattle.ffm_model.specs.Compiled.{index_for, services_from, stated_indices, services_of, partition_of, partitions_of}
 use Rattle.admitted_systems.proofs.Lists.{get_behind, each_weaker, all_from}
 use Rattle.admitted_systems.proofs.Numbered.{each_unnumbered}
+use Rattle.list_laws.proofs.Tests.{list_any-left}
+use Rattle.ffm_model.proofs.RuleLemmas.{rounded_up}
 
 -- ---- services of a partition
-
-any_left : {A : Type 0} (p : A → Bool) (xs ys : List A) → list_any p xs ≡ true → list_any p (xs ++ ys) ≡ true
-any_left p xs ys h = list_any-append p xs ys ∙ or_left _ _ h
 
 any_right : {A : Type 0} (p : A → Bool) (xs ys : List A) → list_any p ys ≡ true → list_any p (xs ++ ys) ≡ true
 any_right p xs ys h = list_any-append p xs ys ∙ or_right (list_any p xs) _ h
@@ -37,7 +36,7 @@ owners_in k [] h = tt
 owners_in k (m ∷ ms) h =
     let here : List (Located ServiceRecord) = located_in k 0 m.services in
     let rest : List (Located ServiceRecord) = located_from (λ m. m.services) (k + 1) ms in (
-      λ functions. any_left (λ x. x.manifest == k) here rest (has_one k 0 m.services (h.0.has_service functions)),
+      λ functions. list_any-left (λ x. x.manifest == k) here rest (has_one k 0 m.services (h.0.has_service functions)),
       each_weaker (λ e. e.1.sfn ≡ true → list_any (λ x. x.manifest == e.0) (located_from (λ m. m.services) (k + 1) ms) ≡ true)
           (λ e. e.1.sfn ≡ true → list_any (λ x. x.manifest == e.0) (located_from (λ m. m.services) k (m ∷ ms)) ≡ true)
           (λ e owned functions. any_right (λ x. x.manifest == e.0) here rest (owned functions)) (enumerate_from (k + 1) ms) (owners_in (k + 1) ms h.1),
@@ -56,9 +55,6 @@ all_owned p parts =
     (λ e owned functions. same_owners e.0 (stated_indices p) (services_in p) ∙ owned functions) (enumerate_from 0 p.manifests) (owners_in 0 p.manifests parts.manifests)
 
 -- ---- RAM of a partition
-
-rounded_up : (n : ℕ) → n ≤ rounded n
-rounded_up n = omega arith
 
 stack_in_ram : (m : ManifestRecord) → 48 ≤ m.stack_size → 48 ≤ ram_needed m
 stack_in_ram m h = let up : m.stack_size + m.heap_size ≤ ram_needed m = rounded_up (m.stack_size + m.heap_size) in omega arith

@@ -17,9 +17,10 @@ use Rattle.ffm_model.specs.Repeats.{only_if}
 use Rattle.ffm_model.specs.WellFormed.{apart, each_pair, is_nonsecure, is_ram, owner_below, regions_fit}
 use Rattle.ffm_model.specs.Layout.{Located, located_in, located_from, ram_needed, rounded, rams_from, rams_of, non_secure_of, range_named, mmio_placed, mmio_items, mmio_of, regions_laid_out, overlapping, overlaps, is_large, is_large_item, large_from, partition_ram, mmio_item, non_secure_ram, all_regions}
 use Rattle.ffm_model.specs.Rules.{overlapping_regions, memory_too_large}
-use Rattle.admitted_systems.proofs.Lists.{three, four, only_if_nil, filter_nil, none_any, each_weaker, each_always, each_both, each_append, each_split, each_map, each_filter_map, all_from, Pairs, pairs_test, pairs_weaker, pairs_map, pairs_append, Across, across_cons}
+use Rattle.admitted_systems.proofs.Lists.{three, four, filter_nil, none_any, each_weaker, each_always, each_both, each_append, each_split, each_map, each_filter_map, all_from, Pairs, pairs_test, pairs_weaker, pairs_map, pairs_append, Across, across_cons}
 use Rattle.admitted_systems.proofs.Numbered.{each_numbered}
 use Rattle.admitted_systems.proofs.Located.{item_each, items_below}
+use Rattle.ffm_model.proofs.RuleLemmas.{only_if_nil}
 
 -- ---- a region within the limits
 

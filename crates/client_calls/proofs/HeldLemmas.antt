@@ -1,8 +1,7 @@
 -- psa_call and psa_close on a connection that the actor holds: its phase is changed, and then a message of it is sent.
-use Rattle.std.proofs.Common.{ℕ, ◌≡◌, ◌<◌, ◌==◌, true, false, ◌&&◌, length, arith, ◌∙◌, ap, sym, refl, subst}
+use Rattle.std.proofs.Common.{ℕ, ◌≡◌, ◌<◌, ◌==◌, false, ◌&&◌, length, arith, ◌∙◌, ap, sym, refl, subst}
 use Rattle.std.specs.Prelude.{ℤ, pos, int_lt, Option, Some, None, IsSome, IsSomeAnd, IfSome}
 use Rattle.std.specs.Ordering.{int_eq}
-use Rattle.list_laws.proofs.Tests.{find-passes}
 use Rattle.ffm_model.specs.declared.constants.TheConstants.{PSA_NULL_HANDLE, PSA_IPC_DISCONNECT}
 use Rattle.ffm_model.specs.declared.system.System.{System}
 use Rattle.ffm_model.specs.declared.machine.Handle.{Handle}
@@ -20,13 +19,13 @@ use Rattle.object_pools.specs.declared.slot.Slot.{Slot}
 use Rattle.object_pools.specs.Pool.{Places, item_at, with_item}
 use Rattle.handle_table.specs.declared.connections.Connection.{Connection as TheConnection}
 use Rattle.handle_table.specs.Table as table
-use Rattle.handle_table.proofs.SlotLemmas.{both}
 use Rattle.counting_law.specs.Objects.{ObjectsFit}
 use Rattle.counting_law.proofs.Rooms.{request-room}
 use Rattle.spm_tables.specs.TablesView.{TablesView, MadeFor, spm_of}
 use Rattle.spm_tables.proofs.PoolLemmas.{item-put}
 use Rattle.client_calls.proofs.ServiceLemmas.{connection-service, made-services}
 use Rattle.client_calls.proofs.SendLemmas.{at-item, has-item, room-for-message}
+use Rattle.counting_law.proofs.Owners.{held-client}
 
 -- the connection that the actor holds, in its slot
 pub record IsHeld (d : TablesView) (a : ℕ) (k : Handle) (s : Slot) (c : OpenConnection) : Type 0 where
@@ -52,13 +51,6 @@ held-item d p a k s same live found =
 pub told-phase : (d : TablesView) (p : Places OpenConnection) (s : Slot) (c : OpenConnection) (t : TheConnection) → p ≡ d.connections → item_at d.connections s ≡ Some c → IfSome (item_at p s) (λ x. t ≡ table.connection_of x) → t.phase ≡ c.phase
 told-phase d p s c t same live told =
     ap (λ (x : TheConnection). x.phase) (at-item (item_at p s) c (λ x. t ≡ table.connection_of x) (ap (λ (q : Places OpenConnection). item_at q s) same ∙ live) told)
-
--- it is the actor's
-held-client : (b : SpmState) (a : ℕ) (k : Handle) (c : OpenConnection) → connection_held b a k ≡ Some c → c.client.0 ≡ a
-held-client b a k c held =
-    equal c.client.0 a (both (c.client.0 == a) (has_handle c.handle k) (find-passes (λ d. (d.client.0 == a) && has_handle d.handle k) b.connections c held)).0 where
-      equal : (n m : ℕ) → (n == m) ≡ true → n ≡ m
-      equal n m e = grind arith
 
 -- the connection of a slot was put into a phase
 abbrev pub Phased : TablesView → Slot → ConnPhase → TablesView → Type 0

@@ -12,14 +12,11 @@ use Rattle.handle_table.specs.Table.{IsTable}
 use Rattle.spm_tables.specs.declared.item.QueuedMessage.{QueuedMessage}
 use Rattle.spm_tables.specs.TablesView.{TablesView, MadeFor}
 use Rattle.slot_names.specs.Named.{KeepsNames}
-use Rattle.slot_names.proofs.Changes.{names-added, names-same, names-freed, names-asked, names-connected}
+use Rattle.slot_names.proofs.Changes.{names-added, names-freed, names-asked, names-connected}
 use Rattle.client_calls.specs.Sending.{message_on}
 use Rattle.spm_tables.proofs.PoolLemmas.{item-taken}
 use Rattle.client_calls.proofs.SendLemmas.{at-item}
 use Rattle.client_calls.proofs.HeldLemmas.{IsHeld, Phased, after-phase, item-phased}
-
-pub names_kept : (y : System) (d : TablesView) → KeepsNames y d d
-names_kept y d = names-same y d d refl refl
 
 -- the connection of a slot goes
 pub names_gone : (y : System) (d new : TablesView) (s : Slot) → new ≡ record d { connections = without d.connections s } → KeepsNames y d new

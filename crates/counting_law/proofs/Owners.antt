@@ -14,6 +14,10 @@ use Rattle.ffm_model.specs.Memory.{domain_of, is_ram_of}
 use Rattle.ffm_model.specs.ServiceCalls.{service_of_signal}
 use Rattle.ffm_model.specs.WellFormed.{is_ram_in}
 use Rattle.counting_law.proofs.Events.{position-passes}
+use Rattle.list_laws.proofs.Tests.{find-passes}
+use Rattle.ffm_model.specs.declared.machine.Handle.{Handle}
+use Rattle.ffm_model.specs.declared.objects.OpenConnection.{OpenConnection}
+use Rattle.ffm_model.specs.State.{SpmState, connection_held, has_handle}
 
 pub is-partition : (s : System) (a : ℕ) → a < length s.partitions → kind_of s a ≡ kind.Partition
 is-partition s a inside =
@@ -34,3 +38,7 @@ owners-same (Some v) x a h g = sym (eqb-true v.owner x h) ∙ eqb-true v.owner a
 pub own-ram : (s : System) (a domain : ℕ) (c : Class) → is_partition (kind_of s a) ≡ true → domain ≡ domain_of s a → is_ram_in domain c ≡ true → is_ram_of s a c ≡ true
 own-ram s a domain (Ram d) partition own h = and_from (is_partition (kind_of s a)) (d == domain_of s a) partition (ap (λ (k : ℕ). d == k) (sym own) ∙ h)
 own-ram s a domain _ partition own h = absurd (cc)
+
+-- who holds a connection is its client
+pub held-client : (b : SpmState) (a : ℕ) (h : Handle) (c : OpenConnection) → connection_held b a h ≡ Some c → c.client.0 ≡ a
+held-client b a h c e = eqb-true c.client.0 a (and_parts _ _ (find-passes (λ (x : OpenConnection). (x.client.0 == a) && has_handle x.handle h) b.connections c e)).0

@@ -1,5 +1,5 @@
 -- No slot of the tables is taken or put back.
-use Rattle.std.proofs.Common.{◌≡◌, Bool, List, ap, refl}
+use Rattle.std.proofs.Common.{◌≡◌, Bool, List, ap}
 use Rattle.ffm_model.specs.declared.objects.SourceFlags.{SourceFlags}
 use Rattle.ffm_model.specs.declared.system.System.{System}
 use Rattle.spm_tables.specs.TablesView.{TablesView}
@@ -11,10 +11,6 @@ use Rattle.counting_law.specs.Objects.{ObjectsFit}
 use Rattle.counting_law.proofs.CallsFit.{beside-fits}
 use Rattle.message_vectors.specs.Vectors.{AreWithin}
 use Rattle.spm_tables.specs.TablesView.{spm_of}
-
--- where nothing changes
-pub names-stay : (s : System) (d : TablesView) → KeepsNames s d d
-names-stay s d = names-same s d d refl refl
 
 -- where doorbells do
 pub names-doorbells : (s : System) (old new : TablesView) (doorbells : List Bool) → new ≡ record old { doorbells = doorbells } → KeepsNames s old new

@@ -9,3 +9,6 @@ pub mod BudgetLemmas
 pub mod SourceLemmas
 pub mod PanicLemmas
 pub mod RecordLemmas
+pub mod RuleLemmas
+pub mod ScriptLemmas
+pub mod HeldLemmas

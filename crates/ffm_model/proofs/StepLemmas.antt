@@ -1,5 +1,5 @@
 -- Laws of steps and runs, for the crates above.
-use Rattle.std.proofs.Common.{ℕ, ◌≡◌, Bool, true, ◌&&◌, List, [], ◌∷◌, ◌++◌, refl, ap, sym, ◌∙◌, ℤ, eq-eqb}
+use Rattle.std.proofs.Common.{ℕ, ◌≡◌, Bool, true, false, ◌&&◌, List, [], ◌∷◌, ◌++◌, refl, ap, sym, ◌∙◌, ℤ, eq-eqb}
 use Rattle.std.specs.Prelude.{Some, None, option_and_then, fold, if◌then◌else◌}
 use Rattle.std.specs.Ordering.{int_eq}
 use Rattle.std.specs.Str.{bytes_eq}
@@ -73,3 +73,12 @@ pub step-effect : (s : System) (st new : State) (a : ℕ) (c : Call) (o : Outcom
 step-effect s st new a c o may allowed e =
     let fit : Fits s st (record { actor = record { 0 = a }; call = c; outcome = o }) = record { may = may; allowed = allowed; outcome = sym (ap (λ x. x.outcome) e) } in
     step-fits s st (record { actor = record { 0 = a }; call = c; outcome = o }) fit ∙ ap (λ x. Some x.state) e
+
+left : (b : Bool) (x y : State) → (if b then Some x else None) ≡ Some y → x ≡ y
+left true x y h = cc
+left false x y h = cc
+
+-- a step leaves what its call leaves
+pub step-leaves : (s : System) (st new : State) (e : Entry) → step s st e ≡ Some new → (effect_of s st e.actor.0 e.call (handle_shown e.outcome)).state ≡ new
+unfolding step
+step-leaves s st new e h = left _ _ new h

@@ -128,7 +128,8 @@ pub enum Call {
     Eoi {
         signal: u32,
     },
-    /// `psa_irq_enable` of `psa/service.h`, of the 1.1 Extensions: the source of that signal is enabled.
+    /// `psa_irq_enable` of `psa/service.h`, of the 1.1 Extensions: the source of that signal is enabled, and an
+    /// interrupt that is pending there asserts the signal at once.
     IrqEnable {
         signal: u32,
     },

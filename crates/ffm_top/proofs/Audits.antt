@@ -1,7 +1,5 @@
 -- A trace that is audited, and the lines of its changes.
-use Rattle.std.proofs.Common.{ℕ, ◌≡◌, ◌<◌, ◌≤◌, ◌+◌, ◌^◌, List, ◌++◌, length, length-append, refl, ap, arith}
-use Rattle.std.specs.Fmt.{decimal}
-use Rattle.std.proofs.lemmas.Fmt.{length-decimal-le}
+use Rattle.std.proofs.Common.{ℕ, ◌≡◌, ◌<◌, ◌+◌, List, ◌++◌, length, length-append, refl, ap, arith}
 use Rattle.ffm_model.specs.declared.machine.Entry.{Entry}
 use Rattle.ffm_model.specs.declared.machine.Verdict.{Verdict}
 use Rattle.ffm_model.specs.declared.scenario.Scenario.{Scenario}
@@ -37,11 +35,7 @@ line_some (IllegalAt place) count = not_empty (audit_line (IllegalAt place) coun
 pub audited_some : (front : List ℕ) (j : Judgement) (count : ℕ) → 0 < length (front ++ audit_line j count)
 audited_some front j count = rw (length-append front (audit_line j count)) (omega (arith, line_some j count))
 
--- a number of 32 bits has at most ten digits
-pub number_length : (n : ℕ) → n < 2 ^ 32 → length (decimal n) ≤ 10
-number_length n small = length-decimal-le 10 n (omega arith) (omega arith) (omega arith)
-
--- and an address has `0x` and eight
+-- an address has `0x` and eight digits
 pub address_length : (n : ℕ) → length (hexadecimal_word n) ≡ 10
 unfolding hexadecimal_word hexadecimal_digits
 address_length n = refl

@@ -13,7 +13,7 @@ use outside_io::{Failed, Sink, put_all};
 use trace_print::{Line, hexadecimal};
 
 // A number in decimal.
-#[tactic(auto, using(crate::proofs::Audits::number_length))]
+#[tactic(auto, using(trace_print::proofs::LineLengths::decimal_long))]
 fn number_word(number: u32) -> Line
     ensures word { result.items ≡ decimal number }
     ensures short { length result.items ≤ 10 }

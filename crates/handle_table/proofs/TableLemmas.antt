@@ -1,5 +1,5 @@
 -- What a table of connections keeps, and what its calls do to the state's list.
-use Rattle.std.proofs.Common.{ℕ, ◌≡◌, ◌<◌, ◌≤◌, ◌+◌, ◌==◌, Bool, true, false, cond, not, ◌&&◌, List, [], ◌∷◌, ◌++◌, take, arith, ◌∙◌, ap, sym, refl, subst}
+use Rattle.std.proofs.Common.{ℕ, ◌≡◌, ◌<◌, ◌≤◌, ◌+◌, ◌==◌, Bool, true, false, cond, not, ◌&&◌, List, [], ◌∷◌, ◌++◌, take, arith, ◌∙◌, ap, sym, refl, subst, eq-eqb}
 use Rattle.std.specs.Prelude.{ℤ, count_by, find, Option, Some, None, map, filter, if◌then◌else◌, All, IfSome, IsTrue, option_and_then, slice_get}
 use Rattle.std.specs.Option.{option_map}
 use Rattle.std.proofs.lemmas.Bool.Decides.{Decides-int_eq}
@@ -102,10 +102,8 @@ connections-put capacity p s c g k t live =
     let it = held-of p s c live in
     let h : Held OpenConnection = it.0 in
     twin-put (λ (x : Held OpenConnection). x.item) (has_slot s) (λ d. d.serial == c.serial) (λ x. record x { item = g c }) g it.0
-    (ap g (sym it.2)) (ap (λ (d : OpenConnection). d.serial == c.serial) it.2 ∙ same_itself c.serial) p.held it.1 (one_slot capacity p s k)
-    (omega (arith, one_serial c.serial 0 p.takes (connections p) t.rising, count-map (λ (x : Held OpenConnection). x.item) (λ d. d.serial == c.serial) p.held)) where
-      same_itself : (n : ℕ) → (n == n) ≡ true
-      same_itself n = grind arith
+    (ap g (sym it.2)) (ap (λ (d : OpenConnection). d.serial == c.serial) it.2 ∙ eq-eqb c.serial c.serial refl) p.held it.1 (one_slot capacity p s k)
+    (omega (arith, one_serial c.serial 0 p.takes (connections p) t.rising, count-map (λ (x : Held OpenConnection). x.item) (λ d. d.serial == c.serial) p.held))
 
 pub spm-put : (capacity : ℕ) (p : Places OpenConnection) (s : Slot) (c : OpenConnection) (g : OpenConnection → OpenConnection) → IsKept capacity p → IsTable p → item_at p s ≡ Some c
     → spm_of_connections (with_item p s (g c)) ≡ record (spm_of_connections p) { connections = map (λ d. if d.serial == c.serial then g d else d) (connections p) }
@@ -148,10 +146,8 @@ pub connections-out : (capacity : ℕ) (p : Places OpenConnection) (s : Slot) (c
 connections-out capacity p s c k t live =
     let it = held-of p s c live in
     twin-out (λ (x : Held OpenConnection). x.item) (has_slot s) (λ d. d.serial == c.serial) it.0
-    (ap (λ (d : OpenConnection). d.serial == c.serial) it.2 ∙ same_itself c.serial) p.held it.1 (one_slot capacity p s k)
-    (omega (arith, one_serial c.serial 0 p.takes (connections p) t.rising, count-map (λ (x : Held OpenConnection). x.item) (λ d. d.serial == c.serial) p.held)) where
-      same_itself : (n : ℕ) → (n == n) ≡ true
-      same_itself n = grind arith
+    (ap (λ (d : OpenConnection). d.serial == c.serial) it.2 ∙ eq-eqb c.serial c.serial refl) p.held it.1 (one_slot capacity p s k)
+    (omega (arith, one_serial c.serial 0 p.takes (connections p) t.rising, count-map (λ (x : Held OpenConnection). x.item) (λ d. d.serial == c.serial) p.held))
 
 pub spm-out : (capacity : ℕ) (p : Places OpenConnection) (s : Slot) (c : OpenConnection) → IsKept capacity p → IsTable p → item_at p s ≡ Some c
     → spm_of_connections (without p s) ≡ record (spm_of_connections p) { connections = filter (λ d. not (d.serial == c.serial)) (connections p) }

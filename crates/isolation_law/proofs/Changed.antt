@@ -34,7 +34,7 @@ use Rattle.memory_image.proofs.Outside.{copy_bytes-outside, store_number-outside
 use Rattle.message_vectors.proofs.Reached.{lengths_written-outside, range-part}
 use Rattle.isolation_law.specs.Vectors.{AreFour, HaveFour}
 use Rattle.isolation_law.proofs.Reached.{buffer-written, range-written, rest-inside, output-written, length_word-written, request-held, request-kind}
-use Rattle.isolation_law.proofs.Steps.{step-leaves}
+use Rattle.ffm_model.proofs.StepLemmas.{step-leaves}
 
 -- the byte is what it was
 abbrev Stays : State → ℕ → Effect → Type 0

@@ -1,7 +1,6 @@
 -- What a step leaves.
-use Rattle.std.proofs.Common.{◌≡◌, ◌&&◌, List, [], ◌∷◌, refl, subst}
+use Rattle.std.proofs.Common.{◌≡◌, List, [], ◌∷◌, refl, subst}
 use Rattle.std.specs.Prelude.{Option, Some, None, fold}
-use Rattle.std.proofs.lemmas.Option.{cond_some}
 use Rattle.ffm_model.specs.declared.system.System.{System}
 use Rattle.ffm_model.specs.declared.machine.Call.{Call}
 use Rattle.ffm_model.specs.declared.machine.Entry.{Entry}
@@ -9,14 +8,8 @@ use Rattle.ffm_model.specs.declared.machine.Handle.{Handle}
 use Rattle.ffm_model.specs.Calls.{effect_of}
 use Rattle.ffm_model.specs.Memory.{ByteMap}
 use Rattle.ffm_model.specs.State.{State, opening}
-use Rattle.ffm_model.specs.Step.{step, step_on, after, may_call, handle_allowed, handle_shown, outcome_eq}
-
--- a step leaves what its call leaves
-pub step-leaves : (s : System) (st new : State) (e : Entry) → step s st e ≡ Some new → (effect_of s st e.actor.0 e.call (handle_shown e.outcome)).state ≡ new
-unfolding step
-step-leaves s st new e h =
-    let due = effect_of s st e.actor.0 e.call (handle_shown e.outcome) in
-    (cond_some (may_call s st.spm e.actor.0 e.call && handle_allowed s st e.actor.0 e.call (handle_shown e.outcome) && outcome_eq due.outcome e.outcome) due.state new h).1
+use Rattle.ffm_model.specs.Step.{step, step_on, after, handle_shown}
+use Rattle.ffm_model.proofs.StepLemmas.{step-leaves}
 
 -- what holds of what each call leaves, holds of what a step leaves
 pub step-has : (P : State → Type 0) (s : System) (st new : State) (e : Entry) → step s st e ≡ Some new → ((c : Call) (h : Handle) → P (effect_of s st e.actor.0 c h).state) → P new

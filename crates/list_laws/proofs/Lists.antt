@@ -1,11 +1,20 @@
 -- Lists with one item more, lists that are empty, and what holds of each item.
-use Rattle.std.proofs.Common.{ℕ, zero, suc, ◌≡◌, ◌+◌, List, [], ◌∷◌, ◌++◌, map, arith, ◌∙◌, ap, refl, subst}
+use Rattle.std.proofs.Common.{ℕ, zero, suc, ◌≡◌, ◌<◌, ◌+◌, List, [], ◌∷◌, ◌++◌, map, length, drop, get_or, arith, ◌∙◌, ap, sym, refl, subst, append-nil, drop-cons, add-one}
 use Rattle.std.specs.Prelude.{Some, slice_get}
 use Rattle.std.specs.List.{AllByRecursion, range_with_len}
 
 pub append_nil : {X : Type 0} (xs ys : List X) → xs ++ ys ≡ [] → (xs ≡ []) × (ys ≡ [])
 append_nil [] ys e = (refl, e)
 append_nil (x ∷ xs) ys e = absurd cc
+
+-- what is left is nothing
+pub append_none : {X : Type 0} (xs rest all : List X) → xs ++ rest ≡ all → length rest ≡ 0 → xs ≡ all
+append_none xs [] all h none = sym (append-nil xs) ∙ h
+append_none xs (y ∷ ys) all h none = absurd (omega arith)
+
+-- an item, and those after it
+pub drop-item : {X : Type 0} (xs : List X) (i : ℕ) (x : X) → i < length xs → x ≡ get_or xs i x → drop i xs ≡ x ∷ drop (i + 1) xs
+drop-item xs i x below is = rw (add-one) (drop-cons xs i x below ∙ ap (λ y. y ∷ drop (suc i) xs) (sym is))
 
 pub map_nil : {X Y : Type 0} (f : X → Y) (xs : List X) → map f xs ≡ [] → xs ≡ []
 map_nil f [] e = refl
@@ -20,6 +29,10 @@ range_with_len-more a (suc n) =
 pub AllByRecursion-push : {X : Type 0} (P : X → Type 0) (xs : List X) (x : X) → AllByRecursion P xs → P x → AllByRecursion P (xs ++ x ∷ [])
 AllByRecursion-push P [] x h k = (k, tt)
 AllByRecursion-push P (y ∷ ys) x h k = (h.0, AllByRecursion-push P ys x h.1 k)
+
+pub AllByRecursion-append : {X : Type 0} (P : X → Type 0) (xs ys : List X) → AllByRecursion P xs → AllByRecursion P ys → AllByRecursion P (xs ++ ys)
+AllByRecursion-append P [] ys h k = k
+AllByRecursion-append P (x ∷ xs) ys h k = (h.0, AllByRecursion-append P xs ys h.1 k)
 
 pub AllByRecursion-at : {X : Type 0} (P : X → Type 0) (xs : List X) (i : ℕ) (x : X) → AllByRecursion P xs → slice_get xs i ≡ Some x → P x
 AllByRecursion-at P [] i x h e = absurd (cc)

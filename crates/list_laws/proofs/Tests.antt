@@ -1,9 +1,11 @@
 -- What the tests of lists say: `list_any`, `list_all` and `find`.
-use Rattle.std.proofs.Common.{ℕ, zero, suc, ◌≡◌, ◌∙◌, Bool, true, false, cond, List, [], ◌∷◌, ap, refl, sym, subst, inl, inr}
-use Rattle.std.specs.Prelude.{Option, Some, find, slice_get, All}
+use Rattle.std.proofs.Common.{ℕ, zero, suc, ◌≡◌, ◌∙◌, Bool, true, false, cond, ◌||◌, List, [], ◌∷◌, ◌++◌, map, ap, refl, sym, subst, inl, inr}
+use Rattle.std.specs.Prelude.{Option, Some, None, IsSome, find, slice_get, All}
+use Rattle.std.specs.Option.{option_map}
 use Rattle.std.specs.List.{list_any, list_all}
 use Rattle.std.proofs.lemmas.Bool.{and_parts, or_cases, or_left, or_right}
 use Rattle.std.proofs.lemmas.List.Elements.{All-head, All-tail}
+use Rattle.std.proofs.lemmas.List.Folds.{list_any-append}
 
 -- a test fails where it implies one that fails
 pub fails : (b c : Bool) → (b ≡ true → c ≡ true) → c ≡ false → b ≡ false
@@ -25,6 +27,20 @@ pub list_all-at : {X : Type 0} (p : X → Bool) (xs : List X) (i : ℕ) (x : X) 
 list_all-at p [] i x h e = absurd (cc)
 list_all-at p (y ∷ ys) zero x h e = let same : y ≡ x = cc in ap p (sym same) ∙ (and_parts (p y) (list_all p ys) h).0
 list_all-at p (y ∷ ys) (suc i) x h e = list_all-at p ys i x (and_parts (p y) (list_all p ys) h).1 e
+
+pub list_any-left : {X : Type 0} (p : X → Bool) (xs ys : List X) → list_any p xs ≡ true → list_any p (xs ++ ys) ≡ true
+list_any-left p xs ys h = list_any-append p xs ys ∙ or_left (list_any p xs) (list_any p ys) h
+
+pub list_any-map : {X Y : Type 0} (f : X → Y) (p : Y → Bool) (xs : List X) → list_any p (map f xs) ≡ list_any (λ x. p (f x)) xs
+list_any-map f p [] = refl
+list_any-map f p (x ∷ xs) = ap (λ b. p (f x) || b) (list_any-map f p xs)
+
+pub find-map : {X Y : Type 0} (f : X → Y) (p : Y → Bool) (xs : List X) → find p (map f xs) ≡ option_map f (find (λ x. p (f x)) xs)
+find-map f p [] = refl
+find-map f p (x ∷ xs) =
+    let go : (b : Bool) → cond b (Some (f x)) (find p (map f xs)) ≡ option_map f (cond b (Some x) (find (λ y. p (f y)) xs)) =
+    elim [ true ↦ refl | false ↦ find-map f p xs ] in
+    go (p (f x))
 
 -- what holds of the first item if it passes and of what is found after it, holds of what is found
 found : {X : Type 0} (P : X → Type 0) (b : Bool) (y x : X) (rest : Option X) → (b ≡ true → P y) → (rest ≡ Some x → P x) → cond b (Some y) rest ≡ Some x → P x
@@ -52,3 +68,8 @@ pub find-same : {X : Type 0} (p q : X → Bool) → ((x : X) → p x ≡ q x) �
 find-same p q same [] = refl
 find-same p q same (x ∷ xs) =
     ap (λ b. cond b (Some x) (find p xs)) (same x) ∙ ap (cond (q x) (Some x)) (find-same p q same xs)
+
+-- the value that is there
+pub some-value : {X : Type 0} (o : Option X) → IsSome o → (x : X) × (o ≡ Some x)
+some-value None h = absurd cc
+some-value (Some x) h = (x, refl)

@@ -7,8 +7,5 @@ use denote.Struct.Tuple.{TupleAt, type_at}
 use denote.Param.Send.{IsSend}
 use denote.Param.SendFields.{declared_send, as_row_send}
 
-pub two_cross : (name : Sym) (A B : RattleType) → IsSend A → IsSend B → IsSend (TupleAt name (A ∷ B ∷ []))
-two_cross name A B a b = declared_send (type_at name (A ∷ B ∷ [])) (as_row_send (row_field A) a, (as_row_send (row_field B) b, tt))
-
 pub three_cross : (name : Sym) (A B C : RattleType) → IsSend A → IsSend B → IsSend C → IsSend (TupleAt name (A ∷ B ∷ C ∷ []))
 three_cross name A B C a b c = declared_send (type_at name (A ∷ B ∷ C ∷ [])) (as_row_send (row_field A) a, (as_row_send (row_field B) b, (as_row_send (row_field C) c, tt)))

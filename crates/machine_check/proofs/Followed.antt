@@ -20,6 +20,7 @@ use Rattle.machine_check.specs.declared.judging.Checker.{Checker}
 use Rattle.machine_check.specs.Checking.{Accepts, ChecksTo, IsAccepted, Starts, Stops}
 use Rattle.machine_check.specs.Reaching.{IsBehind, IsReached}
 use Rattle.machine_check.proofs.Judged.{either, first, second}
+use Rattle.list_laws.proofs.Tests.{some-value}
 
 -- ---- entry by entry
 
@@ -140,14 +141,10 @@ all_checked s m limit es v c behind within =
           ∙ ap (λ n. judged_from s limit v n [] st) (omega (arith, behind.count));
     }
 
-some_state : (o : Option State) → IsSome o → (st : State) × (o ≡ Some st)
-some_state (Some st) h = (st, refl)
-some_state None h = absurd cc
-
 -- one was not: the trace is illegal there
 pub part_checked : (s : System) (m : ByteMap) (limit : ℕ) (es : List Entry) (v : Verdict) (n : ℕ) → Stops s m limit es n → judged s m limit es v ≡ IllegalAt (n + 1)
 part_checked s m limit es v n k =
-    let it = some_state (after s m k.front) k.run in
+    let it = some-value (after s m k.front) k.run in
     let left : judged s m limit es v ≡ judged_from s limit v n (k.entry ∷ k.rest) it.0 =
     ap (λ l. judged_from s limit v 0 l (opening s m)) k.parts ∙ judged_behind s limit v 0 k.front (k.entry ∷ k.rest) (opening s m) it.0 it.1 (omega (arith, k.count, k.within))
     ∙ ap (λ i. judged_from s limit v i (k.entry ∷ k.rest) it.0) (omega (arith, k.count)) in

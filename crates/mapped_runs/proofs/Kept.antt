@@ -43,12 +43,13 @@ use Rattle.counting_law.proofs.Turns.{Turned, Turns, is_sound, kinds-turn}
 use Rattle.mapped_runs.specs.Windows.{WasUnmapped}
 use Rattle.mapped_runs.proofs.Changes.{effect-changes, is_vector_call}
 use Rattle.mapped_runs.proofs.Fits.{AreHeld, Fits, holds-at, map_out-held, mapped-input, mapped-is, mapped-unwritten, told-more, touched-apart, touched-input, touched-output, unmap_in-held, unmapped-output}
-use Rattle.mapped_runs.proofs.Lines.{arrived-has, behind-table, get-noted, other-keeps, plan-call, read-noted, reply-noted, runs-back, skip-noted, write-noted}
+use Rattle.mapped_runs.proofs.Lines.{arrived-has, behind-table, other-keeps, plan-call, read-noted, runs-back, skip-noted, write-noted}
 use Rattle.mapped_runs.proofs.Messages.{AreWaiting, HoldsStill, IsKept, others-kept, own-kept, waiting-kept}
 use Rattle.mapped_runs.proofs.Own.{AreGiven, Behind, get-behind, read-behind, reply-behind, skip-behind, write-behind}
 use Rattle.mapped_runs.proofs.Tables.{changed-count, large-there, moved-here}
 use Rattle.counting_law.proofs.Owners.{is-partition, service-owned}
 use Rattle.counting_law.proofs.OwnSteps.{Own, own-step}
+use Rattle.ffm_model.proofs.HeldLemmas.{noted-get, noted-reply}
 
 -- ---- phases
 
@@ -189,7 +190,7 @@ vector-behind : (T : Handle → ℕ → ℕ → Type 0) (s : System) (st new : S
     → ((operands : List Operand) (h : Handle) (index buffer len : ℕ) → slice_get script x.at.place ≡ Some (line.Map UnmapOut operands) → c ≡ call.Write h index buffer len → T h index len) → Own s st new a c o
     → Behind s a T (table_noted (holder_of s a) (slice_get script x.at.place) c o x.table) o new
 vector-behind T s st new a script x o (call.Get signal msg) partition balanced waiting all given on is now own =
-    subst (λ (t : List HeldMessage). Behind s a T t o new) (sym (get-noted (holder_of s a) (slice_get script x.at.place) signal msg o x.table))
+    subst (λ (t : List HeldMessage). Behind s a T t o new) (sym (noted-get (holder_of s a) (slice_get script x.at.place) signal msg o x.table))
     (get-behind T s st new a signal msg o x.table partition balanced waiting (λ v found. service-owned s a signal v found) all given own)
 vector-behind T s st new a script x o (call.Read h index buffer len) partition balanced waiting all given on is now own =
     read-noted (holder_of s a) (slice_get script x.at.place) h index buffer len o x.table (λ (t : List HeldMessage). Behind s a T t o new)
@@ -209,7 +210,7 @@ vector-behind T s st new a script x o (call.Write h index buffer len) partition 
     write-behind T s st new a h index buffer len o x.table (with_state unmapped index) (λ y few at. unmapped-output index y.output (maps y at))
     (λ y m few at fits i same e. (len, subst (λ (j : ℕ). T h j len) (sym same) (now operands h index buffer len line refl), unmapped-moved (holder_of s a) (T h) y m index i len same (maps y at) fits)) partition balanced all given own)
 vector-behind T s st new a script x o (call.Reply h status) partition balanced waiting all given on is now own =
-    subst (λ (t : List HeldMessage). Behind s a T t o new) (sym (reply-noted (holder_of s a) (slice_get script x.at.place) h status o x.table))
+    subst (λ (t : List HeldMessage). Behind s a T t o new) (sym (noted-reply (holder_of s a) (slice_get script x.at.place) h status o x.table))
     (reply-behind T s st new a h status o x.table partition balanced all given own)
 vector-behind T s st new a script x o _ partition balanced waiting all given on is now own = cc
 

@@ -4,7 +4,6 @@ use Rattle.std.specs.Prelude.{Option, Some, None, slice_get, option_and_then, if
 use Rattle.std.specs.Option.{option_map_or}
 use Rattle.std.proofs.lemmas.List.{append-nil}
 use Rattle.ffm_model.specs.declared.machine.Handle.{Handle}
-use Rattle.ffm_model.specs.declared.machine.Status.{Status}
 use Rattle.ffm_model.specs.declared.machine.Entry.{Entry}
 use Rattle.ffm_model.specs.declared.machine.Call.{Call}
 use Rattle.ffm_model.specs.declared.machine.Call.TheVariants as call
@@ -100,15 +99,6 @@ read-noted p _ h index buffer len o t P other maps = other
 pub skip-noted : (p : Holder) (i : Option Instruction) (h : Handle) (index len : ℕ) (o : Outcome) (t : List HeldMessage) → table_noted p i (call.Skip h index len) o t ≡ changed_at h (λ m. record m { input = touched index m.input }) t
 skip-noted p (Some (line.Map MapIn operands)) h index len o t = refl
 skip-noted p _ h index len o t = refl
-
--- psa_get and psa_reply
-pub get-noted : (p : Holder) (i : Option Instruction) (signal msg : ℕ) (o : Outcome) (t : List HeldMessage) → table_noted p i (call.Get signal msg) o t ≡ table_behind p (call.Get signal msg) o t
-get-noted p (Some (line.Map MapIn operands)) signal msg o t = refl
-get-noted p _ signal msg o t = refl
-
-pub reply-noted : (p : Holder) (i : Option Instruction) (h : Handle) (status : Status) (o : Outcome) (t : List HeldMessage) → table_noted p i (call.Reply h status) o t ≡ table_behind p (call.Reply h status) o t
-reply-noted p (Some (line.Map MapIn operands)) h status o t = refl
-reply-noted p _ h status o t = refl
 
 -- ---- which write a line makes
 

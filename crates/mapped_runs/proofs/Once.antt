@@ -39,13 +39,14 @@ use Rattle.mapped_runs.proofs.Changes.{is_vector_call}
 use Rattle.mapped_runs.proofs.Copies.{at-event, outputs-are-copied, tested}
 use Rattle.mapped_runs.proofs.Fits.{holds-at, mappable}
 use Rattle.mapped_runs.proofs.Kept.{Kept, arrived-given, run-kept, standing, step-grows}
-use Rattle.mapped_runs.proofs.Lines.{arrived-has, behind-table, get-noted, other-keeps, plan-call, read-noted, reply-noted, runs-back, skip-noted, unmap_out-call}
+use Rattle.mapped_runs.proofs.Lines.{arrived-has, behind-table, other-keeps, plan-call, read-noted, runs-back, skip-noted, unmap_out-call}
 use Rattle.mapped_runs.proofs.Own.{AreGiven, get-new}
 use Rattle.counting_law.proofs.Walk.{handle-same}
 use Rattle.mapped_runs.proofs.Tables.{changed-other, changed-same, is_unmapped, none-held, same_handle, without-other, without-same}
 use Rattle.counting_law.proofs.Entries.{never-nil, push-split}
 use Rattle.counting_law.proofs.OwnSteps.{Own, own-step}
 use Rattle.counting_law.proofs.Owners.{is-partition}
+use Rattle.ffm_model.proofs.HeldLemmas.{noted-get, noted-reply}
 
 -- ---- a vector that stays unmapped
 
@@ -147,7 +148,7 @@ reply-gone p h status _ t k i few gone = gone
 
 noted-gone : (p : Holder) (l : Option Instruction) (c : Call) (o : Outcome) (t : List HeldMessage) (k : Handle) (i : ℕ) → ((h : Handle) → count_by (is_held_as h) t ≤ 1)
     → ((signal msg : ℕ) (m : Message) → c ≡ call.Get signal msg → o ≡ outcome.Got m → handle_eq m.handle k ≡ false) → Gone t k i → Gone (table_noted p l c o t) k i
-noted-gone p l (call.Get signal msg) o t k i few new gone = subst (λ (u : List HeldMessage). Gone u k i) (sym (get-noted p l signal msg o t)) (get-gone p signal msg o t k i (λ m e. new signal msg m refl e) gone)
+noted-gone p l (call.Get signal msg) o t k i few new gone = subst (λ (u : List HeldMessage). Gone u k i) (sym (noted-get p l signal msg o t)) (get-gone p signal msg o t k i (λ m e. new signal msg m refl e) gone)
 noted-gone p l (call.Read h index buffer len) o t k i few new gone =
     read-noted p l h index buffer len o t (λ (u : List HeldMessage). Gone u k i)
     (changed-gone h k i (λ m. record m { input = touched index m.input }) t (λ m. refl) (λ y at e. e) gone) (changed-gone h k i (with_input mapped index) t (λ m. refl) (λ y at e. e) gone)
@@ -157,7 +158,7 @@ noted-gone p l (call.Write h index buffer len) o t k i few new gone =
     write-either p l h index buffer len o t (λ (u : List HeldMessage). Gone u k i)
     (changed-gone h k i (λ m. record m { output = touched index m.output }) t (λ m. refl) (λ y at e. touched-stays y.output index i e) gone)
     (changed-gone h k i (with_output unmapped index) t (λ m. refl) (λ y at e. state-stays y.output unmapped index i (λ z. refl) e) gone)
-noted-gone p l (call.Reply h status) o t k i few new gone = subst (λ (u : List HeldMessage). Gone u k i) (sym (reply-noted p l h status o t)) (reply-gone p h status o t k i (few h) gone)
+noted-gone p l (call.Reply h status) o t k i few new gone = subst (λ (u : List HeldMessage). Gone u k i) (sym (noted-reply p l h status o t)) (reply-gone p h status o t k i (few h) gone)
 noted-gone p l c o t k i few new gone = subst (λ (u : List HeldMessage). Gone u k i) (sym (other-keeps p l c o t refl)) gone
 
 -- ---- an entry more

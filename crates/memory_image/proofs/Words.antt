@@ -1,5 +1,5 @@
 -- Words that are put into one piece, one after the other.
-use Rattle.std.proofs.Common.{ℕ, zero, suc, ◌≡◌, ◌<◌, ◌≤◌, ◌+◌, ◌*◌, true, List, length, get_or, arith, ◌∙◌, ap, sym}
+use Rattle.std.proofs.Common.{ℕ, zero, suc, ◌≡◌, ◌<◌, ◌≤◌, ◌+◌, ◌*◌, true, List, [], ◌∷◌, length, get_or, arith, ◌∙◌, ap, sym, refl}
 use Rattle.std.proofs.lemmas.Bool.Decides.{nat_tests}
 use Rattle.std.proofs.lemmas.List.{get_or-map, length-map}
 use Rattle.ffm_model.specs.declared.scenario.Bytes.{Bytes}
@@ -28,3 +28,11 @@ word-inside ps qs i at n k same below less has =
 pub words-end : (at len : ℕ) (regions : List (ℕ × ℕ)) → fit_an_image regions ≡ true → is_inside at len regions ≡ true → at < 4294967296 → at + len ≤ 4294967296
 words-end at zero regions fits inside small = omega arith
 words-end at (suc n) regions fits inside small = ends_below at (suc n) regions fits inside (omega arith)
+
+-- four words, one by one
+abbrev pub first_four : List ℕ → List ℕ
+first_four xs = get_or xs 0 0 ∷ (get_or xs 1 0 ∷ (get_or xs 2 0 ∷ (get_or xs 3 0 ∷ [])))
+
+pub all-four : (xs : List ℕ) → length xs ≡ 4 → first_four xs ≡ xs
+all-four (a ∷ b ∷ c ∷ d ∷ []) e = refl
+all-four _ e = absurd (omega arith)

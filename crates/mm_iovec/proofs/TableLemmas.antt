@@ -1,7 +1,7 @@
 -- The messages as they are kept, and the changes of them.
-use Rattle.std.proofs.Common.{ℕ, zero, suc, ◌≡◌, ◌+◌, Bool, true, false, cond, not, ◌||◌, List, [], ◌∷◌, ◌++◌, length, map, get_or, take, drop, set, ◌∙◌, ap, sym, refl, subst, arith}
-use Rattle.std.specs.Prelude.{Option, Some, None, nat_lt, find, position, remove}
-use Rattle.std.specs.List.{list_any, position_or_len}
+use Rattle.std.proofs.Common.{ℕ, zero, suc, ◌≡◌, ◌+◌, Bool, true, false, cond, not, List, [], ◌∷◌, ◌++◌, length, map, get_or, take, drop, set, ◌∙◌, ap, sym, refl, subst, arith}
+use Rattle.std.specs.Prelude.{Option, Some, None, nat_lt, position, remove}
+use Rattle.std.specs.List.{position_or_len}
 use Rattle.std.specs.Option.{option_map}
 use Rattle.std.proofs.lemmas.Bool.Decides.{nat_tests}
 use Rattle.std.proofs.lemmas.List.{map-set, map-append, take-map, drop-map}
@@ -9,18 +9,6 @@ use Rattle.ffm_model.specs.declared.machine.Handle.{Handle}
 use Rattle.ffm_model.specs.Held.{HeldMessage, is_held_as, changed_at, without}
 
 -- ---- lists
-
-pub list_any_of_map : {A B : Type 0} (f : A → B) (p : B → Bool) (xs : List A) → list_any p (map f xs) ≡ list_any (λ x. p (f x)) xs
-list_any_of_map f p [] = refl
-list_any_of_map f p (x ∷ xs) = ap (λ b. p (f x) || b) (list_any_of_map f p xs)
-
-find-by : {A B : Type 0} (f : A → B) (b : Bool) (x : A) (o : Option A) → cond b (Some (f x)) (option_map f o) ≡ option_map f (cond b (Some x) o)
-find-by f true x o = refl
-find-by f false x o = refl
-
-pub find_of_map : {A B : Type 0} (f : A → B) (p : B → Bool) (xs : List A) → find p (map f xs) ≡ option_map f (find (λ x. p (f x)) xs)
-find_of_map f p [] = refl
-find_of_map f p (x ∷ xs) = ap (cond (p (f x)) (Some (f x))) (find_of_map f p xs) ∙ find-by f (p (f x)) x (find (λ y. p (f y)) xs)
 
 position-by : (b : Bool) (n m : ℕ) → cond (nat_lt (cond (not b) (1 + n) 0) (suc m)) (Some (cond (not b) (1 + n) 0)) None ≡ cond b (Some 0) (option_map suc (cond (nat_lt n m) (Some n) None))
 position-by true n m = grind (arith, nat_tests)

@@ -20,7 +20,7 @@ use Rattle.object_pools.proofs.Stores.{Owns-held, Narrow-slot, Filled-order, liv
 use Rattle.list_laws.proofs.Tests.{find-passes}
 
 -- one index, and all others
-at_each : (P : ℕ → Type 0) (i : ℕ) → P i → ((j : ℕ) → j ≢ i → P j) → (j : ℕ) → P j
+pub at_each : (P : ℕ → Type 0) (i : ℕ) → P i → ((j : ℕ) → j ≢ i → P j) → (j : ℕ) → P j
 at_each P i here others j =
     let go : (b : Bool) → (j == i) ≡ b → P j =
     elim [ true ↦ λ e. subst P (sym (same_number j i e)) here | false ↦ λ e. others j (other_number j i e) ] in

@@ -1,6 +1,6 @@
 -- Local lines, one after another.
 use Rattle.std.proofs.Common.{length, get_or, ℕ, zero, suc, ◌≡◌, ◌<◌, ◌-◌, ◌+◌, List, refl, ap, ap₂, sym, ◌∙◌, arith}
-use Rattle.std.specs.Prelude.{Option, Some, None, slice_get}
+use Rattle.std.specs.Prelude.{Option, Some, None}
 use Rattle.std.specs.Prelude.{IfSome, IfNone}
 use Rattle.std.proofs.lemmas.Option.{slice_get-get_or}
 use Rattle.list_laws.proofs.Lists.{AllByRecursion-at}
@@ -10,6 +10,7 @@ use Rattle.ffm_model.specs.Scripts.{FitsIn, IsPart}
 use Rattle.ffm_model.specs.ScriptRuns.{Point, line_effect, local_step, local_steps, arrived, most_lines, point, noted, behind, place_behind}
 use Rattle.partition_sim.specs.declared.context.Context.{Context}
 use Rattle.partition_sim.specs.Clients.{Reaches, AtCall}
+use Rattle.ffm_model.proofs.ScriptLemmas.{local_step-at}
 
 pub steps-one : (script : List Instruction) (n : ℕ) (p q : Point) → 0 < n → local_step script p ≡ Some q → local_steps script n p ≡ local_steps script (n - 1) q
 unfolding local_steps
@@ -23,18 +24,9 @@ steps-more script most ran p q h e =
     let less : most - ran - 1 ≡ most - (ran + 1) = omega arith in
     sym (ap (λ n. local_steps script n q) less) ∙ sym (steps-one script (most - ran) p q (omega arith) e)
 
-pub steps-none : (script : List Instruction) (n : ℕ) (p : Point) → local_step script p ≡ None → local_steps script n p ≡ p
-unfolding local_steps
-steps-none script zero p e = refl
-steps-none script (suc n) p e = rw e refl
-
 pub steps-zero : (script : List Instruction) (n : ℕ) (p : Point) → n ≡ 0 → local_steps script n p ≡ p
 unfolding local_steps
 steps-zero script n p e = rw e refl
-
-pub local_step-at : (script : List Instruction) (p : Point) (line : Instruction) → slice_get script p.place ≡ Some line → local_step script p ≡ line_effect p line
-unfolding local_step
-local_step-at script p line e = rw e refl
 
 pub fits-at : (script : List Instruction) (i : ℕ) (d : Instruction) → IsPart script → i < length script → (count : ℕ) × FitsIn count (get_or script i d)
 fits-at script i d h inside = (length script, AllByRecursion-at (FitsIn (length script)) script i (get_or script i d) h (slice_get-get_or script i d inside))

@@ -11,6 +11,7 @@ use Rattle.std.proofs.lemmas.List.{length_push, length-take-le, take_more}
 use Rattle.std.proofs.lemmas.List.Folds.{find_at, position_or_len_push}
 use Rattle.std.proofs.lemmas.List.Sums.{prefix_len-le-length}
 use Rattle.ffm_model.specs.PartsItems.{RegionRecord}
+use Rattle.ffm_model.proofs.RangeLemmas.{nowhere}
 
 -- the element at the first place
 pub position_found : {A : Type 0} (p : A → Bool) (xs : List A) (i : ℕ) → position p xs ≡ Some i → slice_get xs i ≡ find p xs
@@ -21,15 +22,12 @@ slice_get_past [] i past = refl
 slice_get_past (x ∷ xs) zero past = absurd (omega arith)
 slice_get_past (x ∷ xs) (suc i) past = slice_get_past xs i (omega arith)
 
-past_end : {A : Type 0} (p : A → Bool) (xs : List A) → position p xs ≡ None → length xs ≤ position_or_len p xs
-past_end p xs e = grind (arith, nat_tests)
-
 pub got : {A : Type 0} (xs : List A) (i : ℕ) (r : Option (Bor A)) → i < length xs → IfSome r (λ x. x.now ≡ get_or xs i x.now) → IsSome r → option_copied r ≡ slice_get xs i
 got xs i None below is some = cc
 got xs i (Some x) below is some = sym (slice_get-get_or xs i x.now below ∙ ap Some (sym is))
 
 pub position_none : {A : Type 0} (p : A → Bool) (xs : List A) → position p xs ≡ None → find p xs ≡ None
-position_none p xs e = find_at p xs ∙ slice_get_past xs (position_or_len p xs) (past_end p xs e)
+position_none p xs e = find_at p xs ∙ slice_get_past xs (position_or_len p xs) (nowhere p xs e)
 
 position_old : {A : Type 0} (p : A → Bool) (xs : List A) (x : A) (i : ℕ) → position p xs ≡ Some i → position p (xs ++ x ∷ []) ≡ Some i
 position_old p xs x i e = grind (arith, nat_tests, position_or_len_push p xs x, length_push xs x)

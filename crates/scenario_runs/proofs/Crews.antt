@@ -1,7 +1,7 @@
 -- Crews of workers, before and after they are driven.
 use Rattle.std.proofs.Common.{ℕ, zero, suc, ◌+◌, ◌≡◌, ◌<◌, ◌≤◌, add-zero, false, List, [], ◌∷◌, ◌++◌, append_assoc, append-nil, length, length-append, get_or, Some, refl, sym, ap, ◌∙◌, subst, arith}
 use Rattle.std.specs.Prelude.{slice_get}
-use Rattle.std.proofs.lemmas.List.{length-map, nil_from_length}
+use Rattle.std.proofs.lemmas.List.{length-map}
 use Rattle.std.proofs.lemmas.List.Elements.{All-append}
 use Rattle.std.proofs.Math.Seq.{get_or-append_seam}
 use Rattle.std.specs.List.{All, AllByRecursion}
@@ -21,6 +21,7 @@ use Rattle.scenario_runs.specs.declared.threads.Seat.{Seat}
 use Rattle.scenario_runs.specs.declared.threads.Start.{Start}
 use Rattle.scenario_runs.specs.Threads.{Crew, IsStart, StartsFrom, actors_in, AllFresh, AllFinished, AreNewCrews, AreUnused, CrewedBy, SameWorkers, IsDoneBy, AreDoneBy, IsSeat, AreSeats, crews_in, left_of, waiting}
 use Rattle.actor_programs.specs.Programs.{Parts}
+use Rattle.list_laws.proofs.Lists.{append_none}
 
 -- all of one
 all_one : {X : Type 0} (P : X → Type 0) (x : X) → P x → All P (x ∷ [])
@@ -32,9 +33,6 @@ first_of P x xs h = h 0 x (omega arith)
 
 rest_of : {X : Type 0} (P : X → Type 0) (x : X) (xs : List X) → All P (x ∷ xs) → All P xs
 rest_of P x xs h = λ k d lt. h (suc k) d (omega (arith, lt))
-
-all_of : {X : Type 0} (ys rest xs : List X) → ys ++ rest ≡ xs → length rest ≡ 0 → ys ≡ xs
-all_of ys rest xs all none = sym (append-nil ys) ∙ (ap (λ r. ys ++ r) (sym (nil_from_length rest none)) ∙ all)
 
 -- ---- new crews
 
@@ -77,7 +75,7 @@ pub all_begun : (s : System) (xs left scripts : List Parts) (starts : List Start
 all_begun s xs left scripts starts n h is long count =
     let a = length-append xs left in
     let b = ap length is in
-    subst (λ (ys : List Parts). StartsFrom s 0 ys starts) (all_of xs left scripts is (omega (arith, a, b, long, count))) h
+    subst (λ (ys : List Parts). StartsFrom s 0 ys starts) (append_none xs left scripts is (omega (arith, a, b, long, count))) h
 
 -- a new worker for a pass
 pub new_crew : (s : SharedView) (crew : Crew) (w : Worker PassView) (p : PassView) (x : Start) → crew ≡ w ∷ [] → w.pass ≡ p → w.script ≡ x.script → w.runner ≡ x.runner → w.done ≡ false → w.number ≡ 1 → IsOwn s p → record_of p ≡ []
@@ -131,13 +129,13 @@ start_left s ys rest later passes xs left starts crews p h one two next count =
 pub all_crewed : (s : SharedView) (ys rest passes : List PassView) (xs left starts : List Start) (crews : List Crew) → CrewedBy s ys xs crews → xs ++ left ≡ starts → ys ++ rest ≡ passes → length rest ≡ 0
     → length passes ≡ length starts → CrewedBy s passes starts crews
 all_crewed s ys rest passes xs left starts crews h one two none count =
-    let ys_are : ys ≡ passes = all_of ys rest passes two none in
+    let ys_are : ys ≡ passes = append_none ys rest passes two none in
     let long = crewed_long s ys xs crews h in
     let a = length-append xs left in
     let b = ap length one in
     let c = ap length ys_are in
     let none_left : length left ≡ 0 = omega (arith, long, a, b, c, count) in
-    let xs_are : xs ≡ starts = all_of xs left starts one none_left in
+    let xs_are : xs ≡ starts = append_none xs left starts one none_left in
     subst (λ (ps : List PassView). CrewedBy s ps starts crews) ys_are (subst (λ (zs : List Start). CrewedBy s ys zs crews) xs_are h)
 
 -- ---- the passes of a shared manager

@@ -16,9 +16,6 @@ use Rattle.spm_lock.proofs.Crossing.{pass_crosses}
 pub crew_crosses : IsSend (list_row.the_row (worker_row.the_row pass_row.the_row))
 crew_crosses = search (sendable, list.the_send, worker.the_send, pass_crosses)
 
-pub two_cross : (name : Sym) (A B : RattleType) → IsSend A → IsSend B → IsSend (TupleAt name (A ∷ B ∷ []))
-two_cross name A B a b = declared_send (type_at name (A ∷ B ∷ [])) (as_row_send (row_field A) a, (as_row_send (row_field B) b, tt))
-
 pub five_cross : (name : Sym) (A B C D E : RattleType) → IsSend A → IsSend B → IsSend C → IsSend D → IsSend E → IsSend (TupleAt name (A ∷ B ∷ C ∷ D ∷ E ∷ []))
 five_cross name A B C D E a b c d e =
     declared_send (type_at name (A ∷ B ∷ C ∷ D ∷ E ∷ [])) (as_row_send (row_field A) a, (as_row_send (row_field B) b, (as_row_send (row_field C) c, (as_row_send (row_field D) d, (as_row_send (row_field E) e, tt)))))

@@ -140,10 +140,10 @@ lines-more old new xs x l e kept leads has = λ n i. lines-by old new xs x l n i
 
 -- ---- the loop over the lines
 
-width-small : (x : Line) → width x ≤ 1
-width-small passed = omega arith
-width-small (label n) = omega arith
-width-small (order ws) = omega arith
+pub width-one : (x : Line) → width x ≤ 1
+width-one passed = omega arith
+width-one (label n) = omega arith
+width-one (order ws) = omega arith
 
 -- the map of the labels of the lines so far
 pub record Labels (labels : BTreeMap (Bor Word) FirstLabel) (ls : List code.Line) (i place : ℕ) : Type 0 where
@@ -182,5 +182,5 @@ labels-next old new ls i place w x l inside is at leads wide kept so_far =
       leads = subst P (sym more) (places-more old new (lines_view (take i ls)) (line_view x) l (leads ∙ so_far.place_is) kept so_far.leads);
       stand = subst Q (sym more) (lines-more old new (lines_view (take i ls)) (line_view x) l (at ∙ sym long) kept so_far.leads so_far.stand);
       place_is = ap (λ p. p + w) so_far.place_is ∙ ap (λ k. sum_by width (lines_view (take i ls)) + k) (wide ∙ sym (zero-add (width (line_view x)))) ∙ sym (ap (sum_by width) more ∙ sum_by-append width (lines_view (take i ls)) (line_view x ∷ []));
-      within = omega (arith, so_far.within, wide, width-small (line_view x));
+      within = omega (arith, so_far.within, wide, width-one (line_view x));
     }

@@ -2,7 +2,7 @@
 use Rattle.std.proofs.Common.{ℕ, ◌≡◌, Bool, true, cond, List, [], ◌∷◌, ◌++◌, ◌∙◌, ap, sym, refl, subst, ◌==◌, map, false}
 use Rattle.std.specs.Prelude.{find, is_none, All, if◌then◌else◌, Option, Some, None, IsSome, IfSome, option_and_then}
 use Rattle.std.specs.Option.{option_map}
-use Rattle.list_laws.proofs.Tests.{find-passes}
+use Rattle.list_laws.proofs.Tests.{find-passes, find-map}
 use Rattle.ffm_model.specs.declared.machine.Handle.{Handle}
 use Rattle.ffm_model.specs.declared.machine.Message.{Message as ShownMessage}
 use Rattle.ffm_model.specs.declared.machine.Outcome.TheVariants.{Got}
@@ -29,7 +29,7 @@ use Rattle.slot_names.proofs.Due.{due-at-get}
 use Rattle.spm_tables.specs.declared.item.QueuedMessage.{QueuedMessage}
 use Rattle.spm_tables.specs.Answers.{state_with}
 use Rattle.spm_tables.specs.TablesView.{TablesView, held_message, message_at, message_of, spm_of, waits_for}
-use Rattle.spm_tables.proofs.MessageLemmas.{find-map, live-put}
+use Rattle.spm_tables.proofs.MessageLemmas.{live-put}
 use Rattle.service_calls.proofs.Held.{holds-at}
 use Rattle.service_calls.proofs.Kept.{all-put}
 use Rattle.spm_tables.specs.TablesView.{shown_handle}

@@ -1,9 +1,9 @@
 -- What psa_reply leaves, from what was done to the message and its connection.
-use Rattle.std.proofs.Common.{ℕ, ◌≡◌, Bool, true, false, cond, not, ◌&&◌, List, ◌∙◌, ap, sym, refl, subst}
-use Rattle.std.specs.Prelude.{ℤ, int_lt, count_by, take, Option, Some, None, IfSome, option_and_then, if◌then◌else◌}
+use Rattle.std.proofs.Common.{ℕ, ◌≡◌, Bool, true, false, cond, not, List, ◌∙◌, ap, sym, refl, subst}
+use Rattle.std.specs.Prelude.{ℤ, int_lt, count_by, take, Option, Some, None, IfSome, if◌then◌else◌}
 use Rattle.std.specs.Option.{option_map}
 use Rattle.std.specs.Ordering.{int_eq}
-use Rattle.ffm_model.specs.declared.constants.TheConstants.{PSA_IPC_CALL, PSA_IPC_CONNECT, PSA_ERROR_PROGRAMMER_ERROR}
+use Rattle.ffm_model.specs.declared.constants.TheConstants.{PSA_IPC_CALL, PSA_ERROR_PROGRAMMER_ERROR}
 use Rattle.ffm_model.specs.declared.machine.ActorId.{ActorId}
 use Rattle.ffm_model.specs.declared.machine.Handle.{Handle}
 use Rattle.ffm_model.specs.declared.machine.Outcome.TheVariants.{Done, Value}
@@ -18,7 +18,7 @@ use Rattle.ffm_model.specs.ClientCalls.{Effect, effect}
 use Rattle.ffm_model.specs.Memory.{lengths_written}
 use Rattle.ffm_model.specs.Panic.{panic_effect}
 use Rattle.ffm_model.specs.State.{SpmState, message_held, phase_of, with_phase, without_message}
-use Rattle.ffm_model.specs.ServiceCalls.{answered, is_connect_status, owes_panic, psa_reply, replied, reply_of, reply_to, request_answered, with_request_phase}
+use Rattle.ffm_model.specs.ServiceCalls.{answered, owes_panic, psa_reply, replied, reply_of, reply_to, request_answered, with_request_phase}
 use Rattle.slot_names.specs.Replies.{Answered, reply_on}
 use Rattle.counting_law.specs.Objects.{ObjectsFit, accepted_as, is_joining}
 use Rattle.counting_law.proofs.Balance.{Balanced, balanced-fit, fit-balanced, one}
@@ -37,17 +37,7 @@ use Rattle.spm_tables.specs.TablesView.{TablesView, fresh_message, message_of, s
 use Rattle.service_calls.specs.Answers.{once_panicked}
 use Rattle.service_calls.proofs.Held.{IsTold, held-told}
 use Rattle.counting_law.proofs.Rooms.{reply-fits}
-
--- ---- the message that may be answered
-
-kept-held : (o : Option PendingMessage) (p : PendingMessage → Bool) (n : PendingMessage) → option_and_then (λ m. cond (p m) None (Some m)) o ≡ Some n → o ≡ Some n
-kept-held None p n e = cc
-kept-held (Some m) p n e =
-    let go : (b : Bool) → cond b None (Some m) ≡ Some n → Some m ≡ Some n = elim [ true ↦ λ f. cc | false ↦ λ f. f ] in
-    go (p m) e
-
-pub reply-held : (s : System) (b : SpmState) (a : ℕ) (k : Handle) (status : ℤ) (n : PendingMessage) → reply_to s b a k status ≡ Some n → message_held s b a k ≡ Some n
-reply-held s b a k status n e = kept-held (message_held s b a k) (λ m. int_eq m.kind PSA_IPC_CONNECT && not (is_connect_status status)) n e
+use Rattle.memory_image.proofs.Messages.{reply_is}
 
 -- ---- what is left
 
@@ -61,7 +51,7 @@ pub was-replied : (s : System) (d mid new : TablesView) (a : ℕ) (k : Handle) (
     → (m.delivered ≡ true → spm_of mid ≡ without_message (spm_of d) (handle_at Message t)) → spm_of new ≡ answered s (spm_of mid) (fresh_message m) status
     → option_map (λ (p : ActorId). p.0) owing ≡ (if owes_panic s (fresh_message m) status then Some m.client.0 else None) → IsReplied s d new a k status t m owing
 was-replied s d mid new a k status t m owing found dropped answer owes =
-    let told : IsTold t m k = held-told s (spm_of d) a k t m (reply-held s (spm_of d) a k status (message_of t m) found) in
+    let told : IsTold t m k = held-told s (spm_of d) a k t m (reply_is s (spm_of d) a k status (message_of t m) found) in
     let gone : spm_of mid ≡ without_message (spm_of d) k = dropped told.delivered ∙ ap (λ (h : Handle). without_message (spm_of d) h) told.handle in
     record { found = found; state = answer ∙ ap (λ (b : SpmState). answered s b (fresh_message m) status) gone; owes = owes }
 
@@ -134,7 +124,7 @@ pub owing-fits : (s : System) (d new : TablesView) (a : ℕ) (k : Handle) (statu
     → IfSome owing (λ p. ObjectsFit s (with_phase (spm_of new) p.0 Running))
 owing-fits s d new a k status t m owing fit it =
     let n : PendingMessage = message_of t m in
-    let held : message_held s (spm_of d) a k ≡ Some n = reply-held s (spm_of d) a k status n it.found in
+    let held : message_held s (spm_of d) a k ≡ Some n = reply_is s (spm_of d) a k status n it.found in
     let go : (o : Option ActorId) (x : Bool) → owes_panic s n status ≡ x → option_map (λ (p : ActorId). p.0) o ≡ (if x then Some m.client.0 else None)
     → IfSome o (λ p. ObjectsFit s (with_phase (spm_of new) p.0 Running)) =
     elim [
@@ -153,7 +143,7 @@ pub settled-fits : (s : System) (d new : TablesView) (a : ℕ) (k : Handle) (sta
     → owing ≡ None → ObjectsFit s (spm_of new)
 settled-fits s d new a k status t m owing fit it none =
     let n : PendingMessage = message_of t m in
-    let held : message_held s (spm_of d) a k ≡ Some n = reply-held s (spm_of d) a k status n it.found in
+    let held : message_held s (spm_of d) a k ≡ Some n = reply_is s (spm_of d) a k status n it.found in
     let go : (x : Bool) → owes_panic s n status ≡ x → None ≡ (if x then Some m.client.0 else None) → ObjectsFit s (spm_of new) = elim [
       | true ↦ λ e f. cc
       | false ↦ λ e f. subst (λ (b : SpmState). ObjectsFit s b) (sym it.state) (reply-fits s (spm_of d) a k status n fit held e)

@@ -23,6 +23,7 @@ use Rattle.sfn_calls.specs.Loop.{call_line, width, place_in, moved, reply_code, 
 use Rattle.ffm_model.specs.SfnRuns.{lines_for, sfn_service_at, sfn_services_from, sfn_partition}
 use Rattle.sfn_calls.proofs.Places.{place-first}
 use Rattle.sfn_calls.proofs.Dispatch.{service_code-length}
+use Rattle.list_laws.proofs.Lists.{AllByRecursion-append}
 
 -- ---- places
 
@@ -133,10 +134,6 @@ signals-zero s a fs = refl
 
 -- ---- the loop fits a script
 
-fits-append : {A : Type 0} (P : A → Type 0) (xs ys : List A) → AllByRecursion P xs → AllByRecursion P ys → AllByRecursion P (xs ++ ys)
-fits-append P [] ys h k = k
-fits-append P (x ∷ xs) ys h k = (h.0, fits-append P xs ys h.1 k)
-
 plain-operand : (v : Operand) → IsFunctionOperand v → IsOperand v
 plain-operand (Register r) h = omega arith
 plain-operand (Number n) h = tt
@@ -162,12 +159,12 @@ line-fits N count to (Return v) low h = reply-fits N v h
 lines-fit : (N count : ℕ) (to : ℕ → ℕ) (xs : List SfnInstruction) → ((t : ℕ) → to t ≤ N) → AllByRecursion (IsFunctionLine count) xs → AllByRecursion (FitsIn N) (lines_code to xs)
 unfolding lines_code
 lines-fit N count to [] low h = reply-fits N (Number 0) tt
-lines-fit N count to (x ∷ xs) low h = fits-append (FitsIn N) (line_code to x) (lines_code to xs) (line-fits N count to x low h.0) (lines-fit N count to xs low h.1)
+lines-fit N count to (x ∷ xs) low h = AllByRecursion-append (FitsIn N) (line_code to x) (lines_code to xs) (line-fits N count to x low h.0) (lines-fit N count to xs low h.1)
 
 service_code-fits : (N base at : ℕ) (v : SfnService) → at + service_size v.lines ≤ N → IsFunction v.lines → AllByRecursion (FitsIn N) (service_code base at v)
 unfolding service_code service_size
 service_code-fits N base at v room fine =
-    fits-append (FitsIn N) (dispatch_code v.signal base (at + (5 + place_in v.lines (length v.lines) + 2))) (function_code v.lines (at + 5))
+    AllByRecursion-append (FitsIn N) (dispatch_code v.signal base (at + (5 + place_in v.lines (length v.lines) + 2))) (function_code v.lines (at + 5))
     ((omega arith, omega arith), ((omega arith, tt), ((omega arith, tt, room), ((tt, (tt, (tt, (tt, (tt, (tt, tt)))))), ((omega arith, omega arith), tt)))))
     (lines-fit N (length v.lines) (λ t. at + 5 + place_in v.lines t) v.lines (λ t. let w = place-within v.lines t in omega arith) fine)
 
@@ -178,7 +175,7 @@ services_code-fit N base (v ∷ vs) at room h =
     let next : ℕ = at + service_size v.lines in
     let long : length (service_code base at v ++ services_code base next vs) ≡ service_size v.lines + length (services_code base next vs) =
     length-append (service_code base at v) (services_code base next vs) ∙ ap (λ (n : ℕ). n + length (services_code base next vs)) (service_code-length base at v) in
-    fits-append (FitsIn N) (service_code base at v) (services_code base next vs) (service_code-fits N base at v (omega (arith, long)) h.0) (services_code-fit N base vs next (omega (arith, long)) h.1)
+    AllByRecursion-append (FitsIn N) (service_code base at v) (services_code base next vs) (service_code-fits N base at v (omega (arith, long)) h.0) (services_code-fit N base vs next (omega (arith, long)) h.1)
 
 pub expanded-fits : (p : SfnPartition) → AllByRecursion (λ v. IsFunction v.lines) p.services → IsPart (expanded p)
 unfolding expanded
@@ -300,7 +297,7 @@ pub services-fine : (s : System) (a : ℕ) (fs : List SfnFunction) (n bit : ℕ)
 unfolding sfn_services_from
 services-fine s a fs zero bit h = tt
 services-fine s a fs (suc n) bit h =
-    fits-append (λ (v : SfnService). IsFunction v.lines) (option_to_list (sfn_service_at s a fs bit)) (sfn_services_from s a fs (bit + 1) n) (service-fine fs (2 ^ bit) (service_of_signal s a (2 ^ bit)) h) (services-fine s a fs n (bit + 1) h)
+    AllByRecursion-append (λ (v : SfnService). IsFunction v.lines) (option_to_list (sfn_service_at s a fs bit)) (sfn_services_from s a fs (bit + 1) n) (service-fine fs (2 ^ bit) (service_of_signal s a (2 ^ bit)) h) (services-fine s a fs n (bit + 1) h)
 
 -- ---- the whole loop
 

@@ -13,7 +13,8 @@ use Rattle.sfn_calls.specs.Loop.{place_in, lines_code, function_code, dispatch_c
 use Rattle.ffm_model.specs.declared.script.SfnInstruction.TheVariants.{Plain, Return}
 use Rattle.sfn_calls.proofs.Registers.{get-low, set-15, get-15}
 use Rattle.sfn_calls.proofs.Places.{StandsAt, stands-left, stands-right, stands-tail, stands-head, stands-moved}
-use Rattle.sfn_calls.proofs.Steps.{step-at, steps-next, steps-stay}
+use Rattle.sfn_calls.proofs.Steps.{steps-next}
+use Rattle.ffm_model.proofs.ScriptLemmas.{local_step-at, steps-none}
 
 -- ---- how long a service's code is
 
@@ -46,14 +47,14 @@ tested code at signal base end n rs h t stands long =
     let two = stands-tail code at _ _ stands in
     let three = stands-tail code (at + 1) _ _ two in
     let p1 : local_step code (point (rs ++ h ∷ (t ∷ [])) at) ≡ Some (point (rs ++ h ∷ (s ∷ [])) (at + 1)) =
-    step-at code _ _ (stands-head code at _ _ stands) ∙ ap (λ (l : List ℕ). Some (point l (at + 1)))
+    local_step-at code _ _ (stands-head code at _ _ stands) ∙ ap (λ (l : List ℕ). Some (point l (at + 1)))
     (ap (slice_set (rs ++ h ∷ (t ∷ [])) 15) (get-low rs (h ∷ (t ∷ [])) 0 long (omega arith)) ∙ set-15 rs h t s long) in
     let p2 : local_step code (point (rs ++ h ∷ (s ∷ [])) (at + 1)) ≡ Some (point (rs ++ h ∷ (bit ∷ [])) (at + 1 + 1)) =
-    step-at code _ _ (stands-head code (at + 1) _ _ two) ∙ ap (λ (l : List ℕ). Some (point l (at + 1 + 1)))
+    local_step-at code _ _ (stands-head code (at + 1) _ _ two) ∙ ap (λ (l : List ℕ). Some (point l (at + 1 + 1)))
     (ap (λ (x : ℕ). slice_set (rs ++ h ∷ (s ∷ [])) 15 (bit_and x signal)) (get-15 rs h s long) ∙ set-15 rs h s bit long) in
     let place : at + 1 + 1 + 1 ≡ at + 3 = omega arith in
     let p3 : local_step code (point (rs ++ h ∷ (bit ∷ [])) (at + 1 + 1)) ≡ Some (point (rs ++ h ∷ (bit ∷ [])) (if bit == 0 then end else at + 3)) =
-    step-at code _ _ (stands-head code (at + 1 + 1) _ _ three)
+    local_step-at code _ _ (stands-head code (at + 1 + 1) _ _ three)
     ∙ ap₂ (λ (x y : ℕ). Some (point (rs ++ h ∷ (bit ∷ [])) (if x == 0 then end else y))) (get-15 rs h bit long) place in
     steps-next code (suc (suc n)) _ _ p1 ∙ (steps-next code (suc n) _ _ p2 ∙ steps-next code n _ _ p3)
 
@@ -67,7 +68,7 @@ pub record Dispatched (code : List Instruction) (base n : ℕ) (rs : List ℕ) (
   pub stands : IsGet code place base v
 
 get-stays : (code : List Instruction) (base place n : ℕ) (v : SfnService) (rs : List ℕ) → IsGet code place base v → local_steps code n (point rs place) ≡ point rs place
-get-stays code base place n v rs stands = steps-stay code n (point rs place) (step-at code _ _ (stands-head code place _ _ stands))
+get-stays code base place n v rs stands = steps-none code n (point rs place) (local_step-at code _ _ (stands-head code place _ _ stands))
 
 get-stands : (code : List Instruction) (base at : ℕ) (v : SfnService) → StandsAt code at (service_code base at v) → IsGet code (at + 3) base v
 unfolding service_code

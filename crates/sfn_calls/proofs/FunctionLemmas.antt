@@ -19,6 +19,7 @@ use Rattle.script_asm.specs.Views.{line_view, lines_view}
 use Rattle.script_asm.specs.declared.lines.Line as code
 use Rattle.script_asm.proofs.MadeLemmas.{Fitting, passed-width, label-width, order-width}
 use Rattle.sfn_calls.specs.FunctionLines.{is_function_operand, is_function_instruction, function_instruction, made_of, instructions_of}
+use Rattle.script_asm.proofs.LabelLemmas.{width-one}
 
 -- ---- what fits
 
@@ -52,10 +53,6 @@ unfolding made_of
 listed-width all i passed made e = passed-width made e
 listed-width all i (label n) made e = label-width (is_some (place_of n (take i all))) made e
 listed-width all i (order ws) made e = order-width (function_instruction all ws) made e
-
-width-one : (l : Line) → width l ≤ 1
-width-one passed = omega arith
-width-one _ = omega arith
 
 widths-few : (ls : List Line) → sum_by width ls ≤ length ls
 widths-few [] = omega arith

@@ -1,6 +1,6 @@
 -- The runs of an SFN partition are those of its loop.
 use Rattle.std.proofs.Common.{ℕ, ◌+◌, ◌≡◌, List, [], ◌∷◌, refl, ap, sym, ◌∙◌, subst, Bool, true, false, inl, inr}
-use Rattle.std.specs.Prelude.{Option, Some, None, IsSome, if◌then◌else◌, find, ◌↔◌, ◌⊎◌}
+use Rattle.std.specs.Prelude.{Some, IsSome, if◌then◌else◌, find, ◌↔◌, ◌⊎◌}
 use Rattle.std.specs.List.{AllByRecursion}
 use Rattle.ffm_model.specs.declared.constants.TheConstants.{PSA_BLOCK}
 use Rattle.ffm_model.specs.declared.machine.Entry.{Entry}
@@ -20,9 +20,10 @@ use Rattle.ffm_model.specs.SfnRuns.{Work, Stage, reached, work_call, work_behind
 use Rattle.ffm_model.specs.SfnRuns.Stage.{idle, waiting, signalled, working}
 use Rattle.sfn_calls.specs.Loop.{expanded}
 use Rattle.sfn_calls.specs.Answers.{IsHandle, IsBlockedWait, IsReturn, AreAnswered, IsSfnPartition, SameRuns}
-use Rattle.sfn_calls.proofs.Steps.{steps-stay, step-at}
 use Rattle.sfn_calls.proofs.Rounds.{answered, due, RunAt, run-to, run-from}
 use Rattle.sfn_calls.proofs.Stages.{AtWait, wait-call, wait-line, AfterWait, after-signals, to-get, get-call, AtWork, work-call, to-work, stays-open, goes-on, goes-back, return-call}
+use Rattle.ffm_model.proofs.ScriptLemmas.{local_step-at, steps-none}
+use Rattle.list_laws.proofs.Tests.{some-value}
 
 -- ---- the machine's answers, of fewer entries
 
@@ -57,10 +58,6 @@ Facts p (signalled rs signals) es = (w : Entry) × ((r : Entry) × (IsBlockedWai
 Facts p (working w) es = AreAnswered p es
 
 -- ---- both ways at once
-
-some-of : {A : Type 0} (o : Option A) → IsSome o → (x : A) × (o ≡ Some x)
-some-of None h = cc
-some-of (Some x) h = (x, refl)
 
 lines-by : (e v : SfnService) (vs : List SfnService) (p : SfnService → Bool) (b : Bool) → IsFunction e.lines → (if b then Some e else find p vs) ≡ Some v → (find p vs ≡ Some v → IsFunction v.lines) → IsFunction v.lines
 lines-by e v vs p true fine eq go = let same : e ≡ v = cc in subst (λ (x : SfnService). IsFunction x.lines) same fine
@@ -181,7 +178,7 @@ same-from p fine (e ∷ es) (signalled rs signals) q after facts =
     let next : (v : SfnService) (m : Message) → lowest p.services signals ≡ Some v → IsHandle m.handle → RunAt code false (answered code (outcome.Got m) q) es ↔ SfnRunFrom p (working (begun v m rs)) es =
     λ v m found handle. let x = to-get p rs signals q v fine after found in
     same-from p fine es (working (begun v m rs)) _ (to-work p rs signals q v m (lowest-fits p signals v fine found) handle x.0 x.1) (answered-tail p e es rest) in (
-      (λ h. let v = some-of (lowest p.services signals) facts.1.1.1.1.1 in
+      (λ h. let v = some-value (lowest p.services signals) facts.1.1.1.1.1 in
           let c = h.0 ∙ made v.0 v.1 in
           let g = given v.0 v.1 c in
           (v.0, (v.1, (c, (g.0, (g.1.0, (next v.0 g.0 v.1 g.1.1).0 (at-outcome code q es e.outcome (outcome.Got g.0) g.1.0 h.1))))))),
@@ -212,7 +209,7 @@ unfolding arrived
 opening-stands p = record {
   r14 = 0;
   r15 = 0;
-  arrives = steps-stay (expanded p) most_lines start (step-at (expanded p) start _ (wait-line p));
+  arrives = steps-none (expanded p) most_lines start (local_step-at (expanded p) start _ (wait-line p));
   long = refl;
 }
 

@@ -28,8 +28,9 @@ use Rattle.sfn_calls.specs.Answers.{IsHandle, IsSfnPartition}
 use Rattle.sfn_calls.proofs.Registers.{get-low, set-low, set-14, message-low, message-long, noted-low, noted-long}
 use Rattle.sfn_calls.proofs.Rounds.{answered}
 use Rattle.sfn_calls.proofs.Places.{StandsAt, stands-tail, stands-head, stands-whole, code-here, back-here, IsReturning, place-first, place-next}
-use Rattle.sfn_calls.proofs.Steps.{step-at, steps-next, steps-stay, in_loop, IsLong, steps-same, steps-long, call-same}
+use Rattle.sfn_calls.proofs.Steps.{steps-next, in_loop, IsLong, steps-same, steps-long, call-same}
 use Rattle.sfn_calls.proofs.Dispatch.{Dispatched, dispatch}
+use Rattle.ffm_model.proofs.ScriptLemmas.{local_step-at, steps-none}
 
 -- ---- psa_wait
 
@@ -153,7 +154,7 @@ steps-begin code lines m rs r14 r15 place long stands fine =
     let long2 : length (with_message m rs) ≡ 14 = message-long m rs long in
     let h : ℕ = cast_unsigned w32 m.handle.0 in
     let put : local_step code (point (with_message m rs ++ r14 ∷ (r15 ∷ [])) place) ≡ Some (point (with_message m rs ++ h ∷ (r15 ∷ [])) (place + 1)) =
-    step-at code _ _ (stands-head code place _ _ stands)
+    local_step-at code _ _ (stands-head code place _ _ stands)
     ∙ ap (λ (l : List ℕ). Some (point l (place + 1)))
     (ap (slice_set (with_message m rs ++ r14 ∷ (r15 ∷ [])) 14) (get-low (with_message m rs) (r14 ∷ (r15 ∷ [])) 2 long2 (lit< tt) ∙ message-handle m rs long)
     ∙ set-14 (with_message m rs) r14 r15 h long2) in
@@ -243,8 +244,8 @@ goes-on code w q o a r =
 -- after its reply the loop goes back to psa_wait
 steps-back : (p : SfnPartition) (rs : List ℕ) (place : ℕ) → slice_get (expanded p) place ≡ Some (Jump 0) → local_steps (expanded p) (suc first_budget) (point rs place) ≡ point rs 0
 steps-back p rs place jump =
-    steps-next (expanded p) first_budget (point rs place) (point rs 0) (step-at (expanded p) (point rs place) _ jump)
-    ∙ steps-stay (expanded p) first_budget (point rs 0) (step-at (expanded p) (point rs 0) _ (wait-line p))
+    steps-next (expanded p) first_budget (point rs place) (point rs 0) (local_step-at (expanded p) (point rs place) _ jump)
+    ∙ steps-none (expanded p) first_budget (point rs 0) (local_step-at (expanded p) (point rs 0) _ (wait-line p))
 
 pub goes-back : (p : SfnPartition) (w : Work) (q : Point) (o : Outcome) → AtWork (expanded p) w q → returns_at w.lines (reached w) ≡ true → noted o (arrived (expanded p) q).registers ≡ (arrived (expanded p) q).registers
     → AtWait (expanded p) (reached w).registers (behind (expanded p) o (arrived (expanded p) q))

@@ -20,21 +20,13 @@ use Rattle.sfn_calls.specs.Answers.{IsHandle}
 use Rattle.sfn_calls.specs.Loop.{place_in, function_code}
 use Rattle.sfn_calls.proofs.Registers.{get-low, set-low, value-low, operand-at, get-14}
 use Rattle.sfn_calls.proofs.Places.{StandsAt, code_of, code-here, place-next}
+use Rattle.ffm_model.proofs.ScriptLemmas.{local_step-at, steps-none}
 
 -- ---- the runner's steps
-
-pub step-at : (script : List Instruction) (p : Point) (line : Instruction) → slice_get script p.place ≡ Some line → local_step script p ≡ line_effect p line
-unfolding local_step
-step-at script p line e = rw e refl
 
 pub steps-next : (script : List Instruction) (n : ℕ) (p q : Point) → local_step script p ≡ Some q → local_steps script (suc n) p ≡ local_steps script n q
 unfolding local_steps
 steps-next script n p q e = rw e refl
-
-pub steps-stay : (script : List Instruction) (n : ℕ) (p : Point) → local_step script p ≡ None → local_steps script n p ≡ p
-unfolding local_steps
-steps-stay script zero p e = refl
-steps-stay script (suc n) p e = rw e refl
 
 -- ---- a function's point, seen in the loop
 
@@ -84,7 +76,7 @@ effect-by lines at h t p _ e fine long = refl
 pub step-same : (code : List Instruction) (lines : List SfnInstruction) (at h t : ℕ) (p : Point) → StandsAt code at (function_code lines at) → IsFunction lines → IsLong p
     → local_step code (in_loop lines at h t p) ≡ option_map (in_loop lines at h t) (function_step lines p)
 unfolding function_step
-step-same code lines at h t p stands fine long = step-at code (in_loop lines at h t p) _ (code-here code lines at p.place stands) ∙ effect-by lines at h t p (slice_get lines p.place) refl fine long
+step-same code lines at h t p stands fine long = local_step-at code (in_loop lines at h t p) _ (code-here code lines at p.place stands) ∙ effect-by lines at h t p (slice_get lines p.place) refl fine long
 
 function-long-by : (p : Point) (l : Option SfnInstruction) (q : Point) → IsLong p → option_and_then (function_effect p) l ≡ Some q → IsLong q
 function-long-by p None q long e = cc
@@ -100,7 +92,7 @@ steps-by : (code : List Instruction) (lines : List SfnInstruction) (at h t n : �
     → local_step code (in_loop lines at h t p) ≡ option_map (in_loop lines at h t) q
     → ((r : Point) → q ≡ Some r → local_steps code n (in_loop lines at h t r) ≡ in_loop lines at h t (function_steps lines n r))
     → local_steps code (suc n) (in_loop lines at h t p) ≡ in_loop lines at h t (option_map_or (function_steps lines n) q p)
-steps-by code lines at h t n p None e go = steps-stay code (suc n) (in_loop lines at h t p) e
+steps-by code lines at h t n p None e go = steps-none code (suc n) (in_loop lines at h t p) e
 steps-by code lines at h t n p (Some r) e go = steps-next code n (in_loop lines at h t p) (in_loop lines at h t r) e ∙ go r refl
 
 pub steps-same : (code : List Instruction) (lines : List SfnInstruction) (at h t n : ℕ) (p : Point) → StandsAt code at (function_code lines at) → IsFunction lines → IsLong p

@@ -1,6 +1,6 @@
 -- In each run the machine answers an SFN partition's rounds as its loop expects.
-use Rattle.std.proofs.Common.{ℕ, ◌<◌, ◌≡◌, ◌==◌, ◌^◌, List, [], ◌∷◌, ◌++◌, length, refl, ap, ap₂, sym, ◌∙◌, subst, true, append_assoc}
-use Rattle.std.specs.Prelude.{Option, Some, None, IsSome, bit_and}
+use Rattle.std.proofs.Common.{ℕ, ◌<◌, ◌≡◌, ◌==◌, ◌^◌, List, [], ◌∷◌, ◌++◌, length, ap, ap₂, sym, ◌∙◌, subst, true, append_assoc}
+use Rattle.std.specs.Prelude.{Some, bit_and}
 use Rattle.std.specs.Int.{bit_at}
 use Rattle.ffm_model.proofs.RecordLemmas.{entries_of-other, entries_of-own}
 use Rattle.ffm_model.specs.declared.constants.TheConstants.{PSA_BLOCK}
@@ -29,6 +29,7 @@ use Rattle.sfn_runs.proofs.Recent.{Recent, front-push, front_of, last-push, last
 use Rattle.sfn_runs.proofs.Services.{base-is, lowest-is, partition-fits, wait-meets}
 use Rattle.counting_law.proofs.Entries.{never-nil, push-split}
 use Rattle.counting_law.proofs.OwnSteps.{own-step}
+use Rattle.list_laws.proofs.Tests.{some-value}
 
 -- ---- an entry of the partition, in the whole run
 
@@ -104,11 +105,7 @@ run-answered s m es st a fs run owner =
           reply-quiet s k.old k.new a h status e.outcome owner.exists (own-step s k.old k.new e a (call.Reply h status) k.is_step k.mine is);
     }
 
-some-state : (o : Option State) → IsSome o → (st : State) × (o ≡ Some st)
-some-state None h = cc
-some-state (Some x) h = (x, refl)
-
 pub loops-are-rounds : LoopsAreRounds
 loops-are-rounds s m es a fs run sfn kept =
-    let st = some-state (after s m es) run in
+    let st = some-value (after s m es) run in
     same-runs (sfn_partition s a fs) (partition-fits s a fs (partition-fine s a fs kept.fit)) (entries_of a es) (run-answered s m es st.0 a fs st.1 (sfn-owner s a sfn))

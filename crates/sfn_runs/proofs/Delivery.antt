@@ -1,9 +1,8 @@
 -- A message that waits for psa_get stays until its service's partition takes it, or panics.
-use Rattle.std.proofs.Common.{ℕ, ◌≡◌, ◌==◌, List, [], ◌∷◌, ◌++◌, refl, ap, ap₂, sym, ◌∙◌, subst, Bool, true, false, eqb-true}
+use Rattle.std.proofs.Common.{ℕ, ◌≡◌, ◌==◌, List, [], ◌∷◌, refl, ap, ap₂, sym, ◌∙◌, subst, Bool, true, false, eqb-true}
 use Rattle.std.specs.Prelude.{ℤ, pos, Option, Some, None, if◌then◌else◌, not, ◌&&◌, ◌||◌, map, filter, is_none, slice_get}
 use Rattle.std.specs.List.{list_any}
 use Rattle.std.specs.Option.{option_map_or}
-use Rattle.std.proofs.lemmas.List.Folds.{list_any-append}
 use Rattle.std.proofs.lemmas.Bool.{and_parts, false_from_ne_true}
 use Rattle.std.proofs.lemmas.Map.Views.{any-filter_same}
 use Rattle.ffm_model.specs.declared.constants.TheConstants.{PSA_ERROR_COMMUNICATION_FAILURE, PSA_IPC_DISCONNECT}
@@ -29,14 +28,12 @@ use Rattle.counting_law.proofs.Resume.{times}
 use Rattle.counting_law.proofs.Reply.{request-blocked, settled, settled-messages}
 use Rattle.counting_law.proofs.Events.{EachKind}
 use Rattle.counting_law.proofs.Owners.{owners-same, service-owned}
+use Rattle.list_laws.proofs.Tests.{list_any-left}
 
 -- ---- lists
 
 any-filter : {A : Type 0} (q p : A → Bool) → ((m : A) → q m ≡ true → p m ≡ true) → (ms : List A) → list_any q ms ≡ true → list_any q (filter p ms) ≡ true
 any-filter q p h ms some = any-filter_same q p true h ms ∙ some
-
-any-left : {A : Type 0} (q : A → Bool) (xs ys : List A) → list_any q xs ≡ true → list_any q (xs ++ ys) ≡ true
-any-left q xs ys h = list_any-append q xs ys ∙ ap (λ (b : Bool). b || list_any q ys) h
 
 any-map : {A : Type 0} (q : A → Bool) (f : A → A) → ((m : A) → q (f m) ≡ q m) → (ms : List A) → list_any q (map f ms) ≡ list_any q ms
 any-map q f h [] = refl
@@ -84,23 +81,23 @@ settled-waits b h status m v some =
 
 panic-waits : (s : System) (b : SpmState) (p x v : ℕ) → is_service_of s x v ≡ true → (x ≡ p → ⊥) → has_undelivered b v ≡ true → has_undelivered (panic_effect s b p) v ≡ true
 panic-waits s b p x v own apart some =
-    any-left (is_undelivered v) (filter (λ m. not (is_service_of s p m.service)) b.messages) _
+    list_any-left (is_undelivered v) (filter (λ m. not (is_service_of s p m.service)) b.messages) _
     (any-filter (is_undelivered v) (λ m. not (is_service_of s p m.service)) (λ m e. service-by s x p v m own apart e) b.messages some)
 
 called-by : (b : SpmState) (v a : ℕ) (c : OpenConnection) (kind : ℤ) (w : Vectors) (dead : Bool)
     → has_undelivered b v ≡ true → has_undelivered (if dead then move (Value PSA_ERROR_COMMUNICATION_FAILURE) b else move outcome.Blocked (with_phase (with_message (with_connection_phase b c.serial Busy) c kind w) a Blocked)).spm v ≡ true
 called-by b v a c kind w true some = some
-called-by b v a c kind w false some = any-left (is_undelivered v) b.messages _ some
+called-by b v a c kind w false some = list_any-left (is_undelivered v) b.messages _ some
 
 asked-by : (b : SpmState) (v a w : ℕ) (kind : ℤ) (vs : Vectors) (gone : Bool)
     → has_undelivered b v ≡ true → has_undelivered (if gone then move (Value PSA_ERROR_COMMUNICATION_FAILURE) b else move outcome.Blocked (with_phase (with_request b a w kind vs) a Blocked)).spm v ≡ true
 asked-by b v a w kind vs true some = some
-asked-by b v a w kind vs false some = any-left (is_undelivered v) b.messages _ some
+asked-by b v a w kind vs false some = list_any-left (is_undelivered v) b.messages _ some
 
 closed-by : (b : SpmState) (v a : ℕ) (c : OpenConnection) (dead : Bool)
     → has_undelivered b v ≡ true → has_undelivered (if dead then move outcome.Done (without_connection b c.serial) else move outcome.Blocked (with_phase (with_message (with_connection_phase b c.serial Closing) c PSA_IPC_DISCONNECT no_vectors) a Blocked)).spm v ≡ true
 closed-by b v a c true some = some
-closed-by b v a c false some = any-left (is_undelivered v) b.messages _ some
+closed-by b v a c false some = list_any-left (is_undelivered v) b.messages _ some
 
 -- ---- each kind of change, by another actor
 
@@ -116,7 +113,7 @@ kinds-stay s b given a d x v balanced own apart free = record {
   wakes = λ mask n e some. some;
   returns = λ o e some. some;
   joins = λ is n k e new some. some;
-  connects = λ running w new some. any-left (is_undelivered v) b.messages _ some;
+  connects = λ running w new some. list_any-left (is_undelivered v) b.messages _ some;
   calls = λ running k c n w held takes. called-by b v a c (pos n) w (is_dead c.phase);
   asks = λ running w n vs stateless may. asked-by b v a w (pos n) vs (is_service_panicked s b w);
   closes = λ running k c held. closed-by b v a c (is_dead c.phase);

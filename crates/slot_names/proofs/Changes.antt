@@ -85,6 +85,10 @@ follows-same s old new linked waiting = follows-changed s old new (relinks-same 
 pub names-same : (s : System) (old new : TablesView) → new.connections ≡ old.connections → new.messages ≡ old.messages → KeepsNames s old new
 names-same s old new linked waiting = record { names = follows-same s old new linked waiting; given = given-untouched old new linked waiting }
 
+-- where nothing changes
+pub names_kept : (s : System) (d : TablesView) → KeepsNames s d d
+names_kept s d = names-same s d d refl refl
+
 -- a connection changes in its slot
 pub follows-connection : (s : System) (old new : TablesView) (slot : Slot) (c changed : OpenConnection) → IsKept 256 old.connections → item_at old.connections slot ≡ Some c → changed.serial ≡ c.serial
     → new.connections ≡ with_item old.connections slot changed → new.messages ≡ old.messages → FollowsNames s old new

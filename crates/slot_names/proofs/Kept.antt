@@ -12,6 +12,7 @@ use Rattle.counting_law.proofs.Slots.{same-self}
 use Rattle.spm_tables.specs.declared.item.QueuedMessage.{QueuedMessage}
 use Rattle.spm_tables.specs.TablesView.{held_message}
 use Rattle.slot_names.specs.Changes.{is_like}
+use Rattle.list_laws.proofs.Tests.{list_any-map}
 
 abbrev pub name_list : List (Held QueuedMessage) → List SlotName
 name_list hs = map (λ (h : Held QueuedMessage). slot_name h.slot) hs
@@ -19,13 +20,9 @@ name_list hs = map (λ (h : Held QueuedMessage). slot_name h.slot) hs
 abbrev pub message_list : List (Held QueuedMessage) → List PendingMessage
 message_list hs = map held_message hs
 
-any-map : {X Y : Type 0} (f : X → Y) (p : Y → Bool) (xs : List X) → list_any p (map f xs) ≡ list_any (λ x. p (f x)) xs
-any-map f p [] = refl
-any-map f p (x ∷ xs) = ap (λ b. p (f x) || b) (any-map f p xs)
-
 -- whether a message stays, by the items of the tables
 pub stays-is : (ns : List (Held QueuedMessage)) (h : Held QueuedMessage) → stays (message_list ns) (held_message h) ≡ list_any (is_like h) ns
-stays-is ns h = any-map held_message (is_same_message (held_message h)) ns
+stays-is ns h = list_any-map held_message (is_same_message (held_message h)) ns
 
 -- the slots of the messages that pass a test are those of the items that pass it
 pub kept-where : (p : PendingMessage → Bool) (q : Held QueuedMessage → Bool) (hs : List (Held QueuedMessage)) → All (λ h. p (held_message h) ≡ q h) hs

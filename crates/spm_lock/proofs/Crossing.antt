@@ -1,6 +1,11 @@
 -- What may go to another thread: each part may, and so the whole.
+use mathlib.Core.List.{[], ◌∷◌}
+use mir.Syntax.{Sym}
+use denote.RattleType.{RattleType}
+use denote.Struct.Field.{row_field}
+use denote.Struct.Tuple.{TupleAt, type_at}
 use denote.Param.Send.{IsSend, IsSync, sendable, view_send, view_sync}
-use denote.Param.SendFields.{declared_send, declared_sync}
+use denote.Param.SendFields.{as_row_send, declared_send, declared_sync}
 use Rattle.std.proofs.vec.Vec.TheSendSync as vec
 use Rattle.std.proofs.alloc.Global.TheSendSync as global
 use Rattle.std.below.std_heap.proofs.GlobalAllocator.TheSendSync as frees
@@ -44,3 +49,7 @@ pass_crosses = view_send _ _ _ _ _ (declared_send pass_fields.the_type (search (
 -- a shared manager may be lent to other threads
 pub shared_crosses : IsSync shared.the_row
 shared_crosses = view_sync _ _ _ _ _ (declared_sync shared_fields.the_type (search (sendable, table.the_sync, slot_crosses, global.the_sync, global.the_send, frees.the_frees), (search (sendable, room.the_sync), tt)))
+
+-- a pair of what may
+pub two_cross : (name : Sym) (A B : RattleType) → IsSend A → IsSend B → IsSend (TupleAt name (A ∷ B ∷ []))
+two_cross name A B a b = declared_send (type_at name (A ∷ B ∷ [])) (as_row_send (row_field A) a, (as_row_send (row_field B) b, tt))

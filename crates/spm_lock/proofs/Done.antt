@@ -22,6 +22,7 @@ use Rattle.ffm_model.specs.Step.{step, handle_shown}
 use Rattle.ffm_model.specs.Verdicts.{some_enabled}
 use Rattle.spm_core.specs.Manager.{Opening, IsMade, IsRefused, is_gone, is_actor_gone, refusal_at, state_after}
 use Rattle.spm_lock.specs.Passes.{has_verdict}
+use Rattle.ffm_model.proofs.StepLemmas.{step-leaves}
 
 -- ---- refusals
 
@@ -62,21 +63,12 @@ stop_leaves : (s : System) (st : State) (a : ℕ) (c : Call) (h : Handle) → is
 stop_leaves s st a (call.Stop spent) h is = stop_effect s st a spent h
 stop_leaves s st a _ h is = absurd (true≢false (sym is))
 
-chosen : (b : Bool) (x y : State) → (if b then Some x else None) ≡ Some y → x ≡ y
-chosen true x y h = cc
-chosen false x y h = cc
-
--- a step that is made leaves the state due
-step_leaves : (s : System) (st new : State) (e : Entry) → step s st e ≡ Some new → (effect_of s st e.actor.0 e.call (handle_shown e.outcome)).state ≡ new
-unfolding step
-step_leaves s st new e h = chosen _ _ new h
-
 stopped : (s : System) (st new : Option State) (e : Entry) (a : ℕ) → e.actor.0 ≡ a → is_stop e.call ≡ true → new ≡ option_and_then (λ x. step s x e) st → IsSome new
     → option_map_or (λ x. is_gone (phase_of x.spm a)) new false ≡ true
 stopped s st None e a whose stop is made = absurd (true≢false (sym made))
 stopped s None (Some x) e a whose stop is made = cc
 stopped s (Some st) (Some x) e a whose stop is made =
-    subst (λ (y : State). is_gone (phase_of y.spm a) ≡ true) (step_leaves s st x e (sym is))
+    subst (λ (y : State). is_gone (phase_of y.spm a) ≡ true) (step-leaves s st x e (sym is))
     (subst (λ (n : ℕ). is_gone (phase_of (effect_of s st e.actor.0 e.call (handle_shown e.outcome)).state.spm n) ≡ true) whose (stop_leaves s st e.actor.0 e.call (handle_shown e.outcome) stop))
 
 pub stop_made : (o : Opening) (old new : List Entry) (a place : ℕ) (c : Call) (e : Entry) → IsMade o old a c place e new → is_stop c ≡ true → is_actor_gone o new a ≡ true

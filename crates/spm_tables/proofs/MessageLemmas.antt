@@ -1,8 +1,8 @@
 -- The messages of a pool, as the machine's state has them.
-use Rattle.std.proofs.Common.{ℕ, ◌≡◌, ◌≤◌, ◌<◌, ◌+◌, ◌*◌, ◌==◌, nat_lt, length, Bool, true, false, cond, ◌&&◌, List, [], ◌∷◌, arith, ◌∙◌, ap, sym, refl, subst}
+use Rattle.std.proofs.Common.{ℕ, ◌≡◌, ◌≤◌, ◌<◌, ◌+◌, ◌*◌, ◌==◌, nat_lt, length, Bool, true, false, cond, ◌&&◌, List, [], ◌∷◌, arith, ◌∙◌, ap, sym, refl, subst, eq-eqb}
 use Rattle.std.specs.Prelude.{pos, count_by, find, Option, Some, None, map, All, IfSome, option_and_then, slice_get}
 use Rattle.std.specs.Option.{option_map, option_map_or}
-use Rattle.std.proofs.lemmas.Bool.Decides.{Decides-int_eq, nat_tests}
+use Rattle.std.proofs.lemmas.Bool.Decides.{nat_tests}
 use Rattle.std.proofs.lemmas.List.Elements.{All-nil, All-cons, All-head, All-tail, All-weaker, All-map}
 use Rattle.std.proofs.lemmas.Option.{slice_get-map}
 use Rattle.ffm_model.specs.declared.machine.Handle.{Handle}
@@ -16,7 +16,7 @@ use Rattle.object_pools.specs.declared.slot.Slot.{Slot}
 use Rattle.object_pools.specs.declared.slot.Held.{Held}
 use Rattle.object_pools.specs.Pool.{Places, IsKept, IsNamed, is_at, has_slot, item_at, item_put, with_item, without}
 use Rattle.list_laws.proofs.Counts.{bit, count-cons, count-found, map-none}
-use Rattle.list_laws.proofs.Tests.{find-passes, find-same}
+use Rattle.list_laws.proofs.Tests.{find-passes, find-same, find-map}
 use Rattle.handle_table.specs.declared.handles.Family.TheVariants.{Message}
 use Rattle.handle_table.specs.Handles.{handle_at, IsNameable}
 use Rattle.handle_table.proofs.SlotLemmas.{both, has_own, one_slot, slot-is, held-of, nameable, nameable-at}
@@ -27,18 +27,9 @@ use Rattle.spm_tables.specs.declared.signals.OwnedSignal.{OwnedSignal}
 use Rattle.spm_tables.specs.Queues.{QueuesView}
 use Rattle.spm_tables.specs.TablesView.{TablesView, Shape, MadeFor, spm_of, message_of, message_at, held_message, shown_handle, waits_for, is_signal_of, service_signal}
 use Rattle.handle_table.proofs.TableLemmas.{handle-is}
+use Rattle.ffm_model.proofs.StepLemmas.{int_eq-self}
 
 -- ---- lists
-
-pub same_itself : (n : ℕ) → (n == n) ≡ true
-same_itself n = grind arith
-
-pub find-map : {X Y : Type 0} (f : X → Y) (r : Y → Bool) (xs : List X) → find r (map f xs) ≡ option_map f (find (λ x. r (f x)) xs)
-find-map f r [] = refl
-find-map f r (x ∷ xs) =
-    let go : (b : Bool) → cond b (Some (f x)) (find r (map f xs)) ≡ option_map f (cond b (Some x) (find (λ y. r (f y)) xs)) =
-    elim [ true ↦ refl | false ↦ find-map f r xs ] in
-    go (r (f x))
 
 -- what the first test finds, the second finds where it passes that item alone
 pub found-too : {X : Type 0} (q p : X → Bool) (xs : List X) (h : X) → p h ≡ true → count_by p xs ≤ 1 → find q xs ≡ Some h → find p xs ≡ Some h
@@ -75,9 +66,6 @@ equal-slots s t m n e =
     let generation : s.generation ≡ t.generation = omega (arith, m.index, n.index) in
     λ j. record { index = index j; generation = generation j }
 
-pub own-handle : (k : Handle) → handle_eq k k ≡ true
-own-handle k = (Decides-int_eq k.0 k.0).1 refl
-
 -- what shows a handle was delivered, and its slot gives that handle
 shown-is : (h : Held QueuedMessage) (k : Handle) → has_handle (shown_handle h.item.delivered h.slot) k ≡ true → handle_at Message h.slot ≡ k
 shown-is h k e =
@@ -105,7 +93,7 @@ shows-own h m s item slot on =
     ap (λ (i : QueuedMessage). has_handle (shown_handle i.delivered h.slot) (handle_at Message s)) item
     ∙ ap (λ (b : Bool). has_handle (shown_handle b h.slot) (handle_at Message s)) on
     ∙ ap (λ (t : Slot). handle_eq (handle_at Message t) (handle_at Message s)) slot
-    ∙ own-handle (handle_at Message s)
+    ∙ int_eq-self (handle_at Message s).0
 
 -- ---- changes of a delivered message
 
@@ -257,7 +245,7 @@ found-by p q k s kept names gives =
       same_slot t e = cc
 
       shown : (b : Bool) → has_handle (shown_handle b s) k ≡ b
-      shown true = ap (λ (h : Handle). handle_eq (handle_at Message s) h) (sym gives) ∙ own-handle (handle_at Message s)
+      shown true = ap (λ (h : Handle). handle_eq (handle_at Message s) h) (sym gives) ∙ int_eq-self (handle_at Message s).0
       shown false = refl
 
       seen : (o : Option (Held QueuedMessage)) → find (has_slot s) p.held ≡ o
@@ -305,11 +293,11 @@ all-found (x ∷ xs) one =
     let fewer : (i : ℕ) → bit (is_at i x) + count_by (is_at i) xs ≤ 1 = λ i. omega (arith, count-cons (is_at i) x xs, one i) in
     let rest : All (λ h. find (is_at h.slot.index) xs ≡ Some h) xs = all-found xs (λ i. omega (arith, fewer i)) in
     All-cons (λ h. find (is_at h.slot.index) (x ∷ xs) ≡ Some h) x xs
-    (ap (λ (b : Bool). cond b (Some x) (find (is_at x.slot.index) xs)) (same_itself x.slot.index))
+    (ap (λ (b : Bool). cond b (Some x) (find (is_at x.slot.index) xs)) (eq-eqb x.slot.index x.slot.index refl))
     (All-weaker (λ h. find (is_at h.slot.index) xs ≡ Some h) (λ h. find (is_at h.slot.index) (x ∷ xs) ≡ Some h)
     (λ h f. behind h f (is_at h.slot.index x) (fewer h.slot.index)) xs rest) where
       behind : (h : Held QueuedMessage) → find (is_at h.slot.index) xs ≡ Some h → (b : Bool) → bit b + count_by (is_at h.slot.index) xs ≤ 1 → cond b (Some x) (find (is_at h.slot.index) xs) ≡ Some h
-      behind h f true k = absurd (omega (arith, count-found (is_at h.slot.index) (is_at h.slot.index) xs h f, ap bit (same_itself h.slot.index)))
+      behind h f true k = absurd (omega (arith, count-found (is_at h.slot.index) (is_at h.slot.index) xs h f, ap bit (eq-eqb h.slot.index h.slot.index refl)))
       behind h f false k = f
 
 all-both : (P Q R : Held QueuedMessage → Type 0) (xs : List (Held QueuedMessage)) → ((h : Held QueuedMessage) → P h → Q h → R h) → All P xs → All Q xs → All R xs

@@ -1,5 +1,5 @@
 -- The queues of a pool's messages, after a message comes, is delivered or goes.
-use Rattle.std.proofs.Common.{ℕ, ◌≡◌, ◌≢◌, ◌<◌, ◌≤◌, ◌+◌, ◌==◌, Bool, true, false, cond, not, ◌&&◌, List, [], ◌∷◌, ◌++◌, length, set, arith, ◌∙◌, ap, sym, refl, subst}
+use Rattle.std.proofs.Common.{ℕ, ◌≡◌, ◌≢◌, ◌<◌, ◌≤◌, ◌+◌, ◌==◌, Bool, true, false, cond, not, ◌&&◌, List, [], ◌∷◌, ◌++◌, length, set, arith, ◌∙◌, ap, sym, refl, subst, eq-eqb}
 use Rattle.std.specs.Prelude.{count_by, find, Option, Some, None, map, filter, if◌then◌else◌, All, is_none, is_some, option_and_then, nat_lt}
 use Rattle.std.specs.Option.{option_map}
 use Rattle.std.proofs.lemmas.Bool.Decides.{nat_tests}
@@ -22,7 +22,7 @@ use Rattle.spm_tables.specs.declared.links.Link.{Link}
 use Rattle.spm_tables.specs.declared.links.Ends.{Ends}
 use Rattle.spm_tables.specs.TablesView.{waits_for, shown_handle}
 use Rattle.spm_tables.specs.Queues.{first_of, no_ends, link_at, ends_at, AreQueues, queue_in, KeepsQueues, has_waiting, AllWaitAsBefore, OthersWaitAsBefore, joined, unlinked, joined_ends, unlinked_ends}
-use Rattle.spm_tables.proofs.MessageLemmas.{all-found, found-too, found-live, found-index, IsOldest, oldest-is, same_itself}
+use Rattle.spm_tables.proofs.MessageLemmas.{all-found, found-too, found-live, found-index, IsOldest, oldest-is}
 use Rattle.spm_tables.proofs.QueueLemmas.{out, out-none}
 use Rattle.spm_tables.proofs.QueueUpdates.{Apart, queues-join, queues-unlink, length-joined, length-unlinked}
 use Rattle.handle_table.proofs.Twins.{find-all_fail}
@@ -218,7 +218,7 @@ module _ (p : Places QueuedMessage) (ls : List Link) (es : List Ends) where
             (All-push (λ (h : Held QueuedMessage). h.item.service < length es) p.held (record { slot = s; item = x }) k.known below);
         queues = queues-join ls es (queue_in p) (queue_in (taken p s x)) x.service s.index k.queues (same-size k kept) below (omega (arith, k.linked))
             (λ v. omega (arith, times-places (waits_for v) p.held s.index))
-            (push-yes (waits_for x.service) p.held (record { slot = s; item = x }) (waiting x.service ∙ same_itself x.service))
+            (push-yes (waits_for x.service) p.held (record { slot = s; item = x }) (waiting x.service ∙ eq-eqb x.service x.service refl))
             (λ v ne. push-no (waits_for v) p.held (record { slot = s; item = x }) (waiting v ∙ not_same x.service v ne));
       } where
         is_off : (b : Bool) → not b ≡ true → b ≡ false
@@ -230,7 +230,7 @@ module _ (p : Places QueuedMessage) (ls : List Link) (es : List Ends) where
 
   waits : (m : QueuedMessage) (h : Held QueuedMessage) → h.item ≡ m → m.delivered ≡ false → waits_for m.service h ≡ true
   waits m h item fresh =
-      ap (λ (i : QueuedMessage). is_none (shown_handle i.delivered h.slot) && (i.service == m.service)) item ∙ ap (λ (b : Bool). is_none (shown_handle b h.slot) && (m.service == m.service)) fresh ∙ same_itself m.service
+      ap (λ (i : QueuedMessage). is_none (shown_handle i.delivered h.slot) && (i.service == m.service)) item ∙ ap (λ (b : Bool). is_none (shown_handle b h.slot) && (m.service == m.service)) fresh ∙ eq-eqb m.service m.service refl
 
   own-slot : (s : Slot) (h : Held QueuedMessage) → find (has_slot s) p.held ≡ Some h → has_slot s h ≡ true
   own-slot s h f = find-passes (has_slot s) p.held h f
@@ -371,7 +371,7 @@ oldest-at p v o kept e =
     → option_map (λ (h : Held QueuedMessage). h.slot) (option_and_then (λ i. find (is_at i) p.held) (option_map (λ (h : Held QueuedMessage). h.slot.index) x)) ≡ option_map (λ (h : Held QueuedMessage). h.slot) x =
     elim [
       | None ↦ λ f. refl
-      | Some h ↦ λ f. ap (option_map (λ (y : Held QueuedMessage). y.slot)) (found-too (waits_for v) (is_at h.slot.index) p.held h (same_itself h.slot.index) (kept.once h.slot.index) f)
+      | Some h ↦ λ f. ap (option_map (λ (y : Held QueuedMessage). y.slot)) (found-too (waits_for v) (is_at h.slot.index) p.held h (eq-eqb h.slot.index h.slot.index refl) (kept.once h.slot.index) f)
     ] in
     ap (λ (x : Option ℕ). option_map (λ (h : Held QueuedMessage). h.slot) (option_and_then (λ i. find (is_at i) p.held) x)) (e ∙ first-find (waits_for v) p.held) ∙ go (find (waits_for v) p.held) refl
 

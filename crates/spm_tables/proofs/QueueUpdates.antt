@@ -4,22 +4,18 @@ use Rattle.std.specs.Prelude.{Option, Some, None, is_none, ◌⊎◌}
 use Rattle.std.proofs.Common.{inl, inr}
 use Rattle.std.proofs.Math.ListN.{length-set}
 use Rattle.std.proofs.lemmas.List.{get_or-set_same, get_or-set_other}
-use Rattle.object_pools.proofs.Orders.{times, same_number, other_number}
+use Rattle.object_pools.proofs.Orders.{times, same_number}
 use Rattle.spm_tables.specs.declared.links.Link.{Link}
 use Rattle.spm_tables.specs.declared.links.Ends.{Ends}
 use Rattle.spm_tables.specs.Queues.{first_of, last_of, Threaded, no_link, no_ends, link_at, ends_at, AreQueues, with_after, with_before, joined, unlinked, joined_ends, unlinked_ends}
 use Rattle.spm_tables.proofs.QueueLemmas.{out, out-none, some_is, some_not, frame, last-in, push, remove, next-in, prior-in, last-end, last-else, first-start, first-else}
+use Rattle.object_pools.proofs.Updates.{at_each}
 
 -- an index stands once in one queue, and has a link
 pub record Apart (q : ℕ → List ℕ) (size : ℕ) : Type 0 where
   pub once : (v i : ℕ) → times i (q v) ≤ 1
   pub one : (v w i : ℕ) → 1 ≤ times i (q v) → 1 ≤ times i (q w) → v ≡ w
   pub below : (v i : ℕ) → 1 ≤ times i (q v) → i < size
-
-at_each : (P : ℕ → Type 0) (s : ℕ) → P s → ((v : ℕ) → v ≢ s → P v) → (v : ℕ) → P v
-at_each P s here others v =
-    let go : (b : Bool) → (v == s) ≡ b → P v = elim [ true ↦ λ e. subst P (sym (same_number v s e)) here | false ↦ λ e. others v (other_number v s e) ] in
-    go (v == s) refl
 
 -- ---- one link is written
 

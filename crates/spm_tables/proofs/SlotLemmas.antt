@@ -10,13 +10,13 @@ use Rattle.object_pools.specs.Pool.{Places, IsKept, has_slot, item_at, item_put,
 use Rattle.handle_table.specs.Table.{connections, Rises, IsTable}
 use Rattle.handle_table.proofs.SlotLemmas.{has_own, one_slot, slot-is, held-of}
 use Rattle.handle_table.proofs.TableLemmas.{rises-bounds}
-use Rattle.list_laws.proofs.Tests.{find-passes, find-all}
+use Rattle.list_laws.proofs.Tests.{find-passes, find-all, find-map}
 use Rattle.spm_tables.specs.declared.item.MessageItem.{MessageItem}
 use Rattle.spm_tables.specs.declared.item.QueuedMessage.{QueuedMessage}
 use Rattle.spm_tables.specs.TablesView.{queued, queued_as, serial_at}
 use Rattle.spm_tables.specs.Queues.{QueuesView}
 use Rattle.spm_tables.specs.Slots.{BelongsTo, KeepSlots}
-use Rattle.spm_tables.proofs.MessageLemmas.{find-map, found-too}
+use Rattle.spm_tables.proofs.MessageLemmas.{found-too}
 
 -- if it is the message's connection, the message names its slot
 abbrev Slotted : QueuedMessage → Held OpenConnection → Type 0

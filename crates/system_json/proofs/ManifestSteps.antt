@@ -1,5 +1,5 @@
 -- Reading the manifests of a list one after the other, in the system file or in files of their own.
-use Rattle.std.proofs.Common.{◌≡◌, ℕ, suc, ◌+◌, ◌<◌, ◌≤◌, List, [], ◌∷◌, ◌++◌, length, drop, get_or, Option, Some, None, Result, Ok, Err, refl, sym, ap, subst, ◌∙◌, drop-cons, add-one}
+use Rattle.std.proofs.Common.{◌≡◌, ℕ, ◌+◌, ◌<◌, ◌≤◌, List, [], ◌∷◌, ◌++◌, length, drop, get_or, Option, Some, None, Result, Ok, Err, refl, subst}
 use Rattle.std.specs.Prelude.{IfSome}
 use Rattle.std.proofs.lemmas.List.{drop_all}
 use Rattle.serde_json.specs.Data.{Data, Items}
@@ -24,6 +24,7 @@ use Rattle.ffm_model.proofs.ReadingLemmas.{after_ok, after_err}
 use Rattle.manifest_json.specs.Trees.{FailsTree}
 use Rattle.system_json.specs.Refused.{IsReadRefusal}
 use Rattle.manifest_json.proofs.ShortLists.{items_short, items_long}
+use Rattle.list_laws.proofs.Lists.{drop-item}
 
 -- ---- a manifest in a file of its own
 
@@ -49,13 +50,10 @@ rest_of of found i vs = manifests_after of found i (items_view (drop i vs))
 abbrev pub whole_of : Contents → List Value → Reading (List Manifest)
 whole_of of vs = manifests_after of [] 0 (items_view vs)
 
-front_item : (vs : List Value) (i : ℕ) (v : Value) → i < length vs → v ≡ get_or vs i v → drop i vs ≡ v ∷ drop (i + 1) vs
-front_item vs i v lt is = rw (add-one) (drop-cons vs i v lt ∙ ap (λ x. x ∷ drop (suc i) vs) (sym is))
-
 pub one_step : (of : Contents) (found : List Manifest) (vs : List Value) (i : ℕ) (v : Value) → i < length vs → v ≡ get_or vs i v
     → rest_of of found i vs ≡ (manifest_item of i (view v) >>= λ m. rest_of of (found ++ m ∷ []) (i + 1) vs)
 unfolding manifests_after
-one_step of found vs i v lt is = rw (front_item vs i v lt is) refl
+one_step of found vs i v lt is = rw (drop-item vs i v lt is) refl
 
 pub goes_on : (held : Option Contents) (found : List Manifest) (vs : List Value) (i : ℕ) (v : Value) (m : Manifest) → i < length vs → v ≡ get_or vs i v
     → IfSome held (λ of. Leads (rest_of of found i vs) (whole_of of vs)) → IfSome held (λ of. (manifest_item of i (view v)).gives ≡ Ok m)

@@ -1,10 +1,9 @@
 -- A call that is Blocked and waits for an answer sends the message that it asks for.
-use Rattle.std.proofs.lemmas.Bool.{and_parts, eqb-true}
+use Rattle.std.proofs.lemmas.Bool.{and_parts}
 use Rattle.std.proofs.Common.{ℕ, ◌≡◌, Bool, true, false, not, ◌&&◌, ◌||◌, List, [], ◌∷◌, ◌++◌, ◌∙◌, ap, sym, refl, subst, ◌⊎◌, inl, inr}
-use Rattle.std.specs.Prelude.{ℤ, pos, int_lt, bit_and, nat_lt, nat_le, ◌==◌, Option, Some, None, option_and_then, if◌then◌else◌, find}
+use Rattle.std.specs.Prelude.{ℤ, pos, int_lt, bit_and, nat_lt, nat_le, Option, Some, None, option_and_then, if◌then◌else◌, find}
 use Rattle.std.specs.Option.{option_map, option_map_or}
 use Rattle.std.specs.Ordering.{int_eq}
-use Rattle.list_laws.proofs.Tests.{find-passes}
 use Rattle.ffm_model.specs.declared.constants.TheConstants.{PSA_BLOCK, PSA_FRAMEWORK_VERSION, PSA_IPC_DISCONNECT, PSA_NULL_HANDLE, PSA_ERROR_CONNECTION_REFUSED, PSA_ERROR_CONNECTION_BUSY, PSA_ERROR_COMMUNICATION_FAILURE, PSA_ERROR_PROGRAMMER_ERROR}
 use Rattle.ffm_model.specs.declared.system.System.{System}
 use Rattle.ffm_model.specs.declared.system.ActorKind.{ActorKind}
@@ -26,7 +25,7 @@ use Rattle.ffm_model.specs.declared.objects.ActorPhase.TheVariants.{Running, Blo
 use Rattle.ffm_model.specs.Actors.{is_stateless, kind_of, permits, service_at, stateless_at, stateless_index}
 use Rattle.ffm_model.specs.Memory.{no_vectors, vectors_of, valid_buffer}
 use Rattle.ffm_model.specs.Records.{is_blocked_outcome}
-use Rattle.ffm_model.specs.State.{SpmState, State, connection_held, has_handle, with_rhandle, is_undelivered, phase_of, with_connection_phase, with_message, with_phase, with_request, without_connection}
+use Rattle.ffm_model.specs.State.{SpmState, State, connection_held, with_rhandle, is_undelivered, phase_of, with_connection_phase, with_message, with_phase, with_request, without_connection}
 use Rattle.ffm_model.specs.Signals.{assigned_to, can_go_on, enabled, may_resume, has_signal_of, signals_of}
 use Rattle.ffm_model.specs.Panic.{is_dead}
 use Rattle.ffm_model.specs.ClientCalls.{Move, Effect, move, in_state, connect_to, connect_issued, connection_called, service_called, call_on, call_to, close_on, is_service_panicked, refuses_requests, is_busy, returned, takes_version, version_number}
@@ -40,6 +39,7 @@ use Rattle.counting_law.proofs.Parts.{is_there, phase_same}
 use Rattle.trace_diagram.specs.Arrows.{service_of_handle}
 use Rattle.trace_diagram.specs.Pairs.{Asks}
 use Rattle.counting_law.proofs.Returns.{blocked-alike}
+use Rattle.counting_law.proofs.Owners.{held-client}
 
 -- the calls that ask for a message
 abbrev pub is_for_message : Call → Bool
@@ -136,10 +136,6 @@ closed-by : (s : System) (st : State) (a : ℕ) (d : Call) (c : OpenConnection) 
 closed-by s st a d c true asks own = ends s st.spm a d outcome.Done (without_connection st.spm c.serial) st.handles_given refl
 closed-by s st a d c false asks own = λ there blocked why. record { message = _; added = refl; client = own; asks = asks; phase = set-phase st.spm a Blocked there }
 
--- who holds a connection is its client
-pub own-connection : (b : SpmState) (a : ℕ) (h : Handle) (c : OpenConnection) → connection_held b a h ≡ Some c → c.client.0 ≡ a
-own-connection b a h c e = eqb-true c.client.0 a (and_parts _ _ (find-passes (λ (x : OpenConnection). (x.client.0 == a) && has_handle x.handle h) b.connections c e)).0
-
 call-by : (s : System) (st : State) (a : ℕ) (d : Call) (c : OpenConnection) (kind : ℤ) (v : Vectors) (x : Bool) → Asks s st.spm a d c.service kind → c.client.0 ≡ a → IfMove s st a d (if x then None else Some (call_on st.spm a c kind v))
 call-by s st a d c kind v true asks own = tt
 call-by s st a d c kind v false asks own = called-by s st a d c kind v (is_dead c.phase) asks own
@@ -155,7 +151,7 @@ on-connection s st a h kind iv il ov ol None none held = tt
 on-connection s st a h kind iv il ov ol (Some c) none held =
     let named : service_of_handle s st.spm a h ≡ Some c.service =
     ap (λ (i : Option ℕ). option_map_or (stateless_at s) i (option_map (λ (x : OpenConnection). x.service) (connection_held st.spm a h))) none ∙ ap (option_map (λ (x : OpenConnection). x.service)) held in
-    with-vectors s st a (call.Invoke h kind iv il ov ol) c kind (vectors_of s st.memory a iv il ov ol) (named, refl) (own-connection st.spm a h c held)
+    with-vectors s st a (call.Invoke h kind iv il ov ol) c kind (vectors_of s st.memory a iv il ov ol) (named, refl) (held-client st.spm a h c held)
 
 ask-by : (s : System) (st : State) (a : ℕ) (d : Call) (service : ℕ) (kind : ℤ) (v : Vectors) (x : Bool) → Asks s st.spm a d service kind → IfMove s st a d (if x then Some (call_to s st.spm a service kind v) else None)
 ask-by s st a d service kind v true asks = asked-by s st a d service kind v (is_service_panicked s st.spm service) asks
@@ -182,7 +178,7 @@ invokes s st a h kind iv il ov ol (Some index) e = by-index s st a h index kind 
 
 close-by : (s : System) (st : State) (a : ℕ) (h : Handle) (c : OpenConnection) (x : Bool) → connection_held st.spm a h ≡ Some c → IfMove s st a (call.Close h) (if x then None else Some (close_on st.spm a c))
 close-by s st a h c true held = tt
-close-by s st a h c false held = closed-by s st a (call.Close h) c (is_dead c.phase) (ap (option_map (λ (x : OpenConnection). x.service)) held, refl) (own-connection st.spm a h c held)
+close-by s st a h c false held = closed-by s st a (call.Close h) c (is_dead c.phase) (ap (option_map (λ (x : OpenConnection). x.service)) held, refl) (held-client st.spm a h c held)
 
 close-held : (s : System) (st : State) (a : ℕ) (h : Handle) (o : Option OpenConnection) → connection_held st.spm a h ≡ o → IfMove s st a (call.Close h) (option_and_then (λ c. if is_busy c.phase then None else Some (close_on st.spm a c)) o)
 close-held s st a h None held = tt

@@ -19,9 +19,9 @@ use Rattle.ffm_model.proofs.WellFormedLemmas.{budgets_hold}
 use Rattle.counting_law.proofs.Balance.{Balanced}
 use Rattle.counting_law.proofs.Parts.{is_itself}
 use Rattle.trace_diagram.specs.Pairs.{Asks}
-use Rattle.trace_diagram.proofs.Issues.{own-connection}
 use Rattle.counting_law.proofs.Events.{position-passes}
 use Rattle.counting_law.proofs.Callers.{all-at}
+use Rattle.counting_law.proofs.Owners.{held-client}
 
 -- the service at a place has an owner
 abbrev pub Owned : System → ℕ → Type 0
@@ -51,7 +51,7 @@ budget-owned s a service (Some b) at some =
 connection-owned : (s : System) (limit : Handle → ℕ) (b : SpmState) (a : ℕ) (h : Handle) (c : OpenConnection) → Balanced s limit b → connection_held b a h ≡ Some c → Owned s c.service
 connection-owned s limit b a h c balanced held =
     let counted : OpenConnection → Bool = λ (x : OpenConnection). (x.client.0 == a) && (x.service == c.service) in
-    let passes : counted c ≡ true = and_from (c.client.0 == a) (c.service == c.service) (ap (λ (x : ℕ). x == a) (own-connection b a h c held) ∙ is_itself a) (is_itself c.service) in
+    let passes : counted c ≡ true = and_from (c.client.0 == a) (c.service == c.service) (ap (λ (x : ℕ). x == a) (held-client b a h c held) ∙ is_itself a) (is_itself c.service) in
     let used : 1 ≤ in_use b a c.service = omega (arith, count-found (λ (x : OpenConnection). (x.client.0 == a) && has_handle x.handle h) counted b.connections c held, ap bit passes) in
     budget-owned s a c.service _ refl (omega (arith, used, balanced.within a c.service))
 

@@ -33,8 +33,9 @@ use Rattle.trace_diagram.specs.declared.gathering.PlacedArrow.{PlacedArrow}
 use Rattle.trace_diagram.specs.Arrows.{arrow, arrow_of, arrow_of_call, arrows_of, is_return, issued, message_arrow, panic_arrows, panicking, release_arrow, reply_arrow, sent, service_of_handle}
 use Rattle.trace_diagram.specs.Gathering.{arrows_at, arrows_from, is_in_part, placed}
 use Rattle.trace_diagram.specs.Pairs.{AnswersPair, Asks, answered_message, EachAnswerPairs, IsPair, IsWaiting}
-use Rattle.trace_diagram.proofs.Everywhere.{each-append, each-filter_map, each-found, each-map, each-option}
+use Rattle.trace_diagram.proofs.Everywhere.{each-filter_map, each-found, each-map, each-option}
 use Rattle.trace_diagram.proofs.Waiting.{Each, Kept, WaitsAt, opening-kept, step-kept}
+use Rattle.list_laws.proofs.Lists.{AllByRecursion-append}
 
 -- ---- the arrow of a call
 
@@ -224,7 +225,7 @@ rest-paired s m limit part es past (e ∷ left) n last st at parts kept =
     elim [
       | None ↦ λ is. tt
       | Some new ↦ λ is.
-          each-append (IsPaired s m es) (arrows_at s part (n + 1) st.spm last e) (arrows_from s limit part (n + 1) (slice_set last a (n + 1)) left new) here
+          AllByRecursion-append (IsPaired s m es) (arrows_at s part (n + 1) st.spm last e) (arrows_from s limit part (n + 1) (slice_set last a (n + 1)) left new) here
           (rest-paired s m limit part es (past ++ e ∷ []) left (n + 1) (slice_set last a (n + 1)) new (ap (λ k. k + 1) at ∙ sym (length-push past e)) (parts ∙ sym (append_assoc past (e ∷ []) left))
           (subst (λ k. Kept s m (past ++ e ∷ []) (slice_set last a (k + 1)) new) (sym at) (step-kept s m past last st new e kept is)))
     ] in

@@ -43,8 +43,10 @@ use Rattle.counting_law.proofs.Runs.{opening-balanced, run-has, step-keeps}
 use Rattle.counting_law.proofs.Steps.{Stepped, step-is, step-kind}
 use Rattle.counting_law.proofs.Turns.{Turned, Turns, goes_with, is_sound, kinds-turn, owed-panicked}
 use Rattle.trace_diagram.specs.Pairs.{Asks, IsWaiting}
-use Rattle.trace_diagram.proofs.Everywhere.{each-append, each-filter, each-of, each-option, each-weaken}
-use Rattle.trace_diagram.proofs.Issues.{IsIssued, own-connection, step-issues}
+use Rattle.trace_diagram.proofs.Everywhere.{each-filter, each-of, each-option, each-weaken}
+use Rattle.trace_diagram.proofs.Issues.{IsIssued, step-issues}
+use Rattle.list_laws.proofs.Lists.{AllByRecursion-append}
+use Rattle.counting_law.proofs.Owners.{held-client}
 
 -- ---- messages of other actors
 
@@ -65,7 +67,7 @@ stay R a phases ms h = each-weaken (λ (m : PendingMessage). R m.client.0 m.serv
 -- the actor's own goes last
 own-last : (R : ℕ → ℕ → ℤ → Type 0) (a : ℕ) (phases : List ActorPhase) (ms : List PendingMessage) (m : PendingMessage) → m.client.0 ≡ a → Each R ms → AllByRecursion (OtherHas R a phases) (ms ++ m ∷ [])
 own-last R a phases ms m own h =
-    each-append (OtherHas R a phases) ms (m ∷ []) (stay R a phases ms h) (λ apart phase. let bad : true ≡ false = sym (is_itself a) ∙ (ap (λ (x : ℕ). x == a) (sym own) ∙ apart) in cc, tt)
+    AllByRecursion-append (OtherHas R a phases) ms (m ∷ []) (stay R a phases ms h) (λ apart phase. let bad : true ≡ false = sym (is_itself a) ∙ (ap (λ (x : ℕ). x == a) (sym own) ∙ apart) in cc, tt)
 
 -- one of the services gets its message
 each-delivered : (R : ℕ → ℕ → ℤ → Type 0) (service : ℕ) (h : Handle) (ms : List PendingMessage) → Each R ms → Each R (delivered service h ms)
@@ -108,7 +110,7 @@ each-disconnection P s p own (c ∷ cs) =
 panicked-others : (R : ℕ → ℕ → ℤ → Type 0) (a : ℕ) (s : System) (b : SpmState) (p : ℕ) → Each R b.messages → ((m : PendingMessage) → m.client.0 ≡ p → OtherHas R a (panic_effect s b p).phases m) → Others R a (panic_effect s b p)
 panicked-others R a s b p all own =
     let phases : List ActorPhase = (panic_effect s b p).phases in
-    each-append (OtherHas R a phases) (filter (λ m. not (is_service_of s p m.service)) b.messages) _
+    AllByRecursion-append (OtherHas R a phases) (filter (λ m. not (is_service_of s p m.service)) b.messages) _
     (stay R a phases _ (each-filter (λ (x : PendingMessage). R x.client.0 x.service x.kind) (λ m. not (is_service_of s p m.service)) b.messages all))
     (each-disconnection (OtherHas R a phases) s p own b.connections)
 
@@ -138,9 +140,9 @@ kinds-others R s b given a d h all = record {
   returns = λ o e. stay R a _ b.messages all;
   joins = λ is n k e new. stay R a _ b.messages all;
   connects = λ running v free. own-last R a _ b.messages _ refl all;
-  calls = λ running k c n v held takes. called-others R b a c (pos n) v (is_dead c.phase) (own-connection b a k c held) all;
+  calls = λ running k c n v held takes. called-others R b a c (pos n) v (is_dead c.phase) (held-client b a k c held) all;
   asks = λ running v n vs stateless may. asked-others R b a v (pos n) vs (is_service_panicked s b v) all;
-  closes = λ running k c held. closed-others R b a c (is_dead c.phase) (own-connection b a k c held) all;
+  closes = λ running k c held. closed-others R b a c (is_dead c.phase) (held-client b a k c held) all;
   gets = λ running signal msg v is has first at k shown tells new. stay R a _ _ (each-delivered R v k b.messages all);
   moves = λ running o k v plain. stay R a _ _ (each-vectors R k v b.messages all);
   marks = λ running n r. stay R a _ b.messages all;
@@ -267,7 +269,7 @@ own-issued R s st new e balanced is i asked =
     let running : phase_of st.spm a ≡ Running = asking-running s st.spm a e.call i.message.service i.message.kind i.asks (step-is s st new e is).may in
     let none : AllByRecursion (λ (m : PendingMessage). (m.client.0 == a) ≡ false) st.spm.messages = none-passes (λ (m : PendingMessage). m.client.0 == a) st.spm.messages (running-none s (times st.handles_given) st.spm a balanced running) in
     subst (AllByRecursion (OwnHas R a new.spm)) (sym i.added)
-    (each-append (OwnHas R a new.spm) st.spm.messages (i.message ∷ [])
+    (AllByRecursion-append (OwnHas R a new.spm) st.spm.messages (i.message ∷ [])
     (each-weaken (λ (m : PendingMessage). (m.client.0 == a) ≡ false) (OwnHas R a new.spm) (λ m apart own phase. let bad : false ≡ true = sym apart ∙ own in cc) st.spm.messages none)
     (λ own phase. asked i.message i.client i.asks, tt))
 

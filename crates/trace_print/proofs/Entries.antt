@@ -19,7 +19,8 @@ use Rattle.trace_print.specs.Reading.{outcome_at, place_of, actor_of, entry_at, 
 use Rattle.trace_print.proofs.Options.{chosen}
 use Rattle.trace_print.proofs.Numbers.{unsigned_again}
 use Rattle.trace_print.proofs.Again.{phrase_words, call_again, outcome_again}
-use Rattle.trace_print.proofs.Plain.{IsText, text_from_plain, text_spaced, IsPlain, AllPlain, plain_test, plain_from_test, plain_decimal, plain_phrase, all_append, split_words, spaced_phrase_is}
+use Rattle.trace_print.proofs.Plain.{IsText, text_from_plain, text_spaced, IsPlain, AllPlain, plain_test, plain_from_test, plain_decimal, plain_phrase, split_words, spaced_phrase_is}
+use Rattle.list_laws.proofs.Lists.{AllByRecursion-append}
 
 call_names : (c : Call) → list_all plain_test (call_phrase c).names ≡ true
 call_names (call.Stop false) = refl
@@ -42,7 +43,7 @@ text_is counts e =
 plain_words : (counts : ActorCounts) (e : Entry) → AllPlain (entry_words counts e)
 unfolding entry_words
 plain_words counts e =
-    all_append IsPlain (phrase_words (call_phrase e.call)) (codes "->" ∷ phrase_words (outcome_phrase e.outcome)) (plain_phrase (call_phrase e.call) (call_names e.call))
+    AllByRecursion-append IsPlain (phrase_words (call_phrase e.call)) (codes "->" ∷ phrase_words (outcome_phrase e.outcome)) (plain_phrase (call_phrase e.call) (call_names e.call))
     (plain_from_test (codes "->") refl, plain_phrase (outcome_phrase e.outcome) (outcome_names e.outcome))
 
 plain_actor : (counts : ActorCounts) (a : ℕ) → IsPlain (actor_word counts a)
@@ -105,4 +106,4 @@ same_entry counts d e few p q same = let read : Some d ≡ Some e = sym (entry_a
 -- an entry's text holds no line feed
 pub text_of_entry : (counts : ActorCounts) (e : Entry) → IsText (entry_text counts e)
 text_of_entry counts e =
-    rw text_is (all_append (λ b. 31 < b) (actor_word counts e.actor.0) _ (text_from_plain (actor_word counts e.actor.0) (plain_actor counts e.actor.0)) (text_spaced (entry_words counts e) (plain_words counts e)))
+    rw text_is (AllByRecursion-append (λ b. 31 < b) (actor_word counts e.actor.0) _ (text_from_plain (actor_word counts e.actor.0) (plain_actor counts e.actor.0)) (text_spaced (entry_words counts e) (plain_words counts e)))

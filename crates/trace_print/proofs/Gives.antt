@@ -1,5 +1,5 @@
 -- Which calls of a run give a message, and with which handle.
-use Rattle.std.proofs.Common.{ℕ, ◌≡◌, Bool, true, false, not, ◌&&◌, ◌||◌, List, [], ◌∷◌, refl, ap, sym, ◌∙◌}
+use Rattle.std.proofs.Common.{ℕ, ◌≡◌, Bool, true, false, not, ◌&&◌, List, [], ◌∷◌, refl, ap, sym, ◌∙◌}
 use Rattle.std.specs.Prelude.{ℤ, pos, int_le, Option, Some, None, IsSome, fold, option_and_then, is_none, if◌then◌else◌}
 use Rattle.std.specs.List.{list_any, AllByRecursion}
 use Rattle.std.specs.Option.{option_map, option_map_or}
@@ -21,6 +21,7 @@ use Rattle.ffm_model.specs.State.{State, fresh, handle_eq}
 use Rattle.ffm_model.specs.Step.{step, step_on, handle_allowed, handle_shown, outcome_eq}
 use Rattle.trace_print.proofs.Options.{Gives, done, nothing, either, when}
 use Rattle.ffm_model.proofs.RunLemmas.{none-stays, some-is}
+use Rattle.list_laws.proofs.Bools.{or_rest}
 
 abbrev pub is_message : Outcome → Bool
 is_message (outcome.Got m) = true
@@ -125,10 +126,6 @@ due_some : (o : Option Effect) (k : ActorKind) (s : System) (st : State) (a : �
 due_some (Some e) k s st a c m due = refl
 due_some None k s st a c m due = sym due ∙ differs (error_effect k s st a c).outcome m (no_error_message k s st a c)
 
-second : (x y : Bool) → x ≡ false → (x || y) ≡ true → y ≡ true
-second true y e h = cc
-second false y e h = h
-
 first_two : (x y z : Bool) → (x && y && z) ≡ true → (x && y) ≡ true
 first_two true true z h = refl
 first_two x y z h = cc
@@ -142,7 +139,7 @@ get_small s st a signal msg m allowed due =
     let c : Call = call.Get signal msg in
     let made : is_none (case_of s st a c m.handle) ≡ false = due_some (case_of s st a c m.handle) (kind_of s a) s st a c m due in
     let legal : programmer_error s st a c ≡ false = case_alike s st a signal msg (record { 0 = pos 0 }) m.handle ∙ made in
-    let is_fresh : fresh st m.handle ≡ true = second (programmer_error s st a c) (fresh st m.handle) legal allowed in
+    let is_fresh : fresh st m.handle ≡ true = or_rest (programmer_error s st a c) (fresh st m.handle) legal allowed in
     first_two (int_le (pos 1) m.handle.0) (int_le m.handle.0 (pos 0x3fffffff)) (not (list_any (handle_eq m.handle) st.handles_given)) is_fresh
 
 -- ---- in a step

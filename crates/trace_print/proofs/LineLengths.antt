@@ -32,7 +32,8 @@ hexadecimal_long : (n : ℕ) → length (hexadecimal_word n) ≤ 10
 unfolding hexadecimal_word hexadecimal_digits
 hexadecimal_long n = omega arith
 
-decimal_long : (n : ℕ) → n < 2 ^ 32 → length (decimal n) ≤ 10
+-- a number of 32 bits has at most ten digits
+pub decimal_long : (n : ℕ) → n < 2 ^ 32 → length (decimal n) ≤ 10
 decimal_long n lt = length-decimal-le 10 n (omega arith) (omega arith) (omega arith)
 
 signed_long : (z : ℤ) → FieldFits (signed z) → length (signed_decimal z) ≤ 11

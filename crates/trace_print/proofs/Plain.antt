@@ -14,6 +14,7 @@ use Rattle.ffm_model.specs.TraceText.{Word, Phrase, Field, hexadecimal, unsigned
 use Rattle.trace_print.specs.View.{parts}
 use Rattle.trace_print.proofs.Options.{chosen}
 use Rattle.trace_print.proofs.Again.{phrase_words}
+use Rattle.list_laws.proofs.Lists.{AllByRecursion-append}
 
 -- each byte is above a number
 abbrev pub IsAbove : ℕ → List ℕ → Type 0
@@ -29,10 +30,6 @@ AllPlain ws = AllByRecursion IsPlain ws
 -- each byte is the space or above it, so none is a line feed
 abbrev pub IsText : List ℕ → Type 0
 IsText w = IsAbove 31 w
-
-pub all_append : {X : Type 0} (P : X → Type 0) (xs ys : List X) → AllByRecursion P xs → AllByRecursion P ys → AllByRecursion P (xs ++ ys)
-all_append P [] ys p q = q
-all_append P (x ∷ xs) ys p q = (p.0, all_append P xs ys p.1 q)
 
 glyph_high : (d : ℕ) → 32 < digit_glyph false d
 glyph_high d = grind (arith, nat_tests)
@@ -53,7 +50,7 @@ digit_high d = grind (arith, nat_tests)
 plain_hexadecimal_digits : (k n : ℕ) → IsPlain (hexadecimal_digits k n)
 unfolding hexadecimal_digits
 plain_hexadecimal_digits zero n = tt
-plain_hexadecimal_digits (suc k) n = all_append (λ b. 32 < b) (hexadecimal_digits k (n / 16)) (hexadecimal_digit (n % 16) ∷ []) (plain_hexadecimal_digits k (n / 16)) (digit_high (n % 16), tt)
+plain_hexadecimal_digits (suc k) n = AllByRecursion-append (λ b. 32 < b) (hexadecimal_digits k (n / 16)) (hexadecimal_digit (n % 16) ∷ []) (plain_hexadecimal_digits k (n / 16)) (digit_high (n % 16), tt)
 
 plain_field : (f : Field) → IsPlain (field_word f)
 unfolding hexadecimal_word
@@ -92,7 +89,7 @@ plain_fields (f ∷ fs) = (plain_field f, plain_fields fs)
 
 -- a phrase's words are plain where its names are
 pub plain_phrase : (p : Phrase) → list_all plain_test p.names ≡ true → AllPlain (phrase_words p)
-plain_phrase p e = all_append IsPlain p.names (map field_word p.fields) (all_from_test IsPlain plain_test plain_from_test p.names e) (plain_fields p.fields)
+plain_phrase p e = AllByRecursion-append IsPlain p.names (map field_word p.fields) (all_from_test IsPlain plain_test plain_from_test p.names e) (plain_fields p.fields)
 
 pub spaced_phrase_is : (p : Phrase) → spaced_phrase p ≡ flat_map spaced (phrase_words p)
 spaced_phrase_is p = rw (flat_map-append spaced p.names (map field_word p.fields), flat_map-map spaced field_word p.fields) refl
@@ -103,7 +100,7 @@ text_from_plain (b ∷ bs) p = (omega (arith, p.0), text_from_plain bs p.1)
 
 pub text_spaced : (ws : List Word) → AllPlain ws → IsText (flat_map spaced ws)
 text_spaced [] p = tt
-text_spaced (w ∷ ws) p = (lit< tt, all_append (λ b. 31 < b) w (flat_map spaced ws) (text_from_plain w p.0) (text_spaced ws p.1))
+text_spaced (w ∷ ws) p = (lit< tt, AllByRecursion-append (λ b. 31 < b) w (flat_map spaced ws) (text_from_plain w p.0) (text_spaced ws p.1))
 
 verdict_is_text : (v : Verdict) → IsText (verdict_word v)
 verdict_is_text Quiet = text_from_plain (codes "quiet") (plain_from_test (codes "quiet") refl)
@@ -111,4 +108,4 @@ verdict_is_text v = text_from_plain (verdict_word v) (plain_from_test (verdict_w
 
 pub plain_verdict : (v : Verdict) (n : ℕ) → IsText (verdict_text v n)
 unfolding verdict_text
-plain_verdict v n = all_append (λ b. 31 < b) (verdict_word v) (32 ∷ decimal n) (verdict_is_text v) (lit< tt, text_from_plain (decimal n) (plain_decimal n))
+plain_verdict v n = AllByRecursion-append (λ b. 31 < b) (verdict_word v) (32 ∷ decimal n) (verdict_is_text v) (lit< tt, text_from_plain (decimal n) (plain_decimal n))

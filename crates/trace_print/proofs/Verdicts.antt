@@ -10,14 +10,12 @@ use Rattle.ffm_model.specs.declared.machine.Verdict.TheVariants.{Quiet, Stalled,
 use Rattle.ffm_model.specs.TraceText.{actor_word, spaced_phrase, call_phrase, outcome_phrase, entry_text, verdict_text}
 use Rattle.trace_print.proofs.Options.{chosen, Gives, done, either, when, given_is}
 use Rattle.trace_print.specs.Lines.{verdict_of, IsEntryText, IsVerdictText}
-
-same_text : (text : List ℕ) → bytes_eq text text ≡ true
-same_text text = (bytes_eq-Decides text text).1 refl
+use Rattle.ffm_model.proofs.StepLemmas.{bytes_eq-self}
 
 verdict_again : (n : ℕ) (v : Verdict) → verdict_of n (verdict_text v n) ≡ Some v
 unfolding verdict_of verdict_text
-verdict_again n Quiet = rw (same_text (verdict_text Quiet n)) refl
-verdict_again n v = rw (same_text (verdict_text v n)) refl
+verdict_again n Quiet = rw (bytes_eq-self (verdict_text Quiet n)) refl
+verdict_again n v = rw (bytes_eq-self (verdict_text v n)) refl
 
 no_verdict_of : (n a : ℕ) (counts : ActorCounts) (rest : List ℕ) → verdict_of n (actor_word counts a ++ rest) ≡ None
 unfolding verdict_of verdict_text actor_word

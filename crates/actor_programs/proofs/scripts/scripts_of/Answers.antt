@@ -1,8 +1,9 @@
 use Rattle.std.proofs.Common.{◌∷◌, [], ◌++◌, ◌∙◌, append_assoc, length, length-append, ap, sym, subst, arith, rules}
 use Rattle.actor_programs.specs.Programs.{AreScriptsOf}
 use Rattle.ffm_model.proofs.ActorLemmas.{actor_count_le}
-use Rattle.actor_programs.proofs.ProgramLemmas.{all-yielded, scripts-more}
+use Rattle.actor_programs.proofs.ProgramLemmas.{scripts-more}
 use Rattle.actor_programs.proofs.scripts.scripts_of.Goals as goal
+use Rattle.list_laws.proofs.Lists.{append_none}
 
 pub overflow_cast-actor : goal.overflow_cast-actor
 overflow_cast-actor c =
@@ -27,5 +28,5 @@ pub returns : goal.returns
 returns c =
     let i = c.loop-program.invariant in
     let none_left = let r = c.loop-program.program-iterator.rest in sym r.ok.0 ∙ c.in-None.ensures.steps.0 in
-    let all = all-yielded c.loop-program.yielded c.loop-program.program-iterator.rest.items c.args.programs i.left none_left in
+    let all = append_none c.loop-program.yielded c.loop-program.program-iterator.rest.items c.args.programs i.left none_left in
     subst (λ ps. AreScriptsOf c.args.system.now ps c.of.result) all (subst (AreScriptsOf c.args.system.now c.loop-program.yielded) (sym c.of.ensures) i.made)

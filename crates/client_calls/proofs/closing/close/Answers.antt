@@ -9,7 +9,7 @@ use Rattle.ffm_model.specs.State.{SpmState}
 use Rattle.ffm_model.specs.ClientCalls.{is_busy, move}
 use Rattle.client_calls.proofs.HeldLemmas.{held-item, told-phase, may-send, has-room, sent-state, not-busy, not-dead, close-sends}
 use Rattle.spm_tables.specs.TablesView.{spm_of}
-use Rattle.client_calls.proofs.NameLemmas.{names_kept, names_gone, names-held}
+use Rattle.client_calls.proofs.NameLemmas.{names_gone, names-held}
 use Rattle.client_calls.proofs.closing.close.Goals as goal
 use Rattle.std.proofs.Common.{subst}
 use Rattle.std.specs.Prelude.{All}
@@ -19,6 +19,7 @@ use Rattle.message_vectors.specs.Vectors.{AreWithin}
 use Rattle.spm_tables.specs.TablesView.{TablesView}
 use Rattle.counting_law.proofs.CallsFit.{close-fits-after}
 use Rattle.isolation_law.proofs.CallsWithin.{close-within}
+use Rattle.slot_names.proofs.Changes.{names_kept}
 
 pub send-requires-clause-connection : goal.send-requires-clause-connection
 send-requires-clause-connection c =

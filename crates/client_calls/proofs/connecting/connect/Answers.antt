@@ -12,10 +12,11 @@ use Rattle.spm_tables.proofs.PoolLemmas.{item-taken}
 use Rattle.client_calls.proofs.ServiceLemmas.{taking-service, made-services}
 use Rattle.client_calls.proofs.SendLemmas.{at-item, has-item, room-for-connection, room-for-message}
 use Rattle.client_calls.proofs.ConnectLemmas.{connect-rooms, connect-issues}
-use Rattle.client_calls.proofs.NameLemmas.{names_kept, names-connect}
+use Rattle.client_calls.proofs.NameLemmas.{names-connect}
 use Rattle.client_calls.proofs.connecting.connect.Goals as goal
 use Rattle.counting_law.proofs.CallsFit.{connect-keeps}
 use Rattle.isolation_law.proofs.CallsWithin.{connect-within}
+use Rattle.slot_names.proofs.Changes.{names_kept}
 
 pub start-slot-requires-clause-room : goal.start-slot-requires-clause-room
 start-slot-requires-clause-room c =

@@ -11,8 +11,9 @@ use Rattle.client_calls.proofs.HeldLemmas.{held-item, told-phase, may-send, has-
 use Rattle.spm_tables.specs.TablesView.{spm_of}
 use Rattle.spm_tables.specs.Answers.{state_with}
 use Rattle.memory_image.specs.Pieces.{byte_at}
-use Rattle.client_calls.proofs.NameLemmas.{names_kept, names-held}
+use Rattle.client_calls.proofs.NameLemmas.{names-held}
 use Rattle.client_calls.proofs.requests.call_connection.Goals as goal
+use Rattle.slot_names.proofs.Changes.{names_kept}
 
 pub send-requires-clause-connection : goal.send-requires-clause-connection
 send-requires-clause-connection c =

@@ -14,8 +14,9 @@ use Rattle.client_calls.specs.Sending.{request_message}
 use Rattle.client_calls.proofs.RequestLemmas.{request-sends}
 use Rattle.client_calls.proofs.SendLemmas.{room-for-message}
 use Rattle.client_calls.proofs.ServiceLemmas.{made-services, stateless-service}
-use Rattle.client_calls.proofs.NameLemmas.{names_kept, names-asked-of}
+use Rattle.client_calls.proofs.NameLemmas.{names-asked-of}
 use Rattle.client_calls.proofs.requests.call_service.Goals as goal
+use Rattle.slot_names.proofs.Changes.{names_kept}
 
 pub send_request-requires-clause-service : goal.send_request-requires-clause-service
 send_request-requires-clause-service c =

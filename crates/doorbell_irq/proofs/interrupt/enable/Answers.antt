@@ -1,8 +1,8 @@
-use Rattle.doorbell_irq.proofs.NameLemmas.{names-stay}
+use Rattle.slot_names.proofs.Changes.{names_kept}
 use Rattle.doorbell_irq.proofs.interrupt.enable.Goals as goal
 
 pub returns-in_err-source-clause-names : goal.returns-in_err-source-clause-names
-returns-in_err-source-clause-names c = λ s made. names-stay s _
+returns-in_err-source-clause-names c = λ s made. names_kept s _
 
 pub returns-clause-fits : goal.returns-clause-fits
 returns-clause-fits c = c.put_forwarded.ensures.fits

@@ -1,11 +1,11 @@
-use Rattle.doorbell_irq.proofs.NameLemmas.{names-stay}
+use Rattle.slot_names.proofs.Changes.{names_kept}
 use Rattle.doorbell_irq.proofs.interrupt.eoi.Goals as goal
 
 pub returns-in_err-source-clause-names : goal.returns-in_err-source-clause-names
-returns-in_err-source-clause-names c = λ s made. names-stay s _
+returns-in_err-source-clause-names c = λ s made. names_kept s _
 
 pub returns-then-not-flags-clause-names : goal.returns-then-not-flags-clause-names
-returns-then-not-flags-clause-names c = λ s made. names-stay s _
+returns-then-not-flags-clause-names c = λ s made. names_kept s _
 
 pub returns-clause-names : goal.returns-clause-names
 returns-clause-names c = c.put_forwarded.ensures.names

@@ -2,8 +2,8 @@ use denote.Exit.{yes}
 use denote.Param.Send.{param_send, arg_send, shr_send, array_send}
 use Rattle.ffm_model.proofs.machine.Answer.TheSendSync as answer
 use Rattle.std.proofs.option.Option.TheSendSync as option
-use Rattle.spm_lock.proofs.Crossing.{pass_crosses, shared_crosses}
-use Rattle.lock_tests.proofs.Closures.{two_cross, three_cross}
+use Rattle.spm_lock.proofs.Crossing.{pass_crosses, shared_crosses, two_cross}
+use Rattle.lock_tests.proofs.Closures.{three_cross}
 use Rattle.lock_tests.proofs.turns.both.Goals as goal
 
 pub join-requires-send-F : goal.join-requires-send-F

@@ -1,6 +1,7 @@
 use Rattle.std.proofs.Common.{sym, ◌∙◌, arith}
-use Rattle.partition_sim.proofs.StepLemmas.{steps-more, steps-none, steps-zero}
+use Rattle.partition_sim.proofs.StepLemmas.{steps-more, steps-zero}
 use Rattle.partition_sim.proofs.context.run_lines.Goals as goal
+use Rattle.ffm_model.proofs.ScriptLemmas.{steps-none}
 
 pub loop-ran-preserved : goal.loop-ran-preserved
 loop-ran-preserved c = steps-more _ _ _ _ _ c.loop-ran-test.true c.in-Some.ensures.local ∙ c.loop-ran.invariant

@@ -1,12 +1,6 @@
-use Rattle.std.proofs.Common.{◌≡◌, ℕ, List, [], ◌∷◌, ◌++◌, length, get_or, arith, rules, ap, refl, ◌∙◌}
+use Rattle.std.proofs.Common.{◌≡◌, ℕ, List, ◌++◌, length, rules, ap, ◌∙◌}
 use Rattle.service_calls.proofs.delivery.joined.Goals as goal
-
-abbrev first_four : List ℕ → List ℕ
-first_four xs = get_or xs 0 0 ∷ (get_or xs 1 0 ∷ (get_or xs 2 0 ∷ (get_or xs 3 0 ∷ [])))
-
-all-four : (xs : List ℕ) → length xs ≡ 4 → first_four xs ≡ xs
-all-four (a ∷ b ∷ c ∷ d ∷ []) e = refl
-all-four _ e = absurd (omega arith)
+use Rattle.memory_image.proofs.Words.{all-four, first_four}
 
 pub returns : goal.returns
 returns c =

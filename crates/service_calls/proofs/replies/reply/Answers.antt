@@ -9,7 +9,7 @@ use Rattle.spm_tables.specs.declared.item.MessageItem.{MessageItem}
 use Rattle.spm_tables.specs.TablesView.{item_of, message_of, spm_of}
 use Rattle.service_calls.proofs.Held.{holds-at, message-is}
 use Rattle.service_calls.proofs.Partners.{connection-there}
-use Rattle.service_calls.proofs.ReplyLemmas.{IsReplied, reply-held, was-replied, left-due, reply-due, owing-fits}
+use Rattle.service_calls.proofs.ReplyLemmas.{IsReplied, was-replied, left-due, reply-due, owing-fits}
 use Rattle.service_calls.proofs.Kept.{unchanged-names}
 use Rattle.std.proofs.Common.{refl, subst}
 use Rattle.std.specs.Prelude.{All}
@@ -17,13 +17,14 @@ use Rattle.spm_tables.specs.TablesView.{TablesView}
 use Rattle.service_calls.proofs.Kept.{all-out, reply-names}
 use Rattle.service_calls.proofs.replies.reply.Goals as goal
 use Rattle.service_calls.proofs.ReplyLemmas.{settled-fits}
+use Rattle.memory_image.proofs.Messages.{reply_is}
 
 pub connection_of-connection-requires-clause-there : goal.connection_of-connection-requires-clause-there
 connection_of-connection-requires-clause-there c =
     let s = c.args.system.now in
     let found = message-is c.args.tables.now c.in-Some.slot c.queued-message.result _ c.queued-message.ensures (c.in-Some.ensures.message s c.requires.premises.tables.made) in
     connection-there s (spm_of c.args.tables.now) (λ m. is_service_of s c.args.actor.0 m.service && has_handle m.handle c.args.handle) (message_of c.in-Some.slot c.queued-message.result) c.requires.premises.tables.fits
-    (reply-held s (spm_of c.args.tables.now) c.args.actor.0 c.args.handle c.args.status.0 (message_of c.in-Some.slot c.queued-message.result) found)
+    (reply_is s (spm_of c.args.tables.now) c.args.actor.0 c.args.handle c.args.status.0 (message_of c.in-Some.slot c.queued-message.result) found)
 
 pub tell_lengths-requires : goal.tell_lengths-requires
 tell_lengths-requires c =

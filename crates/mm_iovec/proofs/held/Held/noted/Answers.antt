@@ -4,8 +4,9 @@ use Rattle.ffm_model.specs.Held.{Holder, HeldMessage}
 use Rattle.mm_iovec.specs.HeldView.{HeldView}
 use Rattle.mm_iovec.specs.Items.{message_of}
 use Rattle.mm_iovec.proofs.WindowLemmas.{windows-read, windows-input_touched, windows-written, windows-behind}
-use Rattle.mm_iovec.proofs.NotedLemmas.{noted-read, noted-write, noted-get, noted-reply}
+use Rattle.mm_iovec.proofs.NotedLemmas.{noted-read, noted-write}
 use Rattle.mm_iovec.proofs.held.Held.noted.Goals as goal
+use Rattle.ffm_model.proofs.HeldLemmas.{noted-get, noted-reply}
 
 abbrev with_table : Holder → List HeldMessage → HeldView
 with_table p t = record { holder = p; table = t }

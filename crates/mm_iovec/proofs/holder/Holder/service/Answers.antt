@@ -4,11 +4,11 @@ use Rattle.std.specs.Option.{option_copied, option_map}
 use Rattle.std.proofs.lemmas.Iterator.{YieldsList-from_slice}
 use Rattle.std.proofs.lemmas.Iterator.Search.{find_from_yields_List}
 use Rattle.mm_iovec.specs.Items.{service_of}
-use Rattle.mm_iovec.proofs.TableLemmas.{find_of_map}
 use Rattle.mm_iovec.proofs.holder.Holder.service.Goals as goal
+use Rattle.list_laws.proofs.Tests.{find-map}
 
 pub returns : goal.returns
 returns c =
     let found : option_copied c.find.result ≡ find (λ v. v.signal == c.args.signal) c.self.inside.services.items =
     find_from_yields_List (λ v. v.signal == c.args.signal) _ _ c.find.result c.find.ensures.ran (YieldsList-from_slice c.self.inside.services.items cc) (λ x b q k. search (rules, tests)) in
-    rw (← c.self.view_is) (ap (option_map service_of) (c.copied.ensures ∙ found) ∙ sym (find_of_map service_of (λ v. v.signal == c.args.signal) c.self.inside.services.items))
+    rw (← c.self.view_is) (ap (option_map service_of) (c.copied.ensures ∙ found) ∙ sym (find-map service_of (λ v. v.signal == c.args.signal) c.self.inside.services.items))

@@ -2,11 +2,11 @@ use Rattle.std.proofs.Common.{rules, ◌≡◌, ◌∷◌, [], ◌++◌, ◌∙�
 use denote.Exit.{yes}
 use denote.Param.Send.{param_send, param_sync, arg_send, shr_send}
 use Rattle.std.proofs.sync.atomic.AtomicBool.TheSendSync as flag
-use Rattle.spm_lock.proofs.Crossing.{shared_crosses}
+use Rattle.spm_lock.proofs.Crossing.{shared_crosses, two_cross}
 use Rattle.scenario_runs.specs.declared.threads.Trip.{Trip}
 use Rattle.scenario_runs.specs.Threads.{AreNewCrews, IsNewCrew}
 use Rattle.scenario_runs.proofs.Crews.{Placed, crews_more, seats_more, waiting_more, fresh_more, left_short}
-use Rattle.scenario_runs.proofs.Crossing.{crew_crosses, two_cross, five_cross}
+use Rattle.scenario_runs.proofs.Crossing.{crew_crosses, five_cross}
 use Rattle.scenario_runs.specs.Threads.{left_of}
 use Rattle.scenario_runs.proofs.threads.fn.drive_crews.scope.Goals as goal
 use Rattle.scenario_runs.proofs.threads.fn.drive_crews.scope.Goals.{in-Ok, in-Err}
