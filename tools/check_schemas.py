@@ -174,9 +174,14 @@ def validators():
     return {name: jsonschema.Draft202012Validator(tree, registry=registry) for name, tree in trees.items()}
 
 
+def whole(digits):
+    """A whole number; what ffm reads as a text is one."""
+    return digits if digits == "-0" or len(digits) > 19 else int(digits)
+
+
 def tree_of(path):
     """The tree of a file, with a decimal as a text, as ffm reads it."""
-    return json.loads(path.read_text(), parse_float=str)
+    return json.loads(path.read_text(), parse_float=str, parse_int=whole)
 
 
 def likeness(name, known):
@@ -193,13 +198,16 @@ def kind_of(checks, tree):
 
 
 def inner(error):
-    """What is wrong itself, where choices were tried: what is wrong by each choice of the value's type. A wrong
-    manifest is told by all that is wrong in it, and not as no name of a file."""
+    """What is wrong itself, where choices were tried: what is wrong by the choice of the value's type that it fits best.
+    A wrong manifest is told by all that is wrong in it, and not as no name of a file."""
     of_other_types = {e.schema_path[0] for e in error.context if e.validator == "type" and not e.path}
-    fitting = [e for e in error.context if e.schema_path[0] not in of_other_types]
+    choices = {}
+    for e in error.context:
+        choices.setdefault(e.schema_path[0], []).append(e)
+    fitting = [errors for choice, errors in choices.items() if choice not in of_other_types]
     if not fitting:
         yield error
-    for e in fitting:
+    for e in min(fitting, key=len, default=()):
         yield from inner(e)
 
 
@@ -340,7 +348,7 @@ def checked(checks, path, kind=None):
         tree = tree_of(path)
     except OSError as error:
         return 1, [f"{path}: {error.strerror}"]
-    except ValueError as error:
+    except (ValueError, RecursionError) as error:
         return 1, [f"{path}: no JSON: {error}"]
     kind = kind or kind_of(checks, tree)
     count, wrong = 1, [f"{path}, a {kind}: {problem}" for problem in problems(checks[kind], tree)]

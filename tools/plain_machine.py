@@ -10,8 +10,8 @@ give. Where the words are others it prints a usage line to standard error, and t
 This is a model for readers. It is written from the rules of the calls alone and shares nothing with the
 program: one list of connections, one list of messages in order of arrival, and a map of bytes; signals are
 computed where they are asked for. It takes system files and scenario files that hold by the rules of the
-formats, and doesn't look for broken rules or wrong script lines, but for `restarts`; where a file can't be read it
-says which, status 7, and where it can't be used it says so, status 1. Traces it reads exactly, as the program has to. Manifests may be of 1.0 and of 1.1. What an entry changed it finds by comparing the whole memory before it
+formats, and doesn't look for broken rules or wrong script lines, but for `restarts`. Where a file can't be read it says
+which, status 7, and where it can't be used it says so, status 1. Traces it reads exactly, as the program has to. Manifests may be of 1.0 and of 1.1. What an entry changed it finds by comparing the whole memory before it
 with that after it.
 
 An actor is numbered from 0: the partitions, then the clients, then the device. A call is its word in the
@@ -19,6 +19,7 @@ trace with its numbers after it, as `("connect", 64, 1)`, and so is an outcome, 
 entry is an actor, a call and an outcome."""
 
 import json
+import operator
 import pathlib
 import re
 import sys
@@ -239,7 +240,7 @@ def read_scenario(path):
     for item in tree.get("memory", []):
         for offset, byte in enumerate(bytes.fromhex(item["bytes"])):
             memory[number(item["address"]) + offset] = byte
-    return tree.get("event_limit", 4096), memory
+    return operator.index(tree.get("event_limit", 4096)), memory
 
 
 # The machine
@@ -836,34 +837,29 @@ def answer(system, scenario, text, audits):
     return 0 if place is None else 6, "\n".join([*lines, line])
 
 
-def files_of(system, scenario, trace, stand=pathlib.Path()):
-    """What the files of these names say, as seen from the folder `stand`, if ffm takes them; None where the scenario
-    has restarts: then it has several runs, and a trace is of one."""
-    if json.loads((stand / scenario).read_text()).get("restarts", 0) > 0:
-        return None
-    return read_system(system, stand), read_scenario(stand / scenario), (stand / trace).read_bytes()
+class NotTaken(Exception):
+    """A file that can't be read, status 7, or that ffm doesn't take in a way that shows here, status 1, as it is told."""
 
 
-def answer_to(said, audits):
-    """The same for what files say."""
-    return answer(*said, audits) if said else (1, "refused 4 BadValue scenario /restarts")
+def taken(name, read):
+    """What a file says, read so."""
+    try:
+        return read(name)
+    except OSError as error:
+        raise NotTaken(7, f"{error.filename or name}: {error.strerror}") from error
+    except (AttributeError, LookupError, RecursionError, TypeError, ValueError) as error:
+        told = f"{name}: ffm doesn't take this file ({error!r}); tools/check_schemas.py may say more"
+        raise NotTaken(1, told) from error
 
 
 def answer_of_files(system, scenario, trace, audits, stand=pathlib.Path()):
-    """The same for the files of these names."""
-    return answer_to(files_of(system, scenario, trace, stand), audits)
-
-
-def given_files(names):
-    """What the files say. Where one can't be read, or isn't as ffm takes it in a way that shows here, a line and the end."""
-    try:
-        return files_of(*names)
-    except OSError as error:
-        print(f"{error.filename}: {error.strerror}", file=sys.stderr)
-        sys.exit(7)
-    except (AttributeError, LookupError, TypeError, ValueError) as error:
-        print(f"these aren't files that ffm takes ({error!r}); tools/check_schemas.py may say more", file=sys.stderr)
-        sys.exit(1)
+    """The same for the files of these names, as seen from the folder `stand`, in the order in which ffm reads them. A
+    scenario with restarts has several runs, and a trace is of one."""
+    said = taken(system, lambda name: read_system(name, stand))
+    if taken(scenario, lambda name: json.loads((stand / name).read_text()).get("restarts", 0) > 0):
+        return 1, "refused 4 BadValue scenario /restarts"
+    opening = taken(scenario, lambda name: read_scenario(stand / name))
+    return answer(said, opening, taken(trace, lambda name: (stand / name).read_bytes()), audits)
 
 
 def main():
@@ -871,7 +867,12 @@ def main():
     if len(names) < 3 or word not in ([], ["audit"]):
         print(USAGE, file=sys.stderr)
         sys.exit(2)
-    status, text = answer_to(given_files(names), audits=bool(word))
+    try:
+        status, text = answer_of_files(*names, audits=bool(word))
+    except NotTaken as wrong:
+        status, text = wrong.args
+        print(text, file=sys.stderr)
+        sys.exit(status)
     print(text)
     sys.exit(status)
 

@@ -4,16 +4,18 @@
     python3 tools/rule_of_line.py [--rule] TRACE NUMBER
     python3 tools/rule_of_line.py [--rule] 'n1 version 0x00000041 -> number 0'
 
-With --rule the rules in words are all that is printed. The first form takes a file and the number of a line in it, counted from 1, the second one the text of a line. For each
-rule that bears on the line it prints four things, with their places from the top of the repository:
+With --rule the rules in words are all that is printed. The first form takes a file and the number of a line in it,
+counted from 1, the second one the text of a line. For each rule that bears on the line it prints four things, with their
+places from the top of the repository:
 1. the rule in words, with > before what the outcome shows, or ? where the line doesn't tell,
 2. the definition,
-3. the function with its contract, with > before the clause, and the definitions of its own crate that the clause cites;
+3. the function with its contract, with > before the clause, and the definitions of this repository that the clause cites;
    of a long contract the signature and the clause, with .. for the rest,
 4. wrong bodies that are refused, worked runs and tests.
 The answer that a `resume` shows was made by another event. With a trace the call and that event are found; with the
 text alone the rules that may have made the answer are told by their places. Of signals, and of the message of a `get`,
-the events behind them are found as far as the trace tells them. Why a `connect` is answered -130 the tool tells where
+the events behind them are found as far as the trace tells them; likewise the `get` of a message's handle, the panic of a
+`call` answered -145, the `store` of a `load`, and at `stalled` the calls that nobody answers. Why a `connect` is answered -130 the tool tells where
 the system's file, system.json, lies beside the trace.
 A line `refused ..` is of no trace: the rows of its code in docs/formats.md are printed.
 
@@ -156,8 +158,8 @@ class Run:
     """The events of a run before a line, and those after it, whether the run is one after a reset, whether the trace has
     resets at all, and the system where its file is known."""
 
-    def __init__(self, events, after=(), is_later=False, is_reset=False, system=None):
-        self.events, self.after, self.is_later, self.is_reset, self.system = events, after, is_later, is_reset, system
+    def __init__(self, events, after=(), is_later=False, has_resets=False, system=None):
+        self.events, self.after, self.is_later, self.has_resets, self.system = events, after, is_later, has_resets, system
         self.messages = {event.shown[1]: event for event in events if event.outcome == "message"}
 
     def answered(self, call):
@@ -170,12 +172,12 @@ class Run:
         if event.is_stateless():
             index = int(event.given[0]) - STATELESS_HANDLE
             return next((place for place, service in enumerate(self.system.services) if service.index == index), None)
-        asked = {}
+        last = None
         for one in self.events:
-            if one.actor == event.actor and one.word == "connect":
-                asked = one
-            if one.actor == event.actor and one.word == "resume" and one.shown[:1] == event.given[:1] and asked:
-                return self.system.service_at(int(asked.given[0], 16))
+            if one.actor == event.actor:
+                if last and last.word == "connect" and one.word == "resume" and one.shown[:1] == event.given[:1]:
+                    return self.system.service_at(int(last.given[0], 16))
+                last = one
         return None
 
     def panic_at(self, event):
@@ -184,9 +186,9 @@ class Run:
         return None if place is None else self.panic_of(f"p{self.system.services[place].owner + 1}")
 
     def blocked_calls(self):
-        """The calls for whose answers actors wait after these events."""
+        """The calls that nobody answers, at a stall."""
         last = {event.actor: event for event in self.events}
-        return [event for event in last.values() if event.outcome == "blocked" and event.word in ASKED_BY]
+        return [event for event in last.values() if event.outcome == "blocked" and event.word in ASKED_BY and not self.panic_of(event.actor)]
 
     def panicked(self, event):
         """The partition that panics in an event: its actor, or the one whose request is answered with -129."""
@@ -419,7 +421,7 @@ def cause_of(event, run):
     if fault:
         return f"Which of these holds: by system.json, {fault}"
     asks = f"change the line's outcome in a copy of the trace, and ask the built program, `ffm_view why SYSTEM SCENARIO COPY` ({place_of('why', VIEW)})"
-    alone = f"; first make the run a trace of its own ({place_of(RUNS, FORMATS)})" if run and run.is_reset else ""
+    alone = f"; first make the run a trace of its own ({place_of(RUNS, FORMATS)})" if run and run.has_resets else ""
     return f"Which of these holds: {asks}{alone}"
 
 
@@ -531,7 +533,7 @@ def rules_of_load(event, run):
     stored = run.stored_at(event)
     rules = [] if stored or not run.is_later else [rule_of_section(RESETS, f"#{RESETS})", is_sure=False)]
     what = "the last store to these bytes; a call that moved bytes since may have changed them too"
-    words = [] if stored else [(" ", "No `store` of this run wrote these bytes: they are as at its opening, or a call put them there that moves bytes")]
+    words = [] if stored else [(" ", "No `store` of this run wrote these bytes: they are as at its opening, or a call that moves bytes put them there")]
     return words, rules, [(stored, what)] if stored else []
 
 
@@ -634,7 +636,7 @@ def rules_of(text, number=0, run=None):
     known."""
     verdict = VERDICT.fullmatch(text)
     if verdict:
-        blocked = run.blocked_calls() if run else []
+        blocked = run.blocked_calls() if run and verdict[1] == "stalled" else []
         return [rule_of_section(VERDICTS, f"`{verdict[1]}`", lambda name, state: name == verdict[1])], [(event, "waits for its answer") for event in blocked]
     if RESTART.fullmatch(text):
         rule = rule_of_section(RESETS, f"#{RESETS})")
@@ -653,8 +655,8 @@ def run_around(lines, place, system=None):
         else:
             events.append(event_of(line, number))
     after = takewhile(lambda numbered: is_event(numbered[1]), enumerate(lines[place + 1:], place + 2))
-    is_reset = any(RESTART.fullmatch(line) for line in lines)
-    return Run(events, [event_of(line, number) for number, line in after], is_later, is_reset, system)
+    has_resets = any(RESTART.fullmatch(line) for line in lines)
+    return Run(events, [event_of(line, number) for number, line in after], is_later, has_resets, system)
 
 
 @lru_cache(maxsize=None)
@@ -826,7 +828,7 @@ def wrapped(mark, text):
     return [f" {mark} {part}" for part in textwrap.wrap(text, 110)]
 
 
-def words_told(rule, is_whole, seen=frozenset()):
+def words_told(rule, is_whole, _seen=frozenset()):
     """The lines of the rule in words: all of them, or their place alone."""
     yield f"== {rule.title}{'' if rule.is_sure else ' (perhaps)'}"
     yield f"1. {rule.place}"
@@ -844,7 +846,8 @@ def text_of(rule, is_whole, seen):
         is_new = is_whole and (item.path, item.place) not in seen
         yield f"2. {item.told()}{'' if is_new or not is_whole else ', as above'}"
         yield from (f"   {line}" for line in definition_of(item, rule.call) if is_new)
-        seen.add((item.path, item.place))
+        if is_whole:
+            seen.add((item.path, item.place))
     for item in functions_of(row):
         lines, names = contract_of(item)
         is_new = is_whole and (item.path, item.place) not in seen
@@ -852,7 +855,8 @@ def text_of(rule, is_whole, seen):
         yield from (f" {mark} {line}" for mark, line in lines if is_new)
         cited = [one for one in cited_by(item, lines) if is_new and (one.path, one.place) not in seen]
         yield from (f"   cites {one.told()}" for one in cited)
-        seen.add((item.path, item.place))
+        if is_whole:
+            seen.add((item.path, item.place))
     yield f"4. {EVIDENCE}:{number}"
     if is_whole:
         yield from (f"   wrong body: {path}" for path in wrong_bodies_of(row))
@@ -959,14 +963,12 @@ def main():
     words = [word for word in sys.argv[1:] if word != "--rule"]
     parts = words_told if "--rule" in sys.argv[1:] else text_of
     is_number = len(words) == 2 and re.fullmatch("[0-9]+", words[1])
-    if words in (["--help"], ["-h"]):
-        print(f"{USAGE}\n\n{__doc__}")
-        sys.exit(0)
-    if len(words) != 1 and not is_number or words[0].startswith("-"):
+    asks_help = words in (["--help"], ["-h"])
+    if not asks_help and (len(words) != 1 and not is_number or words[0].startswith("-")):
         print(USAGE, file=sys.stderr)
         sys.exit(2)
     try:
-        print("\n".join(answer(words, parts)), flush=True)
+        print(f"{USAGE}\n\n{__doc__}" if asks_help else "\n".join(answer(words, parts)), flush=True)
     except BrokenPipeError:
         # Who reads it has read enough, as head does.
         os.dup2(os.open(os.devnull, os.O_WRONLY), sys.stdout.fileno())

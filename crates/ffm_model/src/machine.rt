@@ -88,7 +88,7 @@ pub enum Call {
         rhandle: u32,
     },
     /// `psa_read` of `psa/service.h`: copies at most `len` bytes of a request's input vector, the one at
-    /// `index` from 0 to 3, to the address `buffer`, after what was read or skipped of it.
+    /// `index` from 0 to 3, from where the last read or skip ended, to the address `buffer`.
     Read {
         handle: Handle,
         index: u32,
@@ -129,7 +129,7 @@ pub enum Call {
         signal: u32,
     },
     /// `psa_irq_enable` of `psa/service.h`, of the 1.1 Extensions: the source of that signal is enabled, and an
-    /// interrupt that is pending there asserts the signal at once.
+    /// interrupt that is pending there asserts the signal at once; with a second-level handler only where it is clear.
     IrqEnable {
         signal: u32,
     },

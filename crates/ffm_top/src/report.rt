@@ -82,7 +82,7 @@ fn put_trace<S: Sink>(out: &mut S, counts: Counts, trace: &Trace) -> Result<(), 
     put_verdict(out, trace.verdict, count)
 }
 
-// The line before the run after so many others. None where it is the first.
+// The line before a run that comes after so many others; none before the first.
 #[tactic(auto, unfolding(crate::specs::Runs::restart_line), using(crate::proofs::RunTexts::count_length))]
 fn restart_line(count: usize) -> Line
     ensures { result.items ≡ restart_line count }

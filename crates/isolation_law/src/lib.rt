@@ -26,8 +26,8 @@ pub fn bytes_changed_lie_in_reach()
 {}
 
 /// A byte that an event tells lies in RAM of its actor's domain, in MMIO of its actor, or in an input
-/// vector of a request that its actor holds: in two states that agree in all but memory, and there in
-/// memory too, the same entries are steps, and after one each byte is the same in both or wasn't
+/// vector of a request that its actor holds: in two states that differ only in
+/// memory outside of these, the same entries are steps, and after one each byte is the same in both or wasn't
 /// changed in either. It holds of any two states.
 pub fn bytes_read_lie_in_reach()
     ensures { (s : System) → (one other : State) → (e : Entry) → AgreeWithin s e.actor.0 one other → StepsAlike one other (step s one e) (step s other e) }

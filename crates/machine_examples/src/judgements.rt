@@ -11,7 +11,7 @@ ghost use Rattle.machine_examples.specs.Systems.{vault, client, vault_system, po
 ghost use Rattle.machine_examples.specs.Requests.{request_memory, one_request};
 ghost use Rattle.machine_examples.specs.Connections.{versions_asked};
 
-/// A trace is judged by its first entry that is no step, that is past the limit, or, after all, by its
+/// A trace is judged by its first entry that is no step, that is past the limit, or, where none is, by its
 /// verdict. At the return of `psa_connect` each handle that wasn't given before is lawful, so a changed
 /// one counts where a later call uses the old one.
 pub fn first_wrong_entry()

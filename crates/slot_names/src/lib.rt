@@ -79,7 +79,7 @@ pub fn panics_follow_names()
 {}
 
 /// What changes of the tables leave of the handles given: if none of them is that of a generation to come, or of a
-/// connection or message that has none yet, none is after the change. A change that takes a connection's handle or a
+/// connection or message that has none yet, none is so after the change. A change that takes a connection's handle or a
 /// message's delivery back doesn't keep this.
 pub fn handles_stay_given()
     ensures untouched { (old new : TablesView) → new.connections ≡ old.connections → new.messages ≡ old.messages → KeepsGiven old new }

@@ -33,7 +33,7 @@ pub fn tables_stand_in_runs()
 /// the connections, messages, phases and bytes that they then have, if the event keeps names and handles
 /// (`KeepsNames`), and gives no handles but those of connections and messages that are then there. Each call
 /// of the manager says the first by its clause `names`, and by its clauses on the answer which state that is;
-/// so after each call the tables stand for its case's new state, whatever led to it.
+/// so after each call the tables stand for its case's new state, whatever led to the state before it.
 ///
 /// `AreKept` is what all tables keep of their pools, as `Tables::law` says. `event` says this of whichever handles
 /// the event gives; `quiet` of an event that gives none, as each call but `psa_get`, and as the panic of a

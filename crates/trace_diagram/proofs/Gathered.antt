@@ -18,7 +18,7 @@ use Rattle.trace_diagram.specs.declared.gathering.Part.{Part}
 use Rattle.trace_diagram.specs.declared.gathering.PlacedArrow.{PlacedArrow}
 use Rattle.trace_diagram.specs.Gathering.{arrows_at, arrows_from, arrows_in}
 
--- the arrows of the trace are those gathered and those of the entries left, after the state that is kept
+-- the arrows of the trace are those gathered and those of the entries left, from the state that is kept
 pub record GathersTo (s : System) (m : ByteMap) (limit : ℕ) (part : Part) (es : List Entry) (c : Checker) (last : List ℕ) (so_far : List PlacedArrow) (left : List Entry) : Type 0 where
   pub all : List Handle
   pub knows : Knows c.given all

@@ -146,7 +146,7 @@ fn push_line_to(out: &mut String, from: u64, end: u64, y: u64) -> Result<(), All
     write!(out, "<path class=\"head\" d=\"M{end} {y}l{barb}-4v8z\"/>")
 }
 
-// An arrow to the right, with its label behind its actor, and before its head too where it is long.
+// An arrow to the right, with its label next to its actor, and at its head too where it is long.
 fn push_right(out: &mut String, from: u64, to: u64, y: u64, text: &str) -> Result<(), AllocError> {
     let label_y = y.saturating_sub(5);
     push_label(out, false, from.saturating_add(7), label_y, text)?;
@@ -156,7 +156,7 @@ fn push_right(out: &mut String, from: u64, to: u64, y: u64, text: &str) -> Resul
     push_line_to(out, from, to.saturating_sub(2), y)
 }
 
-// The same to the left. Where there is no room for the label behind its actor it is at its head alone.
+// The same to the left. Where there is no room for the label next to its actor it is at its head alone.
 fn push_left(out: &mut String, from: u64, to: u64, y: u64, text: &str) -> Result<(), AllocError> {
     let label_y = y.saturating_sub(5);
     let right = from.saturating_sub(7);

@@ -39,7 +39,7 @@ pub record IsIllegalAt (s : System) (m : ByteMap) (limit : ℕ) (es : List Entry
   pub run : IsSome (after s m (take before es))
   pub illegal : (limit ≡ before) ⊎ (after s m (take n es) ≡ None)
 
--- what is after place k: a state; or none, where there are fewer entries, or as many and one up to it is illegal
+-- the state after place k; or none, where there are fewer entries, or as many and one up to it is illegal
 abbrev pub IsPlace : System → ByteMap → ℕ → List Entry → ℕ → Place → Type 0
 IsPlace s m limit es k (place.State b) = IsStateBehind s m limit es k b
 IsPlace s m limit es k place.Beyond = length es < k

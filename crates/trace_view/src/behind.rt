@@ -20,13 +20,13 @@ pub struct StateBehind {
     pub last: Vec<u32>,
 }
 
-/// What is after the entry at a place.
+/// The state after the entry at a place, or why there is none.
 #[derive(Drop)]
 pub enum Place {
     State(StateBehind),
     /// The trace has fewer entries.
     Beyond,
-    /// An entry up to the place, this one, is no step or exceeds the limit, and so no state is after it.
+    /// An entry up to the place, this one, is no step or exceeds the limit, and so there is no state after it.
     Illegal(u32),
 }
 

@@ -24,7 +24,7 @@ use Rattle.view_commands.specs.Diagrams.{format_of, part_asked, place_beyond}
 abbrev pub memory_of : TraceFiles → ByteMap
 memory_of f = opening_memory f.work.scenario.memory
 
--- what stands after a place of the files' trace
+-- the state after a place of the files' trace, or why there is none
 abbrev pub IsPlaceOf : TraceFiles → ℕ → Place → Type 0
 IsPlaceOf f k p = IsPlace f.work.system (memory_of f) f.work.scenario.limit f.trace.entries k p
 
@@ -48,7 +48,7 @@ IsView _ _ _ = ⊥
 abbrev pub no_place_line : ℕ → ℕ → List ℕ
 no_place_line place total = codes "no entry " ++ (decimal place ++ (codes ": the trace has " ++ (decimal total ++ codes "\n")))
 
--- the line that no state is after a place
+-- the line that there is no state after a place
 abbrev pub no_state_line : ℕ → ℕ → List ℕ
 no_state_line illegal place = codes "entry " ++ (decimal illegal ++ (codes " is illegal: no state after entry " ++ (decimal place ++ codes "; ffm_view why tells more\n")))
 

@@ -166,7 +166,7 @@ pub fn ffm_view<F: Files, S: Sink>(
     // A status below 7 comes with a text, written whole: for words that `clap` doesn't take, or that ask for help or
     // the version, with the status of its answer; for files that are refused with ffm's own line; and else there is
     // what is shown: the state after the place, or how the trace is judged and why, or counts of its legal entries,
-    // or a diagram; or the line that the trace has no such place, or that no state is after it.
+    // or a diagram; or the line that the trace has no such place, or that there is no state after it.
     ensures due { result < 7 → IfSome (F.held files.old) (λ of.
         WritesDue (map string_bytes words.now) of (S.taken out.old) (S.taken out.new) result) }
     ensures handed_on { result < 7 → S.is_handed_on out.new }

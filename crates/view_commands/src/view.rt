@@ -26,7 +26,7 @@ pub enum View {
     State(StateBehind),
     /// That the trace has no such place, but so many entries.
     NoPlace { place: u32, total: u32 },
-    /// That no state is after a place, since an entry up to it is illegal.
+    /// That there is no state after a place, since an entry up to it is illegal.
     NoState { illegal: u32, place: u32 },
     Why(Finding),
     /// A diagram, and its text.
