@@ -48,6 +48,22 @@ fn manager(alloc: Global) -> Result<Spm, Fail>
 }
 
 // What a manager without events answers the device.
+fn answered_at_first(
+    rt: &impl Abort,
+    manager: &mut Spm,
+    source: u32,
+    handled: Option<u32>,
+) -> Answer
+    requires { manager.old.history ≡ [] }
+{
+    assert!(rt; DEVICE.0 < manager.actor_count());
+    match handled {
+        None => manager.step(DEVICE, Call::Raise { source }),
+        Some(result) => manager.step(DEVICE, Call::Fire { source, result }),
+    }
+}
+
+// The same of a manager that is made for it.
 fn first_answer(
     rt: &impl Abort,
     alloc: Global,
@@ -55,11 +71,7 @@ fn first_answer(
     handled: Option<u32>,
 ) -> Result<Answer, Fail> {
     let mut manager = manager(alloc)?;
-    assert!(rt; DEVICE.0 < manager.actor_count());
-    match handled {
-        None => Ok(manager.step(DEVICE, Call::Raise { source })),
-        Some(result) => Ok(manager.step(DEVICE, Call::Fire { source, result })),
-    }
+    Ok(answered_at_first(rt, &mut manager, source, handled))
 }
 
 #[test]

@@ -71,13 +71,14 @@ fn asked_once(
     Ok((handle, moved, close(tables, asked.partition, closed)))
 }
 
-#[test]
-fn asks_for_a_connection(rt: HostRuntime) -> Result<(), Fail> {
-    let system = system_of(rt.alloc(), SYSTEM)?;
-    let mut image = image_of(&rt, rt.alloc(), &system)?;
-    let mut tables = ready(rt.alloc(), &system)?;
-    assert!(rt; runs(&tables, CLIENT));
-    assert!(rt; runs(&tables, VAULT));
+// A client's life with a connection, over tables at their start.
+fn assert_connection_made(rt: &impl Abort, system: &System, tables: &mut Tables, image: &mut Image)
+    requires premises { PremisesWithMemory system.now tables.old image.old }
+    requires connections { tables.old.connections.takes ≡ 0 }
+    requires messages { tables.old.messages.takes ≡ 0 }
+{
+    assert!(rt; runs(tables, CLIENT));
+    assert!(rt; runs(tables, VAULT));
     let asked = Asked {
         client: CLIENT,
         sid: Sid(0x40),
@@ -86,16 +87,17 @@ fn asks_for_a_connection(rt: HostRuntime) -> Result<(), Fail> {
         signal: 0x10,
         buffer: 0x3000_0100,
     };
-    let done = asked_once(
-        &system,
-        &mut tables,
-        &mut image,
-        asked,
-        Status(0),
-        Handle(0),
-    );
+    let done = asked_once(system, tables, image, asked, Status(0), Handle(0));
     assert_eq!(rt; done, Ok((Handle(1536), Err(Fault), Ok(Outcome::Done))));
     assert_eq!(rt; tables.phase(CLIENT), ActorPhase::Connected(0));
+}
+
+#[test]
+fn asks_for_a_connection(rt: HostRuntime) -> Result<(), Fail> {
+    let system = system_of(rt.alloc(), SYSTEM)?;
+    let mut image = image_of(&rt, rt.alloc(), &system)?;
+    let mut tables = ready(rt.alloc(), &system)?;
+    assert_connection_made(&rt, &system, &mut tables, &mut image);
     Ok(())
 }
 
@@ -184,12 +186,12 @@ fn assert_byte(rt: &impl Abort, image: &Image, address: u32, byte: u32) {
     assert_eq!(rt; image.load(address, 1), byte, "at {address}");
 }
 
-#[test]
-fn makes_a_request(rt: HostRuntime) -> Result<(), Fail> {
-    let system = system_of(rt.alloc(), STATELESS)?;
-    let mut image = image_of(&rt, rt.alloc(), &system)?;
-    let mut tables = ready(rt.alloc(), &system)?;
-    assert!(rt; runs(&tables, CLIENT));
+// A client's request by a stateless handle, over tables at their start.
+fn assert_request_served(rt: &impl Abort, system: &System, tables: &mut Tables, image: &mut Image)
+    requires premises { PremisesWithMemory system.now tables.old image.old }
+    requires messages { tables.old.messages.takes ≡ 0 }
+{
+    assert!(rt; runs(tables, CLIENT));
     let request = Request {
         client: CLIENT,
         handle: Handle(0x4000_0001),
@@ -199,16 +201,13 @@ fn makes_a_request(rt: HostRuntime) -> Result<(), Fail> {
         signal: 0x10,
         buffer: 0x3000_0100,
     };
-    let done = served_once(
-        &system,
-        &mut tables,
-        &mut image,
-        request,
-        Status(5),
-        Handle(0),
-    );
+    let done = served_once(system, tables, image, request, Status(5), Handle(0));
     assert_eq!(rt; done, Ok((4, Outcome::Value(5), Outcome::Done)));
     assert_eq!(rt; tables.phase(CLIENT), ActorPhase::Running);
+}
+
+// What was read of the vector, over the first bytes of the message that psa_get wrote.
+fn assert_bytes_read(rt: &impl Abort, image: &Image) {
     for (address, byte) in [
         (0x100, 0x0b),
         (0x101, 0x16),
@@ -216,7 +215,16 @@ fn makes_a_request(rt: HostRuntime) -> Result<(), Fail> {
         (0x103, 0x2c),
         (0x105, 6),
     ] {
-        assert_byte(&rt, &image, 0x3000_0000 + address, byte);
+        assert_byte(rt, image, 0x3000_0000 + address, byte);
     }
+}
+
+#[test]
+fn makes_a_request(rt: HostRuntime) -> Result<(), Fail> {
+    let system = system_of(rt.alloc(), STATELESS)?;
+    let mut image = image_of(&rt, rt.alloc(), &system)?;
+    let mut tables = ready(rt.alloc(), &system)?;
+    assert_request_served(&rt, &system, &mut tables, &mut image);
+    assert_bytes_read(&rt, &image);
     Ok(())
 }

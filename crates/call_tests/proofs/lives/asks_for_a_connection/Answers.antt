@@ -6,8 +6,8 @@ use Rattle.memory_image.specs.Pieces.{regions_of}
 use Rattle.message_vectors.specs.Vectors.{AreWithin}
 use Rattle.call_tests.proofs.lives.asks_for_a_connection.Goals as goal
 
-pub asked_once-done-requires-clause-premises : goal.asked_once-done-requires-clause-premises
-asked_once-done-requires-clause-premises g c = record {
+pub assert_connection_made-requires-clause-premises : goal.assert_connection_made-requires-clause-premises
+assert_connection_made-requires-clause-premises g c = record {
   tables = c.in_ok-tables.ensures.premises;
   regions = c.in_ok-image.ensures;
   vectors =

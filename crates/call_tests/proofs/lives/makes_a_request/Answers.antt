@@ -6,8 +6,8 @@ use Rattle.memory_image.specs.Pieces.{regions_of}
 use Rattle.message_vectors.specs.Vectors.{AreWithin}
 use Rattle.call_tests.proofs.lives.makes_a_request.Goals as goal
 
-pub served_once-done-requires-clause-premises : goal.served_once-done-requires-clause-premises
-served_once-done-requires-clause-premises g c = record {
+pub assert_request_served-requires-clause-premises : goal.assert_request_served-requires-clause-premises
+assert_request_served-requires-clause-premises g c = record {
   tables = c.in_ok-tables.ensures.premises;
   regions = c.in_ok-image.ensures;
   vectors =

@@ -1,4 +1,4 @@
-use Rattle.std.proofs.Common.{◌≡◌, ◌∙◌, sym, subst, rules}
+use Rattle.std.proofs.Common.{◌∙◌, sym, subst, rules}
 use Rattle.std.specs.Prelude.{All}
 use Rattle.memory_image.specs.Pieces.{regions_of}
 use Rattle.message_vectors.specs.Vectors.{AreWithin}
