@@ -76,7 +76,7 @@ fn system(alloc: Global) -> Result<System, Fail> {
         List::of(vec![in alloc; name(alloc)]?),
         List::of(Vec::new(alloc)),
     );
-    Ok(made.ok_or("the parts fit")?)
+    Ok(made.ok_or("the parts don't fit")?)
 }
 
 // A message with inputs and outputs of 4, 0, 17 and 16 bytes.

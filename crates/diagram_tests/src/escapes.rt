@@ -7,6 +7,7 @@ use ffm_model::{
     System,
 };
 use std::alloc::{AllocError, Global};
+use std::process::Abort;
 use std::test::Fail;
 use trace_diagram::Format;
 
@@ -82,11 +83,8 @@ p1 stop end -> done
 stalled 2
 ";
 
-#[test]
-fn names_escaped(rt: HostRuntime) -> Result<(), Fail> {
-    let alloc = rt.alloc();
-    let system = named_system(alloc)?;
-    let text = drawn(alloc, &system, TRACE, WHOLE, Format::Mermaid)?;
+fn assert_text(rt: &impl Abort, alloc: Global, system: &System) -> Result<(), Fail> {
+    let text = drawn(alloc, system, TRACE, WHOLE, Format::Mermaid)?;
     let wanted = "sequenceDiagram
     participant p1 as p1 #60;b#62;#38;#34;A#39;
     participant n1 as n1 A#38;B
@@ -94,7 +92,11 @@ fn names_escaped(rt: HostRuntime) -> Result<(), Fail> {
     Note over p1,n1: stalled 2
 ";
     assert_eq!(rt; text.as_slice(), wanted.as_bytes());
-    let page = String::from_utf8(drawn(alloc, &system, TRACE, WHOLE, Format::Html)?)?;
+    Ok(())
+}
+
+fn assert_page(rt: &impl Abort, alloc: Global, system: &System) -> Result<(), Fail> {
+    let page = String::from_utf8(drawn(alloc, system, TRACE, WHOLE, Format::Html)?)?;
     for piece in [
         ">&lt;b&gt;&amp;&quot;A&#39;<small>p1</small>",
         ">A&amp;B<small>n1</small>",
@@ -103,4 +105,11 @@ fn names_escaped(rt: HostRuntime) -> Result<(), Fail> {
         assert!(rt; page.contains(piece), "{}", piece);
     }
     Ok(())
+}
+
+#[test]
+fn names_escaped(rt: HostRuntime) -> Result<(), Fail> {
+    let system = named_system(rt.alloc())?;
+    assert_text(&rt, rt.alloc(), &system)?;
+    assert_page(&rt, rt.alloc(), &system)
 }

@@ -1,9 +1,9 @@
 //! Diagrams as pages of HTML.
 
-use crate::worked::{PANICKING, SYSTEM, TRACE, WHOLE, drawn};
-use sample_systems::system_of;
+use crate::worked::{PANICKING, SYSTEM, TRACE, WHOLE, page_of};
+use std::process::Abort;
 use std::test::Fail;
-use trace_diagram::{Format, Part};
+use trace_diagram::Part;
 
 // What a page of the whole trace has.
 const PIECES: [&str; 14] = [
@@ -23,11 +23,7 @@ const PIECES: [&str; 14] = [
     "<footer>quiet 23</footer>\n</body>\n</html>\n",
 ];
 
-#[test]
-fn whole_page(rt: HostRuntime) -> Result<(), Fail> {
-    let alloc = rt.alloc();
-    let system = system_of(alloc, SYSTEM)?;
-    let page = String::from_utf8(drawn(alloc, &system, TRACE, WHOLE, Format::Html)?)?;
+fn assert_whole(rt: &impl Abort, page: &str) {
     for piece in PIECES {
         assert!(rt; page.contains(piece), "{}", piece);
     }
@@ -36,34 +32,43 @@ fn whole_page(rt: HostRuntime) -> Result<(), Fail> {
         assert!(rt; !page.contains(piece), "{}", piece);
     }
     assert_eq!(rt; page.matches("<g class=").count(), 17);
-    Ok(())
 }
 
 #[test]
-fn part_of_a_page(rt: HostRuntime) -> Result<(), Fail> {
-    let alloc = rt.alloc();
-    let system = system_of(alloc, SYSTEM)?;
-    let part = Part { from: 18, to: 19 };
-    let page = String::from_utf8(drawn(alloc, &system, TRACE, part, Format::Html)?)?;
+fn whole_page(rt: HostRuntime) -> Result<(), Fail> {
+    let page = page_of(rt.alloc(), SYSTEM, TRACE, WHOLE)?;
+    assert_whole(&rt, page.as_str());
+    Ok(())
+}
+
+fn assert_part(rt: &impl Abort, page: &str) {
     assert!(rt; page.contains("<h1>Entries 18 to 19 of 23</h1>\n"));
     assert_eq!(rt; page.matches("<g class=").count(), 3);
     // The rows of one entry show its place once.
     assert_eq!(rt; page.matches("<text id=\"e").count(), 2);
     assert_eq!(rt; page.matches("<div class=\"lane\"").count(), 2);
+}
+
+#[test]
+fn part_of_a_page(rt: HostRuntime) -> Result<(), Fail> {
+    let page = page_of(rt.alloc(), SYSTEM, TRACE, Part { from: 18, to: 19 })?;
+    assert_part(&rt, page.as_str());
     Ok(())
+}
+
+fn assert_label_has_room(rt: &impl Abort, page: &str) {
+    let answer =
+        "<text x=\"102\" y=\"71\">connect FLASH_OF_THE_WHOLE_DEVICE: 0</text><path class=\"line\" d=\"M264 76H90\"/>";
+    assert!(rt; page.contains(answer));
+    assert_eq!(rt; page.matches("class=\"left\"").count(), 0);
 }
 
 // An arrow to the left with little room has its label at its head, and none that the page cuts off.
 #[test]
 fn label_without_room(rt: HostRuntime) -> Result<(), Fail> {
-    let alloc = rt.alloc();
-    let text = SYSTEM.replace(alloc, "FLASH", "FLASH_OF_THE_WHOLE_DEVICE")?;
-    let system = system_of(alloc, text.as_str())?;
+    let system = SYSTEM.replace(rt.alloc(), "FLASH", "FLASH_OF_THE_WHOLE_DEVICE")?;
     let part = Part { from: 2, to: 5 };
-    let page = String::from_utf8(drawn(alloc, &system, PANICKING, part, Format::Html)?)?;
-    let answer =
-        "<text x=\"102\" y=\"71\">connect FLASH_OF_THE_WHOLE_DEVICE: 0</text><path class=\"line\" d=\"M264 76H90\"/>";
-    assert!(rt; page.contains(answer));
-    assert_eq!(rt; page.matches("class=\"left\"").count(), 0);
+    let page = page_of(rt.alloc(), system.as_str(), PANICKING, part)?;
+    assert_label_has_room(&rt, page.as_str());
     Ok(())
 }

@@ -1,7 +1,10 @@
 //! Which call each answer belongs to.
 
 use crate::worked::{PANICKING, SYSTEM, TRACE, arrows_of_text};
+use ffm_model::System;
 use sample_systems::system_of;
+use std::alloc::Global;
+use std::process::Abort;
 use std::test::Fail;
 use trace_diagram::Meaning;
 
@@ -24,18 +27,32 @@ static CASES: [Case; 2] = [
     },
 ];
 
-#[test]
-fn answers_name_their_calls(rt: HostRuntime) -> Result<(), Fail> {
-    let alloc = rt.alloc();
-    let system = system_of(alloc, SYSTEM)?;
-    for case in &CASES {
-        let mut answers = Vec::new(alloc);
-        for placed in arrows_of_text(alloc, &system, case.trace)?.as_slice() {
-            if let Meaning::Reply { .. } | Meaning::Release { .. } = placed.arrow.meaning {
-                answers.push((placed.place, placed.answers))?;
-            }
+// The places of a trace's answers, each with that of its call.
+fn answers_of(
+    alloc: Global,
+    system: &System,
+    trace: &str,
+) -> Result<Vec<(u32, Option<u32>)>, Fail> {
+    let arrows = arrows_of_text(alloc, system, trace)?;
+    let mut answers = Vec::new(alloc);
+    for placed in arrows.as_slice() {
+        if let Meaning::Reply { .. } | Meaning::Release { .. } = placed.arrow.meaning {
+            answers.push((placed.place, placed.answers))?;
         }
+    }
+    Ok(answers)
+}
+
+fn assert_cases(rt: &impl Abort, alloc: Global, system: &System) -> Result<(), Fail> {
+    for case in &CASES {
+        let answers = answers_of(alloc, system, case.trace)?;
         assert_eq!(rt; answers.as_slice(), case.answers);
     }
     Ok(())
+}
+
+#[test]
+fn answers_name_their_calls(rt: HostRuntime) -> Result<(), Fail> {
+    let system = system_of(rt.alloc(), SYSTEM)?;
+    assert_cases(&rt, rt.alloc(), &system)
 }

@@ -1,7 +1,10 @@
 //! Diagrams as Mermaid texts.
 
 use crate::worked::{PANICKING, SYSTEM, TRACE, WHOLE, drawn};
+use ffm_model::System;
 use sample_systems::system_of;
+use std::alloc::Global;
+use std::process::Abort;
 use std::test::Fail;
 use trace_diagram::{Format, Part};
 
@@ -112,15 +115,18 @@ quiet 3
     },
 ];
 
-#[test]
-fn mermaid_texts(rt: HostRuntime) -> Result<(), Fail> {
-    let alloc = rt.alloc();
-    let system = system_of(alloc, SYSTEM)?;
+fn assert_cases(rt: &impl Abort, alloc: Global, system: &System) -> Result<(), Fail> {
     for (number, case) in CASES.iter().enumerate() {
-        let text = drawn(alloc, &system, case.trace, case.part, Format::Mermaid)?;
+        let text = drawn(alloc, system, case.trace, case.part, Format::Mermaid)?;
         assert_eq!(rt; text.as_slice(), case.text.as_bytes(), "{}", number);
     }
     Ok(())
+}
+
+#[test]
+fn mermaid_texts(rt: HostRuntime) -> Result<(), Fail> {
+    let system = system_of(rt.alloc(), SYSTEM)?;
+    assert_cases(&rt, rt.alloc(), &system)
 }
 
 // A request by a stateless handle goes to its service's partition, and its answer back.

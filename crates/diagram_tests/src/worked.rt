@@ -2,6 +2,7 @@
 
 use ffm_model::{List, System};
 use memory_image::Image;
+use sample_systems::system_of;
 use std::alloc::Global;
 use std::test::Fail;
 use trace_diagram::{Format, Part, PlacedArrow, diagram, gather};
@@ -90,6 +91,18 @@ pub(crate) fn drawn(
     let image = Image::new(alloc, system.regions.list(), &List::of(Vec::new(alloc)))?;
     let diagram = diagram(alloc, system, &image, 1000, &trace, part, format)?;
     Ok(diagram.text(alloc, system, &trace)?)
+}
+
+/// The page of a part of a trace, of the system of a file's text.
+pub(crate) fn page_of(
+    alloc: Global,
+    system: &str,
+    trace: &str,
+    part: Part,
+) -> Result<String, Fail> {
+    let system = system_of(alloc, system)?;
+    let page = drawn(alloc, &system, trace, part, Format::Html)?;
+    Ok(String::from_utf8(page)?)
 }
 
 /// The arrows of a trace's text, from a memory whose bytes are 0.

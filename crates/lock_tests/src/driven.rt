@@ -151,11 +151,14 @@ fn assert_counts(rt: &impl Abort, spm: &Spm) {
     }
 }
 
+fn assert_run_of_all(rt: &impl Abort, alloc: Global, spm: &Spm) -> Result<(), Fail> {
+    assert_ended(rt, spm, 16, Verdict::Quiet);
+    assert_counts(rt, spm);
+    assert_legal(rt, alloc, spm, 30, Verdict::Quiet)
+}
+
 #[test]
 fn all_actors_in_one_drive(rt: HostRuntime) -> Result<(), Fail> {
-    let alloc = rt.alloc();
-    let spm = run_of_all(&rt, alloc)?;
-    assert_ended(&rt, &spm, 16, Verdict::Quiet);
-    assert_counts(&rt, &spm);
-    assert_legal(&rt, alloc, &spm, 30, Verdict::Quiet)
+    let spm = run_of_all(&rt, rt.alloc())?;
+    assert_run_of_all(&rt, rt.alloc(), &spm)
 }

@@ -104,14 +104,21 @@ fn trace_of(rt: &impl Abort, alloc: Global, spm: &Spm, verdict: Verdict) -> Resu
     })
 }
 
-// The judge's word on a trace of a run up to a limit.
+// The judge's word on a trace of a run up to a limit, from where this manager opens.
+fn judged_from(alloc: Global, opening: &Spm, limit: u32, trace: &Trace) -> Result<Checked, Fail>
+    requires { length trace.now.entries < 100 }
+{
+    Ok(check(alloc, opening.system(), opening.image(), limit, trace)?)
+}
+
+// The same from where a new manager opens.
 fn judged(alloc: Global, limit: u32, trace: &Trace) -> Result<Checked, Fail>
     requires positive { 1 ≤ limit }
     requires limited { limit ≤ MAX_ENTRIES }
     requires short { length trace.now.entries < 100 }
 {
     let opening = manager(alloc, limit)?;
-    Ok(check(alloc, opening.system(), opening.image(), limit, trace)?)
+    judged_from(alloc, &opening, limit, trace)
 }
 
 pub fn assert_legal(

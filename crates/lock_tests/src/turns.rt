@@ -82,14 +82,23 @@ fn assert_all_made(rt: &impl Abort, spm: &Spm, actor: ActorId, answers: Answers)
     }
 }
 
+fn assert_run_of_two(
+    rt: &impl Abort,
+    alloc: Global,
+    spm: &Spm,
+    first: Answers,
+    second: Answers,
+) -> Result<(), Fail> {
+    assert_ended(rt, spm, 6, Verdict::Full);
+    assert_all_made(rt, spm, ActorId(1), first);
+    assert_all_made(rt, spm, ActorId(2), second);
+    assert_legal(rt, alloc, spm, 6, Verdict::Full)
+}
+
 #[test]
 fn two_threads_make_three_calls_each(rt: HostRuntime) -> Result<(), Fail> {
-    let alloc = rt.alloc();
-    let (spm, first, second) = run_of_two(&rt, alloc)?;
-    assert_ended(&rt, &spm, 6, Verdict::Full);
-    assert_all_made(&rt, &spm, ActorId(1), first);
-    assert_all_made(&rt, &spm, ActorId(2), second);
-    assert_legal(&rt, alloc, &spm, 6, Verdict::Full)
+    let (spm, first, second) = run_of_two(&rt, rt.alloc())?;
+    assert_run_of_two(&rt, rt.alloc(), &spm, first, second)
 }
 
 // Asks for a call of any shared manager.

@@ -3,8 +3,10 @@
 use super::*;
 use crate::front::whole_of;
 use ffm_model::List;
+use std::alloc::Global;
 use std::env::{Env, FillError};
 use std::io::{ErrorKind, Read};
+use std::process::Abort;
 use std::test::Fail;
 use std::{fs, io};
 
@@ -16,13 +18,30 @@ fn lent(answer: &Result<Vec<u8>, FileError>) -> Result<&[u8], FileError> {
     }
 }
 
+// A read of a name up to a limit, and what it gives.
+type Reading<'a> = (&'a str, u32, Result<&'a [u8], FileError>);
+
+// These reads, one after the other.
+fn assert_reads(rt: &impl Abort, alloc: Global, files: &mut impl Files, reads: &[Reading]) {
+    for (name, limit, want) in reads {
+        let answer = files.read(alloc, name, *limit);
+        assert_eq!(rt; lent(&answer), *want, "{name} up to {limit}");
+    }
+}
+
+// Files of which the second read and the fourth fail.
+fn failing_files(rt: &impl Abort, alloc: Global) -> Result<MemoryFiles, Fail> {
+    let mut files = MemoryFiles::new(alloc);
+    assert!(rt; files.reads().is_empty());
+    assert_eq!(rt; files.add(alloc, "six", b"fedcba"), Ok(()));
+    assert_eq!(rt; files.add(alloc, "six", b"abcdef"), Ok(()));
+    files.fail_at(List::of(vec![in alloc; 2u32, 4]?));
+    Ok(files)
+}
+
 #[test]
 fn files_in_memory(rt: HostRuntime) -> Result<(), Fail> {
-    let mut files = MemoryFiles::new(rt.alloc());
-    assert!(rt; files.reads().is_empty());
-    assert_eq!(rt; files.add(rt.alloc(), "six", b"fedcba"), Ok(()));
-    assert_eq!(rt; files.add(rt.alloc(), "six", b"abcdef"), Ok(()));
-    files.fail_at(List::of(vec![in rt.alloc(); 2u32, 4]?));
+    let mut files = failing_files(&rt, rt.alloc())?;
     let reads = [
         ("six", 6, Ok(b"abcdef".as_slice())),
         ("six", 6, Err(FileError::Failed)),
@@ -31,10 +50,7 @@ fn files_in_memory(rt: HostRuntime) -> Result<(), Fail> {
         ("other", 9, Err(FileError::Failed)),
         ("six", 7, Ok(b"abcdef".as_slice())),
     ];
-    for (name, limit, want) in reads {
-        let answer = files.read(rt.alloc(), name, limit);
-        assert_eq!(rt; lent(&answer), want, "{name} up to {limit}");
-    }
+    assert_reads(&rt, rt.alloc(), &mut files, &reads);
     // Failed reads and too long files are told too.
     assert_eq!(rt; files.reads().len(), 6);
     for (read, (name, _, _)) in files.reads().iter().zip(reads) {
@@ -43,22 +59,17 @@ fn files_in_memory(rt: HostRuntime) -> Result<(), Fail> {
     Ok(())
 }
 
-// The listed call doesn't fail, and a name that isn't held reads as an empty file.
+// The listed calls don't fail, and a name that isn't held reads as an empty file.
 #[test]
 fn steady_files(rt: HostRuntime) -> Result<(), Fail> {
-    let mut files = MemoryFiles::new(rt.alloc());
-    assert_eq!(rt; files.add(rt.alloc(), "six", b"abcdef"), Ok(()));
-    files.fail_at(List::of(vec![in rt.alloc(); 1u32]?));
-    let mut files = SteadyFiles::new(files);
+    let mut files = SteadyFiles::new(failing_files(&rt, rt.alloc())?);
     let reads = [
         ("six", 6, Ok(b"abcdef".as_slice())),
         ("six", 5, Err(FileError::TooLong)),
         ("other", 0, Ok(b"".as_slice())),
+        ("six", 6, Ok(b"abcdef".as_slice())),
     ];
-    for (name, limit, want) in reads {
-        let answer = files.read(rt.alloc(), name, limit);
-        assert_eq!(rt; lent(&answer), want, "{name} up to {limit}");
-    }
+    assert_reads(&rt, rt.alloc(), &mut files, &reads);
     Ok(())
 }
 
@@ -83,6 +94,10 @@ fn readers(rt: HostRuntime) {
         let answer = whole_of(rt.alloc(), Ok(b"abcdef".as_slice()), limit);
         assert_eq!(rt; lent(&answer), want, "up to {limit}");
     }
+}
+
+#[test]
+fn readers_that_fail(rt: HostRuntime) {
     let broken = whole_of(rt.alloc(), Ok(b"abc".chain(Broken)), 6);
     assert_eq!(rt; lent(&broken), Err(FileError::Failed));
     let kinds = [
@@ -99,7 +114,6 @@ fn readers(rt: HostRuntime) {
 fn files_of_the_host(rt: HostRuntime) -> Result<(), Fail> {
     fs::write(&rt, "six", b"abcdef")?;
     fs::write(&rt, "none", b"")?;
-    let mut files = HostFiles::new(&rt);
     let reads = [
         ("six", 6, Ok(b"abcdef".as_slice())),
         ("six", 5, Err(FileError::TooLong)),
@@ -109,10 +123,7 @@ fn files_of_the_host(rt: HostRuntime) -> Result<(), Fail> {
         ("missing", 6, Err(FileError::Failed)),
         (".", 6, Err(FileError::Failed)),
     ];
-    for (name, limit, want) in reads {
-        let answer = files.read(rt.alloc(), name, limit);
-        assert_eq!(rt; lent(&answer), want, "{name} up to {limit}");
-    }
+    assert_reads(&rt, rt.alloc(), &mut HostFiles::new(&rt), &reads);
     fs::remove_file(&rt, "six")?;
     fs::remove_file(&rt, "none")?;
     Ok(())
@@ -163,22 +174,36 @@ const PIECES: [(usize, usize, usize); 6] = [
     (8192, 8192, 21384),
 ];
 
-// The sink takes five thousand bytes at a time, and its seventh put fails.
-#[test]
-fn gathered_pieces(rt: HostRuntime) -> Result<(), Fail> {
-    let fail = List::of(vec![in rt.alloc(); 7u32]?);
-    let mut sink = Gathering::of(MemorySink::new(rt.alloc(), 40000, 5000, fail)?);
+fn assert_gathered(
+    rt: &impl Abort,
+    alloc: Global,
+    sink: &mut Gathering<MemorySink>,
+) -> Result<(), Fail> {
     for (size, taken, put) in PIECES {
-        let piece = vec![in rt.alloc(); b'a'; size]?;
+        let piece = vec![in alloc; b'a'; size]?;
         assert!(rt; !piece.is_empty());
         assert_eq!(rt; sink.put(&piece), Ok(taken), "{size} bytes");
         assert_eq!(rt; sink.sink().bytes().len(), put, "after {size} bytes");
     }
+    Ok(())
+}
+
+fn assert_flushed(rt: &impl Abort, sink: &mut Gathering<MemorySink>) {
     assert_eq!(rt; sink.flush(), Err(Failed));
     assert_eq!(rt; sink.sink().bytes().len(), 26384);
-    assert_eq!(rt; put_all(&mut sink, b"last"), Ok(()));
+    assert_eq!(rt; put_all(sink, b"last"), Ok(()));
     assert_eq!(rt; sink.flush(), Ok(()));
     assert_eq!(rt; sink.sink().bytes().len(), 26388);
+}
+
+// The sink takes five thousand bytes at a time, and its seventh put fails.
+#[test]
+fn gathered_pieces(rt: HostRuntime) -> Result<(), Fail> {
+    let fail = List::of(vec![in rt.alloc(); 7u32]?);
+    let sink = MemorySink::new(rt.alloc(), 40000, 5000, fail)?;
+    let mut sink = Gathering::of(sink);
+    assert_gathered(&rt, rt.alloc(), &mut sink)?;
+    assert_flushed(&rt, &mut sink);
     Ok(())
 }
 
@@ -241,14 +266,18 @@ const WORDS: [(&[&[u8]], &[&str]); 4] = [
     (&[b"\xed\xa0\x80", b"make", b"1"], &[]),
 ];
 
+fn assert_taken(rt: &impl Abort, taken: &[String], wanted: &[&str]) {
+    assert_eq!(rt; taken.len(), wanted.len());
+    for (word, text) in taken.iter().zip(wanted) {
+        assert_eq!(rt; word.as_str(), *text);
+    }
+}
+
 #[test]
 fn words_in_utf_8(rt: HostRuntime) -> Result<(), Fail> {
     for (words, wanted) in WORDS {
         let taken = given_words(&(Given { words }, rt.alloc()))?;
-        assert_eq!(rt; taken.len(), wanted.len());
-        for (word, text) in taken.iter().zip(wanted) {
-            assert_eq!(rt; word.as_str(), *text);
-        }
+        assert_taken(&rt, &taken, wanted);
     }
     Ok(())
 }

@@ -58,7 +58,7 @@ pub(crate) fn system_of(
         clients,
         List::of(Vec::new(alloc)),
     );
-    Ok(system.ok_or("the parts fit")?)
+    Ok(system.ok_or("the parts don't fit")?)
 }
 
 /// Adds pieces, each an address and the bytes from there on.
