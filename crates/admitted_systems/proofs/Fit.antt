@@ -12,13 +12,13 @@ use Rattle.ffm_model.specs.declared.system.Region.{Region}
 use Rattle.ffm_model.specs.declared.system.Budget.{Budget}
 use Rattle.ffm_model.specs.ManifestItems.{IsService}
 use Rattle.ffm_model.specs.PartsItems.{PartsRecord, IsParts}
-use Rattle.ffm_model.specs.Parts.{SystemParts, are_numbered, do_fit, system_from, parts_of_system}
+use Rattle.ffm_model.specs.Parts.{are_numbered, do_fit, system_from, parts_of_system}
 use Rattle.ffm_model.specs.WellFormed.{is_well_formed}
 use Rattle.ffm_model.specs.Compiled.{system_parts, partitions_of, services_of, sources_of, compiled, compiled_by}
 use Rattle.ffm_model.specs.Layout.{regions_laid_out}
 use Rattle.ffm_model.specs.Permissions.{services_in, budgets_of}
 use Rattle.ffm_model.specs.Reading.{refused}
-use Rattle.ffm_model.proofs.PartsLemmas.{system_of_parts}
+use Rattle.ffm_model.proofs.PartsLemmas.{system_of_parts, system_with}
 use Rattle.ffm_model.specs.Rules.{broken, duplicate_partitions, duplicate_sids, unknown_dependencies, self_dependencies, dependency_cycle, too_many_signals, unknown_regions, overlapping_regions, too_many_partitions, too_many_connections, budgets_without_permission, duplicate_sources, memory_too_large, duplicate_indices, too_many_stateless}
 use Rattle.admitted_systems.proofs.Lists.{each_weaker, four, eight}
 use Rattle.admitted_systems.proofs.Models.{models_do_fit}
@@ -122,27 +122,12 @@ lists_are_numbered p services regions parts none e f = rw (e, f) (parts_are_numb
 
 -- ---- the system
 
--- the system of parts that fit
-system_with : (p : SystemParts) → are_numbered p ≡ true → do_fit p ≡ true → System
-system_with p numbered fit = record {
-  level = p.level;
-  partitions = p.partitions;
-  services = p.services;
-  sources = p.sources;
-  regions = p.regions;
-  clients = p.clients;
-  budgets = p.budgets;
-  counted = numbered;
-  well_formed = fit;
-}
-
 -- a system of these parts is what the system file gives
 pub compiled_is : (p : PartsRecord) (s : System) → broken p ≡ [] → parts_of_system s ≡ system_parts p → compiled p ≡ Ok s
 unfolding compiled
 compiled_is p s none same = ap₂ compiled_by none (system_of_parts s (system_parts p) same)
 
 pub compiles : (p : PartsRecord) → IsParts p → broken p ≡ [] → IsOkAnd (compiled p) (λ s. parts_of_system s ≡ system_parts p)
-unfolding system_with
 compiles p parts none =
     rw (compiled_is p (system_with (system_parts p) (parts_are_numbered p parts none) (parts_fit p parts none)) none refl) refl
 

@@ -1,4 +1,4 @@
--- A partition, its services and its RAM.
+-- A partition, its services and its RAM, and whose a connection is.
 use Rattle.std.proofs.Common.{ℕ, ◌+◌, ◌<◌, ◌≡◌, ◌==◌, Bool, true, false, length, ap, sym, ◌∙◌, arith}
 use Rattle.std.specs.Prelude.{Option, Some, None, if◌then◌else◌, ◌&&◌, nat_lt, slice_get}
 use Rattle.std.specs.Option.{option_map_or}

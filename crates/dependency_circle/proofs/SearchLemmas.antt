@@ -7,6 +7,7 @@ use Rattle.std.proofs.lemmas.List.{take_all, take_more, take-append-le, get_or_d
 use Rattle.std.proofs.lemmas.List.Folds.{list_any-append}
 use Rattle.std.proofs.lemmas.Map.Steps.{length-le_from_distinct_below}
 use Rattle.std.proofs.lemmas.Bool.{and_from, and_parts, or_left}
+use Rattle.list_laws.proofs.Bools.{or_rest}
 use Rattle.ffm_model.specs.Circles.{is_new, are_different}
 use Rattle.dependency_circle.specs.Ways.{marked, are_apart, is_unmarked_before, IsMarked, MarksMore, TellsWays}
 use Rattle.dependency_circle.proofs.Lists.{distinct}
@@ -35,14 +36,10 @@ added : (n : ℕ) (edge : ℕ → ℕ → Bool) (front : List ℕ) (y : ℕ) (ol
 added n edge front y old x unmarked h =
     let there : (marked old x || (is_fresh edge front y old x && marked (range_with_len 0 n) x)) ≡ true =
     ap (λ b. marked old x || b) (sym (filter_marked (is_fresh edge front y old) (range_with_len 0 n) x)) ∙ sym (list_any-append (λ z. x == z) old _) ∙ h in
-    let fresh : (is_fresh edge front y old x && marked (range_with_len 0 n) x) ≡ true = second (marked old x) _ unmarked there in
+    let fresh : (is_fresh edge front y old x && marked (range_with_len 0 n) x) ≡ true = or_rest (marked old x) _ unmarked there in
     let is : is_fresh edge front y old x ≡ true = (and_parts (is_fresh edge front y old x) _ fresh).0 in
     let two : (is_new x front && edge x y) ≡ true = (and_parts (not (marked old x)) _ is).1 in
     record { low = range_below n x (and_parts (is_fresh edge front y old x) _ fresh).1; unmarked = unmarked; new = (and_parts (is_new x front) _ two).0; step = (and_parts (is_new x front) _ two).1 }
-  where
-    second : (a b : Bool) → a ≡ false → (a || b) ≡ true → b ≡ true
-    second true b e h = cc
-    second false b e h = h
 
 bool_cases : (b : Bool) → (b ≡ true) ⊎ (b ≡ false)
 bool_cases true = inl refl

@@ -1,4 +1,4 @@
--- What psa_get and psa_reply leave of the messages that a partition holds.
+-- psa_get and psa_reply change the table of held messages in one way, whatever line made the call.
 use Rattle.std.proofs.Common.{ℕ, ◌≡◌, List, refl}
 use Rattle.std.specs.Prelude.{Option, Some, None}
 use Rattle.ffm_model.specs.declared.machine.Call.TheVariants as call

@@ -6,8 +6,8 @@ use Rattle.ffm_model.specs.declared.system.System.{System}
 use Rattle.ffm_model.specs.Parts.{SystemParts, are_numbered, do_fit, system_by, system_from, parts_of_system}
 
 -- a system of these parts, with what it keeps
-abbrev made : (p : SystemParts) → are_numbered p ≡ true → do_fit p ≡ true → System
-made p numbered fit = record {
+abbrev pub system_with : (p : SystemParts) → are_numbered p ≡ true → do_fit p ≡ true → System
+system_with p numbered fit = record {
   level = p.level;
   partitions = p.partitions;
   services = p.services;
@@ -23,9 +23,9 @@ same_proof : (b : Bool) (x y : b ≡ true) → x ≡ y
 same_proof b x y = Bool-set b true x y
 
 system_by-made : (p : SystemParts) (m f : Bool) (is_m : are_numbered p ≡ m) (is_f : do_fit p ≡ f) (numbered : are_numbered p ≡ true) (fit : do_fit p ≡ true)
-    → system_by p m f is_m is_f ≡ Some (made p numbered fit)
+    → system_by p m f is_m is_f ≡ Some (system_with p numbered fit)
 system_by-made p true true is_m is_f numbered fit =
-    ap (λ x. Some (made p x is_f)) (same_proof _ is_m numbered) ∙ ap (λ y. Some (made p numbered y)) (same_proof _ is_f fit)
+    ap (λ x. Some (system_with p x is_f)) (same_proof _ is_m numbered) ∙ ap (λ y. Some (system_with p numbered y)) (same_proof _ is_f fit)
 system_by-made p true false is_m is_f numbered fit = cc
 system_by-made p false f is_m is_f numbered fit = cc
 

@@ -5,6 +5,7 @@ use Rattle.std.specs.Ordering.{int_eq}
 use Rattle.std.specs.Str.{bytes_eq}
 use Rattle.std.proofs.lemmas.Bool.Decides.{Decides-int_eq}
 use Rattle.std.proofs.lemmas.Bool.{and_from}
+use Rattle.std.proofs.lemmas.Option.{cond_some}
 use Rattle.ffm_model.specs.declared.system.System.{System}
 use Rattle.ffm_model.specs.declared.machine.Entry.{Entry}
 use Rattle.ffm_model.specs.declared.machine.Message.{Message}
@@ -74,11 +75,7 @@ step-effect s st new a c o may allowed e =
     let fit : Fits s st (record { actor = record { 0 = a }; call = c; outcome = o }) = record { may = may; allowed = allowed; outcome = sym (ap (λ x. x.outcome) e) } in
     step-fits s st (record { actor = record { 0 = a }; call = c; outcome = o }) fit ∙ ap (λ x. Some x.state) e
 
-left : (b : Bool) (x y : State) → (if b then Some x else None) ≡ Some y → x ≡ y
-left true x y h = cc
-left false x y h = cc
-
 -- a step leaves what its call leaves
 pub step-leaves : (s : System) (st new : State) (e : Entry) → step s st e ≡ Some new → (effect_of s st e.actor.0 e.call (handle_shown e.outcome)).state ≡ new
 unfolding step
-step-leaves s st new e h = left _ _ new h
+step-leaves s st new e h = (cond_some _ _ _ h).1

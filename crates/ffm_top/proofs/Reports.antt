@@ -59,7 +59,7 @@ pub not_empty : (xs : List ℕ) → is_empty xs ≡ false → 0 < length xs
 not_empty [] e = cc
 not_empty (x ∷ xs) e = omega arith
 
--- what stands after
+-- with something after it a text isn't empty
 behind_some : (xs ys : List ℕ) → 0 < length ys → 0 < length (xs ++ ys)
 behind_some xs ys some = rw (length-append xs ys) (omega arith)
 

@@ -16,15 +16,15 @@ use Rattle.scenario_runs.specs.Restarting.{AreRuns}
 
 -- ---- the text
 
--- the line before the run after the k-th: `restart K`, and none before the first run
+-- the line before a run that comes after k others: `restart K`, and none before the first run
 unfoldable pub restart_line : ℕ → List ℕ
 restart_line k = if k == 0 then [] else line (codes "restart " ++ decimal k)
 
--- the trace of the run after the k-th, with the line before it
+-- the trace of a run that comes after k others, with the line before it
 abbrev pub run_text : ActorCounts → ℕ → FinishedRun → List ℕ
 run_text counts k r = restart_line k ++ trace_text counts r.entries r.verdict
 
--- the traces of the runs after the k-th
+-- the traces of runs that come after k others
 abbrev pub runs_text : ActorCounts → ℕ → List FinishedRun → List ℕ
 runs_text counts k [] = []
 runs_text counts k (r ∷ rs) = run_text counts k r ++ runs_text counts (k + 1) rs

@@ -53,7 +53,7 @@ partition_script number base =
     ∷ codes "\",\"jeq r1 0 req\",\"reply r2 0\",\"jmp top\",\"req:\",\"read r2 0 " ∷ decimal (base + 256)
     ∷ codes " 4\",\"write r2 0 " ∷ decimal (base + 256) ∷ codes " 4\",\"reply r2 0\",\"jmp top\"]}" ∷ [])
 
--- the descriptors of a client's two vectors at an address, each with an address after it and the length 4, the lowest byte first; they differ in a digit
+-- the descriptors of a client's two vectors at an address, each with the address of bytes further on and the length 4, the lowest byte first; those of two clients differ in one digit of each address
 unfoldable pub descriptors : ℕ → ℕ → ℕ → List ℕ
 descriptors number base digit =
     joined (comma number ∷ codes "{\"address\":" ∷ decimal base ∷ codes ",\"bytes\":\"200" ∷ (digit ∷ [])

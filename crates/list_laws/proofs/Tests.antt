@@ -1,4 +1,4 @@
--- What the tests of lists say: `list_any`, `list_all` and `find`.
+-- What the tests of lists say: `list_any`, `list_all` and `find`; and the value of an option that is there.
 use Rattle.std.proofs.Common.{ℕ, zero, suc, ◌≡◌, ◌∙◌, Bool, true, false, cond, ◌||◌, List, [], ◌∷◌, ◌++◌, map, ap, refl, sym, subst, inl, inr}
 use Rattle.std.specs.Prelude.{Option, Some, None, IsSome, find, slice_get, All}
 use Rattle.std.specs.Option.{option_map}

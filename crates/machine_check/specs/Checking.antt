@@ -17,7 +17,7 @@ use Rattle.machine_calls.specs.Machine.{state_of, IsMachineOf}
 use Rattle.machine_check.specs.Performed.{Knows}
 use Rattle.machine_check.specs.Reaching.{IsBehind}
 
--- the judgement of the whole trace is that of the entries left, after the state and the count that are kept
+-- the judgement of the whole trace is that of the entries left, from the state and the count that are kept
 pub record ChecksTo (s : System) (limit : ℕ) (v : Verdict) (j : Judgement) (c : Checker) (left : List Entry) : Type 0 where
   pub all : List Handle
   pub knows : Knows c.given all

@@ -57,7 +57,7 @@ last_owner-known name xs = known_from name None xs
 abbrev owns : List ℕ → ℕ → Located ServiceRecord → Bool
 owns name k v = (v.manifest == k) && bytes_eq v.value.name name
 
--- a service of this name is after
+-- services of other names leave the owner that was found before them
 unnamed : (name : List ℕ) (o : Option ℕ) (xs : List (Located ServiceRecord)) → Each (λ v. is_named name v ≡ false) xs → fold (newer name) o xs ≡ o
 unnamed name o [] h = refl
 unnamed name o (x ∷ xs) h = ap (λ b. fold (newer name) (cond b (Some x.manifest) o) xs) h.0 ∙ unnamed name o xs h.1

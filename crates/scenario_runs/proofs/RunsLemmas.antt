@@ -1,4 +1,4 @@
--- Runs after each other: one more in front, other words for each of them, and whose events they have.
+-- Runs, one after the other: one more in front, other words for each of them, and whose events they have.
 use Rattle.std.proofs.Common.{ℕ, suc, ◌≡◌, ◌≤◌, ◌-◌, ◌&&◌, Bool, true, false, List, [], ◌∷◌, ◌++◌, length, map, append_assoc, refl, ap, sym, subst, ◌∙◌, arith}
 use Rattle.std.specs.Prelude.{Option, Some, IfSome, Result, Ok, Err, IfOk, nat_lt, slice_get}
 use Rattle.std.specs.List.{list_all}

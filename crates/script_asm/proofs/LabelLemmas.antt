@@ -61,7 +61,7 @@ place-below-by true w s o h = omega arith
 place-below-by false w s None h = tt
 place-below-by false w s (Some k) h = omega (arith, h)
 
--- a label leads after at most all instructions
+-- a label leads at most past all instructions
 pub place-within : (n : Word) (xs : List Line) → IfSome (place_of n xs) (λ k. k ≤ sum_by width xs)
 unfolding place_of
 place-within n [] = tt

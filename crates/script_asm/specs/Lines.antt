@@ -70,7 +70,7 @@ is_label n passed = false
 is_label n (label m) = bytes_eq m n
 is_label n (order ws) = false
 
--- where a jump to a label leads: after the instructions that stand before the label
+-- where a jump to a label leads: past the instructions that stand before the label
 unfoldable pub place_of : Word → List Line → Option ℕ
 place_of n [] = None
 place_of n (l ∷ ls) = if is_label n l then Some 0 else option_map (λ k. width l + k) (place_of n ls)

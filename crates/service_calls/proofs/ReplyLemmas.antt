@@ -1,5 +1,5 @@
 -- What psa_reply leaves, from what was done to the message and its connection.
-use Rattle.std.proofs.Common.{ℕ, ◌≡◌, Bool, true, false, cond, not, List, ◌∙◌, ap, sym, refl, subst}
+use Rattle.std.proofs.Common.{ℕ, ◌≡◌, Bool, true, false, cond, List, ◌∙◌, ap, sym, refl, subst}
 use Rattle.std.specs.Prelude.{ℤ, int_lt, count_by, take, Option, Some, None, IfSome, if◌then◌else◌}
 use Rattle.std.specs.Option.{option_map}
 use Rattle.std.specs.Ordering.{int_eq}

@@ -1,4 +1,4 @@
--- The loop's tests: from after psa_wait to the psa_get of the lowest signal.
+-- The loop's tests: between psa_wait and the psa_get of the lowest signal.
 use Rattle.std.proofs.Common.{ℕ, suc, ◌+◌, ◌*◌, ◌≤◌, ◌≡◌, ◌==◌, List, [], ◌∷◌, ◌++◌, length, get_or, refl, ap, ap₂, ◌∙◌, subst, arith, Bool, true, false, length-append}
 use Rattle.std.specs.Prelude.{Some, slice_set, if◌then◌else◌, not, find, bit_and}
 use Rattle.ffm_model.specs.declared.script.Operand.TheVariants.{Register, Number}

@@ -58,7 +58,7 @@ function_code lines at = lines_code (λ t. at + place_in lines t) lines
 
 -- ---- a service
 
--- the test of a service's signal, which leads after the service's code where the signal isn't asserted; psa_get; and the handle kept
+-- the test of a service's signal, which leads past the service's code where the signal isn't asserted; psa_get; and the handle kept
 abbrev pub dispatch_code : ℕ → ℕ → ℕ → List Instruction
 dispatch_code signal base behind =
     Change Set 15 (Register 0) ∷ (Change And 15 (Number signal) ∷ (JumpIf Equal 15 (Number 0) behind

@@ -27,7 +27,7 @@ use Rattle.spm_lock.proofs.Rights.{AllFit-more, AllFit-append, times-append, one
 abbrev pub NoneHas : List View → Type 0
 NoneHas vs = (j t : ℕ) (v : View) → get_elem? vs j ≡ some v → v.stage ≡ Has t → ⊥
 
--- a ticket that is held lies below those drawn, and the one who waits or has it is not after
+-- a ticket that is held is one of those drawn, and not below the one that is served, and there is a right
 pub ticket_below : {S : Type 0} (drawn served t : ℕ) (h : List Entry) (homes : List (maybe.Option S)) (rs : List Right) (st : Stage) → Staged drawn served h homes rs st → ticket_of st ≡ Some t
     → (served ≤ t) × (t < drawn) × (0 < length rs)
 ticket_below drawn served t h homes rs Idle k is = absurd (cc)

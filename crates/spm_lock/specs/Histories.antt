@@ -1,4 +1,4 @@
--- Histories of a shared manager: what a front is to the history after it.
+-- Histories of a shared manager: what a front is to a history that begins with it.
 -- Source: this simulator's.
 use Rattle.std.specs.Prelude.{◌≡◌, ℕ, List, ◌++◌}
 use Rattle.ffm_model.specs.declared.machine.Entry.{Entry}
