@@ -197,14 +197,25 @@ def kind_of(checks, tree):
     return max(known, key=lambda kind: sum(likeness(name, known[kind]) for name in names))
 
 
-def inner(error):
-    """What is wrong itself, where choices were tried: what is wrong by the choice of the value's type that it fits best.
-    A wrong manifest is told by all that is wrong in it, and not as no name of a file."""
-    of_other_types = {e.schema_path[0] for e in error.context if e.validator == "type" and not e.path}
+def choices_of(error):
+    """What is wrong by each of the choices that were tried."""
     choices = {}
     for e in error.context:
         choices.setdefault(e.schema_path[0], []).append(e)
-    fitting = [errors for choice, errors in choices.items() if choice not in of_other_types]
+    return list(choices.values())
+
+
+def is_of_another_type(error):
+    """Whether the value itself is of no type that is allowed."""
+    if error.path or not error.context:
+        return error.validator == "type" and not error.path
+    return all(any(map(is_of_another_type, errors)) for errors in choices_of(error))
+
+
+def inner(error):
+    """What is wrong itself, where choices were tried: what is wrong by the choice of the value's type that it fits best.
+    A wrong manifest is told by all that is wrong in it, and not as no name of a file."""
+    fitting = [errors for errors in choices_of(error) if not any(map(is_of_another_type, errors))]
     if not fitting:
         yield error
     for e in min(fitting, key=len, default=()):
@@ -213,8 +224,9 @@ def inner(error):
 
 def types_of(error):
     """The types of which none is a value's, where that is what is wrong."""
-    tried = list(error.context) or [error]
-    return [e.validator_value for e in tried if e.validator == "type" and isinstance(e.validator_value, str)]
+    if error.context:
+        return [name for e in error.context for name in types_of(e)]
+    return [error.validator_value] if error.validator == "type" and isinstance(error.validator_value, str) else []
 
 
 def meant(error):
@@ -231,14 +243,24 @@ def is_of_1_0(tree, place):
     return any(isinstance(part, dict) and part.get("psa_framework_version") in (1.0, "1.0") for part in around)
 
 
+def sentence(error):
+    """What is wrong, with the value as JSON writes it."""
+    value, given = repr(error.instance), json.dumps(error.instance)
+    message = given + error.message[len(value):] if error.message.startswith(value) else error.message
+    return message if len(message) < 300 else f"is not as the schema's {error.validator} asks"
+
+
 def problems(validator, tree):
-    found = (error for choice in validator.iter_errors(tree) for error in inner(choice))
+    found = [error for choice in validator.iter_errors(tree) for error in inner(choice)]
+    of_other_types = {tuple(error.absolute_path) for error in found if types_of(error)}
     for error in sorted(found, key=lambda e: list(map(str, e.absolute_path))):
         place = "".join(f"/{step}" for step in error.absolute_path)
-        message = error.message if len(error.message) < 300 else f"is not as the schema's {error.validator} asks"
+        message = sentence(error)
         types = types_of(error)
         if types:
             message = f"{json.dumps(error.instance)[:80]} is not of type {' or '.join(types)}"
+        elif tuple(error.absolute_path) in of_other_types:
+            continue
         elif error.validator in ("additionalProperties", "unevaluatedProperties"):
             message += meant(error)
         if (error.validator, error.validator_value) == ("not", {}):
@@ -333,13 +355,20 @@ def check_examples(checks):
     return wrong, right
 
 
+def is_file(path):
+    try:
+        return path.is_file()
+    except (OSError, ValueError):
+        return False
+
+
 def named_manifests(tree, system):
     """The files of manifests that a system file names: where ffm looks for them, or else beside it."""
     named = tree.get("manifests") if isinstance(tree, dict) else None
     for name in named if isinstance(named, list) else []:
         if isinstance(name, str):
             beside = system.parent / name
-            yield beside if beside.is_file() and not pathlib.Path(name).is_file() else pathlib.Path(name)
+            yield beside if is_file(beside) and not is_file(pathlib.Path(name)) else pathlib.Path(name)
 
 
 def checked(checks, path, kind=None):
@@ -348,6 +377,8 @@ def checked(checks, path, kind=None):
         tree = tree_of(path)
     except OSError as error:
         return 1, [f"{path}: {error.strerror}"]
+    except UnicodeEncodeError:
+        return 1, [f"{path}: no name of a file"]
     except (ValueError, RecursionError) as error:
         return 1, [f"{path}: no JSON: {error}"]
     kind = kind or kind_of(checks, tree)
@@ -370,6 +401,7 @@ def asked():
 
 
 def main():
+    sys.stdout.reconfigure(errors="backslashreplace")
     checks, files = validators(), asked()
     if files:
         results = [checked(checks, path, kind) for path, kind in files]
