@@ -7,6 +7,7 @@ use crate::parts::{clock, timer};
 use ffm_model::{Answer, Call, Entry, List, Outcome, System, Trace, Verdict};
 use machine_check::{Checked, check};
 use memory_image::Image;
+use sample_texts::{FIRST_LEVEL_TRACE, STATELESS_PANIC_TRACE, STATELESS_REQUEST_TRACE};
 use spm_core::Spm;
 use std::alloc::Global;
 use std::process::Abort;
@@ -14,18 +15,6 @@ use std::test::Fail;
 use trace_print::read_trace;
 
 const LIMIT: u32 = 30;
-
-// A first-level handler's answer 1 asserts the signal, and 0 doesn't. psa_eoi isn't for such a source.
-const HANDLED: &str = "p1 irq_enable 0x00000010 -> done
-dev fire 0 1 -> done
-p1 wait 0x00000010 0x00000000 -> signals 0x00000010
-dev fire 0 0 -> done
-p1 reset_signal 0x00000010 -> done
-dev stop end -> done
-p1 wait 0x00000010 0x00000000 -> signals 0x00000000
-p1 eoi 0x00000010 -> panicked
-quiet 8
-";
 
 // One psa_reset_signal clears what two interrupts asserted, and none of them is pending then. What comes while the source is
 // disabled is kept.
@@ -42,33 +31,6 @@ p1 irq_disable 0x00000010 -> number 1
 dev stop end -> done
 p1 reset_signal 0x00000010 -> panicked
 quiet 12
-";
-
-// A request by a stateless handle is answered. To close the handle and to connect to the service are PROGRAMMER ERRORs, which
-// a client is answered with done and with -130.
-const SERVED: &str = "p1 wait 0xffffffff 0x80000000 -> blocked
-n1 call 1073741825 0 0x00000000 0 0x00000000 0 -> blocked
-p1 resume -> signals 0x00000010
-p1 get 0x00000010 0x30000000 -> message 0 1536 -1 0x00000000 0 0 0 0 0 0 0 0
-p1 reply 1536 5 -> done
-n1 resume -> value 5
-p1 stop end -> done
-n1 close 1073741825 -> done
-n1 connect 0x00000050 1 -> value -130
-n1 stop end -> done
-quiet 10
-";
-
-// A message without a connection has no rhandle to set. Its client is told of the panic, and again where it asks later.
-const PANICKED: &str = "p1 wait 0xffffffff 0x80000000 -> blocked
-n1 call 1073741825 0 0x00000000 0 0x00000000 0 -> blocked
-p1 resume -> signals 0x00000010
-p1 get 0x00000010 0x30000000 -> message 0 1536 -1 0x00000000 0 0 0 0 0 0 0 0
-p1 set_rhandle 1536 0x00000001 -> panicked
-n1 resume -> value -145
-n1 call 1073741825 0 0x00000000 0 0x00000000 0 -> value -145
-n1 stop end -> done
-quiet 8
 ";
 
 // A memory whose bytes are 0.
@@ -181,13 +143,13 @@ fn assert_run(rt: &impl Abort, alloc: Global, system: System, text: &str) -> Res
 #[test]
 fn runs_of_a_first_level_handler(rt: HostRuntime) -> Result<(), Fail> {
     let alloc = rt.alloc();
-    assert_run(&rt, alloc, timer(alloc)?, HANDLED)?;
+    assert_run(&rt, alloc, timer(alloc)?, FIRST_LEVEL_TRACE)?;
     assert_run(&rt, alloc, timer(alloc)?, FIRED_TWICE)
 }
 
 #[test]
 fn runs_of_a_stateless_service(rt: HostRuntime) -> Result<(), Fail> {
     let alloc = rt.alloc();
-    assert_run(&rt, alloc, clock(alloc)?, SERVED)?;
-    assert_run(&rt, alloc, clock(alloc)?, PANICKED)
+    assert_run(&rt, alloc, clock(alloc)?, STATELESS_REQUEST_TRACE)?;
+    assert_run(&rt, alloc, clock(alloc)?, STATELESS_PANIC_TRACE)
 }

@@ -5,7 +5,10 @@ use ffm_model::{List, OpenGate};
 use ffm_top::ffm;
 use outside_io::{Failed, Sink};
 use sample_commands::{REPLAY, RUN, sink_of, told_alone, told_over, words_of};
-use sample_texts::{ASKED_TRACE, ASKING_SCENARIO, CLOCK, STATELESS_REQUEST_SCENARIO, VAULT};
+use sample_texts::{
+    ASKED_TRACE, ASKING_SCENARIO, CLOCK, DISABLED_SOURCE_TRACE, FIRST_LEVEL_TRACE,
+    STATELESS_PANIC_TRACE, STATELESS_REQUEST_SCENARIO, STATELESS_REQUEST_TRACE, VAULT,
+};
 use std::alloc::Global;
 use std::process::Abort;
 use std::sync::Wait;
@@ -18,9 +21,6 @@ const TIMER: &str =
 
 const DISABLING: &str =
     r#"{"interrupts":[17],"scripts":[{"actor":"TIMER","lines":["irq_disable 0x10","irq_disable 0x10","wait 0x10 0","irq_enable 0x10","wait 0x10 0","reset_signal 0x10"]}]}"#;
-
-const DISABLED: &str =
-    "p1 irq_disable 0x00000010 -> number 1\ndev raise 0 -> done\np1 irq_disable 0x00000010 -> number 0\ndev stop end -> done\np1 wait 0x00000010 0x00000000 -> signals 0x00000000\np1 irq_enable 0x00000010 -> done\np1 wait 0x00000010 0x00000000 -> signals 0x00000010\np1 reset_signal 0x00000010 -> panicked\nquiet 8\n";
 
 static WORKED: [Worked<'static>; 21] = [
     Worked {
@@ -63,7 +63,7 @@ static WORKED: [Worked<'static>; 21] = [
         system: TIMER,
         scenario: DISABLING,
         status: 0,
-        text: DISABLED,
+        text: DISABLED_SOURCE_TRACE,
     },
     Worked {
         system: VAULT,
@@ -135,19 +135,19 @@ static WORKED: [Worked<'static>; 21] = [
         system: r#"{"isolation_level":1,"manifests":[{"psa_framework_version":"1.1","name":"TIMER","type":"PSA-ROT","priority":"NORMAL","entry_point":"main","stack_size":0,"irqs":[{"source":5,"name":"TIMER","handling":"FLIH"}]}]}"#,
         scenario: r#"{"interrupts":[{"source":5,"result":1},{"source":5,"result":0}],"scripts":[{"actor":"TIMER","lines":["irq_enable 0x10","wait 0x10 0","reset_signal 0x10","wait 0x10 0","eoi 0x10"]}]}"#,
         status: 0,
-        text: "p1 irq_enable 0x00000010 -> done\ndev fire 0 1 -> done\np1 wait 0x00000010 0x00000000 -> signals 0x00000010\ndev fire 0 0 -> done\np1 reset_signal 0x00000010 -> done\ndev stop end -> done\np1 wait 0x00000010 0x00000000 -> signals 0x00000000\np1 eoi 0x00000010 -> panicked\nquiet 8\n",
+        text: FIRST_LEVEL_TRACE,
     },
     Worked {
         system: CLOCK,
         scenario: STATELESS_REQUEST_SCENARIO,
         status: 0,
-        text: "p1 wait 0xffffffff 0x80000000 -> blocked\nn1 call 1073741825 0 0x00000000 0 0x00000000 0 -> blocked\np1 resume -> signals 0x00000010\np1 get 0x00000010 0x30000000 -> message 0 1536 -1 0x00000000 0 0 0 0 0 0 0 0\np1 reply 1536 5 -> done\nn1 resume -> value 5\np1 stop end -> done\nn1 close 1073741825 -> done\nn1 connect 0x00000050 1 -> value -130\nn1 stop end -> done\nquiet 10\n",
+        text: STATELESS_REQUEST_TRACE,
     },
     Worked {
         system: CLOCK,
         scenario: r#"{"scripts":[{"actor":"CLOCK","lines":["wait 0xffffffff 0x80000000","get r0 0x30000000","set_rhandle r2 1"]},{"actor":"NS","lines":["call 0x40000001 0 0 0 0 0","call 0x40000001 0 0 0 0 0"]}]}"#,
         status: 0,
-        text: "p1 wait 0xffffffff 0x80000000 -> blocked\nn1 call 1073741825 0 0x00000000 0 0x00000000 0 -> blocked\np1 resume -> signals 0x00000010\np1 get 0x00000010 0x30000000 -> message 0 1536 -1 0x00000000 0 0 0 0 0 0 0 0\np1 set_rhandle 1536 0x00000001 -> panicked\nn1 resume -> value -145\nn1 call 1073741825 0 0x00000000 0 0x00000000 0 -> value -145\nn1 stop end -> done\nquiet 8\n",
+        text: STATELESS_PANIC_TRACE,
     },
 ];
 
@@ -357,7 +357,7 @@ fn judged_traces(rt: HostRuntime) -> Result<(), Fail> {
         &rt,
         alloc,
         REPLAY,
-        (TIMER, DISABLING, DISABLED),
+        (TIMER, DISABLING, DISABLED_SOURCE_TRACE),
         "legal 8\n",
     )
 }

@@ -2,6 +2,7 @@
 
 use crate::systems::{HANDLED, TIMER, TWO_CLIENTS, VAULT};
 use crate::worked::{Worked, check_all};
+use sample_texts::{DISABLED_SOURCE_TRACE, FIRST_LEVEL_TRACE};
 use std::test::Fail;
 
 static RUNS: [Worked; 6] = [
@@ -67,16 +68,7 @@ quiet 9
 "schedule":["TICK","device","TICK","device","TICK","TICK","TICK","TICK"],
 "interrupts":[17]}"##,
         status: 0,
-        trace: "p1 irq_disable 0x00000010 -> number 1
-dev raise 0 -> done
-p1 irq_disable 0x00000010 -> number 0
-dev stop end -> done
-p1 wait 0x00000010 0x00000000 -> signals 0x00000000
-p1 irq_enable 0x00000010 -> done
-p1 wait 0x00000010 0x00000000 -> signals 0x00000010
-p1 reset_signal 0x00000010 -> panicked
-quiet 8
-",
+        trace: DISABLED_SOURCE_TRACE,
     },
     // A first-level handler that asks for its signal, and one that does not.
     Worked {
@@ -86,16 +78,7 @@ quiet 8
 "schedule":["TICK","device","TICK","device","TICK","device","TICK","TICK"],
 "interrupts":[{"source":17,"result":1},{"source":17,"result":0}]}"##,
         status: 0,
-        trace: "p1 irq_enable 0x00000010 -> done
-dev fire 0 1 -> done
-p1 wait 0x00000010 0x00000000 -> signals 0x00000010
-dev fire 0 0 -> done
-p1 reset_signal 0x00000010 -> done
-dev stop end -> done
-p1 wait 0x00000010 0x00000000 -> signals 0x00000000
-p1 eoi 0x00000010 -> panicked
-quiet 8
-",
+        trace: FIRST_LEVEL_TRACE,
     },
     // Two interrupts whose handler asks for the signal are one signal.
     Worked {

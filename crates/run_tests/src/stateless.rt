@@ -2,6 +2,7 @@
 
 use crate::systems::{CLOCK, METER};
 use crate::worked::{Worked, check_all};
+use sample_texts::{STATELESS_PANIC_TRACE, STATELESS_REQUEST_TRACE};
 use std::test::Fail;
 
 static RUNS: [Worked; 3] = [
@@ -13,18 +14,7 @@ static RUNS: [Worked; 3] = [
 {"actor":"NS","lines":["call 1073741825 0 0x00000000 0 0x00000000 0","close 1073741825","connect 0x00000050 1"]}],
 "schedule":["CLOCK","NS","CLOCK","CLOCK","CLOCK","NS","CLOCK","NS","NS","NS"]}"##,
         status: 0,
-        trace: "p1 wait 0xffffffff 0x80000000 -> blocked
-n1 call 1073741825 0 0x00000000 0 0x00000000 0 -> blocked
-p1 resume -> signals 0x00000010
-p1 get 0x00000010 0x30000000 -> message 0 1536 -1 0x00000000 0 0 0 0 0 0 0 0
-p1 reply 1536 5 -> done
-n1 resume -> value 5
-p1 stop end -> done
-n1 close 1073741825 -> done
-n1 connect 0x00000050 1 -> value -130
-n1 stop end -> done
-quiet 10
-",
+        trace: STATELESS_REQUEST_TRACE,
     },
     // A message without a connection takes no value of the service. The panic answers the caller, and each later request.
     Worked {
@@ -34,16 +24,7 @@ quiet 10
 {"actor":"NS","lines":["call 1073741825 0 0x00000000 0 0x00000000 0","call 1073741825 0 0x00000000 0 0x00000000 0"]}],
 "schedule":["CLOCK","NS","CLOCK","CLOCK","CLOCK","NS","NS","NS"]}"##,
         status: 0,
-        trace: "p1 wait 0xffffffff 0x80000000 -> blocked
-n1 call 1073741825 0 0x00000000 0 0x00000000 0 -> blocked
-p1 resume -> signals 0x00000010
-p1 get 0x00000010 0x30000000 -> message 0 1536 -1 0x00000000 0 0 0 0 0 0 0 0
-p1 set_rhandle 1536 0x00000001 -> panicked
-n1 resume -> value -145
-n1 call 1073741825 0 0x00000000 0 0x00000000 0 -> value -145
-n1 stop end -> done
-quiet 8
-",
+        trace: STATELESS_PANIC_TRACE,
     },
     // PROGRAMMER ERROR is answered to the client, and the partition that asked panics.
     Worked {

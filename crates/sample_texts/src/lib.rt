@@ -1,4 +1,4 @@
-//! Texts that several crates of tests share: the files of systems, with runs of them.
+//! Texts that several crates of tests share: files of systems and of scenarios, and traces of runs.
 #![tactic(auto)]
 
 /// The manifest of a partition with two services, of which non-secure clients may use the first.
@@ -89,3 +89,57 @@ pub const CLOCK: &str =
 pub const STATELESS_REQUEST_SCENARIO: &str = r#"{"scripts":[
 {"actor":"CLOCK","lines":["wait 0xffffffff 0x80000000","get r0 0x30000000","reply r2 5"]},
 {"actor":"NS","lines":["call 0x40000001 0 0 0 0 0","close 0x40000001","connect 0x50 1"]}]}"#;
+
+/// The trace of its run, the service first. To close the handle and to connect to the service are PROGRAMMER ERRORs, which the
+/// client is answered with done and with -130.
+pub const STATELESS_REQUEST_TRACE: &str = "p1 wait 0xffffffff 0x80000000 -> blocked
+n1 call 1073741825 0 0x00000000 0 0x00000000 0 -> blocked
+p1 resume -> signals 0x00000010
+p1 get 0x00000010 0x30000000 -> message 0 1536 -1 0x00000000 0 0 0 0 0 0 0 0
+p1 reply 1536 5 -> done
+n1 resume -> value 5
+p1 stop end -> done
+n1 close 1073741825 -> done
+n1 connect 0x00000050 1 -> value -130
+n1 stop end -> done
+quiet 10
+";
+
+/// The trace of a run of `CLOCK` in which the service sets the rhandle of a message without a connection, which has none, and
+/// panics. The client is told of the panic, and again at its second request.
+pub const STATELESS_PANIC_TRACE: &str = "p1 wait 0xffffffff 0x80000000 -> blocked
+n1 call 1073741825 0 0x00000000 0 0x00000000 0 -> blocked
+p1 resume -> signals 0x00000010
+p1 get 0x00000010 0x30000000 -> message 0 1536 -1 0x00000000 0 0 0 0 0 0 0 0
+p1 set_rhandle 1536 0x00000001 -> panicked
+n1 resume -> value -145
+n1 call 1073741825 0 0x00000000 0 0x00000000 0 -> value -145
+n1 stop end -> done
+quiet 8
+";
+
+/// The trace of an interrupt that comes while its source is disabled, and waits until it is enabled. psa_reset_signal isn't for
+/// a source with a second-level handler.
+pub const DISABLED_SOURCE_TRACE: &str = "p1 irq_disable 0x00000010 -> number 1
+dev raise 0 -> done
+p1 irq_disable 0x00000010 -> number 0
+dev stop end -> done
+p1 wait 0x00000010 0x00000000 -> signals 0x00000000
+p1 irq_enable 0x00000010 -> done
+p1 wait 0x00000010 0x00000000 -> signals 0x00000010
+p1 reset_signal 0x00000010 -> panicked
+quiet 8
+";
+
+/// The trace of a first-level handler that answers 1, which asserts the signal, and then 0, which doesn't. psa_eoi isn't for
+/// such a source.
+pub const FIRST_LEVEL_TRACE: &str = "p1 irq_enable 0x00000010 -> done
+dev fire 0 1 -> done
+p1 wait 0x00000010 0x00000000 -> signals 0x00000010
+dev fire 0 0 -> done
+p1 reset_signal 0x00000010 -> done
+dev stop end -> done
+p1 wait 0x00000010 0x00000000 -> signals 0x00000000
+p1 eoi 0x00000010 -> panicked
+quiet 8
+";
