@@ -1,5 +1,5 @@
 //! Connections, found by handle or by serial number.
-ghost use Rattle.std.specs.Prelude.{◌≡◌, ◌==◌, ◌&&◌, ◌++◌, ◌∷◌, [], not, ℕ, IfOk, find, filter, map, count_by};
+ghost use Rattle.std.specs.Prelude.{◌≡◌, ◌==◌, ◌&&◌, not, ℕ, IfOk, find, filter, map};
 ghost use Rattle.std.specs.Prelude as prelude;
 ghost use Rattle.ffm_model.specs.State.{has_handle, connection_held, connection_by_serial, in_use, phase_put, rhandle_put, handle_put, with_connection_handle, with_connection_phase, with_message, with_request, with_rhandle, without_connection};
 ghost use Rattle.machine_rules.specs.Vectors.{VectorsFit};
@@ -135,7 +135,7 @@ impl Objects {
     }
 
     /// Removes the connection with a serial number.
-    pub(crate) fn remove_connection(&mut self, serial: u32)
+    pub fn remove_connection(&mut self, serial: u32)
         ensures state { spm_of_objects self.new ≡ without_connection (spm_of_objects self.old) serial }
         ensures messages { self.new.messages ≡ self.old.messages }
         ensures made { self.new.connections_made ≡ self.old.connections_made }
@@ -144,7 +144,7 @@ impl Objects {
     }
 
     /// Adds a message of a connection; it goes last. It fits the regions where its vectors do.
-    pub(crate) fn add_message(
+    pub fn add_message(
         &mut self,
         connection: OpenConnection,
         kind: i32,
@@ -166,7 +166,7 @@ impl Objects {
     }
 
     /// Adds a request by a stateless handle; it goes last, and has no connection. It fits the regions where its vectors do.
-    pub(crate) fn add_request(
+    pub fn add_request(
         &mut self,
         client: ActorId,
         service: u32,

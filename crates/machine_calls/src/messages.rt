@@ -135,7 +135,7 @@ impl Objects {
     }
 
     /// Removes the message with a handle.
-    pub(crate) fn remove_message(&mut self, handle: Handle)
+    pub fn remove_message(&mut self, handle: Handle)
         ensures state { spm_of_objects self.new ≡ without_message (spm_of_objects self.old) handle }
         ensures made { self.new.connections_made ≡ self.old.connections_made }
     {

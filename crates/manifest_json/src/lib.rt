@@ -20,5 +20,6 @@ pub use reader::{
 };
 pub use trees::read_tree;
 pub use values::{
-    NameReader, NumberReader, SourceReader, WholeReader, hex_number, is_name, object, whole,
+    BooleanReader, NameReader, NumberReader, SourceReader, WholeReader, hex_number, is_name,
+    object, whole,
 };
