@@ -19,7 +19,8 @@ use Rattle.ffm_model.specs.Scenarios.{most_scripts}
 use Rattle.script_asm.specs.Device.{device_script}
 use Rattle.actor_programs.specs.declared.program.Program.{Program}
 use Rattle.actor_programs.specs.declared.program.Program.TheVariants.{Plain}
-use Rattle.actor_programs.proofs.ActorLemmas.{not_sfn, some-scripts}
+use Rattle.ffm_model.proofs.ActorLemmas.{some_scripts}
+use Rattle.actor_programs.proofs.ActorLemmas.{not_sfn}
 use Rattle.actor_programs.specs.Programs.{Made, AreMade, IsOfOneScript, ◌>>=◌, device_made, first_made, made_from, made_with, next_lines, with_program}
 
 abbrev pub no_programs : List Program
@@ -107,7 +108,7 @@ device-long (x ∷ xs) raises = refl
 device-are : (s : System) (n : ℕ) (made : Made) (xs : List Source) (raises : List RaiseItem) → length s.partitions ≤ n → length made ≡ n → AreMade s made → AreMade s (made ++ device_made xs raises)
 device-are s n made [] raises past long are = subst (AreMade s) (sym (append-nil made)) are
 device-are s n made (x ∷ xs) raises past long are =
-    one-more s made (Plain (device_script raises) ∷ []) n long are ((not_sfn s n past, one-part raises), tt) (some-scripts s n)
+    one-more s made (Plain (device_script raises) ∷ []) n long are ((not_sfn s n past, one-part raises), tt) (some_scripts s n)
 
 pub first_long : (s : System) (c : Scenario) → length (first_made s c) ≡ actor_count s
 unfolding first_made

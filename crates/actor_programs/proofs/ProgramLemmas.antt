@@ -12,7 +12,8 @@ use Rattle.ffm_model.specs.SfnScripts.{IsSfnScript}
 use Rattle.actor_programs.specs.declared.program.Program.{Program}
 use Rattle.actor_programs.specs.declared.program.Program.TheVariants.{Plain, Functions}
 use Rattle.sfn_calls.specs.Partitions.{is_sfn}
-use Rattle.actor_programs.proofs.ActorLemmas.{several, some-scripts}
+use Rattle.ffm_model.proofs.ActorLemmas.{some_scripts}
+use Rattle.actor_programs.proofs.ActorLemmas.{several}
 use Rattle.actor_programs.specs.Programs.{Parts, Made, AreMade, ArePrograms, AreScriptsOf, IsOfOneScript, IsOnePart, IsProgramOf, all_joined, empty_program, joined, parts_of, script_of}
 
 -- ---- the programs of an actor's scripts as one
@@ -23,13 +24,13 @@ no-functions = record { one_each = search rules; fit = tt; short = tt }
 
 empty-by : (s : System) (a : ℕ) (b : Bool) → is_sfn s a ≡ b → IsProgramOf s a (if b then Functions [] else Plain ([] ∷ []))
 empty-by s a true e = (e, no-functions)
-empty-by s a false e = (e, omega arith, some-scripts s a)
+empty-by s a false e = (e, omega arith, some_scripts s a)
 
 empty-fits : (s : System) (a : ℕ) → IsProgramOf s a (empty_program s a)
 empty-fits s a = empty-by s a (is_sfn s a) refl
 
 one-fits : (s : System) (a : ℕ) (p : Program) → IsOfOneScript s a p → IsProgramOf s a p
-one-fits s a (Plain parts) h = (h.0, omega (arith, h.1), omega (arith, h.1, some-scripts s a))
+one-fits s a (Plain parts) h = (h.0, omega (arith, h.1), omega (arith, h.1, some_scripts s a))
 one-fits s a (Functions functions) h = h
 
 -- scripts, where the actor isn't one of the SFN model

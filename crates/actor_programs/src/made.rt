@@ -103,7 +103,7 @@ fn make_next(
 
 /// The programs of each actor's scripts, by actor, or the refusal of the first wrong line in the file's
 /// order of scripts. Memory where no memory was found.
-#[tactic(auto, using(ffm_model::proofs::ActorLemmas::actor_count_le, crate::proofs::MadeLemmas::first_long, crate::proofs::MadeLemmas::first_are))]
+#[tactic(auto, using(crate::proofs::MadeLemmas::first_long, crate::proofs::MadeLemmas::first_are))]
 pub fn made_of(
     alloc: Global,
     system: &System,

@@ -1,11 +1,12 @@
 -- At most one message for each connection, and one more for each actor that may use a stateless service.
-use Rattle.std.proofs.Common.{ℕ, zero, suc, ◌≡◌, ◌≤◌, ◌+◌, ◌==◌, Bool, true, false, cond, not, ◌&&◌, List, [], ◌∷◌, length, arith, ◌∙◌, ap, sym, refl}
+use Rattle.std.proofs.Common.{ℕ, zero, suc, ◌≡◌, ◌≤◌, ◌+◌, ◌==◌, Bool, true, false, cond, not, ◌&&◌, List, [], ◌∷◌, length, get_or, arith, ◌∙◌, ap, sym, refl}
 use Rattle.std.specs.Prelude.{count_by, find, nat_lt, int_le, is_none, is_some, Option, Some, None}
 use Rattle.std.specs.List.{list_all, range_with_len}
 use Rattle.std.specs.Option.{option_map, option_map_or}
 use Rattle.std.proofs.lemmas.Bool.Decides.{nat_tests}
+use Rattle.std.proofs.lemmas.List.Folds.{list_any_none}
 use Rattle.std.proofs.lemmas.List.Sums.{count_by-le-length}
-use Rattle.std.proofs.lemmas.Bool.{and_from, and_parts, eqb-true}
+use Rattle.std.proofs.lemmas.Bool.{and_from, and_parts, and_right, eqb-true}
 use Rattle.list_laws.proofs.Counts.{bit, count-found, count-le, count-push, some-any, some-found}
 use Rattle.list_laws.proofs.Tests.{find-passes}
 use Rattle.list_laws.proofs.Lists.{range_with_len-more}
@@ -15,7 +16,7 @@ use Rattle.ffm_model.specs.declared.system.Budget.{Budget}
 use Rattle.ffm_model.specs.declared.objects.PendingMessage.{PendingMessage}
 use Rattle.ffm_model.specs.Actors.{is_stateless, permits}
 use Rattle.ffm_model.specs.State.{SpmState}
-use Rattle.ffm_model.specs.Names.{calls_stateless, message_capacity}
+use Rattle.ffm_model.specs.Names.{calls_stateless, capacity, message_capacity}
 use Rattle.ffm_model.proofs.WellFormedLemmas.{budgets_between_actors}
 use Rattle.counting_law.specs.Objects.{ObjectsFit, called_by, is_awaited, message_marked, wrongly_called}
 use Rattle.counting_law.proofs.Bounds.{count-all, few-connections}
@@ -143,6 +144,14 @@ few-messages s b h =
       h.called,
       calls-first s b h (length s.partitions + length s.clients),
     )
+
+-- where no service is stateless, there is room for as many messages as connections
+pub without-stateless : (s : System) → ((service : ℕ) → is_stateless s service ≡ false) → message_capacity s ≡ capacity s
+without-stateless s off =
+    let none : (a : ℕ) → calls_stateless s a ≡ false = λ a.
+    list_any_none (λ (b : Budget). (b.client.0 == a) && is_stateless s b.service) s.budgets
+    (λ i d lt. let b : Budget = get_or s.budgets i d in and_right (b.client.0 == a) (is_stateless s b.service) (off b.service)) in
+    omega (arith, none-counts (calls_stateless s) none (range_with_len 0 (length s.partitions + length s.clients)))
 
 pub few-messages-of : (s : System) (b : SpmState) → ObjectsFit s b → length b.messages ≤ message_capacity s
 few-messages-of s b h = omega (arith, few-messages s b h, few-connections s b h)

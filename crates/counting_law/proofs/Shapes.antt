@@ -1,6 +1,6 @@
 -- What each kind of change leaves of serial numbers, handles and the order of messages.
 use Rattle.std.proofs.Common.{ℕ, suc, ◌≡◌, ◌<◌, ◌≤◌, ◌+◌, ◌==◌, Bool, true, false, cond, not, ◌&&◌, ◌||◌, List, [], ◌∷◌, ◌++◌, length, get_or, ◌⊎◌, inl, inr, arith, ◌∙◌, ap, sym, refl, subst}
-use Rattle.std.specs.Prelude.{ℤ, pos, count_by, find, nat_lt, Option, Some, None, map, filter, if◌then◌else◌}
+use Rattle.std.specs.Prelude.{ℤ, pos, count_by, find, nat_lt, is_some, Option, Some, None, map, filter, if◌then◌else◌}
 use Rattle.std.specs.List.{list_any}
 use Rattle.std.specs.Option.{option_map_or}
 use Rattle.std.specs.Ordering.{int_eq}
@@ -234,7 +234,7 @@ panic-shape s b mid r p given it fit fit_mid quiet only =
     omega (
       arith,
       only (disconnect_message c) refl,
-      count-le (λ m. same_message m (disconnect_message c)) (is_numbered c.serial) (λ m. sent-numbered c.serial m.connection ((c.client.0 == m.client.0) && int_eq PSA_IPC_DISCONNECT m.kind)) mid.messages,
+      count-le (λ m. same_message m (disconnect_message c)) (is_numbered c.serial) (λ m. sent-numbered c.serial m.connection ((is_some m.connection || (c.client.0 == m.client.0)) && int_eq PSA_IPC_DISCONNECT m.kind)) mid.messages,
       quiet-messages s mid p fit_mid (omega (arith, quiet)) i d lt e,
     )) in
     subst (λ (x : SpmState). Quiet b x given given) (sym (after_panic-is s mid p)) (record {
@@ -346,7 +346,7 @@ kinds-shape s b given a d h =
           inl (panic-shape s b told (λ x. not (has_handle x.handle k)) m.client.0 given it fit (balanced-fit s (times given) told kept)
           (ready-quiet (phase_of told m.client.0) ready.0 _ _ (λ z. count_by (accepted_as m.client.0 z) told.connections) ready.1 (kept.fitting m.client.0))
           (λ g is.
-          let other : same_message m g ≡ false = other-kind (is_same_connection g.connection m.connection) (g.client.0 == m.client.0) g.kind m.kind n is kind in
+          let other : same_message m g ≡ false = other-kind (is_same_connection g.connection m.connection) (is_some m.connection || (g.client.0 == m.client.0)) g.kind m.kind n is kind in
           omega (
             arith,
             message-out s (times given) b a k m h held (λ x. same_message x g),

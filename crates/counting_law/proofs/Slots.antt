@@ -1,6 +1,6 @@
 -- How many slots a run takes: the walk of the names, step by step.
 use Rattle.std.proofs.Common.{ℕ, zero, suc, ◌≡◌, ◌<◌, ◌≤◌, ◌+◌, ◌-◌, ◌==◌, Bool, true, false, cond, ◌&&◌, ◌||◌, List, [], ◌∷◌, ◌++◌, length, get_or, arith, ◌∙◌, ap, sym, refl, length-append}
-use Rattle.std.specs.Prelude.{count_by, nat_lt, is_none, Option, Some, None}
+use Rattle.std.specs.Prelude.{count_by, nat_lt, is_none, is_some, Option, Some, None}
 use Rattle.std.specs.Option.{option_map, option_map_or}
 use Rattle.std.specs.Ordering.{int_eq}
 use Rattle.std.proofs.lemmas.Bool.Decides.{Decides-int_eq, nat_tests}
@@ -37,7 +37,8 @@ connection-self None = refl
 
 pub same-self : (m : PendingMessage) → same_message m m ≡ true
 same-self m =
-    and_from _ _ (connection-self m.connection) (and_from _ _ (is_itself m.client.0) ((Decides-int_eq m.kind m.kind).1 refl))
+    let own : (o : Option ℕ) → (is_some o || (m.client.0 == m.client.0)) ≡ true = elim [ Some n ↦ refl | None ↦ is_itself m.client.0 ] in
+    and_from _ _ (connection-self m.connection) (and_from _ _ (own m.connection) ((Decides-int_eq m.kind m.kind).1 refl))
 
 -- what a change says to stay does stay
 pub stays-at : (old new : List PendingMessage) (q : PendingMessage → Bool) → ((m : PendingMessage) → count_by (λ x. q x && same_message m x) old ≤ count_by (same_message m) new)
@@ -79,16 +80,15 @@ one-call s b a h = calls-few (phase_of b a) (count_by (awaited_of a) b.connectio
 pub one-each : (s : System) (b : SpmState) → ObjectsFit s b → (n : PendingMessage) → count_by (λ m. same_message m n) b.messages ≤ 1
 one-each s b h n =
     let t : ℕ → Mark = λ k serial a v ph. serial == k in
-    let like : (k o : Option ℕ) (x : ℕ) (y : Bool) (i : ℕ) (f : ℕ → Bool) → k ≡ Some i → ((z : ℕ) → f z ≡ (z == i)) → bit (is_same_connection k o && ((n.client.0 == x) && y)) ≤ bit (option_map_or f o false) =
+    let like : (k o : Option ℕ) (y : Bool) (i : ℕ) → k ≡ Some i → bit (is_same_connection k o && y) ≤ bit (option_map_or (λ z. z == i) o false) =
     λ k. elim [
-      | None ↦ λ x y i f e same. omega (arith, ap (λ (w : Option ℕ). bit (is_same_connection w None && ((n.client.0 == x) && y))) e)
-      | Some z ↦ λ x y i f e same.
-          omega (arith, ap (λ (w : Option ℕ). bit (is_same_connection w (Some z) && ((n.client.0 == x) && y))) e, and-flip z i ((n.client.0 == x) && y), ap bit (same z))
+      | None ↦ λ y i e. omega (arith, ap (λ (w : Option ℕ). bit (is_same_connection w None && y)) e)
+      | Some z ↦ λ y i e. omega (arith, ap (λ (w : Option ℕ). bit (is_same_connection w (Some z) && y)) e, and-flip z i y)
     ] in
-    let call : (k o : Option ℕ) (x : ℕ) (y : Bool) → k ≡ None → bit (is_same_connection k o && ((n.client.0 == x) && y)) ≤ bit (is_none o && (x == n.client.0)) =
+    let call : (k o : Option ℕ) (x : ℕ) (y : Bool) → k ≡ None → bit (is_same_connection k o && ((is_some o || (n.client.0 == x)) && y)) ≤ bit (is_none o && (x == n.client.0)) =
     λ k. elim [
       | None ↦ λ x y e. omega (arith, ap (λ (w : Option ℕ). bit (is_same_connection w None && ((n.client.0 == x) && y))) e, and-flip x n.client.0 y)
-      | Some z ↦ λ x y e. omega (arith, ap (λ (w : Option ℕ). bit (is_same_connection w (Some z) && ((n.client.0 == x) && y))) e)
+      | Some z ↦ λ x y e. omega (arith, ap (λ (w : Option ℕ). bit (is_same_connection w (Some z) && y)) e)
     ] in
     let go : (k : Option ℕ) → n.connection ≡ k → count_by (λ m. same_message m n) b.messages ≤ 1 =
     elim [
@@ -97,7 +97,7 @@ one-each s b h n =
       | Some i ↦ λ e.
           omega (
             arith,
-            count-le (λ m. same_message m n) (message_marked (t i)) (λ m. like n.connection m.connection m.client.0 (int_eq n.kind m.kind) i (λ z. z == i) e (λ z. refl)) b.messages,
+            count-le (λ m. same_message m n) (message_marked (t i)) (λ m. like n.connection m.connection ((is_some m.connection || (n.client.0 == m.client.0)) && int_eq n.kind m.kind) i e) b.messages,
             h.paired (t i),
             count-le (connection_marked (t i)) (λ c. c.serial == i) (λ c. both-le-right (is_awaited c.phase) (c.serial == i)) b.connections,
             unique 0 b.connections_made i b.connections h.rising,

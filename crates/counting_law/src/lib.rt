@@ -7,9 +7,10 @@
 
 mod worked;
 
-ghost use Rattle.std.specs.Prelude.{◌≡◌, ◌≤◌, ◌<◌, length};
+ghost use Rattle.std.specs.Prelude.{◌≡◌, ℕ, ◌≤◌, ◌<◌, false, length};
 ghost use Rattle.ffm_model.specs.declared.constants.TheConstants.{MAX_ENTRIES};
 ghost use Rattle.ffm_model.specs.declared.system.System.{System};
+ghost use Rattle.ffm_model.specs.Actors.{is_stateless};
 ghost use Rattle.ffm_model.specs.State.{SpmState};
 ghost use Rattle.ffm_model.specs.Names.{capacity, message_capacity};
 ghost use Rattle.counting_law.specs.Runs.{InEachNamedRun, InEachRun};
@@ -38,10 +39,11 @@ pub fn messages_pair_with_connections()
 
 /// The connections that a system declares suffice: in each state of a run connections are at most as
 /// many, messages are at most as many and one more for each actor that may use a stateless service, and
-/// no event that adds one lacks room for it.
+/// no event that adds one lacks room for it. Where no service is stateless, messages are at most as many as connections may be.
 pub fn declared_connections_suffice()
     ensures connections { InEachRun (λ s es st. length st.spm.connections ≤ capacity s) }
     ensures messages { InEachRun (λ s es st. length st.spm.messages ≤ message_capacity s) }
+    ensures without_stateless { (s : System) → ((service : ℕ) → is_stateless s service ≡ false) → message_capacity s ≡ capacity s }
     ensures room { (s : System) → (b : SpmState) → ObjectsFit s b → RoomFor s b }
 {}
 

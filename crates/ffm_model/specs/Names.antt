@@ -70,11 +70,11 @@ is_same_connection (Some n) (Some k) = n == k
 is_same_connection None None = true
 is_same_connection _ _ = false
 
--- the same connection, the same client and the same kind
+-- the same connection, or where there is none the same client, and the same kind
 abbrev pub is_same_message : PendingMessage → PendingMessage → Bool
-is_same_message m n = is_same_connection n.connection m.connection && ((n.client.0 == m.client.0) && int_eq n.kind m.kind)
+is_same_message m n = is_same_connection n.connection m.connection && ((is_some m.connection || (n.client.0 == m.client.0)) && int_eq n.kind m.kind)
 
--- whether the message is still there; a connection has at most one message at a time, and so has an actor without a connection
+-- whether the message is still there; a connection has at most one message at a time, and an actor has at most one without a connection
 abbrev pub stays : List PendingMessage → PendingMessage → Bool
 stays ms m = list_any (is_same_message m) ms
 

@@ -3,7 +3,7 @@
 -- Source: this simulator's scenario file.
 use Rattle.std.specs.Prelude.{◌≡◌, ◌<◌, ◌≤◌, IsTrue, ℕ, ◌+◌, ◌*◌, List, [], ◌∷◌, ◌++◌, length, map, filter, count_by, position, get_or, nat_lt, Bool, ◌&&◌, ◌==◌, Option, Some, None, is_some, IfSome, option_and_then, Result, Ok, codes, if◌then◌else◌}
 use Rattle.std.specs.Char.{digit_value, is_digit}
-use Rattle.std.specs.List.{list_any, range_with_len, AllByRecursion}
+use Rattle.std.specs.List.{list_any, range_with_len, sum_by, AllByRecursion}
 use Rattle.std.specs.Option.{option_map}
 use Rattle.std.specs.Str.{bytes_eq}
 use Rattle.serde_json.specs.Data.{Data}
@@ -149,7 +149,7 @@ pub record IsRaise (s : System) (x : RaiseItem) : Type 0 where
 abbrev pub AreScriptsOf : System → ℕ → List (List (List ℕ)) → Type 0
 AreScriptsOf s a scripts = (0 < length scripts) × (length scripts ≤ most_scripts s a)
 
--- what a scenario keeps, for its system: the limits, few enough scripts for each actor and few enough lines for each script, none for others, sources of the system, memory in regions, and the resets
+-- what a scenario keeps, for its system: the limits, few enough scripts for each actor and few enough lines for each script, none for others, no more in the file than all actors have, sources of the system, memory in regions, and the resets
 pub record IsScenarioOf (s : System) (c : Scenario) : Type 0 where
   pub limit : 0 < c.limit
   pub limit_end : c.limit ≤ 262144
@@ -157,7 +157,8 @@ pub record IsScenarioOf (s : System) (c : Scenario) : Type 0 where
   pub short : AllByRecursion (AllByRecursion (λ lines. length lines ≤ 4096)) c.lines
   pub scripts : (a : ℕ) → a < actor_count s → AreScriptsOf s a (get_or c.lines a [])
   pub order : AllByRecursion (λ actor. actor.0 < actor_count s) c.order
-  pub few : length c.order ≤ 8 * actor_count s
+  -- an actor that the file gives none has an empty one
+  pub few : length c.order ≤ sum_by (λ own. length own) c.lines
   pub schedule : AllByRecursion (λ actor. actor.0 < actor_count s) c.schedule
   pub raises : AllByRecursion (IsRaise s) c.raises
   pub memory : AllByRecursion (λ bytes. IsTrue (list_any (lies_in bytes.address (length bytes.content)) s.regions)) c.memory

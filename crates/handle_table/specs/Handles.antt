@@ -10,10 +10,14 @@ use Rattle.object_pools.specs.Pool.{Places, free_slot, item_at, taken, with_item
 use Rattle.handle_table.specs.declared.handles.Family.{Family}
 use Rattle.handle_table.specs.declared.handles.Family.TheVariants.{Connection, Message}
 
+-- indices are below this, so that no handle is one of both families
+abbrev pub index_limit : ℕ
+index_limit = 512
+
 -- what a family's handles have more than the slot's own number
 abbrev pub base_of : Family → ℕ
 base_of Connection = 0
-base_of Message = 512
+base_of Message = index_limit
 
 -- how many indices a family's slots have: connections are at most 256, and 48 clients and partitions can each have one message more
 abbrev pub indices_of : Family → ℕ
@@ -56,18 +60,18 @@ module _ {T : Type 0} where
     pub next : slot_name s ≡ next_slot (length p.generations) (live_names p) past
     pub after : IsPast (taken p s x) (past ++ slot_name s ∷ [])
 
-  -- the handles of a family that events have shown: none of a generation still to come, and none of a live slot that wasn't told
-  pub record GivesFresh (f : Family) (told : T → Bool) (p : Places T) (given : List Handle) : Type 0 where
-    pub future : (s : Slot) → s.index < indices_of f → get_or p.generations s.index 0 < s.generation → is_given given (handle_at f s) ≡ false
+  -- the handles that events have shown, as far as they are of this family and of the first n indices: none of a generation still to come, and none of a live slot that wasn't told
+  pub record GivesFresh (f : Family) (n : ℕ) (told : T → Bool) (p : Places T) (given : List Handle) : Type 0 where
+    pub future : (s : Slot) → s.index < n → get_or p.generations s.index 0 < s.generation → is_given given (handle_at f s) ≡ false
     pub untold : All (λ h. told h.item ≡ false → is_given given (handle_at f h.slot) ≡ false) p.held
 
   -- what a pool keeps of this, call by call
-  pub record StaysFresh (f : Family) (told : T → Bool) (p : Places T) (given : List Handle) : Type 0 where
+  pub record StaysFresh (f : Family) (n : ℕ) (told : T → Bool) (p : Places T) (given : List Handle) : Type 0 where
     -- the handle of a live slot that wasn't told is fresh
     pub new : (st : State) (s : Slot) (x : T) → st.handles_given ≡ given → item_at p s ≡ Some x → told x ≡ false → fresh st (handle_at f s) ≡ true
-    pub after_take : (s : Slot) (x : T) → free_slot p ≡ Some s → GivesFresh f told (taken p s x) given
-    pub after_put_back : (s : Slot) → GivesFresh f told (without p s) given
-    pub after_telling : (s : Slot) (x y : T) → item_at p s ≡ Some x → told y ≡ true → GivesFresh f told (with_item p s y) (given ++ handle_at f s ∷ [])
-    pub after_change : (s : Slot) (x y : T) → item_at p s ≡ Some x → (told y ≡ false → told x ≡ false) → GivesFresh f told (with_item p s y) given
+    pub after_take : (s : Slot) (x : T) → free_slot p ≡ Some s → GivesFresh f n told (taken p s x) given
+    pub after_put_back : (s : Slot) → GivesFresh f n told (without p s) given
+    pub after_telling : (s : Slot) (x y : T) → item_at p s ≡ Some x → told y ≡ true → GivesFresh f n told (with_item p s y) (given ++ handle_at f s ∷ [])
+    pub after_change : (s : Slot) (x y : T) → item_at p s ≡ Some x → (told y ≡ false → told x ≡ false) → GivesFresh f n told (with_item p s y) given
     -- a handle of the other family is shown
-    pub after_other : (g : Family) (s : Slot) → base_of g ≢ base_of f → s.index < indices_of g → GivesFresh f told p (given ++ handle_at g s ∷ [])
+    pub after_other : (g : Family) (s : Slot) → base_of g ≢ base_of f → s.index < index_limit → GivesFresh f n told p (given ++ handle_at g s ∷ [])

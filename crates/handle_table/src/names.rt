@@ -1,19 +1,20 @@
 //! The laws of names.
 
-ghost use Rattle.std.specs.Prelude.{◌≡◌, ◌≤◌, ℕ, Bool, List, [], Some};
+ghost use Rattle.std.specs.Prelude.{◌≡◌, ◌≤◌, ℕ, Bool, List, [], length, Some};
 ghost use Rattle.ffm_model.specs.Names.{SlotName};
 ghost use Rattle.ffm_model.specs.declared.machine.Handle.{Handle};
 ghost use Rattle.handle_table.specs.declared.handles.Family.{Family};
 ghost use Rattle.object_pools.specs.declared.slot.Slot.{Slot};
 ghost use Rattle.object_pools.specs.Pool.{empty, free_slot, without};
-ghost use Rattle.handle_table.specs.Handles.{indices_of, IsPast, TakesNextName, GivesFresh, StaysFresh};
+ghost use Rattle.handle_table.specs.Handles.{index_limit, IsPast, TakesNextName, GivesFresh, StaysFresh};
 
 use object_pools::Pool;
 
-/// Says that a handle is new when it is told, though slots are used again: an empty pool begins so, and each call keeps it where the family has an index for each of the pool's slots. It does nothing.
+/// Says that a handle is new when it is told, though slots are used again: an empty pool begins so, and each call keeps it. The
+/// law is of the first `n` indices of a family, at least as many as the pool has slots and at most 512. It does nothing.
 pub fn fresh_law<T: Copy, const CAP: usize>(pool: &Pool<T, CAP>)
-    ensures none { (f : Family) (told : T → Bool) (size : ℕ) → GivesFresh f told (empty size) [] }
-    ensures keeps { (f : Family) (told : T → Bool) (given : List Handle) → CAP ≤ indices_of f → GivesFresh f told pool.now given → StaysFresh f told pool.now given }
+    ensures none { (f : Family) (n : ℕ) (told : T → Bool) (size : ℕ) → GivesFresh f n told (empty size) [] }
+    ensures keeps { (f : Family) (n : ℕ) (told : T → Bool) (given : List Handle) → length pool.now.generations ≤ n → n ≤ index_limit → GivesFresh f n told pool.now given → StaysFresh f n told pool.now given }
 {
     pool.law();
 }

@@ -1,9 +1,10 @@
 -- Contexts side by side: their next calls, and which of them calls.
-use Rattle.std.proofs.Common.{ℕ, zero, suc, ◌+◌, ◌<◌, ◌≡◌, ◌≢◌, ◌==◌, Bool, true, false, List, [], ◌∷◌, length, get_or, refl, ap, ap₂, sym, ◌∙◌, subst, arith, inl, inr}
+use Rattle.std.proofs.Common.{ℕ, zero, suc, ◌+◌, ◌<◌, ◌≡◌, ◌≢◌, ◌==◌, Bool, true, false, List, [], ◌∷◌, length, get_or, refl, ap, sym, ◌∙◌, subst, arith, inl, inr}
 use Rattle.std.specs.Prelude.{Some, if◌then◌else◌, slice_set, map, ◌||◌, ◌⊎◌}
 use Rattle.std.specs.List.{list_any}
 use Rattle.std.proofs.lemmas.Bool.{cases_eq, or_right}
 use Rattle.std.proofs.lemmas.List.{get_or-set_same, get_or-set_other}
+use Rattle.std.proofs.lemmas.List.Folds.{list_any_none}
 use Rattle.ffm_model.specs.declared.machine.Call.{Call}
 use Rattle.ffm_model.specs.declared.machine.Call.TheVariants as call
 use Rattle.ffm_model.specs.declared.script.Instruction.{Instruction}
@@ -76,10 +77,6 @@ any-at [] k d h e = absurd (omega arith)
 any-at (c ∷ cs) zero d h e = ap (λ (b : Bool). b || list_any is_spent cs) e
 any-at (c ∷ cs) (suc k) d h e = or_right (is_spent c) (list_any is_spent cs) (any-at cs k d (omega arith) e)
 
-any-none : (cs : List Call) (d : Call) → ((k : ℕ) → k < length cs → is_spent (get_or cs k d) ≡ false) → list_any is_spent cs ≡ false
-any-none [] d h = refl
-any-none (c ∷ cs) d h = ap₂ (λ (a b : Bool). a || b) (h 0 (omega arith)) (any-none cs d (λ k low. h (suc k) (omega arith)))
-
 pub spent-at : (scripts : List (List Instruction)) (ps : List Point) (k : ℕ) (c : Call) → length ps ≡ length scripts → k < length scripts
     → c ≡ call_from (script_of scripts k) (get_or ps k start) → is_spent c ≡ true → list_any is_spent (next_calls scripts ps) ≡ true
 spent-at scripts ps k c long low e spent =
@@ -89,5 +86,5 @@ spent-at scripts ps k c long low e spent =
 pub none-spent : (scripts : List (List Instruction)) (ps : List Point) → length ps ≡ length scripts
     → ((k : ℕ) → k < length scripts → is_spent (call_from (script_of scripts k) (get_or ps k start)) ≡ false) → list_any is_spent (next_calls scripts ps) ≡ false
 none-spent scripts ps long h =
-    any-none (next_calls scripts ps) (call.Stop false)
-    (λ k low. let inside : k < length scripts = omega (arith, calls-length scripts ps long) in ap is_spent (calls-get scripts ps k (call.Stop false) long inside) ∙ h k inside)
+    list_any_none is_spent (next_calls scripts ps)
+    (λ k d low. let inside : k < length scripts = omega (arith, low, calls-length scripts ps long) in ap is_spent (calls-get scripts ps k d long inside) ∙ h k inside)

@@ -135,7 +135,7 @@ due-name s d new given m a signal msg service t n k owner it state named =
 
 pub delivered-names : (s : System) (d new : TablesView) (service : ℕ) (t : Slot) (n : QueuedMessage) → IsKept 304 d.messages → IsDelivered d new service t n → KeepsNames s d new
 delivered-names s d new service t n kept it =
-    names-message s d new t it.item n kept it.live (ap (λ (m : QueuedMessage). m.serial) it.since) (ap (λ (m : QueuedMessage). m.client) it.since) (ap (λ (m : QueuedMessage). m.kind) it.since)
+    names-message s d new t it.item n kept it.live (ap (λ (m : QueuedMessage). m.serial) it.since) (λ e. ap (λ (m : QueuedMessage). m.client) it.since) (ap (λ (m : QueuedMessage). m.kind) it.since)
     (λ e. let told : n.delivered ≡ true = ap (λ (m : QueuedMessage). m.delivered) it.since in cc) (ap (λ (e : TablesView). e.connections) it.after) (ap (λ (e : TablesView). e.messages) it.after)
 
 pub delivered-within : (regions : List (ℕ × ℕ)) (d new : TablesView) (service : ℕ) (t : Slot) (n : QueuedMessage) → IsDelivered d new service t n → All (λ m. AreWithin regions m.vectors) (spm_of d).messages

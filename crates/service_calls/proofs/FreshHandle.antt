@@ -29,7 +29,7 @@ messages-without t g generations (x ∷ xs) small size waits named only =
     let name : IsNamed generations x.slot = All-head (λ (y : Held QueuedMessage). IsNamed generations y.slot) x xs named in
     let same : is_at t.index x ≡ true → x ≡ g = All-head (λ (y : Held QueuedMessage). is_at t.index y ≡ true → y ≡ g) x xs only in
     let here : (b : Bool) → x.item.delivered ≡ b → bit (has_handle (shown_handle b x.slot) h) ≡ 0 = elim [
-      | true ↦ λ e. ap bit (apart Message Message x.slot t (omega (arith, name.below, size)) small (λ d.
+      | true ↦ λ e. ap bit (apart Message Message x.slot t (omega (arith, name.below, size)) (omega (arith, small)) (λ d.
           let at : is_at t.index x ≡ true = grind (arith, nat_tests, d.1) in
           let is : x ≡ g = same at in
           let told : true ≡ false = sym e ∙ ap (λ (y : Held QueuedMessage). y.item.delivered) is ∙ waits in
@@ -50,7 +50,7 @@ connections-without t generations [] small size named told = refl
 connections-without t generations (x ∷ xs) small size named told =
     let h : Handle = handle_at Message t in
     let name : IsNamed generations x.slot = All-head (λ (y : Held OpenConnection). IsNamed generations y.slot) x xs named in
-    let own : handle_eq (handle_at Connection x.slot) h ≡ false = apart Connection Message x.slot t (omega (arith, name.below, size)) small (λ d. let none : 0 ≡ 512 = d.0 in cc) in
+    let own : handle_eq (handle_at Connection x.slot) h ≡ false = apart Connection Message x.slot t (omega (arith, name.below, size)) (omega (arith, small)) (λ d. let none : 0 ≡ 512 = d.0 in cc) in
     let here : (o : Option Handle) → IfSome o (λ k. k ≡ handle_at Connection x.slot) → bit (has_handle o h) ≡ 0 = elim [
       | None ↦ λ e. refl
       | Some k ↦ λ e. ap bit (ap (λ (z : Handle). handle_eq z h) e ∙ own)

@@ -63,7 +63,7 @@ moved-all P d new t v it own all = all-put P d new t (record it.item { vectors =
 
 pub moved-names : (s : System) (d new : TablesView) (t : Slot) (v : Vectors) → IsKept 304 d.messages → IsMoved d new t v → KeepsNames s d new
 moved-names s d new t v kept it =
-    names-message s d new t it.item (record it.item { vectors = v }) kept it.live refl refl refl (λ e. e) (ap (λ (e : TablesView). e.connections) it.after) (ap (λ (e : TablesView). e.messages) it.after)
+    names-message s d new t it.item (record it.item { vectors = v }) kept it.live refl (λ e. refl) refl (λ e. e) (ap (λ (e : TablesView). e.connections) it.after) (ap (λ (e : TablesView). e.messages) it.after)
 
 -- ---- names where a call changes no message
 

@@ -1,6 +1,6 @@
 -- Changes of tables that make or remove one connection or message at most.
 use Rattle.std.proofs.Common.{ℕ, ◌≡◌, ◌+◌, ◌-◌, Bool, true, false, cond, List, [], ◌∷◌, ◌++◌, length, map, get_or, arith, ◌∙◌, ap, sym, refl, subst, length-append}
-use Rattle.std.specs.Prelude.{All, Some, is_some, nat_lt}
+use Rattle.std.specs.Prelude.{All, None, Some, is_some, nat_lt}
 use Rattle.std.specs.List.{list_any}
 use Rattle.std.proofs.lemmas.Bool.Decides.{nat_tests}
 use Rattle.std.proofs.lemmas.List.{length-map}
@@ -103,12 +103,12 @@ names-connection s old new slot c changed kept live serial told linked waiting =
 }
 
 -- a message changes in its slot
-pub follows-message : (s : System) (old new : TablesView) (slot : Slot) (m changed : QueuedMessage) → IsKept 304 old.messages → item_at old.messages slot ≡ Some m → changed.serial ≡ m.serial → changed.client ≡ m.client
+pub follows-message : (s : System) (old new : TablesView) (slot : Slot) (m changed : QueuedMessage) → IsKept 304 old.messages → item_at old.messages slot ≡ Some m → changed.serial ≡ m.serial → (changed.serial ≡ None → changed.client ≡ m.client)
     → changed.kind ≡ m.kind → new.connections ≡ old.connections → new.messages ≡ with_item old.messages slot changed → FollowsNames s old new
 follows-message s old new slot m changed kept live serial client kind linked waiting =
     follows-changed s old new (relinks-same old.connections new.connections linked) (rewaits-to old.messages new.messages (with_item old.messages slot changed) waiting (rewaits-item 304 old.messages slot m changed kept live serial client kind))
 
-pub names-message : (s : System) (old new : TablesView) (slot : Slot) (m changed : QueuedMessage) → IsKept 304 old.messages → item_at old.messages slot ≡ Some m → changed.serial ≡ m.serial → changed.client ≡ m.client
+pub names-message : (s : System) (old new : TablesView) (slot : Slot) (m changed : QueuedMessage) → IsKept 304 old.messages → item_at old.messages slot ≡ Some m → changed.serial ≡ m.serial → (changed.serial ≡ None → changed.client ≡ m.client)
     → changed.kind ≡ m.kind → (changed.delivered ≡ false → m.delivered ≡ false) → new.connections ≡ old.connections → new.messages ≡ with_item old.messages slot changed → KeepsNames s old new
 names-message s old new slot m changed kept live serial client kind told linked waiting = record {
   names = follows-message s old new slot m changed kept live serial client kind linked waiting;

@@ -37,12 +37,12 @@ module _ {T : Type 0} (f : Family) (told : T → Bool) where
   given-then a b c h k = record {
     size = k.size ∙ h.size;
     generations = λ i. omega (arith, h.generations i, k.generations i);
-    fresh = λ few given v. k.fresh (omega (arith, few, h.size)) given (h.fresh few given v);
+    fresh = λ n few given v. k.fresh n (omega (arith, few, h.size)) given (h.fresh n few given v);
   }
 
   -- no slot is taken
   pub given-held : (p : Places T) (held : List (Held T)) → ((given : List Handle) → All (IsUntold f told given) p.held → All (IsUntold f told given) held) → KeepsFresh f told p (record p { held = held })
-  given-held p held untold = record { size = refl; generations = λ i. omega arith; fresh = λ few given v. record { future = v.future; untold = untold given v.untold } }
+  given-held p held untold = record { size = refl; generations = λ i. omega arith; fresh = λ n few given v. record { future = v.future; untold = untold given v.untold } }
 
   pub given-same : (p : Places T) → KeepsFresh f told p p
   given-same p = given-held p p.held (λ given a. a)
@@ -51,7 +51,7 @@ module _ {T : Type 0} (f : Family) (told : T → Bool) where
   given-filter p q = given-held p (filter q p.held) (λ given a. All-filter q (IsUntold f told given) p.held a)
 
   pub given-put : (p : Places T) (s : Slot) (x y : T) → item_at p s ≡ Some x → (told y ≡ false → told x ≡ false) → KeepsFresh f told p (with_item p s y)
-  given-put p s x y live stays = record { size = refl; generations = λ i. omega arith; fresh = λ few given v. GivesFresh-put f told p given s x y v live stays }
+  given-put p s x y live stays = record { size = refl; generations = λ i. omega arith; fresh = λ n few given v. GivesFresh-put f n told p given s x y v live stays }
 
   -- by another name of the new one
   pub given-to : (old new changed : Places T) → new ≡ changed → KeepsFresh f told old changed → KeepsFresh f told old new
@@ -65,7 +65,7 @@ module _ {T : Type 0} (f : Family) (told : T → Bool) where
       record {
         size = length-set p.generations s.index s.generation;
         generations = rises;
-        fresh = λ few given v. record {
+        fresh = λ n few given v. record {
           future = λ a below later. v.future a below (omega (arith, later, rises a.index));
           untold = All-push (IsUntold f told given) p.held (record { slot = s; item = x }) v.untold (λ e. v.future s (omega (arith, few, inside)) (omega (arith, parts.1)));
         };

@@ -1,6 +1,6 @@
 -- What a single change of the tables does to their names.
 use Rattle.std.proofs.Common.{ℕ, zero, suc, ◌≡◌, ◌<◌, ◌≤◌, ◌+◌, ◌==◌, Bool, true, false, cond, not, ◌&&◌, ◌||◌, List, [], ◌∷◌, ◌++◌, length, map, get_or, arith, ◌∙◌, ap, sym, refl, subst, length-append}
-use Rattle.std.specs.Prelude.{ℤ, All, Option, Some, count_by, find}
+use Rattle.std.specs.Prelude.{ℤ, All, Option, Some, None, count_by, find, is_some}
 use Rattle.std.specs.Ordering.{int_eq}
 use Rattle.std.specs.List.{list_any, filter_map}
 use Rattle.std.proofs.Math.Seq.{get_or-append_seam}
@@ -110,11 +110,17 @@ names-put : (s : Slot) (m : QueuedMessage) (hs : List (Held QueuedMessage)) → 
 names-put s m [] = refl
 names-put s m (h ∷ hs) = ap (λ (u : Slot). slot_name u ∷ name_list (map (item_put s m) hs)) (put-slot s m h) ∙ ap (λ (ts : List SlotName). slot_name h.slot ∷ ts) (names-put s m hs)
 
--- of one connection, client and kind
+-- of one connection, or where there is none of one client, and of one kind
 record IsSameItem (m n : QueuedMessage) : Type 0 where
   serial : m.serial ≡ n.serial
-  client : m.client ≡ n.client
+  client : m.serial ≡ None → m.client ≡ n.client
   kind : m.kind ≡ n.kind
+
+-- the client counts only where there is no connection
+like-client : (o p : Option ℕ) (b c k : Bool) → (o ≡ None → b ≡ c) → (is_same_connection o p && ((is_some p || b) && k)) ≡ (is_same_connection o p && ((is_some p || c) && k))
+like-client o (Some y) b c k same = refl
+like-client (Some x) None b c k same = refl
+like-client None None b c k same = ap (λ z. z && k) (same refl)
 
 like-put : (s : Slot) (m : QueuedMessage) (x h : Held QueuedMessage) → (has_slot s h ≡ true → IsSameItem h.item m) → is_like x (item_put s m h) ≡ is_like x h
 like-put s m x h same =
@@ -122,9 +128,9 @@ like-put s m x h same =
     elim [
       | true ↦ λ e.
           let it : IsSameItem h.item m = same e in
-          ap (λ (n : Option ℕ). is_same_connection n x.item.serial && ((m.client.0 == x.item.client.0) && int_eq m.kind x.item.kind)) (sym it.serial)
-          ∙ ap (λ (a : ActorId). is_same_connection h.item.serial x.item.serial && ((a.0 == x.item.client.0) && int_eq m.kind x.item.kind)) (sym it.client)
-          ∙ ap (λ (z : ℤ). is_same_connection h.item.serial x.item.serial && ((h.item.client.0 == x.item.client.0) && int_eq z x.item.kind)) (sym it.kind)
+          ap (λ (n : Option ℕ). is_same_connection n x.item.serial && ((is_some x.item.serial || (m.client.0 == x.item.client.0)) && int_eq m.kind x.item.kind)) (sym it.serial)
+          ∙ like-client h.item.serial x.item.serial (m.client.0 == x.item.client.0) (h.item.client.0 == x.item.client.0) (int_eq m.kind x.item.kind) (λ n. ap (λ (a : ActorId). a.0 == x.item.client.0) (sym (it.client n)))
+          ∙ ap (λ (z : ℤ). is_same_connection h.item.serial x.item.serial && ((is_some x.item.serial || (h.item.client.0 == x.item.client.0)) && int_eq z x.item.kind)) (sym it.kind)
       | false ↦ λ e. refl
     ] in
     go (has_slot s h) refl
@@ -136,7 +142,7 @@ likes-put s m x (h ∷ hs) same =
     let P : Held QueuedMessage → Type 0 = λ y. has_slot s y ≡ true → IsSameItem y.item m in
     ap (λ b. b || list_any (is_like x) (map (item_put s m) hs)) (like-put s m x h (All-head P h hs same)) ∙ ap (λ b. is_like x h || b) (likes-put s m x hs (All-tail P h hs same))
 
-pub rewaits-item : (capacity : ℕ) (p : Places QueuedMessage) (s : Slot) (m changed : QueuedMessage) → IsKept capacity p → item_at p s ≡ Some m → changed.serial ≡ m.serial → changed.client ≡ m.client → changed.kind ≡ m.kind
+pub rewaits-item : (capacity : ℕ) (p : Places QueuedMessage) (s : Slot) (m changed : QueuedMessage) → IsKept capacity p → item_at p s ≡ Some m → changed.serial ≡ m.serial → (changed.serial ≡ None → changed.client ≡ m.client) → changed.kind ≡ m.kind
     → KeepsMessageNames p (with_item p s changed)
 rewaits-item capacity p s m changed kept live serial client kind = record {
   generations = refl;
@@ -148,7 +154,7 @@ rewaits-item capacity p s m changed kept live serial client kind = record {
       let it : (get_or p.held k d).item ≡ m = only-item capacity p s m kept live k d lt e in
       record {
         serial = ap (λ (y : QueuedMessage). y.serial) it ∙ sym serial;
-        client = ap (λ (y : QueuedMessage). y.client) it ∙ sym client;
+        client = λ n. ap (λ (y : QueuedMessage). y.client) it ∙ sym (client (serial ∙ sym (ap (λ (y : QueuedMessage). y.serial) it) ∙ n));
         kind = ap (λ (y : QueuedMessage). y.kind) it ∙ sym kind;
       });
 }

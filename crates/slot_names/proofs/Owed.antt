@@ -14,7 +14,7 @@ use Rattle.slot_names.proofs.Given.{given-on}
 use Rattle.slot_names.proofs.Kept.{any-at, message_list}
 use Rattle.slot_names.proofs.Changes.{after-is, after-still, kept_names, names-length}
 use Rattle.slot_names.proofs.Partings.{any-filter, like-kept}
-use Rattle.std.specs.Prelude.{ℤ, pos, int_lt, All, if◌then◌else◌, Option, Some, None, option_and_then}
+use Rattle.std.specs.Prelude.{ℤ, pos, int_lt, is_some, All, if◌then◌else◌, Option, Some, None, option_and_then}
 use Rattle.std.specs.Option.{option_map, option_map_or}
 use Rattle.std.specs.Ordering.{int_eq}
 use Rattle.std.proofs.lemmas.List.{append-nil}
@@ -161,7 +161,7 @@ no-disconnect s p n (c ∷ cs) off =
       | true ↦ λ k ph. refl
       | false ↦ elim [
         | true ↦ λ ph.
-            let go : (x : Bool) → stays (if x then [] else disconnect_message c ∷ []) n ≡ false = elim [ true ↦ refl | false ↦ ap (λ b. b || false) (and_right (is_same_connection (Some c.serial) n.connection) _ (and_right (c.client.0 == n.client.0) (int_eq PSA_IPC_DISCONNECT n.kind) off)) ] in
+            let go : (x : Bool) → stays (if x then [] else disconnect_message c ∷ []) n ≡ false = elim [ true ↦ refl | false ↦ ap (λ b. b || false) (and_right (is_same_connection (Some c.serial) n.connection) _ (and_right (is_some n.connection || (c.client.0 == n.client.0)) (int_eq PSA_IPC_DISCONNECT n.kind) off)) ] in
             go (is_dead ph)
         | false ↦ λ ph. refl
       ]

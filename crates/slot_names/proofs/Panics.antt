@@ -1,6 +1,6 @@
 -- A panic: some messages and connections go, and then messages are taken in, one after another.
-use Rattle.std.proofs.Common.{ℕ, zero, suc, ◌≡◌, ◌≤◌, ◌+◌, ◌==◌, Bool, true, false, not, ◌&&◌, List, [], ◌∷◌, ◌++◌, length, filter, get_or, add-one, arith, ◌∙◌, ap, sym, refl, subst, length-append}
-use Rattle.std.specs.Prelude.{All, Option, Some, None, count_by, if◌then◌else◌}
+use Rattle.std.proofs.Common.{ℕ, zero, suc, ◌≡◌, ◌≤◌, ◌+◌, ◌==◌, Bool, true, false, not, ◌&&◌, ◌||◌, List, [], ◌∷◌, ◌++◌, length, filter, get_or, add-one, arith, ◌∙◌, ap, sym, refl, subst, length-append}
+use Rattle.std.specs.Prelude.{All, Option, Some, None, count_by, is_some, if◌then◌else◌}
 use Rattle.std.specs.Option.{option_map_or}
 use Rattle.std.specs.Ordering.{int_eq}
 use Rattle.std.proofs.lemmas.List.{get_or-map, length-map}
@@ -98,7 +98,7 @@ is_number o n = option_map_or (λ k. n == k) o false
 same-number : (m : PendingMessage) (c : OpenConnection) → bit (same_message m (disconnect_message c)) ≤ bit (is_number m.connection c.serial)
 same-number m c =
     let go : (o : Option ℕ) (x : Bool) → bit (is_same_connection (Some c.serial) o && x) ≤ bit (is_number o c.serial) = elim [ None ↦ λ x. omega arith | Some k ↦ λ x. both-le-left (c.serial == k) x ] in
-    go m.connection ((c.client.0 == m.client.0) && int_eq PSA_IPC_DISCONNECT m.kind)
+    go m.connection ((is_some m.connection || (c.client.0 == m.client.0)) && int_eq PSA_IPC_DISCONNECT m.kind)
 
 disconnect-le : (m : PendingMessage) (c : OpenConnection) (o k : Bool) (ph : ConnPhase) → count_by (same_message m) (disconnect_as o k ph c) ≤ bit (not o && is_number m.connection c.serial)
 disconnect-le m c true k ph = omega arith

@@ -1,5 +1,5 @@
 -- Changes of tables that remove messages and make nothing.
-use Rattle.std.proofs.Common.{ℕ, ◌≡◌, ◌≤◌, ◌+◌, ◌==◌, ◌&&◌, Bool, false, not, List, [], ◌++◌, length, filter, get_or, arith, ◌∙◌, ap, sym, refl, subst}
+use Rattle.std.proofs.Common.{ℕ, ◌≡◌, ◌≤◌, ◌+◌, ◌==◌, ◌&&◌, ◌||◌, Bool, false, not, List, [], ◌++◌, length, filter, get_or, arith, ◌∙◌, ap, sym, refl, subst}
 use Rattle.std.specs.Prelude.{count_by, is_none, is_some, All, Option, Some, None}
 use Rattle.std.specs.Option.{option_map_or}
 use Rattle.std.specs.List.{list_any}
@@ -40,10 +40,10 @@ one-message b h = λ n.
       | None ↦ λ x i e. omega (arith, ap (λ (w : Option ℕ). bit (is_same_connection None w && x)) e)
       | Some z ↦ λ x i e. omega (arith, ap (λ (w : Option ℕ). bit (is_same_connection (Some z) w && x)) e, both-le-left (z == i) x)
     ] in
-    let call : (k o : Option ℕ) (x : ℕ) (y : Bool) → k ≡ None → bit (is_same_connection o k && ((x == n.client.0) && y)) ≤ bit (is_none o && (x == n.client.0)) =
+    let call : (k o : Option ℕ) (x : ℕ) (y : Bool) → k ≡ None → bit (is_same_connection o k && ((is_some k || (x == n.client.0)) && y)) ≤ bit (is_none o && (x == n.client.0)) =
     λ k. elim [
-      | None ↦ λ x y e. omega (arith, ap (λ (w : Option ℕ). bit (is_same_connection None w && ((x == n.client.0) && y))) e, both-le-left (x == n.client.0) y)
-      | Some z ↦ λ x y e. omega (arith, ap (λ (w : Option ℕ). bit (is_same_connection (Some z) w && ((x == n.client.0) && y))) e)
+      | None ↦ λ x y e. omega (arith, ap (λ (w : Option ℕ). bit (is_same_connection None w && ((is_some w || (x == n.client.0)) && y))) e, both-le-left (x == n.client.0) y)
+      | Some z ↦ λ x y e. omega (arith, ap (λ (w : Option ℕ). bit (is_same_connection (Some z) w && ((is_some w || (x == n.client.0)) && y))) e)
     ] in
     let go : (k : Option ℕ) → n.connection ≡ k → count_by (is_same_message n) b.messages ≤ 1 =
     elim [
@@ -51,7 +51,7 @@ one-message b h = λ n.
       | Some i ↦ λ e.
           omega (
             arith,
-            count-le (is_same_message n) (message_marked (t i)) (λ m. numbered n.connection m.connection ((m.client.0 == n.client.0) && int_eq m.kind n.kind) i e) b.messages,
+            count-le (is_same_message n) (message_marked (t i)) (λ m. numbered n.connection m.connection ((is_some n.connection || (m.client.0 == n.client.0)) && int_eq m.kind n.kind) i e) b.messages,
             h.paired (t i),
             count-le (connection_marked (t i)) (λ c. c.serial == i) (λ c. both-le-right (is_awaited c.phase) (c.serial == i)) b.connections,
             unique 0 b.connections_made i b.connections h.rising,

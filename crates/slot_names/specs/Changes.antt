@@ -1,6 +1,6 @@
 -- Changes of the tables' pools that take no slot, and the tables in the middle of an event that takes several.
 -- Source: of this repository; FF-M 1.0 leaves open how a manager keeps its connections and messages.
-use Rattle.std.specs.Prelude.{◌≡◌, ℕ, ◌≤◌, ◌==◌, Bool, ◌&&◌, List, count_by, filter, map, All}
+use Rattle.std.specs.Prelude.{◌≡◌, ℕ, ◌≤◌, ◌==◌, Bool, ◌&&◌, ◌||◌, List, is_some, count_by, filter, map, All}
 use Rattle.std.specs.List.{list_any}
 use Rattle.std.specs.Ordering.{int_eq}
 use Rattle.ffm_model.specs.declared.objects.OpenConnection.{OpenConnection}
@@ -21,11 +21,11 @@ pub record KeepsConnectionNames (old new : Places OpenConnection) : Type 0 where
   pub takes : new.takes ≡ old.takes
   pub held : (ts : List SlotName) → All (IsNamedBy ts) old.held → All (IsNamedBy ts) new.held
 
--- a message of the same connection, client and kind
+-- a message of the same connection, or where there is none of the same client, and of the same kind
 abbrev pub is_like : Held QueuedMessage → Held QueuedMessage → Bool
-is_like h n = is_same_connection n.item.serial h.item.serial && ((n.item.client.0 == h.item.client.0) && int_eq n.item.kind h.item.kind)
+is_like h n = is_same_connection n.item.serial h.item.serial && ((is_some h.item.serial || (n.item.client.0 == h.item.client.0)) && int_eq n.item.kind h.item.kind)
 
--- no message comes or goes, and each has the slot, connection, client and kind that it had
+-- no message comes or goes: the slots are the same, in their order, and so are the messages by connection, or client, and kind
 pub record KeepsMessageNames (old new : Places QueuedMessage) : Type 0 where
   pub generations : new.generations ≡ old.generations
   pub takes : new.takes ≡ old.takes
@@ -40,7 +40,7 @@ names_of q p = map (λ (h : Held QueuedMessage). slot_name h.slot) (filter q p.h
 abbrev pub TakesOn : ℕ → TablesView → List SlotName → ℕ → TablesView → Type 0
 TakesOn size old kept n d = (k : NamesSoFar) → NamesAre old k → NamesAre d (with_messages size n (record k { messages = kept }))
 
--- no two messages are of one connection, client and kind
+-- no two messages are of one connection and kind, nor of one client and kind without a connection
 abbrev pub OneMessageEach : SpmState → Type 0
 OneMessageEach b = (n : PendingMessage) → count_by (is_same_message n) b.messages ≤ 1
 

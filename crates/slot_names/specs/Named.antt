@@ -9,7 +9,7 @@ use Rattle.object_pools.specs.declared.slot.Held.{Held}
 use Rattle.object_pools.specs.Pool.{Places}
 use Rattle.handle_table.specs.declared.handles.Family.{Family}
 use Rattle.handle_table.specs.declared.handles.Family.TheVariants.{Connection, Message}
-use Rattle.handle_table.specs.Handles.{GivesFresh, IsPast, indices_of, live_names, slot_name}
+use Rattle.handle_table.specs.Handles.{GivesFresh, IsPast, live_names, slot_name}
 use Rattle.spm_tables.specs.declared.item.QueuedMessage.{QueuedMessage}
 use Rattle.spm_tables.specs.TablesView.{TablesView, spm_of}
 
@@ -34,8 +34,8 @@ pub record NamesAre (d : TablesView) (k : NamesSoFar) : Type 0 where
 pub record KeepsFresh {T : Type 0} (f : Family) (told : T → Bool) (old new : Places T) : Type 0 where
   pub size : length new.generations ≡ length old.generations
   pub generations : (i : ℕ) → get_or old.generations i 0 ≤ get_or new.generations i 0
-  -- in a pool of no more indices than its family has
-  pub fresh : length old.generations ≤ indices_of f → (given : List Handle) → GivesFresh f told old given → GivesFresh f told new given
+  -- of the first n indices, where the pool has no more slots
+  pub fresh : (n : ℕ) → length old.generations ≤ n → (given : List Handle) → GivesFresh f n told old given → GivesFresh f n told new given
 
 abbrev pub KeepsFreshConnections : Places OpenConnection → Places OpenConnection → Type 0
 KeepsFreshConnections = KeepsFresh Connection (λ c. is_some c.handle)

@@ -8,7 +8,7 @@ use Rattle.memory_image.specs.Pieces.{byte_at}
 use Rattle.object_pools.specs.declared.slot.Slot.{Slot}
 use Rattle.handle_table.specs.declared.handles.Family.{Family}
 use Rattle.handle_table.specs.declared.handles.Family.TheVariants.{Connection, Message}
-use Rattle.handle_table.specs.Handles.{GivesFresh, handle_at}
+use Rattle.handle_table.specs.Handles.{GivesFresh, handle_at, indices_of}
 use Rattle.spm_tables.specs.TablesView.{TablesView, spm_of}
 
 -- the last generation that each index of a family has had
@@ -32,6 +32,6 @@ pub record Stands (d : TablesView) (bytes : List Bytes) (st : State) : Type 0 wh
   -- each given handle names a slot with a generation that was taken
   pub given : All (NamesTaken d) st.handles_given
   -- and none is that of a generation still to come, or of a live slot whose connection has no handle
-  pub connections : GivesFresh Connection (λ c. is_some c.handle) d.connections st.handles_given
+  pub connections : GivesFresh Connection (indices_of Connection) (λ c. is_some c.handle) d.connections st.handles_given
   -- or whose message has none
-  pub messages : GivesFresh Message (λ m. m.delivered) d.messages st.handles_given
+  pub messages : GivesFresh Message (indices_of Message) (λ m. m.delivered) d.messages st.handles_given

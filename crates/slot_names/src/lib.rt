@@ -4,7 +4,7 @@
 //! `ffm_model`. The modules of `proofs/` offer the same laws, change by change, to the crates above.
 #![tactic(auto)]
 
-ghost use Rattle.std.specs.Prelude.{◌≡◌, ℕ, ℤ, ◌+◌, Bool, false, not, is_some, List, length, Some, find, filter, All};
+ghost use Rattle.std.specs.Prelude.{◌≡◌, ℕ, ℤ, ◌+◌, Bool, false, not, is_some, List, length, None, Some, find, filter, All};
 ghost use Rattle.ffm_model.specs.declared.system.System.{System};
 ghost use Rattle.ffm_model.specs.declared.machine.Call.TheVariants as call;
 ghost use Rattle.ffm_model.specs.declared.machine.Handle.{Handle};
@@ -37,7 +37,7 @@ pub fn slots_follow_names()
     ensures untouched { (s : System) (old new : TablesView) → new.connections ≡ old.connections → new.messages ≡ old.messages → FollowsNames s old new }
     ensures connection_changes { (s : System) (old new : TablesView) (slot : Slot) (c changed : OpenConnection) → IsKept 256 old.connections → item_at old.connections slot ≡ Some c → changed.serial ≡ c.serial
         → new.connections ≡ with_item old.connections slot changed → new.messages ≡ old.messages → FollowsNames s old new }
-    ensures message_changes { (s : System) (old new : TablesView) (place : Slot) (m changed : QueuedMessage) → IsKept 304 old.messages → item_at old.messages place ≡ Some m → changed.serial ≡ m.serial → changed.client ≡ m.client → changed.kind ≡ m.kind
+    ensures message_changes { (s : System) (old new : TablesView) (place : Slot) (m changed : QueuedMessage) → IsKept 304 old.messages → item_at old.messages place ≡ Some m → changed.serial ≡ m.serial → (changed.serial ≡ None → changed.client ≡ m.client) → changed.kind ≡ m.kind
         → new.connections ≡ old.connections → new.messages ≡ with_item old.messages place changed → FollowsNames s old new }
 
     // psa_connect

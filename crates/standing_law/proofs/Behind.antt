@@ -33,9 +33,9 @@ use Rattle.object_pools.specs.declared.slot.Held.{Held}
 use Rattle.object_pools.specs.Pool.{IsKept, IsNamed, Places, has_slot}
 use Rattle.handle_table.specs.declared.handles.Family.{Family}
 use Rattle.handle_table.specs.declared.handles.Family.TheVariants.{Connection, Message}
-use Rattle.handle_table.specs.Handles.{GivesFresh, base_of, handle_at, indices_of, is_given}
+use Rattle.handle_table.specs.Handles.{GivesFresh, base_of, handle_at, index_limit, indices_of, is_given}
 use Rattle.handle_table.proofs.Twins.{count-map}
-use Rattle.handle_table.proofs.FreshLemmas.{GivesFresh-other, apart}
+use Rattle.handle_table.proofs.FreshLemmas.{GivesFresh-other, apart, indices-fit}
 use Rattle.handle_table.proofs.SlotLemmas.{one_slot}
 use Rattle.spm_tables.specs.TablesView.{TablesView, spm_of, held_message, shown_handle}
 use Rattle.spm_tables.specs.declared.item.QueuedMessage.{QueuedMessage}
@@ -46,10 +46,10 @@ use Rattle.standing_law.specs.Kept.{AreKept}
 -- ---- handles of one pool
 
 module _ {T : Type 0} (f : Family) (told : T → Bool) (p : Places T) where
-  gives-none : GivesFresh f told p []
+  gives-none : GivesFresh f (indices_of f) told p []
   gives-none = record { future = λ a below later. refl; untold = λ i d lt e. refl }
 
-  gives-both : (given more : List Handle) → GivesFresh f told p given → GivesFresh f told p more → GivesFresh f told p (given ++ more)
+  gives-both : (given more : List Handle) → GivesFresh f (indices_of f) told p given → GivesFresh f (indices_of f) told p more → GivesFresh f (indices_of f) told p (given ++ more)
   gives-both given more v w =
       let off : (h : Handle) → is_given given h ≡ false → is_given more h ≡ false → is_given (given ++ more) h ≡ false = λ h x y. list_any-append (handle_eq h) given more ∙ ap (λ b. b || is_given more h) x ∙ y in
       record {
@@ -57,15 +57,15 @@ module _ {T : Type 0} (f : Family) (told : T → Bool) (p : Places T) where
         untold = λ i d lt e. off (handle_at f (get_or p.held i d).slot) (v.untold i d lt e) (w.untold i d lt e);
       }
 
-  gives-each : (P : Handle → Type 0) (given : List Handle) → ((h : Handle) → P h → GivesFresh f told p (h ∷ [])) → All P given → GivesFresh f told p given
+  gives-each : (P : Handle → Type 0) (given : List Handle) → ((h : Handle) → P h → GivesFresh f (indices_of f) told p (h ∷ [])) → All P given → GivesFresh f (indices_of f) told p given
   gives-each P [] one all = gives-none
   gives-each P (h ∷ given) one all = gives-both (h ∷ []) given (one h (All-head P h given all)) (gives-each P given one (All-tail P h given all))
 
   -- that of a slot whose object was told
-  gives-own : (s : Slot) → IsKept (indices_of f) p → IsNamed p.generations s → 1 ≤ count_by (λ x. told x.item && has_slot s x) p.held → GivesFresh f told p (handle_at f s ∷ [])
+  gives-own : (s : Slot) → IsKept (indices_of f) p → IsNamed p.generations s → 1 ≤ count_by (λ x. told x.item && has_slot s x) p.held → GivesFresh f (indices_of f) told p (handle_at f s ∷ [])
   gives-own s k name some =
       let other : (a : Slot) → a.index < indices_of f → ((a.index ≡ s.index) × (a.generation ≡ s.generation) → ⊥) → is_given (handle_at f s ∷ []) (handle_at f a) ≡ false =
-      λ a below differ. ap (λ b. b || false) (apart f f a s below (omega (arith, name.below, k.size)) (λ e. differ (e.1, e.2))) in
+      λ a below differ. ap (λ b. b || false) (apart f f a s (omega (arith, below, indices-fit f)) (omega (arith, name.below, k.size, indices-fit f)) (λ e. differ (e.1, e.2))) in
       record {
         future = λ a below later.
             other a below
@@ -89,15 +89,15 @@ module _ {T : Type 0} (f : Family) (told : T → Bool) (p : Places T) where
       }
 
   -- that of the other family
-  gives-other : (g : Family) (s : Slot) → (base_of f ≡ base_of g → ⊥) → s.index < indices_of g → IsKept (indices_of f) p → GivesFresh f told p (handle_at g s ∷ [])
-  gives-other g s differ small k = GivesFresh-other f told p [] g s differ small k gives-none
+  gives-other : (g : Family) (s : Slot) → (base_of f ≡ base_of g → ⊥) → s.index < index_limit → IsKept (indices_of f) p → GivesFresh f (indices_of f) told p (handle_at g s ∷ [])
+  gives-other g s differ small k = GivesFresh-other f (indices_of f) told p [] g s differ small (indices-fit f) k gives-none
 
   -- the handle is that of a slot whose object was told
   record IsTold (h : Handle) : Type 0 where
     slot : Slot
     is : handle_at f slot ≡ h
     name : IsNamed p.generations slot
-    own : GivesFresh f told p (handle_at f slot ∷ [])
+    own : GivesFresh f (indices_of f) told p (handle_at f slot ∷ [])
 
   told-found : (q : Held T → Bool) (h : Handle) → IsKept (indices_of f) p → 1 ≤ count_by q p.held → All (λ x. q x ≡ true → (told x.item ≡ true) × (handle_at f x.slot ≡ h)) p.held → IsTold h
   told-found q h k some all =
@@ -113,8 +113,8 @@ module _ {T : Type 0} (f : Family) (told : T → Bool) (p : Places T) where
 
 record IsShown (d : TablesView) (h : Handle) : Type 0 where
   named : NamesTaken d h
-  connections : GivesFresh Connection (λ c. is_some c.handle) d.connections (h ∷ [])
-  messages : GivesFresh Message (λ m. m.delivered) d.messages (h ∷ [])
+  connections : GivesFresh Connection (indices_of Connection) (λ c. is_some c.handle) d.connections (h ∷ [])
+  messages : GivesFresh Message (indices_of Message) (λ m. m.delivered) d.messages (h ∷ [])
 
 object-shown : (d : TablesView) → AreKept d → (h : Handle) → 1 ≤ objects_with (spm_of d) h → IsShown d h
 object-shown d k h some =
@@ -161,11 +161,11 @@ stands-behind s d new bytes after st next shown was are stood keeps spm memory g
       memory = memory;
       given = subst (λ (hs : List Handle). All (NamesTaken new) hs) (sym grown)
           (All-append (NamesTaken new) given shown (All-weaker (NamesTaken d) (NamesTaken new) still given stood.given) (All-weaker (IsShown new) (NamesTaken new) (λ h x. x.named) shown each));
-      connections = subst (λ (hs : List Handle). GivesFresh Connection (λ c. is_some c.handle) new.connections hs) (sym grown)
-          (gives-both Connection (λ c. is_some c.handle) new.connections given shown (keeps.given.connections.fresh was.connections.size given stood.connections)
+      connections = subst (λ (hs : List Handle). GivesFresh Connection (indices_of Connection) (λ c. is_some c.handle) new.connections hs) (sym grown)
+          (gives-both Connection (λ c. is_some c.handle) new.connections given shown (keeps.given.connections.fresh 256 was.connections.size given stood.connections)
           (gives-each Connection (λ c. is_some c.handle) new.connections (IsShown new) shown (λ h x. x.connections) each));
-      messages = subst (λ (hs : List Handle). GivesFresh Message (λ m. m.delivered) new.messages hs) (sym grown)
-          (gives-both Message (λ m. m.delivered) new.messages given shown (keeps.given.messages.fresh was.messages.size given stood.messages)
+      messages = subst (λ (hs : List Handle). GivesFresh Message (indices_of Message) (λ m. m.delivered) new.messages hs) (sym grown)
+          (gives-both Message (λ m. m.delivered) new.messages given shown (keeps.given.messages.fresh 304 was.messages.size given stood.messages)
           (gives-each Message (λ m. m.delivered) new.messages (IsShown new) shown (λ h x. x.messages) each));
     } where
       rises : (f : Family) (i : ℕ) → get_or (generations_of d f) i 0 ≤ get_or (generations_of new f) i 0

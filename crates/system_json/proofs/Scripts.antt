@@ -1,11 +1,11 @@
--- The scripts of a scenario: no actor has more than it may have, so there are at most eight for each; and none has too many lines.
-use Rattle.std.proofs.Common.{◌≡◌, ℕ, ◌+◌, ◌*◌, ◌<◌, ◌≤◌, List, [], ◌∷◌, ◌++◌, length, map, suc, zero, Bool, true, false, not, cond, Some, None, Option, Result, Ok, Err, refl, subst, ◌∙◌, eqb-true, arith, if◌then◌else◌}
+-- The scripts of a scenario: no actor has more than it may have, the file has no more than all actors have, and none has too many lines.
+use Rattle.std.proofs.Common.{◌≡◌, ℕ, ◌+◌, ◌<◌, ◌≤◌, List, [], ◌∷◌, ◌++◌, length, map, suc, zero, Bool, true, false, not, cond, Some, None, Option, Result, Ok, Err, refl, subst, ◌∙◌, ap, eqb-true, arith, if◌then◌else◌}
 use Rattle.std.specs.Prelude.{filter, count_by, get_or, nat_lt, ◌==◌}
-use Rattle.std.specs.List.{AllByRecursion, range_with_len}
+use Rattle.std.specs.List.{AllByRecursion, range_with_len, sum_by}
 use Rattle.std.proofs.lemmas.Bool.Decides.{nat_tests}
 use Rattle.std.proofs.lemmas.List.{length-map}
 use Rattle.std.proofs.lemmas.List.Filters.{length-filter_both}
-use Rattle.std.proofs.lemmas.List.FromFn.{get_or-map-range_with_len}
+use Rattle.std.proofs.lemmas.List.FromFn.{get_or-map-range_with_len, sum_by-map-range_with_len_more}
 use Rattle.std.proofs.lemmas.List.Sums.{length-filter, sum_by-append}
 use Rattle.serde_json.specs.Data.{Data, Items, no_items, item}
 use Rattle.serde_json.specs.Find.{get, as_array}
@@ -19,9 +19,9 @@ use Rattle.ffm_model.specs.declared.place.PartRefusal.{PartRefusal}
 use Rattle.ffm_model.specs.declared.place.PathStep.{PathStep}
 use Rattle.ffm_model.specs.declared.place.PathStep.TheVariants as step
 use Rattle.ffm_model.specs.declared.system.System.{System}
-use Rattle.ffm_model.specs.Actors.{kind_of, is_client}
 use Rattle.ffm_model.specs.Attributes.{◌>>=◌, refuse, or_refuse, within, if_there, required, optional, name_of, object_of, items_after, list_after, list_up_to}
 use Rattle.ffm_model.specs.Keys.{key_text}
+use Rattle.ffm_model.proofs.ActorLemmas.{some_scripts}
 use Rattle.ffm_model.specs.Scenarios.{actor_named, most_scripts, may_have_another, line_of, new_actor_of, script_of, lines_for, or_empty_script, lines_by_actor, AreScriptsOf}
 
 -- ---- what a reading that gave a value gave on the way
@@ -115,11 +115,7 @@ fits_if_there s (Some d) scripts h = fits_list s d scripts h
 pub fitting : (s : System) (d : Data) (scripts : List ScriptItem) → optional (list_after (script_of s)) [] key.Scripts d ≡ Ok scripts → Fits s scripts
 fitting s d scripts h = fits_if_there s (get (key_text key.Scripts) d) scripts (placed_here (step.Key key.Scripts) (if_there (list_after (script_of s)) (Ok []) (get (key_text key.Scripts) d)) scripts h)
 
--- ---- there are at most eight for each actor
-
-most_between : (s : System) (a : ℕ) → (1 ≤ most_scripts s a) × (most_scripts s a ≤ 8)
-most_between s a =
-    elim (is_client (kind_of s a)) as (λ b. (1 ≤ (if b then 8 else 1)) × ((if b then 8 else 1) ≤ 8)) [ true ↦ (omega arith, omega arith) | false ↦ (omega arith, omega arith) ]
+-- ---- the file has no more than all actors have
 
 -- the scripts of the actors below n, without those of n
 abbrev below : ℕ → List ScriptItem → List ScriptItem
@@ -151,18 +147,29 @@ count_below n a (x ∷ xs) =
           rw same (omega (arith, count_first a x xs, count_first a x (below n xs)))
     ] refl
 
-few_each : (n : ℕ) (scripts : List ScriptItem) → AllByRecursion (λ script. script.actor.0 < n) scripts → ((a : ℕ) → count a scripts ≤ 8) → length scripts ≤ 8 * n
-few_each zero [] all each = omega arith
-few_each zero (x ∷ xs) all each = absurd (omega (arith, all.0))
-few_each (suc n) scripts all each =
-    let rest = few_each n (below n scripts) (below_kept n scripts all) (λ a. omega (arith, count_below n a scripts, each a)) in
+few_each : (f : ℕ → List (List (List ℕ))) (n : ℕ) (scripts : List ScriptItem) → AllByRecursion (λ script. script.actor.0 < n) scripts → ((a : ℕ) → count a scripts ≤ length (f a))
+    → length scripts ≤ sum_by (λ own. length own) (map f (range_with_len 0 n))
+few_each f zero [] all each = omega arith
+few_each f zero (x ∷ xs) all each = absurd (omega (arith, all.0))
+few_each f (suc n) scripts all each =
+    let rest = few_each f n (below n scripts) (below_kept n scripts all) (λ a. omega (arith, count_below n a scripts, each a)) in
     let parts = length-filter_both (λ script. script.actor.0 == n) (λ script. not (script.actor.0 == n)) (λ script. refl) scripts in
     let own = length-filter (λ script. script.actor.0 == n) scripts in
-    omega (arith, rest, parts, own, each n)
+    let on : n + 1 ≡ suc n = omega arith in
+    let more = sum_by-map-range_with_len_more (λ own. length own) f 0 n n (omega arith) in
+    omega (arith, rest, parts, own, each n, more, ap (λ k. sum_by (λ own. length own) (map f (range_with_len 0 k))) on)
 
-pub few_scripts : (s : System) (n : ℕ) (scripts : List ScriptItem) → Fits s scripts → AllByRecursion (λ script. script.actor.0 < n) scripts → length (map (λ (script : ScriptItem). script.actor) scripts) ≤ 8 * n
-few_scripts s n scripts fits all =
-    rw length-map (few_each n scripts all (λ a. omega (arith, fits a, (most_between s a).1)))
+own_counted : (a : ℕ) (scripts : List ScriptItem) → length (lines_for scripts a) ≡ count a scripts
+own_counted a scripts = length-map (filter (λ script. script.actor.0 == a) scripts) (λ script. script.lines) ∙ length-filter (λ script. script.actor.0 == a) scripts
+
+or_longer : (scripts : List (List (List ℕ))) → length scripts ≤ length (or_empty_script scripts)
+or_longer [] = omega arith
+or_longer (x ∷ xs) = omega arith
+
+pub few_scripts : (n : ℕ) (scripts : List ScriptItem) → AllByRecursion (λ script. script.actor.0 < n) scripts
+    → length (map (λ (script : ScriptItem). script.actor) scripts) ≤ sum_by (λ own. length own) (lines_by_actor n scripts)
+few_scripts n scripts all =
+    rw length-map (few_each (λ a. or_empty_script (lines_for scripts a)) n scripts all (λ a. omega (arith, own_counted a scripts, or_longer (lines_for scripts a))))
 
 -- ---- the scripts of each actor
 
@@ -173,8 +180,8 @@ scripts_here m (x ∷ xs) some few = (omega arith, few)
 pub scripts_of : (s : System) (n : ℕ) (scripts : List ScriptItem) → Fits s scripts → (a : ℕ) → a < n → AreScriptsOf s a (get_or (lines_by_actor n scripts) a [])
 scripts_of s n scripts fits a lt =
     let at : get_or (lines_by_actor n scripts) a [] ≡ or_empty_script (lines_for scripts a) = get_or-map-range_with_len (λ b. or_empty_script (lines_for scripts b)) 0 n a a [] lt (omega arith) in
-    let own : length (lines_for scripts a) ≡ count a scripts = length-map (filter (λ script. script.actor.0 == a) scripts) (λ script. script.lines) ∙ length-filter (λ script. script.actor.0 == a) scripts in
-    rw at (scripts_here (most_scripts s a) (lines_for scripts a) (most_between s a).0 (omega (arith, own, fits a)))
+    let own = own_counted a scripts in
+    rw at (scripts_here (most_scripts s a) (lines_for scripts a) (some_scripts s a) (omega (arith, own, fits a)))
 
 pub first_kept : {A : Type 0} (P Q : A → Type 0) (xs : List A) → AllByRecursion (λ x. P x × Q x) xs → AllByRecursion P xs
 first_kept P Q [] all = tt

@@ -1,6 +1,6 @@
 use Rattle.counting_law.proofs.Runs.{run-objects}
 use Rattle.counting_law.proofs.Bounds.{few-connections}
-use Rattle.counting_law.proofs.Callers.{few-messages-of}
+use Rattle.counting_law.proofs.Callers.{few-messages-of, without-stateless}
 use Rattle.counting_law.proofs.Rooms.{fitting-room}
 use Rattle.counting_law.proofs.declared_connections_suffice.Goals as goal
 
@@ -9,6 +9,9 @@ returns-clause-connections c s m es st h = few-connections s st.spm (run-objects
 
 pub returns-clause-messages : goal.returns-clause-messages
 returns-clause-messages c s m es st h = few-messages-of s st.spm (run-objects s m es st h)
+
+pub returns-clause-without_stateless : goal.returns-clause-without_stateless
+returns-clause-without_stateless c = without-stateless
 
 pub returns-clause-room : goal.returns-clause-room
 returns-clause-room c = fitting-room

@@ -1,13 +1,19 @@
-use Rattle.std.proofs.Common.{arith, ◌<◌, ◌≤◌, ◌∙◌, length, sym, get_or, Vec, Global, List}
+use Rattle.std.proofs.Common.{arith, ◌<◌, ◌≤◌, ◌∙◌, ap, length, sym, get_or, Vec, Global, List}
 use Rattle.std.proofs.lemmas.Result.{err_from_is_err_and}
 use Rattle.ffm_model.specs.declared.machine.ActorId.{ActorId}
 use Rattle.actor_programs.specs.declared.program.Program.{Program}
 use Rattle.actor_programs.specs.Programs.{made_with, next_lines}
+use Rattle.ffm_model.proofs.ActorLemmas.{actor_count_le}
+use Rattle.actor_programs.proofs.ActorLemmas.{few_in_order}
 use Rattle.actor_programs.proofs.MadeLemmas.{made-next, made-wrong, made-end, same_refusal}
 use Rattle.actor_programs.proofs.made.made_of.Goals as goal
 
 abbrev no_actor : ActorId
 no_actor = record { 0 = 0 }
+
+pub overflow_cast-number : goal.overflow_cast-number
+overflow_cast-number c =
+    omega (arith, few_in_order c.args.system.now c.args.scenario.now c.requires, actor_count_le c.args.system.now, ap (λ (order : List ActorId). length order) c.as_slice-order.ensures)
 
 pub returns-in_err-make_next-clause-reads : goal.returns-in_err-make_next-clause-reads
 returns-in_err-make_next-clause-reads c =

@@ -1,4 +1,4 @@
-use Rattle.std.proofs.Common.{ℕ, Some, ◌≡◌, ◌<◌, ap, sym, subst, ◌∙◌}
+use Rattle.std.proofs.Common.{ℕ, Some, ◌≡◌, ◌<◌, arith, ap, sym, subst, ◌∙◌}
 use Rattle.std.specs.Prelude.{IfSome, IsSome, Option}
 use Rattle.ffm_model.specs.Actors.{actor_count}
 use Rattle.ffm_model.specs.State.{connection_by_serial, is_undelivered}
@@ -85,7 +85,7 @@ returns-clause-fresh c = λ st stands.
     let it = delivered-so c in
     let waited = was-undelivered c.args.tables.now c.dequeue.new.self c.in-Some.service c.in-Some-dequeue.slot c.queued-message.result it in
     subst (λ (m : ShownMessage). fresh st m.handle ≡ true) (sym c.shown-shown.ensures)
-    (fresh-at Message (λ (m : QueuedMessage). m.delivered) c.args.tables.now.messages st c.in-Some-dequeue.slot it.item c.law.ensures.messages stands.messages it.live waited)
+    (fresh-at Message 304 (λ (m : QueuedMessage). m.delivered) c.args.tables.now.messages st c.in-Some-dequeue.slot it.item (omega arith) c.law.ensures.messages stands.messages it.live waited)
 
 pub returns-clause-fits : goal.returns-clause-fits
 returns-clause-fits c =
