@@ -8,10 +8,10 @@ use Rattle.ffm_model.specs.declared.machine.Call.{Call}
 use Rattle.ffm_model.specs.declared.machine.Call.TheVariants as call
 use Rattle.ffm_model.specs.declared.machine.Outcome.{Outcome}
 use Rattle.ffm_model.specs.declared.script.Instruction.{Instruction}
-use Rattle.ffm_model.specs.Plans.{engine_answered, engine_after, plan_of}
+use Rattle.ffm_model.specs.Plans.{engine_answered, engine_after, is_stop, plan_of}
 use Rattle.ffm_model.specs.Records.{is_blocked_outcome, ends_blocked}
 use Rattle.ffm_model.specs.ScriptRuns.{Point, start, arrived, call_at, behind, script_engine, script_plan, ScriptRun}
-use Rattle.ffm_model.specs.Contexts.{Contexts, first_from, next_context, picked, is_stop, is_spent, next_calls, contexts_call, contexts_behind, context_engine, context_plan, ContextRun}
+use Rattle.ffm_model.specs.Contexts.{Contexts, first_from, next_context, picked, is_spent, next_calls, contexts_call, contexts_behind, context_engine, context_plan, ContextRun}
 use Rattle.actor_plans.proofs.PlanLemmas.{same-runs}
 
 -- a client with one context, which stands at a point

@@ -1,26 +1,22 @@
 -- The programs of all actors, and the scripts by which they run.
-use Rattle.std.proofs.Common.{ℕ, ◌≡◌, ◌<◌, ◌≤◌, ◌+◌, ◌++◌, Bool, true, false, List, [], ◌∷◌, ⊎_elim, length, map, get_or, refl, ap, sym, ◌∙◌, subst, arith, rules}
+use Rattle.std.proofs.Common.{ℕ, ◌≡◌, ◌<◌, ◌≤◌, ◌+◌, ◌++◌, Bool, true, false, List, [], ◌∷◌, ⊎_elim, length, map, get_or, refl, ap, sym, ◌∙◌, subst, arith}
 use Rattle.std.specs.Prelude.{if◌then◌else◌}
-use Rattle.std.specs.List.{AllByRecursion, IsDistinct, enumerate_from, flat_map}
+use Rattle.std.specs.List.{AllByRecursion, enumerate_from, flat_map}
 use Rattle.std.proofs.lemmas.List.FromFn.{length-enumerate_from, get_or-enumerate_from}
 use Rattle.std.proofs.lemmas.List.{length-append, length-map, get_or_append_left, get_or-map}
 use Rattle.std.proofs.Math.Seq.{get_or-append_seam}
 use Rattle.std.proofs.lemmas.Bool.{cases_eq}
 use Rattle.ffm_model.specs.declared.system.System.{System}
 use Rattle.ffm_model.specs.Scenarios.{most_scripts}
-use Rattle.ffm_model.specs.SfnScripts.{IsSfnScript}
 use Rattle.actor_programs.specs.declared.program.Program.{Program}
 use Rattle.actor_programs.specs.declared.program.Program.TheVariants.{Plain, Functions}
 use Rattle.sfn_calls.specs.Partitions.{is_sfn}
 use Rattle.ffm_model.proofs.ActorLemmas.{some_scripts}
+use Rattle.sfn_calls.proofs.AssemblyLemmas.{no-functions}
 use Rattle.actor_programs.proofs.ActorLemmas.{several}
 use Rattle.actor_programs.specs.Programs.{Parts, Made, AreMade, ArePrograms, AreScriptsOf, IsOfOneScript, IsOnePart, IsProgramOf, all_joined, empty_program, joined, parts_of, script_of}
 
 -- ---- the programs of an actor's scripts as one
-
-pub no-functions : IsSfnScript []
-unfolding IsDistinct
-no-functions = record { one_each = search rules; fit = tt; short = tt }
 
 empty-by : (s : System) (a : ℕ) (b : Bool) → is_sfn s a ≡ b → IsProgramOf s a (if b then Functions [] else Plain ([] ∷ []))
 empty-by s a true e = (e, no-functions)

@@ -82,16 +82,18 @@ count_covered p (r ∷ rs) limit apart =
     let split = count_split p (range_covers r) (any_covers rs) 0 limit apart.1 in
     head ∙ omega (arith, first, rest, split, bridge)
 
-drop_cover : (b c : Bool) → (b ≡ true → c ≡ true) → (b && c) ≡ b
-drop_cover true c holds = holds refl
-drop_cover false c holds = refl
+-- a test that the other one covers
+pub covered : (b c : Bool) → (c ≡ false → b ≡ false) → (b && c) ≡ b
+covered true true h = refl
+covered true false h = sym (h refl)
+covered false c h = refl
 
 -- what passes is counted alike in each set of ranges that has it all
 pub count_in_ranges : (p : ℕ → Bool) (rs qs : List (ℕ × ℕ)) (limit : ℕ) → AreApart limit rs → AreApart limit qs
-    → ((x : ℕ) → p x ≡ true → any_covers rs x ≡ true) → ((x : ℕ) → p x ≡ true → any_covers qs x ≡ true) → count_in p rs ≡ count_in p qs
+    → ((x : ℕ) → any_covers rs x ≡ false → p x ≡ false) → ((x : ℕ) → any_covers qs x ≡ false → p x ≡ false) → count_in p rs ≡ count_in p qs
 count_in_ranges p rs qs limit rs_apart qs_apart in_rs in_qs =
     let one = count_same (λ x. p x && any_covers rs x) (λ x. p x && any_covers qs x) 0 limit
-    (λ x l h. drop_cover (p x) (any_covers rs x) (in_rs x) ∙ sym (drop_cover (p x) (any_covers qs x) (in_qs x))) in
+    (λ x l h. covered (p x) (any_covers rs x) (in_rs x) ∙ sym (covered (p x) (any_covers qs x) (in_qs x))) in
     count_covered p rs limit rs_apart ∙ (one ∙ sym (count_covered p qs limit qs_apart))
 
 lesser_by : (t : Bool) (p q : ℕ → Bool) (a b : ℕ) → nat_lt a b ≡ t → IsLeast p (Some a) → IsLeast q (Some b)

@@ -4,6 +4,7 @@ use Rattle.std.specs.Prelude.{Option, Some, None, Result, Ok, Err, IfOk, codes, 
 use Rattle.std.specs.List.{list_all, list_any}
 use Rattle.std.specs.Option.{option_map, option_map_or}
 use Rattle.std.specs.Ordering.{int_eq}
+use Rattle.std.proofs.lemmas.Bool.{not-true}
 use Rattle.ffm_model.specs.declared.constants.TheConstants.{PSA_IPC_CALL, PSA_IPC_CONNECT, PSA_MAX_IOVEC, PSA_NULL_HANDLE}
 use Rattle.ffm_model.specs.declared.system.System.{System}
 use Rattle.ffm_model.specs.declared.groups.Group.{Group}
@@ -36,12 +37,8 @@ record Decide (cs : List Told) (x : Option Effect) : Type 0 where
   any : list_any holds cs ≡ is_none x
   all : list_all fails cs ≡ not (is_none x)
 
-not_true : (b : Bool) → not b ≡ true → b ≡ false
-not_true true h = absurd cc
-not_true false h = refl
-
 say : (cs : List Told) (x : Option Effect) → Decide cs x → Say cs x
-say cs x d = record { refused = λ h. sym d.any ∙ h; allowed = λ h. not_true (is_none x) (sym d.all ∙ h) }
+say cs x d = record { refused = λ h. sym d.any ∙ h; allowed = λ h. not-true (is_none x) (sym d.all ∙ h) }
 
 -- ---- by truth values
 

@@ -1,12 +1,11 @@
 -- The service of a connection, and one that takes a version, is among the system's.
-use Rattle.std.proofs.Common.{ℕ, ◌≡◌, ◌<◌, ◌≤◌, ◌+◌, ◌==◌, Bool, true, false, cond, not, ◌&&◌, List, [], ◌∷◌, length, arith, ◌∙◌, ap, sym, refl}
+use Rattle.std.proofs.Common.{ℕ, ◌≡◌, ◌<◌, ◌≤◌, ◌+◌, ◌==◌, Bool, true, false, not, ◌&&◌, length, arith, ◌∙◌, ap, refl}
 use Rattle.std.specs.Prelude.{find, Option, Some, None, nat_lt, slice_get}
-use Rattle.std.specs.List.{list_all}
 use Rattle.std.specs.Option.{option_map, option_map_or, unwrap_or}
 use Rattle.std.proofs.lemmas.List.{length-map}
 use Rattle.std.proofs.lemmas.Option.{slice_get_within}
 use Rattle.list_laws.proofs.Counts.{bit, count-found}
-use Rattle.list_laws.proofs.Tests.{find-passes}
+use Rattle.list_laws.proofs.Tests.{find-list_all, find-passes}
 use Rattle.ffm_model.specs.declared.system.Budget.{Budget}
 use Rattle.ffm_model.specs.declared.system.Service.{Service}
 use Rattle.ffm_model.specs.declared.system.System.{System}
@@ -18,15 +17,6 @@ use Rattle.ffm_model.proofs.WellFormedLemmas.{is_between_actors, budgets_between
 use Rattle.handle_table.proofs.SlotLemmas.{both}
 use Rattle.counting_law.specs.Objects.{ObjectsFit, allowed}
 use Rattle.spm_tables.specs.TablesView.{TablesView, MadeFor, Shape, service_signal}
-
--- what passes a test for all
-all-found : {X : Type 0} (p q : X → Bool) (xs : List X) (x : X) → list_all p xs ≡ true → find q xs ≡ Some x → p x ≡ true
-all-found p q [] x a f = cc
-all-found p q (y ∷ ys) x a f =
-    let parts = both (p y) (list_all p ys) a in
-    let go : (b : Bool) → cond b (Some y) (find q ys) ≡ Some x → p x ≡ true =
-    elim [ true ↦ λ g. let it : y ≡ x = cc in ap p (sym it) ∙ parts.0 | false ↦ λ g. all-found p q ys x parts.1 g ] in
-    go (q y) f
 
 there : (s : System) (b : Budget) → is_between_actors s b ≡ true → b.service < length s.services
 there s b e =
@@ -43,7 +33,7 @@ allowed-service s a v some =
       | None ↦ λ f g. absurd (omega arith)
       | Some b ↦ λ f g.
           let same : b.service ≡ v = equal b.service v (both (b.client.0 == a) (b.service == v) (find-passes test s.budgets b f)).1 in
-          omega (arith, there s b (all-found (is_between_actors s) test s.budgets b (budgets_between_actors s) f))
+          omega (arith, there s b (find-list_all test (is_between_actors s) s.budgets b f (budgets_between_actors s)))
     ] in
     go (find test s.budgets) refl some where
       equal : (k m : ℕ) → (k == m) ≡ true → k ≡ m

@@ -3,14 +3,14 @@ use Rattle.std.proofs.Common.{arith}
 use Rattle.std.specs.Prelude.{ℕ, ◌≡◌, ◌+◌, ◌≤◌, count_by}
 use Rattle.ffm_model.specs.declared.system.System.{System}
 use Rattle.ffm_model.specs.declared.machine.Handle.{Handle}
-use Rattle.ffm_model.specs.State.{SpmState, in_use, has_handle}
-use Rattle.counting_law.specs.Objects.{ObjectsFit, PhaseFitsAt, RisesTo, Mark, allowed, message_marked, connection_marked, wrongly_called, wrongly_shown}
+use Rattle.ffm_model.specs.State.{Rises, SpmState, in_use, has_handle}
+use Rattle.counting_law.specs.Objects.{ObjectsFit, PhaseFitsAt, Mark, allowed, message_marked, connection_marked, wrongly_called, wrongly_shown}
 
 pub record Balanced (s : System) (limit : Handle → ℕ) (b : SpmState) : Type 0 where
   pub within : (a v : ℕ) → in_use b a v ≤ allowed s a v
   pub paired : (t : Mark) → count_by (message_marked t) b.messages ≡ count_by (connection_marked t) b.connections
   pub called : count_by (wrongly_called s) b.messages ≡ 0
-  pub rising : RisesTo 0 b.connections b.connections_made
+  pub rising : Rises 0 b.connections b.connections_made
   pub fitting : (a : ℕ) → PhaseFitsAt b.phases b.connections b.messages a
   pub shown : count_by (wrongly_shown b.phases) b.connections ≡ 0
   pub handles : (h : Handle) → count_by (λ m. has_handle m.handle h) b.messages + count_by (λ c. has_handle c.handle h) b.connections ≤ limit h

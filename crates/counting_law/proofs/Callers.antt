@@ -1,14 +1,14 @@
 -- At most one message for each connection, and one more for each actor that may use a stateless service.
-use Rattle.std.proofs.Common.{ℕ, zero, suc, ◌≡◌, ◌≤◌, ◌+◌, ◌==◌, Bool, true, false, cond, not, ◌&&◌, List, [], ◌∷◌, length, get_or, arith, ◌∙◌, ap, sym, refl}
+use Rattle.std.proofs.Common.{ℕ, zero, suc, ◌≡◌, ◌≤◌, ◌+◌, ◌==◌, Bool, true, false, not, ◌&&◌, length, get_or, arith, ◌∙◌, ap, sym, refl}
 use Rattle.std.specs.Prelude.{count_by, find, nat_lt, int_le, is_none, is_some, Option, Some, None}
-use Rattle.std.specs.List.{list_all, range_with_len}
+use Rattle.std.specs.List.{range_with_len}
 use Rattle.std.specs.Option.{option_map, option_map_or}
 use Rattle.std.proofs.lemmas.Bool.Decides.{nat_tests}
 use Rattle.std.proofs.lemmas.List.Folds.{list_any_none}
 use Rattle.std.proofs.lemmas.List.Sums.{count_by-le-length}
 use Rattle.std.proofs.lemmas.Bool.{and_from, and_parts, and_right, eqb-true}
 use Rattle.list_laws.proofs.Counts.{bit, count-found, count-le, count-push, some-any, some-found}
-use Rattle.list_laws.proofs.Tests.{find-passes}
+use Rattle.list_laws.proofs.Tests.{find-list_all, find-passes}
 use Rattle.list_laws.proofs.Lists.{range_with_len-more}
 use Rattle.ffm_model.specs.declared.constants.TheConstants.{PSA_IPC_CALL}
 use Rattle.ffm_model.specs.declared.system.System.{System}
@@ -23,14 +23,6 @@ use Rattle.counting_law.proofs.Bounds.{count-all, few-connections}
 use Rattle.counting_law.proofs.Pairs.{count-sum, none-counts}
 use Rattle.counting_law.proofs.Slots.{one-call}
 
--- what a test says of all items, it says of the one that was found
-pub all-at : {X : Type 0} (p : X → Bool) (xs : List X) (q : X → Bool) (x : X) → list_all p xs ≡ true → find q xs ≡ Some x → p x ≡ true
-all-at p [] q x all f = cc
-all-at {X = X} p (y ∷ ys) q x all f =
-    let go : (b : Bool) → cond b (Some y) (find q ys) ≡ Some x → p x ≡ true =
-    elim [ true ↦ λ g. let it : y ≡ x = cc in ap p (sym it) ∙ (and_parts (p y) (list_all p ys) all).0 | false ↦ λ g. all-at p ys q x (and_parts (p y) (list_all p ys) all).1 g ] in
-    go (q y) f
-
 -- the budget of a permitted pair
 budget-there : (s : System) (a v : ℕ) → permits s a v ≡ true → (b : Budget) × (find (λ c. (c.client.0 == a) && (c.service == v)) s.budgets ≡ Some b)
 budget-there s a v e =
@@ -41,7 +33,7 @@ permitted-there : (s : System) (a v : ℕ) → permits s a v ≡ true → nat_lt
 permitted-there s a v e =
     let it = budget-there s a v e in
     let own : it.0.client.0 ≡ a = eqb-true it.0.client.0 a (and_parts _ _ (find-passes (λ c. (c.client.0 == a) && (c.service == v)) s.budgets it.0 it.1)).0 in
-    let low : nat_lt it.0.client.0 (length s.partitions + length s.clients) ≡ true = (and_parts _ _ (all-at _ s.budgets _ it.0 (budgets_between_actors s) it.1)).0 in
+    let low : nat_lt it.0.client.0 (length s.partitions + length s.clients) ≡ true = (and_parts _ _ (find-list_all _ _ s.budgets it.0 it.1 (budgets_between_actors s))).0 in
     ap (λ k. nat_lt k (length s.partitions + length s.clients)) (sym own) ∙ low
 
 permitted-calls : (s : System) (a v : ℕ) → permits s a v ≡ true → is_stateless s v ≡ true → calls_stateless s a ≡ true

@@ -12,9 +12,10 @@ use Rattle.ffm_model.specs.Memory.{no_vectors}
 use Rattle.counting_law.specs.Objects.{same}
 use Rattle.ffm_model.specs.State.{SpmState, phase_of, in_use, has_handle}
 use Rattle.ffm_model.specs.ClientCalls.{connect_issued, new_connection}
+use Rattle.ffm_model.proofs.SerialLemmas.{rises-push}
 use Rattle.counting_law.proofs.Balance.{Balanced}
 use Rattle.counting_law.specs.Objects.{is_joining, is_opening, allowed, awaited_by, asked_by, called_by, wrongly_called, awaited_of, asking_of, accepted_as, wrongly_shown, message_marked, connection_marked}
-use Rattle.counting_law.proofs.Parts.{is_there, fitting-set, joining-set, rising-push, off_left, off_right, on_left, flipped, is_itself, running-quiet}
+use Rattle.counting_law.proofs.Parts.{is_there, fitting-set, joining-set, off_left, off_right, on_left, flipped, is_itself, running-quiet}
 
 room_for : (g f : ℕ → ℕ → ℕ) (a v x w : ℕ) → g a v + 1 ≤ f a v → g x w ≤ f x w → g x w + bit ((a == x) && (v == w)) ≤ f x w
 room_for g f a v x w room old =
@@ -32,7 +33,7 @@ connected-keeps s limit b a v h running room =
       within = λ x w. omega (arith, count-push (λ d. (d.client.0 == x) && (d.service == w)) b.connections c, room_for (in_use b) (allowed s) a v x w room (h.within x w));
       paired = λ t. omega (arith, count-push (message_marked t) b.messages m, count-push (connection_marked t) b.connections c, h.paired t);
       called = omega (arith, count-push (wrongly_called s) b.messages m, h.called);
-      rising = rising-push 0 b.connections_made b.connections c h.rising refl;
+      rising = rises-push 0 b.connections_made b.connections c h.rising refl;
       fitting = fitting-set b.phases a Blocked
           (awaited_by b.connections b.messages) (awaited_by (b.connections ++ c ∷ []) (b.messages ++ m ∷ []))
           (asked_by b.connections b.messages) (asked_by (b.connections ++ c ∷ []) (b.messages ++ m ∷ []))

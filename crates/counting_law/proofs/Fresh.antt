@@ -23,14 +23,15 @@ use Rattle.ffm_model.specs.declared.objects.PendingMessage.{PendingMessage}
 use Rattle.ffm_model.specs.declared.objects.ActorPhase.{ActorPhase}
 use Rattle.ffm_model.specs.declared.objects.ActorPhase.TheVariants.{Connected}
 use Rattle.ffm_model.specs.Memory.{ByteMap, no_vectors}
-use Rattle.ffm_model.specs.State.{SpmState, State, fresh, handle_eq, handle_put, is_undelivered, phase_of}
+use Rattle.ffm_model.specs.State.{Rises, SpmState, State, fresh, handle_eq, handle_put, is_undelivered, phase_of}
 use Rattle.ffm_model.specs.ServiceCalls.{service_of_signal}
 use Rattle.ffm_model.specs.Calls.{programmer_error}
 use Rattle.ffm_model.specs.Step.{handle_shown, outcome_eq}
 use Rattle.ffm_model.proofs.ActorLemmas.{few_partitions, few_clients}
 use Rattle.ffm_model.proofs.WellFormedLemmas.{few_connections}
 use Rattle.ffm_model.specs.Names.{NamedState, NamesSoFar, SlotName, calls_stateless, capacity, message_capacity, first_named, name_at_return, name_due, name_of, named_after, named_step, names_after, no_slot, shows_name, slots_kept, stays, with_connection, with_messages}
-use Rattle.counting_law.specs.Objects.{PhaseFits, RisesTo, is_joining, is_opening, accepted_as, awaited_by, asked_by}
+use Rattle.ffm_model.proofs.SerialLemmas.{rises-bounds}
+use Rattle.counting_law.specs.Objects.{PhaseFits, is_joining, is_opening, accepted_as, awaited_by, asked_by}
 use Rattle.counting_law.specs.Takes.{TakesFew, last_generation}
 use Rattle.counting_law.specs.Fresh.{NamesFit, slots_named}
 use Rattle.counting_law.proofs.Balance.{Balanced, balanced-fit}
@@ -79,13 +80,9 @@ pub record Named (s : System) (es : List Entry) (w : NamedState) : Type 0 where
   pub waiting : with_slots (wrongly_waiting w.state.handles_given) w.state.spm.messages w.names.messages ≡ 0
 
 -- a serial number is below the next one
-rising-le : (lo hi : ℕ) (cs : List OpenConnection) → RisesTo lo cs hi → lo ≤ hi
-rising-le lo hi [] h = h
-rising-le lo hi (c ∷ cs) h = omega (arith, h.0, rising-le (c.serial + 1) hi cs h.1)
-
-serial-below : (lo hi : ℕ) (cs : List OpenConnection) (i : ℕ) (d : OpenConnection) → RisesTo lo cs hi → i < length cs → (get_or cs i d).serial < hi
+serial-below : (lo hi : ℕ) (cs : List OpenConnection) (i : ℕ) (d : OpenConnection) → Rises lo cs hi → i < length cs → (get_or cs i d).serial < hi
 serial-below lo hi [] i d h lt = absurd (omega (arith, lt))
-serial-below lo hi (c ∷ cs) zero d h lt = omega (arith, rising-le (c.serial + 1) hi cs h.1)
+serial-below lo hi (c ∷ cs) zero d h lt = omega (arith, rises-bounds (c.serial + 1) hi cs h.1)
 serial-below lo hi (c ∷ cs) (suc i) d h lt = serial-below (c.serial + 1) hi cs i d h.1 (omega (arith, lt))
 
 -- ---- a step that shows no handle
@@ -209,12 +206,12 @@ record Live (b : SpmState) (a n : ℕ) : Type 0 where
   pub client : c.client.0 ≡ a
   pub below : n < b.connections_made
 
-found-below : (lo hi : ℕ) (q : OpenConnection → Bool) (cs : List OpenConnection) (c : OpenConnection) → RisesTo lo cs hi → find q cs ≡ Some c → c.serial < hi
+found-below : (lo hi : ℕ) (q : OpenConnection → Bool) (cs : List OpenConnection) (c : OpenConnection) → Rises lo cs hi → find q cs ≡ Some c → c.serial < hi
 found-below lo hi q [] c h f = cc
 found-below lo hi q (d ∷ ds) c h f =
     let go : (b : Bool) → cond b (Some d) (find q ds) ≡ Some c → c.serial < hi =
     elim [
-      | true ↦ λ g. let it : d ≡ c = cc in let e : d.serial ≡ c.serial = ap (λ (x : OpenConnection). x.serial) it in omega (arith, e, rising-le (d.serial + 1) hi ds h.1)
+      | true ↦ λ g. let it : d ≡ c = cc in let e : d.serial ≡ c.serial = ap (λ (x : OpenConnection). x.serial) it in omega (arith, e, rises-bounds (d.serial + 1) hi ds h.1)
       | false ↦ λ g. found-below (d.serial + 1) hi q ds c h.1 g
     ] in
     go (q d) f

@@ -25,9 +25,10 @@ use Rattle.ffm_model.specs.State.{SpmState, phase_of, in_use, has_handle, rhandl
 use Rattle.ffm_model.specs.Panic.{is_dead, panic_effect}
 use Rattle.ffm_model.specs.ClientCalls.{Move, move, call_on, call_to, is_service_panicked}
 use Rattle.ffm_model.specs.ServiceCalls.{connect_answered, close_answered, with_request_phase}
+use Rattle.ffm_model.proofs.SerialLemmas.{rises-map}
 use Rattle.counting_law.specs.Objects.{PhaseFits, is_joining, allowed, awaited_by, called_by, wrongly_called, awaited_of, asking_of, accepted_as, wrongly_shown, message_marked, connection_marked}
 use Rattle.counting_law.proofs.Balance.{Balanced}
-use Rattle.counting_law.proofs.Parts.{fits_same, is_there, phase_same, flipped, is_itself, running-quiet, rising-map}
+use Rattle.counting_law.proofs.Parts.{fits_same, is_there, phase_same, flipped, is_itself, running-quiet}
 use Rattle.counting_law.proofs.Updates.{phased-keeps, sent-keeps}
 use Rattle.counting_law.proofs.Connect.{connected-keeps}
 use Rattle.counting_law.proofs.Close.{close-keeps, sent-own}
@@ -78,7 +79,7 @@ rhandle-keeps s limit b n r h =
       within = λ x w. omega (arith, h.within x w, blind (λ c. (c.client.0 == x) && (c.service == w)) (λ c. refl));
       paired = λ t. h.paired t ∙ sym (blind (connection_marked t) (λ c. refl));
       called = h.called;
-      rising = rising-map 0 b.connections_made (rhandle_put n r) (serial-rhandle_put n r) b.connections h.rising;
+      rising = rises-map 0 b.connections_made (rhandle_put n r) (serial-rhandle_put n r) b.connections h.rising;
       fitting = λ a. fits_same (phase_of b a) _ _ _ _ _ (λ m. count_by (accepted_as a m) after) (ap (λ n. n + count_by (called_by a) b.messages) (blind (awaited_of a) (λ c. refl))) (ap (λ n. n + count_by (called_by a) b.messages) (blind (asking_of a) (λ c. refl))) (λ m. blind (accepted_as a m) (λ c. refl)) (h.fitting a);
       shown = blind (wrongly_shown b.phases) (λ c. refl) ∙ h.shown;
       handles = λ k. omega (arith, h.handles k, blind (λ c. has_handle c.handle k) (λ c. refl));

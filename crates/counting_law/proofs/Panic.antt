@@ -19,12 +19,13 @@ use Rattle.ffm_model.specs.declared.machine.Outcome.TheVariants.{Value, Done}
 use Rattle.ffm_model.specs.Actors.{is_service_of}
 use Rattle.ffm_model.specs.Signals.{is_blocked}
 use Rattle.counting_law.specs.Objects.{same}
-use Rattle.ffm_model.specs.State.{SpmState, phase_of, has_handle}
+use Rattle.ffm_model.specs.State.{Rises, SpmState, phase_of, has_handle}
 use Rattle.counting_law.proofs.Balance.{Balanced}
-use Rattle.counting_law.specs.Objects.{PhaseFits, PhaseFitsAt, RisesTo, Mark, phase_for, awaited_by, asked_by, called_by, wrongly_called, is_joining, is_opening, is_awaited, is_asking, is_accepted, awaited_of, asking_of, accepted_as, wrongly_shown, message_marked, connection_marked}
+use Rattle.counting_law.specs.Objects.{PhaseFits, PhaseFitsAt, Mark, phase_for, awaited_by, asked_by, called_by, wrongly_called, is_joining, is_opening, is_awaited, is_asking, is_accepted, awaited_of, asking_of, accepted_as, wrongly_shown, message_marked, connection_marked}
 use Rattle.ffm_model.specs.Panic.{is_dead, is_lost_request, callers_answered, client_answered, clients_answered, panic_effect}
+use Rattle.ffm_model.proofs.SerialLemmas.{rises-weaker}
 use Rattle.counting_law.proofs.Losses.{survives, left_as, all_left, disconnect_message, disconnect_as, disconnect_messages, after_panic, after_panic-is}
-use Rattle.counting_law.proofs.Parts.{is_plain, same_or_not, is_there, phase_same, phase_other, off_left, off_right, on_left, flipped, rising-from, unique, off_from}
+use Rattle.counting_law.proofs.Parts.{is_plain, same_or_not, is_there, phase_same, phase_other, off_left, off_right, on_left, flipped, unique, off_from}
 use Rattle.counting_law.proofs.Updates.{in_phase}
 use Rattle.counting_law.proofs.Reply.{awaited_client, blocked-one, panicked-none, asking_le}
 
@@ -52,12 +53,12 @@ left-le s p q blind (c ∷ cs) =
     (is_service_of s p c.service) (c.client.0 == p) c.phase in
     omega (arith, here, left-le s p q blind cs, count-append q (left_as (is_service_of s p c.service) (c.client.0 == p) c.phase c) (all_left s p cs), count-cons q c cs)
 
-rising-left : (s : System) (p lo hi : ℕ) (cs : List OpenConnection) → RisesTo lo cs hi → RisesTo lo (all_left s p cs) hi
+rising-left : (s : System) (p lo hi : ℕ) (cs : List OpenConnection) → Rises lo cs hi → Rises lo (all_left s p cs) hi
 rising-left s p lo hi [] h = h
 rising-left s p lo hi (c ∷ cs) h =
-    let rest : RisesTo (c.serial + 1) (all_left s p cs) hi = rising-left s p (c.serial + 1) hi cs h.1 in
-    left_cases c (λ (xs : List OpenConnection). RisesTo lo (xs ++ all_left s p cs) hi)
-    (rising-from (c.serial + 1) lo hi (all_left s p cs) (omega (arith, h.0)) rest) (λ ph. (h.0, rest)) (is_service_of s p c.service) (c.client.0 == p) c.phase
+    let rest : Rises (c.serial + 1) (all_left s p cs) hi = rising-left s p (c.serial + 1) hi cs h.1 in
+    left_cases c (λ (xs : List OpenConnection). Rises lo (xs ++ all_left s p cs) hi)
+    (rises-weaker (c.serial + 1) lo hi (all_left s p cs) (omega (arith, h.0)) rest) (λ ph. (h.0, rest)) (is_service_of s p c.service) (c.client.0 == p) c.phase
 
 -- messages and awaited connections
 abbrev pub kept_mark : System → ℕ → Mark → Mark
@@ -484,7 +485,7 @@ after_panic-keeps s limit b p h inside quiet free =
     let told : List ActorPhase = phases_told s b p in
     let sent : List PendingMessage = filter (λ m. not (is_service_of s p m.service)) b.messages ++ disconnect_messages s p b.connections in
     let alone : count_by (awaited_of p) b.connections ≡ 0 = omega (arith, quiet) in
-    let rises : RisesTo 0 left b.connections_made = rising-left s p 0 b.connections_made b.connections h.rising in
+    let rises : Rises 0 left b.connections_made = rising-left s p 0 b.connections_made b.connections h.rising in
     record {
       within = λ x w. omega (arith, h.within x w, left-le s p (λ c. (c.client.0 == x) && (c.service == w)) (λ c ph. refl) b.connections);
       paired = λ t. omega (

@@ -1,6 +1,6 @@
 -- What the parts of the balance keep when a list is updated.
-use Rattle.std.proofs.Common.{ℕ, zero, suc, ◌≡◌, ◌<◌, ◌≤◌, ◌+◌, ◌==◌, Bool, true, false, cond, ◌&&◌, List, [], ◌∷◌, ◌++◌, length, get_or, arith, ◌∙◌, ap, sym, refl, subst}
-use Rattle.std.specs.Prelude.{count_by, find, Some, map, filter, slice_set}
+use Rattle.std.proofs.Common.{ℕ, zero, suc, ◌≡◌, ◌<◌, ◌≤◌, ◌+◌, ◌==◌, Bool, true, false, cond, ◌&&◌, List, [], ◌∷◌, length, get_or, arith, ◌∙◌, ap, sym, refl, subst}
+use Rattle.std.specs.Prelude.{count_by, find, Some, slice_set}
 use Rattle.std.proofs.lemmas.Grind.{common_steps}
 use Rattle.std.proofs.lemmas.Bool.{eq-eqb}
 use Rattle.list_laws.proofs.Counts.{bit, count-cons}
@@ -9,7 +9,8 @@ use Rattle.ffm_model.specs.declared.machine.Outcome.TheVariants as outcome
 use Rattle.ffm_model.specs.declared.objects.OpenConnection.{OpenConnection}
 use Rattle.ffm_model.specs.declared.objects.ActorPhase.{ActorPhase}
 use Rattle.ffm_model.specs.declared.objects.ActorPhase.TheVariants.{Running, Blocked, Connected, Ended, Panicked}
-use Rattle.counting_law.specs.Objects.{PhaseFits, RisesTo, is_joining}
+use Rattle.ffm_model.specs.State.{Rises}
+use Rattle.counting_law.specs.Objects.{PhaseFits, is_joining}
 
 -- an outcome that ends its call, and no panic
 abbrev pub is_plain : Outcome → Bool
@@ -59,36 +60,16 @@ joining-set phases a n x p inside old new =
     (λ e. ap (λ y. is_joining (get_or (slice_set phases a p) y Ended) n) e ∙ ap (λ q. is_joining q n) (phase_same phases a p inside) ∙ new ∙ sym old ∙ ap (λ y. is_joining (get_or phases y Ended) n) (sym e))
     (λ e. ap (λ q. is_joining q n) (phase_other phases a x p e))
 
-pub rising-push : (lo hi : ℕ) (cs : List OpenConnection) (c : OpenConnection) → RisesTo lo cs hi → c.serial ≡ hi → RisesTo lo (cs ++ c ∷ []) (hi + 1)
-rising-push lo hi [] c h e = (omega arith, omega arith)
-rising-push lo hi (d ∷ ds) c h e = (h.0, rising-push (d.serial + 1) hi ds c h.1 e)
-
-pub rising-from : (lo lo' hi : ℕ) (cs : List OpenConnection) → lo' ≤ lo → RisesTo lo cs hi → RisesTo lo' cs hi
-rising-from lo lo' hi [] le h = omega (arith, h)
-rising-from lo lo' hi (c ∷ cs) le h = (omega (arith, h.0), h.1)
-
-pub rising-map : (lo hi : ℕ) (f : OpenConnection → OpenConnection) → ((c : OpenConnection) → (f c).serial ≡ c.serial) → (cs : List OpenConnection) → RisesTo lo cs hi → RisesTo lo (map f cs) hi
-rising-map lo hi f same [] h = h
-rising-map lo hi f same (c ∷ cs) h = (omega (arith, h.0, same c), subst (λ (n : ℕ). RisesTo (n + 1) (map f cs) hi) (sym (same c)) (rising-map (c.serial + 1) hi f same cs h.1))
-
-pub rising-filter : (lo hi : ℕ) (q : OpenConnection → Bool) (cs : List OpenConnection) → RisesTo lo cs hi → RisesTo lo (filter q cs) hi
-rising-filter lo hi q [] h = h
-rising-filter lo hi q (c ∷ cs) h =
-    let rest : RisesTo (c.serial + 1) (filter q cs) hi = rising-filter (c.serial + 1) hi q cs h.1 in
-    let go : (b : Bool) → RisesTo lo (cond b (c ∷ filter q cs) (filter q cs)) hi =
-    elim [ true ↦ (h.0, rest) | false ↦ rising-from (c.serial + 1) lo hi (filter q cs) (omega (arith, h.0)) rest ] in
-    go (q c)
-
 not_same : (x n : ℕ) → n < x → bit (x == n) ≡ 0
 not_same x n h = grind arith
 
 -- no connection before the first number
-pub none-before : (lo hi n : ℕ) (cs : List OpenConnection) → RisesTo lo cs hi → n < lo → count_by (λ c. c.serial == n) cs ≡ 0
+pub none-before : (lo hi n : ℕ) (cs : List OpenConnection) → Rises lo cs hi → n < lo → count_by (λ c. c.serial == n) cs ≡ 0
 none-before lo hi n [] h below = refl
 none-before lo hi n (c ∷ cs) h below =
     omega (arith, count-cons (λ d. d.serial == n) c cs, not_same c.serial n (omega (arith, h.0)), none-before (c.serial + 1) hi n cs h.1 (omega (arith, h.0)))
 
-pub unique : (lo hi n : ℕ) (cs : List OpenConnection) → RisesTo lo cs hi → count_by (λ c. c.serial == n) cs ≤ 1
+pub unique : (lo hi n : ℕ) (cs : List OpenConnection) → Rises lo cs hi → count_by (λ c. c.serial == n) cs ≤ 1
 unique lo hi n [] h = omega arith
 unique lo hi n (c ∷ cs) h =
     let go : (b : Bool) → (c.serial == n) ≡ b → bit b + count_by (λ d. d.serial == n) cs ≤ 1 =
@@ -99,7 +80,7 @@ unique lo hi n (c ∷ cs) h =
     omega (arith, count-cons (λ d. d.serial == n) c cs, go (c.serial == n) refl)
 
 -- a connection that is found by any test is the one with its serial number
-found-above : (lo hi : ℕ) (q : OpenConnection → Bool) (cs : List OpenConnection) (c : OpenConnection) → RisesTo lo cs hi → find q cs ≡ Some c → lo ≤ c.serial
+found-above : (lo hi : ℕ) (q : OpenConnection → Bool) (cs : List OpenConnection) (c : OpenConnection) → Rises lo cs hi → find q cs ≡ Some c → lo ≤ c.serial
 found-above lo hi q [] c h f = cc
 found-above lo hi q (d ∷ ds) c h f =
     let go : (b : Bool) → cond b (Some d) (find q ds) ≡ Some c → lo ≤ c.serial =
@@ -112,7 +93,7 @@ found-above lo hi q (d ∷ ds) c h f =
 not_same_false : (x n : ℕ) → x < n → (x == n) ≡ false
 not_same_false x n h = grind arith
 
-pub found-serial : (lo hi : ℕ) (q : OpenConnection → Bool) (cs : List OpenConnection) (c : OpenConnection) → RisesTo lo cs hi → find q cs ≡ Some c → find (λ d. d.serial == c.serial) cs ≡ Some c
+pub found-serial : (lo hi : ℕ) (q : OpenConnection → Bool) (cs : List OpenConnection) (c : OpenConnection) → Rises lo cs hi → find q cs ≡ Some c → find (λ d. d.serial == c.serial) cs ≡ Some c
 found-serial lo hi q [] c h f = cc
 found-serial lo hi q (d ∷ ds) c h f =
     let go : (b : Bool) → cond b (Some d) (find q ds) ≡ Some c → cond (d.serial == c.serial) (Some d) (find (λ x. x.serial == c.serial) ds) ≡ Some c =

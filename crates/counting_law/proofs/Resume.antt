@@ -18,9 +18,10 @@ use Rattle.ffm_model.specs.declared.objects.ActorPhase.{ActorPhase}
 use Rattle.ffm_model.specs.declared.objects.ActorPhase.TheVariants.{Running, Connected, Ended}
 use Rattle.counting_law.specs.Objects.{same}
 use Rattle.ffm_model.specs.State.{SpmState, State, phase_of, has_handle, handle_eq, handle_put, with_connection_handle, with_phase, fresh, is_undelivered, delivered, vectors_put}
+use Rattle.ffm_model.proofs.SerialLemmas.{rises-map}
 use Rattle.counting_law.proofs.Balance.{Balanced}
 use Rattle.counting_law.specs.Objects.{PhaseFits, PhaseFitsAt, awaited_by, asked_by, called_by, wrongly_called, is_joining, is_opening, is_accepted, awaited_of, asking_of, accepted_as, wrongly_shown, message_marked, connection_marked}
-use Rattle.counting_law.proofs.Parts.{fits_same, is_there, fitting-set, joining-set, phase_same, found-serial, flipped, rising-map, unique}
+use Rattle.counting_law.proofs.Parts.{fits_same, is_there, fitting-set, joining-set, phase_same, found-serial, flipped, unique}
 
 pub int_flip : (x y : ℤ) → int_eq x y ≡ int_eq y x
 int_flip x y = grind (arith, Decides-int_eq)
@@ -90,7 +91,7 @@ named-keeps s given b a n h balanced joined new =
       within = λ x w. omega (arith, change (λ d. (d.client.0 == x) && (d.service == w)), balanced.within x w);
       paired = λ t. omega (arith, change (connection_marked t), balanced.paired t);
       called = balanced.called;
-      rising = rising-map 0 b.connections_made (handle_put n h) (serial-handle_put n h) b.connections balanced.rising;
+      rising = rises-map 0 b.connections_made (handle_put n h) (serial-handle_put n h) b.connections balanced.rising;
       fitting = fitting-set b.phases a Running
           (awaited_by b.connections b.messages) (awaited_by after b.messages)
           (asked_by b.connections b.messages) (asked_by after b.messages)

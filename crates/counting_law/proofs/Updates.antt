@@ -11,10 +11,11 @@ use Rattle.ffm_model.specs.declared.objects.ConnPhase.{ConnPhase}
 use Rattle.ffm_model.specs.declared.objects.ActorPhase.{ActorPhase}
 use Rattle.ffm_model.specs.declared.objects.ActorPhase.TheVariants.{Ended}
 use Rattle.counting_law.specs.Objects.{same}
-use Rattle.ffm_model.specs.State.{SpmState, phase_of, has_handle, phase_put}
+use Rattle.ffm_model.specs.State.{Rises, SpmState, phase_of, has_handle, phase_put}
+use Rattle.ffm_model.proofs.SerialLemmas.{rises-filter, rises-map}
 use Rattle.counting_law.proofs.Balance.{Balanced}
-use Rattle.counting_law.specs.Objects.{PhaseFits, RisesTo, Mark, awaited_by, asked_by, called_by, wrongly_called, is_joining, is_opening, is_awaited, is_asking, is_accepted, awaited_of, asking_of, accepted_as, wrongly_shown, message_marked, connection_marked}
-use Rattle.counting_law.proofs.Parts.{phase_same, fitting-set, joining-set, rising-map, rising-filter, unique, off_left, off_right, flipped}
+use Rattle.counting_law.specs.Objects.{PhaseFits, Mark, awaited_by, asked_by, called_by, wrongly_called, is_joining, is_opening, is_awaited, is_asking, is_accepted, awaited_of, asking_of, accepted_as, wrongly_shown, message_marked, connection_marked}
+use Rattle.counting_law.proofs.Parts.{phase_same, fitting-set, joining-set, unique, off_left, off_right, flipped}
 
 abbrev pub in_phase : OpenConnection → ConnPhase → OpenConnection
 in_phase c ph = record c { phase = ph }
@@ -41,13 +42,13 @@ pub record Moves (s : System) (limit : Handle → ℕ) (b : SpmState) (c : OpenC
   pub called : count_by (wrongly_called s) messages ≡ 0
 
 -- a count over the connections, where c gets the phase
-pub put : (b : SpmState) (c : OpenConnection) (ph : ConnPhase) → RisesTo 0 b.connections b.connections_made → find (λ d. d.serial == c.serial) b.connections ≡ Some c
+pub put : (b : SpmState) (c : OpenConnection) (ph : ConnPhase) → Rises 0 b.connections b.connections_made → find (λ d. d.serial == c.serial) b.connections ≡ Some c
     → (q : OpenConnection → Bool) → count_by q (map (phase_put c.serial ph) b.connections) + bit (q c) ≡ count_by q b.connections + bit (q (in_phase c ph))
 put b c ph rising here q =
     count-put (λ d. d.serial == c.serial) q q (λ d. in_phase d ph) (λ y e. refl) b.connections c (unique 0 b.connections_made c.serial b.connections rising) here
 
 -- a count over the connections, where c goes
-pub out : (b : SpmState) (c : OpenConnection) → RisesTo 0 b.connections b.connections_made → find (λ d. d.serial == c.serial) b.connections ≡ Some c
+pub out : (b : SpmState) (c : OpenConnection) → Rises 0 b.connections b.connections_made → find (λ d. d.serial == c.serial) b.connections ≡ Some c
     → (q : OpenConnection → Bool) → count_by q (filter (λ d. not (d.serial == c.serial)) b.connections) + bit (q c) ≡ count_by q b.connections
 out b c rising here q = count-out (λ d. d.serial == c.serial) q q (λ y e. refl) b.connections c (unique 0 b.connections_made c.serial b.connections rising) here
 
@@ -66,7 +67,7 @@ moved-keeps s limit b c ph p messages h paired fits shown =
       within = λ x w. omega (arith, change (λ d. (d.client.0 == x) && (d.service == w)), h.balanced.within x w);
       paired = λ t. omega (arith, change (connection_marked t), paired t, h.balanced.paired t);
       called = h.called;
-      rising = rising-map 0 b.connections_made (phase_put c.serial ph) (serial-phase_put c.serial ph) b.connections h.balanced.rising;
+      rising = rises-map 0 b.connections_made (phase_put c.serial ph) (serial-phase_put c.serial ph) b.connections h.balanced.rising;
       fitting = fitting-set b.phases a p
           (awaited_by b.connections b.messages) (awaited_by (map (phase_put c.serial ph) b.connections) messages)
           (asked_by b.connections b.messages) (asked_by (map (phase_put c.serial ph) b.connections) messages)
@@ -107,7 +108,7 @@ removed-keeps s limit b c p messages h paired fits =
       within = λ x w. omega (arith, change (λ d. (d.client.0 == x) && (d.service == w)), h.balanced.within x w);
       paired = λ t. omega (arith, change (connection_marked t), paired t, h.balanced.paired t);
       called = h.called;
-      rising = rising-filter 0 b.connections_made (λ d. not (d.serial == c.serial)) b.connections h.balanced.rising;
+      rising = rises-filter 0 b.connections_made (λ d. not (d.serial == c.serial)) b.connections h.balanced.rising;
       fitting = fitting-set b.phases a p
           (awaited_by b.connections b.messages) (awaited_by left messages)
           (asked_by b.connections b.messages) (asked_by left messages)

@@ -1,7 +1,7 @@
 -- What holds of each state of a run: how connections, messages, phases, budgets and handles count against each other.
 -- Source: FF-M 1.0, the life of a connection from psa_connect to psa_close and of a message from its call to psa_reply; that the
 -- declared numbers of connections suffice is this profile's law.
-use Rattle.std.specs.Prelude.{ℕ, ℤ, zero, suc, pos, negsuc, ◌≡◌, ◌+◌, ◌≤◌, ◌==◌, int_le, Bool, true, false, not, ◌&&◌, ◌||◌, List, [], ◌∷◌, count_by, is_none, get_or}
+use Rattle.std.specs.Prelude.{ℕ, ℤ, zero, suc, pos, negsuc, ◌≡◌, ◌+◌, ◌≤◌, ◌==◌, int_le, Bool, true, false, not, ◌&&◌, ◌||◌, List, count_by, is_none, get_or}
 use Rattle.std.specs.Option.{option_map_or, unwrap_or}
 use Rattle.ffm_model.specs.declared.constants.TheConstants.{PSA_IPC_CALL}
 use Rattle.ffm_model.specs.declared.system.System.{System}
@@ -13,7 +13,7 @@ use Rattle.ffm_model.specs.declared.objects.ConnPhase.TheVariants.{Opening, Idle
 use Rattle.ffm_model.specs.declared.objects.ActorPhase.{ActorPhase}
 use Rattle.ffm_model.specs.declared.objects.ActorPhase.TheVariants.{Blocked, Connected, Ended, Panicked}
 use Rattle.ffm_model.specs.Actors.{budget_of, is_stateless, permits}
-use Rattle.ffm_model.specs.State.{SpmState, State, in_use, has_handle, handle_eq}
+use Rattle.ffm_model.specs.State.{Rises, SpmState, State, in_use, has_handle, handle_eq}
 
 -- how many connections an actor may have to a service, and 0 where it may not use it
 abbrev pub allowed : System → ℕ → ℕ → ℕ
@@ -104,12 +104,7 @@ asked_by cs ms a = count_by (asking_of a) cs + count_by (called_by a) ms
 abbrev pub PhaseFitsAt : List ActorPhase → List OpenConnection → List PendingMessage → ℕ → Type 0
 PhaseFitsAt phases cs ms a = PhaseFits (get_or phases a Ended) (awaited_by cs ms a) (asked_by cs ms a) (λ n. count_by (accepted_as a n) cs)
 
--- ---- serial numbers and handles
-
--- serial numbers rise from the first number on, and stay below the second
-abbrev pub RisesTo : ℕ → List OpenConnection → ℕ → Type 0
-RisesTo first [] next = first ≤ next
-RisesTo first (c ∷ cs) next = (first ≤ c.serial) × RisesTo (c.serial + 1) cs next
+-- ---- handles
 
 -- an actor that is still to be told the handle of the connection with this serial number
 abbrev pub is_joining : ActorPhase → ℕ → Bool
@@ -140,7 +135,7 @@ pub record ObjectsFit (s : System) (b : SpmState) : Type 0 where
   -- any other message is a request to a stateless service by an actor that may use it
   pub called : count_by (wrongly_called s) b.messages ≡ 0
   -- serial numbers rise, and the next one is greater
-  pub rising : RisesTo 0 b.connections b.connections_made
+  pub rising : Rises 0 b.connections b.connections_made
   -- each actor's phase fits the numbers of its connections and requests
   pub phases : (a : ℕ) → PhaseFitsAt b.phases b.connections b.messages a
   -- a connection has no handle exactly where it is Opening or its client is Connected to it

@@ -6,6 +6,7 @@ use Rattle.std.specs.Option.{option_or}
 use Rattle.std.proofs.lemmas.Bool.{cases_eq, and_parts, and_from}
 use Rattle.std.proofs.lemmas.Bool.Decides.{nat_tests}
 use Rattle.std.proofs.lemmas.List.Folds.{find-append}
+use Rattle.list_laws.proofs.Tests.{find-map, find-passes}
 use Rattle.ffm_model.specs.Circles.{is_circle, is_way, are_different, lists_up_to, first_circle}
 use Rattle.dependency_circle.specs.Circles.{is_not_after, IsFirstCircle, AnswersCircle}
 use Rattle.dependency_circle.proofs.Lists.{circle_fits}
@@ -45,29 +46,6 @@ abbrev pub FoundBy : Option (List ℕ) → List ℕ → Type 0
 FoundBy (Some c) d = is_not_after c d ≡ true
 FoundBy None d = ⊥
 
-find-map : (p : List ℕ → Bool) (x : ℕ) (ls : List (List ℕ)) → find p (map (λ l. x ∷ l) ls) ≡ option_map (λ l. x ∷ l) (find (λ l. p (x ∷ l)) ls)
-find-map p x [] = refl
-find-map p x (l ∷ ls) = by (p (x ∷ l)) (find-map p x ls)
-  where
-    by : (b : Bool) → find p (map (λ l. x ∷ l) ls) ≡ option_map (λ l. x ∷ l) (find (λ l. p (x ∷ l)) ls)
-        → cond b (Some (x ∷ l)) (find p (map (λ l. x ∷ l) ls)) ≡ option_map (λ l. x ∷ l) (cond b (Some l) (find (λ l. p (x ∷ l)) ls))
-    by true h = refl
-    by false h = h
-
-pub find_passes : (p : List ℕ → Bool) (ls : List (List ℕ)) (c : List ℕ) → find p ls ≡ Some c → p c ≡ true
-find_passes p [] c h = absurd (nothing h)
-  where
-    nothing : None ≡ Some c → ⊥
-    nothing e = cc
-find_passes p (l ∷ ls) c h = by (p l) refl h (find_passes p ls c)
-  where
-    same : Some l ≡ Some c → l ≡ c
-    same e = cc
-
-    by : (b : Bool) → p l ≡ b → cond b (Some l) (find p ls) ≡ Some c → (find p ls ≡ Some c → p c ≡ true) → p c ≡ true
-    by true e k rest = ap p (sym (same k)) ∙ e
-    by false e k rest = rest k
-
 -- the lists of at most k + 1 places that begin with one of xs
 abbrev pub lists_from : ℕ → ℕ → List ℕ → List (List ℕ)
 lists_from n k xs = flat_map (λ x. map (λ l. x ∷ l) (lists_up_to n k)) xs
@@ -77,7 +55,7 @@ found_in : (p : List ℕ → Bool) (n k y : ℕ) (d : List ℕ) → FoundBy (fin
 found_in p n k y d inner a zero h low = absurd (omega arith)
 found_in p n k y d inner a (suc m) h low =
     let P : Option (List ℕ) → Type 0 = λ o. FoundBy o (y ∷ d) in
-    subst P (sym (find-append p (map (λ l. a ∷ l) (lists_up_to n k)) (lists_from n k (range_with_len (a + 1) m)) ∙ ap (λ o. option_or o (find p (lists_from n k (range_with_len (a + 1) m)))) (find-map p a (lists_up_to n k))))
+    subst P (sym (find-append p (map (λ l. a ∷ l) (lists_up_to n k)) (lists_from n k (range_with_len (a + 1) m)) ∙ ap (λ o. option_or o (find p (lists_from n k (range_with_len (a + 1) m)))) (find-map (λ l. a ∷ l) p (lists_up_to n k))))
     (by (find (λ l. p (a ∷ l)) (lists_up_to n k)) refl (λ above. found_in p n k y d inner (a + 1) m above (omega arith)))
   where
     earlier : (c : List ℕ) → (a ≡ y → ⊥) → is_not_after (a ∷ c) (y ∷ d) ≡ true
@@ -153,7 +131,7 @@ first_answers n edge = by (first_circle n edge) refl
 
     by : (o : Option (List ℕ)) → first_circle n edge ≡ o → AnswersCircle n edge o
     by (Some c) e = record {
-      circle = find_passes (is_circle n edge) (lists_up_to n n) c e;
+      circle = find-passes (is_circle n edge) (lists_up_to n n) c e;
       least = λ d h. let P : Option (List ℕ) → Type 0 = λ t. FoundBy t d in subst P e (circle_found n edge d h);
     }
     by None e = λ d. none (is_circle n edge d) (λ (h : is_circle n edge d ≡ true). let P : Option (List ℕ) → Type 0 = λ t. FoundBy t d in subst P e (circle_found n edge d h))

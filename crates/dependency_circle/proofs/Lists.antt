@@ -4,6 +4,7 @@ use Rattle.std.specs.Prelude.{◌==◌, nat_lt, Some, None}
 use Rattle.std.specs.List.{list_any, IsDistinct, AllByRecursion}
 use Rattle.std.proofs.lemmas.Bool.{cases_eq, false_from_ne_true, and_parts}
 use Rattle.std.proofs.lemmas.Bool.Decides.{nat_tests}
+use Rattle.std.proofs.lemmas.List.{append-nil}
 use Rattle.std.proofs.lemmas.Map.Steps.{length-le_from_distinct_below}
 use lib.Dec.{eqb}
 use Rattle.ffm_model.specs.Circles.{is_circle, are_different, is_way, is_new}
@@ -51,14 +52,10 @@ push_before (x ∷ front) k j w h = head x (front ++ k ∷ []) (front ++ j ∷ w
 abbrev pub IsLeast : ℕ → (ℕ → ℕ → Bool) → List ℕ → Type 0
 IsLeast n edge c = (d : List ℕ) → is_circle n edge d ≡ true → is_not_after c d ≡ true
 
-append_nil : (xs : List ℕ) → xs ++ [] ≡ xs
-append_nil [] = refl
-append_nil (x ∷ xs) = ap (λ t. x ∷ t) (append_nil xs)
-
 -- what is left of a circle after a front that is none
 rest_begins : (n : ℕ) (edge : ℕ → ℕ → Bool) (front w : List ℕ) → is_circle n edge front ≡ false → is_circle n edge (front ++ w) ≡ true
     → (j : ℕ) × ((v : List ℕ) × ((w ≡ j ∷ v) × Begins n edge (front ++ j ∷ [])))
-rest_begins n edge front [] wide closed = absurd (clash (is_circle n edge front) wide (ap (is_circle n edge) (sym (append_nil front)) ∙ closed))
+rest_begins n edge front [] wide closed = absurd (clash (is_circle n edge front) wide (ap (is_circle n edge) (sym (append-nil front)) ∙ closed))
   where
     clash : (b : Bool) → b ≡ false → b ≡ true → ⊥
     clash b e f = cc

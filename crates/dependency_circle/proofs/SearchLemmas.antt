@@ -6,7 +6,7 @@ use Rattle.std.proofs.lemmas.Bool.Decides.{nat_tests}
 use Rattle.std.proofs.lemmas.List.{take_all, take_more, take-append-le, get_or_default}
 use Rattle.std.proofs.lemmas.List.Folds.{list_any-append}
 use Rattle.std.proofs.lemmas.Map.Steps.{length-le_from_distinct_below}
-use Rattle.std.proofs.lemmas.Bool.{and_from, and_parts, or_left}
+use Rattle.std.proofs.lemmas.Bool.{and_from, and_parts, cases_Bool, or_left}
 use Rattle.list_laws.proofs.Bools.{or_rest}
 use Rattle.ffm_model.specs.Circles.{is_new, are_different}
 use Rattle.dependency_circle.specs.Ways.{marked, are_apart, is_unmarked_before, IsMarked, MarksMore, TellsWays}
@@ -41,10 +41,6 @@ added n edge front y old x unmarked h =
     let two : (is_new x front && edge x y) ≡ true = (and_parts (not (marked old x)) _ is).1 in
     record { low = range_below n x (and_parts (is_fresh edge front y old x) _ fresh).1; unmarked = unmarked; new = (and_parts (is_new x front) _ two).0; step = (and_parts (is_new x front) _ two).1 }
 
-bool_cases : (b : Bool) → (b ≡ true) ⊎ (b ≡ false)
-bool_cases true = inl refl
-bool_cases false = inr refl
-
 kept_way : (n : ℕ) (edge : ℕ → ℕ → Bool) (home : ℕ) (front : List ℕ) (p q : ℕ → Bool) (x : ℕ) → ((z : ℕ) → p z ≡ true → q z ≡ true) → MarkedWay n edge home front p x → MarkedWay n edge home front q x
 kept_way n edge home front p q x f w = record { below = w.below; homeward = w.homeward; all_marked = all_mono p q (x ∷ w.homeward.rest) f w.all_marked }
 
@@ -65,7 +61,7 @@ one_step n edge home front y old x sound there a (inr h) =
 
 pub spread_sound : (n : ℕ) (edge : ℕ → ℕ → Bool) (home : ℕ) (front : List ℕ) (y : ℕ) (old : List ℕ) → IsSound n edge home front (marked old)
     → (y ≡ home) ⊎ (marked old y ≡ true) → IsSound n edge home front (marked (spread_from n edge front y old))
-spread_sound n edge home front y old sound from x h = by (bool_cases (marked old x))
+spread_sound n edge home front y old sound from x h = by (cases_Bool (marked old x))
   where
     by : (marked old x ≡ true) ⊎ (marked old x ≡ false) → MarkedWay n edge home front (marked (spread_from n edge front y old)) x
     by (inl e) = kept_way n edge home front (marked old) (marked (spread_from n edge front y old)) x (marked_more old _) (sound x e)

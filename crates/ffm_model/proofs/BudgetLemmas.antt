@@ -11,6 +11,7 @@ use Rattle.std.proofs.lemmas.Bool.{and_parts}
 use Rattle.std.proofs.lemmas.Bool.Decides.{nat_tests}
 use Rattle.ffm_model.specs.declared.system.Budget.{Budget}
 use Rattle.ffm_model.specs.WellFormed.{each_pair, budget_before}
+use Rattle.ffm_model.proofs.TestLemmas.{holds_at}
 
 abbrev pub is_of : ℕ → ℕ → Budget → Bool
 is_of client service b = (b.client.0 == client) && (b.service == service)
@@ -59,15 +60,10 @@ before-rises client service b c before =
     then-rises b.client.0 c.client.0 client (nat_cmp b.service service) (nat_cmp c.service service) clients
     (λ e. let services : b.service ≤ c.service = grind (arith, nat_tests) in cmp-rises b.service c.service service services)
 
-pub all-at : {X : Type 0} (p : X → Bool) (xs : List X) (k : ℕ) (d : X) → list_all p xs ≡ true → k < length xs → p (get_or xs k d) ≡ true
-all-at p [] k d all lt = absurd (omega arith)
-all-at p (x ∷ xs) zero d all lt = (and_parts (p x) (list_all p xs) all).0
-all-at p (x ∷ xs) (suc k) d all lt = all-at p xs k d (and_parts (p x) (list_all p xs) all).1 (omega arith)
-
 pair-at : (bs : List Budget) (i j : ℕ) (d : Budget) → each_pair budget_before bs ≡ true → i < j → j < length bs → budget_before (get_or bs i d) (get_or bs j d) ≡ true
 pair-at [] i j d order lt within = absurd (omega arith)
 pair-at (b ∷ bs) i zero d order lt within = absurd (omega arith)
-pair-at (b ∷ bs) zero (suc j) d order lt within = all-at (budget_before b) bs j d (and_parts (list_all (budget_before b) bs) (each_pair budget_before bs) order).0 (omega arith)
+pair-at (b ∷ bs) zero (suc j) d order lt within = holds_at (budget_before b) bs j d (omega arith) (and_parts (list_all (budget_before b) bs) (each_pair budget_before bs) order).0
 pair-at (b ∷ bs) (suc i) (suc j) d order lt within = pair-at bs i j d (and_parts (list_all (budget_before b) bs) (each_pair budget_before bs) order).1 (omega arith) (omega arith)
 
 -- so a binary search may look for them
@@ -100,7 +96,7 @@ first client service [] i d order lt is = absurd (omega arith)
 first client service (b ∷ bs) zero d order lt is = rw is refl
 first client service (b ∷ bs) (suc i) d order lt is =
     let parts = and_parts (list_all (budget_before b) bs) (each_pair budget_before bs) order in
-    let before : budget_before b (get_or bs i d) ≡ true = all-at (budget_before b) bs i d parts.0 (omega arith) in
+    let before : budget_before b (get_or bs i d) ≡ true = holds_at (budget_before b) bs i d (omega arith) parts.0 in
     let other : is_of client service b ≡ false = grind (arith, nat_tests) in
     rw other (first client service bs i d parts.1 (omega arith) is)
 

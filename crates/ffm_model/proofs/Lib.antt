@@ -1,8 +1,10 @@
 pub mod WellFormedLemmas
+pub mod TestLemmas
 pub mod RangeLemmas
 pub mod ActorLemmas
 pub mod PartsLemmas
 pub mod ReadingLemmas
+pub mod SerialLemmas
 pub mod StepLemmas
 pub mod RunLemmas
 pub mod BudgetLemmas

@@ -18,13 +18,8 @@ use Rattle.ffm_model.specs.declared.system.System.{System}
 use Rattle.ffm_model.specs.Memory.{lies_in}
 use Rattle.ffm_model.specs.WellFormed.{each_pair, apart}
 use Rattle.ffm_model.specs.Ranges.{range_in, ranges_of, sid_in, sids_of, has_range, share_no_byte, address_of, starts_from, IsIndexOf, IsOnlyPlace}
+use Rattle.ffm_model.proofs.TestLemmas.{holds_at}
 use Rattle.ffm_model.proofs.WellFormedLemmas.{regions_hold, sids_differ}
-
--- a test of all holds of one
-pub holds_at : {X : Type 0} (p : X → Bool) (xs : List X) (i : ℕ) (d : X) → i < length xs → list_all p xs ≡ true → p (get_or xs i d) ≡ true
-holds_at p [] i d below h = absurd (omega arith)
-holds_at p (x ∷ xs) zero d below h = (and_parts _ _ h).0
-holds_at p (x ∷ xs) (suc i) d below h = let inside : i < length xs = omega arith in holds_at p xs i d inside (and_parts _ _ h).1
 
 -- the start is that of a region with a byte, where the first region's place is k
 record IsStartOf (k : ℕ) (rs : List (ℕ × ℕ)) (s : Start) : Type 0 where

@@ -1,6 +1,6 @@
 -- The scripts of a non-secure client with several threads, which take turns: one call at a time.
 -- Source: this simulator's; FF-M leaves the scheduling of the non-secure side open.
-use Rattle.std.specs.Prelude.{ℕ, zero, suc, ◌+◌, ◌==◌, Bool, true, false, List, [], ◌∷◌, length, map, get_or, slice_set, Option, Some, None, if◌then◌else◌}
+use Rattle.std.specs.Prelude.{ℕ, zero, suc, ◌+◌, ◌==◌, Bool, false, List, [], ◌∷◌, length, map, get_or, slice_set, Option, Some, None, if◌then◌else◌}
 use Rattle.std.specs.List.{list_any}
 use Rattle.std.specs.Option.{unwrap_or, option_map_or}
 use Rattle.ffm_model.specs.declared.machine.Entry.{Entry}
@@ -8,7 +8,7 @@ use Rattle.ffm_model.specs.declared.machine.Call.{Call}
 use Rattle.ffm_model.specs.declared.machine.Call.TheVariants as call
 use Rattle.ffm_model.specs.declared.machine.Outcome.{Outcome}
 use Rattle.ffm_model.specs.declared.script.Instruction.{Instruction}
-use Rattle.ffm_model.specs.Plans.{Plan, PlanRun, Engine, plan_of}
+use Rattle.ffm_model.specs.Plans.{Plan, PlanRun, Engine, is_stop, plan_of}
 use Rattle.ffm_model.specs.ScriptRuns.{Point, start, arrived, call_at, behind}
 
 -- ---- whose turn it is
@@ -45,10 +45,6 @@ opening_contexts scripts = record { points = map (λ _. start) scripts; turn = 0
 
 abbrev pub script_of : List (List Instruction) → ℕ → List Instruction
 script_of scripts k = get_or scripts k []
-
-abbrev pub is_stop : Call → Bool
-is_stop (call.Stop spent) = true
-is_stop _ = false
 
 abbrev pub is_spent : Call → Bool
 is_spent (call.Stop spent) = spent

@@ -1,16 +1,13 @@
 -- What a simulated actor sees of a shared manager: a pass has an actor and a record, the entries that it was answered.
 -- Source: this simulator's.
-use Rattle.std.specs.Prelude.{◌≡◌, ℕ, List, [], ◌∷◌, ◌++◌, Bool, true, false}
+use Rattle.std.specs.Prelude.{◌≡◌, ℕ, List, [], ◌∷◌, ◌++◌, true, false}
 use Rattle.ffm_model.specs.declared.machine.Entry.{Entry}
 use Rattle.ffm_model.specs.declared.machine.Call.{Call}
 use Rattle.ffm_model.specs.declared.machine.Call.TheVariants as call
 use Rattle.ffm_model.specs.declared.machine.Answer.{Answer}
 use Rattle.ffm_model.specs.declared.machine.Answer.TheVariants as answer
 use Rattle.ffm_model.specs.Records.{outcomes_of, ends_blocked}
-
-abbrev pub is_stop : Call → Bool
-is_stop (call.Stop spent) = true
-is_stop _ = false
+use Rattle.ffm_model.specs.Plans.{is_stop}
 
 -- a new call may be made: none of the actor's waits for its return, and it isn't a return
 abbrev pub MayIssue : List Entry → Call → Type 0

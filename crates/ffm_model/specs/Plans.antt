@@ -1,6 +1,6 @@
 -- What an actor calls next, after the outcomes of its calls so far; and when its entries are a run of that.
 -- Source: this simulator's. The machine doesn't know why an actor makes a call: it may run a script, or several, or keep a table of its own.
-use Rattle.std.specs.Prelude.{◌≡◌, List, [], ◌∷◌, ◌++◌, if◌then◌else◌}
+use Rattle.std.specs.Prelude.{◌≡◌, Bool, true, false, List, [], ◌∷◌, ◌++◌, if◌then◌else◌}
 use Rattle.ffm_model.specs.declared.machine.Entry.{Entry}
 use Rattle.ffm_model.specs.declared.machine.Call.{Call}
 use Rattle.ffm_model.specs.declared.machine.Call.TheVariants as call
@@ -10,6 +10,11 @@ use Rattle.ffm_model.specs.Records.{is_blocked_outcome, ends_blocked}
 -- the next call after the outcomes
 abbrev pub Plan : Type 0
 Plan = List Outcome → Call
+
+-- the call ends the actor
+abbrev pub is_stop : Call → Bool
+is_stop (call.Stop spent) = true
+is_stop _ = false
 
 -- from these outcomes on, each call is the plan's after the outcomes before it
 abbrev pub RunFrom : Plan → List Outcome → List Entry → Type 0

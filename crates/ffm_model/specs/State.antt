@@ -1,7 +1,7 @@
 -- The state of the machine: connections, messages, what each actor does, doorbells, interrupts, memory.
 -- Source: FF-M 1.0, IPC model: a connection from psa_connect to psa_close, a message from its making to psa_reply.
 -- There is no slot, queue or stored signal here; those belong to a manager, not to the machine.
-use Rattle.std.specs.Prelude.{ℕ, ℤ, pos, ◌==◌, int_le, Bool, false, not, ◌&&◌, if◌then◌else◌, List, [], ◌∷◌, ◌++◌, length, Some, None, Option, map, replicate, filter, find, count_by, slice_set, is_none, get_or}
+use Rattle.std.specs.Prelude.{ℕ, ℤ, pos, ◌+◌, ◌≤◌, ◌==◌, int_le, Bool, false, not, ◌&&◌, if◌then◌else◌, List, [], ◌∷◌, ◌++◌, length, Some, None, Option, map, replicate, filter, find, count_by, slice_set, is_none, get_or}
 use Rattle.std.specs.List.{list_any}
 use Rattle.std.specs.Option.{option_map_or}
 use Rattle.std.specs.Ordering.{int_eq}
@@ -69,6 +69,11 @@ abbrev pub fresh : State → Handle → Bool
 fresh st h = int_le (pos 1) h.0 && int_le h.0 (pos 0x3fffffff) && not (list_any (handle_eq h) st.handles_given)
 
 -- ---- connections
+
+-- the serial numbers rise, from one that is at least `low`, and `made` is above them all
+abbrev pub Rises : ℕ → List OpenConnection → ℕ → Type 0
+Rises low [] made = low ≤ made
+Rises low (c ∷ cs) made = (low ≤ c.serial) × Rises (c.serial + 1) cs made
 
 -- the connections of a client to a service, in any phase
 abbrev pub in_use : SpmState → ℕ → ℕ → ℕ

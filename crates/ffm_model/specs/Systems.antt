@@ -5,12 +5,10 @@ use Rattle.std.specs.Prelude.{ℕ, ◌+◌, List, [], ◌∷◌, ◌++◌, Optio
 use Rattle.serde_json.specs.Data.{Data, Items, no_items, item}
 use Rattle.serde_json.specs.Find.{as_str}
 use Rattle.ffm_model.specs.declared.codes.TheConstants.{JSON}
-use Rattle.ffm_model.specs.declared.key.Key.TheVariants as key
 use Rattle.ffm_model.specs.declared.manifest.Manifest.{Manifest}
 use Rattle.ffm_model.specs.declared.parts.Parts.{Parts}
 use Rattle.ffm_model.specs.declared.place.PartRefusal.{PartRefusal}
 use Rattle.ffm_model.specs.declared.place.PathStep.{PathStep}
-use Rattle.ffm_model.specs.declared.place.PathStep.TheVariants as step
 use Rattle.ffm_model.specs.declared.place.Place.{Place}
 use Rattle.ffm_model.specs.declared.place.Refusal.{Refusal}
 use Rattle.ffm_model.specs.declared.place.Root.TheVariants as root
@@ -19,6 +17,7 @@ use Rattle.ffm_model.specs.Manifests.{manifest_of}
 use Rattle.ffm_model.specs.Trees.{tree_of}
 use Rattle.ffm_model.specs.SystemAttributes.{manifest_in, level_of, manifest_items_of, parts_with}
 use Rattle.ffm_model.specs.Reading.{Contents, Reading, Stop, refused, ◌>>=◌, asks_nothing, file_at}
+use Rattle.ffm_model.specs.Rules.{at_manifest}
 
 abbrev pub stopped : {A : Type 0} → Result A Refusal → Result A Stop
 stopped (Ok x) = Ok x
@@ -29,21 +28,18 @@ abbrev pub behind : {A : Type 0} → List PathStep → Result A PartRefusal → 
 behind front r = stopped (placed root.System front r)
 
 -- the place of a manifest is the same wherever it stands
-abbrev pub manifest_steps : ℕ → List PathStep
-manifest_steps k = step.Key key.Manifests ∷ step.Index k ∷ []
-
 abbrev pub manifest_place : ℕ → Place
-manifest_place k = record { root = root.System; steps = manifest_steps k }
+manifest_place k = record { root = root.System; steps = at_manifest k }
 
 -- a manifest that stands in the system file
 abbrev pub manifest_here : ℕ → Data → Reading Manifest
-manifest_here k d = asks_nothing (behind (manifest_steps k) (manifest_of d))
+manifest_here k d = asks_nothing (behind (at_manifest k) (manifest_of d))
 
 -- a manifest that stands in a file of its own, which has at most 1 MiB
 unfoldable pub manifest_named : Contents → ℕ → List ℕ → Reading Manifest
 manifest_named of k name = do
   bytes ← file_at of (manifest_place k) 1048576 name
-  asks_nothing (behind (manifest_steps k) (manifest_in bytes))
+  asks_nothing (behind (at_manifest k) (manifest_in bytes))
 
 abbrev pub manifest_from : Contents → ℕ → Option (List ℕ) → Data → Reading Manifest
 manifest_from of k (Some name) d = manifest_named of k name

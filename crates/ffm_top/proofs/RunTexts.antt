@@ -11,7 +11,7 @@ use Rattle.ffm_model.specs.declared.trace.Trace.{Trace}
 use Rattle.ffm_model.specs.Counts.{ActorCounts}
 use Rattle.ffm_model.specs.Restarts.{FinishedRun}
 use Rattle.ffm_model.specs.TraceText.{IsActorOf}
-use Rattle.ffm_model.proofs.RangeLemmas.{holds_at}
+use Rattle.ffm_model.proofs.TestLemmas.{holds_at}
 use Rattle.outside_io.specs.Told.{Takes, TakesPart}
 use Rattle.outside_io.proofs.Told.{Takes-then, part_of_first, part_of_second, part_as}
 use Rattle.scenario_runs.specs.Restarting.{finished, fits_counts}

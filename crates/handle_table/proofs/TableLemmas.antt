@@ -1,5 +1,5 @@
 -- What a table of connections keeps, and what its calls do to the state's list.
-use Rattle.std.proofs.Common.{ℕ, ◌≡◌, ◌<◌, ◌≤◌, ◌+◌, ◌==◌, Bool, true, false, cond, not, ◌&&◌, List, [], ◌∷◌, ◌++◌, take, arith, ◌∙◌, ap, sym, refl, subst, eq-eqb}
+use Rattle.std.proofs.Common.{ℕ, ◌≡◌, ◌<◌, ◌≤◌, ◌+◌, ◌==◌, Bool, true, false, cond, not, ◌&&◌, List, [], ◌∷◌, take, arith, ◌∙◌, ap, sym, refl, subst, eq-eqb}
 use Rattle.std.specs.Prelude.{ℤ, count_by, find, Option, Some, None, map, filter, if◌then◌else◌, All, IfSome, IsTrue, option_and_then, slice_get}
 use Rattle.std.specs.Option.{option_map}
 use Rattle.std.proofs.lemmas.Bool.Decides.{Decides-int_eq}
@@ -9,50 +9,26 @@ use Rattle.std.proofs.lemmas.Option.{slice_get-map, slice_get_within, get_or_fro
 use Rattle.std.proofs.lemmas.List.{map_push}
 use Rattle.ffm_model.specs.declared.machine.Handle.{Handle}
 use Rattle.ffm_model.specs.declared.objects.OpenConnection.{OpenConnection}
-use Rattle.ffm_model.specs.State.{has_handle}
+use Rattle.ffm_model.specs.State.{Rises, has_handle}
+use Rattle.ffm_model.proofs.SerialLemmas.{rises-filter, rises-map, rises-push}
 use Rattle.object_pools.specs.declared.slot.Slot.{Slot}
 use Rattle.object_pools.specs.declared.slot.Held.{Held}
 use Rattle.object_pools.specs.Pool.{Places, IsKept, has_slot, item_at, taken, with_item, without}
 use Rattle.list_laws.proofs.Counts.{bit, count-cons}
 use Rattle.handle_table.specs.declared.handles.Family.TheVariants.{Connection}
 use Rattle.handle_table.specs.Handles.{handle_at, IsNameable}
-use Rattle.handle_table.specs.Table.{connections, spm_of_connections, Rises, IsTable, with_started}
+use Rattle.handle_table.specs.Table.{connections, spm_of_connections, IsTable, with_started}
 use Rattle.handle_table.proofs.SlotLemmas.{both, has_own, one_slot, slot-is, held-of, nameable, All-put}
 use Rattle.handle_table.proofs.Twins.{count-map, twin-put, twin-out, twin-find, find-all_fail, find-first, find-more}
 use Rattle.list_laws.proofs.Tests.{find-all}
 
 -- ---- serial numbers
 
-pub rises-bounds : (low made : ℕ) (cs : List OpenConnection) → Rises low cs made → low ≤ made
-rises-bounds low made [] r = r
-rises-bounds low made (c ∷ cs) r = omega (arith, r.0, rises-bounds (c.serial + 1) made cs r.1)
-
-pub rises-weaker : (low least made : ℕ) (cs : List OpenConnection) → least ≤ low → Rises low cs made → Rises least cs made
-rises-weaker low least made [] le r = omega arith
-rises-weaker low least made (c ∷ cs) le r = (omega (arith, r.0), r.1)
-
 pub rises-above : (low made : ℕ) (cs : List OpenConnection) → Rises low cs made → All (λ c. low ≤ c.serial) cs
 rises-above low made [] r = All-nil (λ c. low ≤ c.serial)
 rises-above low made (c ∷ cs) r =
     All-cons (λ d. low ≤ d.serial) c cs r.0
     (All-weaker (λ d. c.serial + 1 ≤ d.serial) (λ d. low ≤ d.serial) (λ d h. omega (arith, r.0)) cs (rises-above (c.serial + 1) made cs r.1))
-
-pub rises-push : (low made : ℕ) (cs : List OpenConnection) (c : OpenConnection) → Rises low cs made → c.serial ≡ made → Rises low (cs ++ c ∷ []) (made + 1)
-rises-push low made [] c r e = (omega arith, omega arith)
-rises-push low made (d ∷ ds) c r e = (r.0, rises-push (d.serial + 1) made ds c r.1 e)
-
-pub rises-map : (low made : ℕ) (f : OpenConnection → OpenConnection) → ((c : OpenConnection) → (f c).serial ≡ c.serial) → (cs : List OpenConnection) → Rises low cs made → Rises low (map f cs) made
-rises-map low made f same [] r = r
-rises-map low made f same (c ∷ cs) r =
-    (omega (arith, same c, r.0), subst (λ n. Rises (n + 1) (map f cs) made) (sym (same c)) (rises-map (c.serial + 1) made f same cs r.1))
-
-pub rises-filter : (low made : ℕ) (q : OpenConnection → Bool) (cs : List OpenConnection) → Rises low cs made → Rises low (filter q cs) made
-rises-filter low made q [] r = r
-rises-filter low made q (c ∷ cs) r =
-    let rest : Rises (c.serial + 1) (filter q cs) made = rises-filter (c.serial + 1) made q cs r.1 in
-    let go : (b : Bool) → Rises low (cond b (c ∷ filter q cs) (filter q cs)) made =
-    elim [ true ↦ (r.0, rest) | false ↦ rises-weaker (c.serial + 1) low made (filter q cs) (omega (arith, r.0)) rest ] in
-    go (q c)
 
 above_none : (n low made : ℕ) (cs : List OpenConnection) → n < low → Rises low cs made → count_by (λ c. c.serial == n) cs ≡ 0
 above_none n low made [] above r = refl

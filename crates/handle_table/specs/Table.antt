@@ -1,8 +1,8 @@
 -- The connections of a pool, as the machine's state has them.
 -- Source: FF-M 1.0, IPC model: a connection from psa_connect to psa_close.
-use Rattle.std.specs.Prelude.{◌≡◌, ℕ, ◌+◌, ◌≤◌, ◌==◌, nat_le, Bool, ◌&&◌, List, [], ◌∷◌, map, All, IfSome, ◌++◌}
+use Rattle.std.specs.Prelude.{◌≡◌, ℕ, ◌+◌, ◌==◌, nat_le, Bool, ◌&&◌, List, [], ◌∷◌, map, All, IfSome, ◌++◌}
 use Rattle.ffm_model.specs.declared.objects.OpenConnection.{OpenConnection}
-use Rattle.ffm_model.specs.State.{SpmState}
+use Rattle.ffm_model.specs.State.{Rises, SpmState}
 use Rattle.object_pools.specs.Pool.{Places}
 use Rattle.handle_table.specs.declared.connections.Connection.{Connection as TheConnection}
 use Rattle.handle_table.specs.declared.handles.Family.TheVariants.{Connection}
@@ -27,11 +27,6 @@ connection_of c = record { owner = c.client; service = c.service; phase = c.phas
 -- a connection of this owner with a serial number from this one on
 abbrev pub is_owned_from : ℕ → ℕ → OpenConnection → Bool
 is_owned_from owner from c = (c.client.0 == owner) && nat_le from c.serial
-
--- the serial numbers rise, from one that is at least `low`, and `made` is above them all
-abbrev pub Rises : ℕ → List OpenConnection → ℕ → Type 0
-Rises low [] made = low ≤ made
-Rises low (c ∷ cs) made = (low ≤ c.serial) × Rises (c.serial + 1) cs made
 
 -- what every table of connections keeps
 pub record IsTable (p : Places OpenConnection) : Type 0 where

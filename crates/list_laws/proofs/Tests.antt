@@ -1,9 +1,10 @@
--- What the tests of lists say: `list_any`, `list_all` and `find`; and the value of an option that is there.
-use Rattle.std.proofs.Common.{ℕ, zero, suc, ◌≡◌, ◌∙◌, Bool, true, false, cond, ◌||◌, List, [], ◌∷◌, ◌++◌, map, ap, refl, sym, subst, inl, inr}
-use Rattle.std.specs.Prelude.{Option, Some, None, IsSome, find, slice_get, All}
+-- What the tests of lists say: `list_any`, `list_all`, `find` and `position`; and the value of an option that is there.
+use Rattle.std.proofs.Common.{ℕ, zero, suc, ◌≡◌, ◌+◌, ◌∙◌, Bool, true, false, cond, ◌||◌, List, [], ◌∷◌, ◌++◌, map, ap, refl, sym, subst, inl, inr}
+use Rattle.std.specs.Prelude.{Option, Some, None, IsSome, find, position, slice_get, All}
 use Rattle.std.specs.Option.{option_map}
-use Rattle.std.specs.List.{list_any, list_all}
+use Rattle.std.specs.List.{list_any, list_all, position_from}
 use Rattle.std.proofs.lemmas.Bool.{and_parts, or_cases, or_left, or_right}
+use Rattle.std.proofs.lemmas.Iterator.Adapters.{position_from-zero}
 use Rattle.std.proofs.lemmas.List.Elements.{All-head, All-tail}
 use Rattle.std.proofs.lemmas.List.Folds.{list_any-append}
 
@@ -63,11 +64,24 @@ pub find-all : {X : Type 0} (P : X → Type 0) (p : X → Bool) (xs : List X) (x
 find-all P p [] x h all = absurd (cc)
 find-all P p (y ∷ ys) x h all = found P (p y) y x (find p ys) (λ first. All-head P y ys all) (λ later. find-all P p ys x later (All-tail P y ys all)) h
 
+pub find-list_all : {X : Type 0} (p q : X → Bool) (xs : List X) (x : X) → find p xs ≡ Some x → list_all q xs ≡ true → q x ≡ true
+find-list_all p q [] x h all = cc
+find-list_all p q (y ∷ ys) x h all =
+    let parts = and_parts (q y) (list_all q ys) all in
+    found (λ z. q z ≡ true) (p y) y x (find p ys) (λ first. parts.0) (λ later. find-list_all p q ys x later parts.1) h
+
 -- a search by a test that says the same
 pub find-same : {X : Type 0} (p q : X → Bool) → ((x : X) → p x ≡ q x) → (xs : List X) → find p xs ≡ find q xs
 find-same p q same [] = refl
 find-same p q same (x ∷ xs) =
     ap (λ b. cond b (Some x) (find p xs)) (same x) ∙ ap (cond (q x) (Some x)) (find-same p q same xs)
+
+position_from-map : {X Y : Type 0} (f : X → Y) (p : Y → Bool) (i : ℕ) (xs : List X) → position_from p i (map f xs) ≡ position_from (λ x. p (f x)) i xs
+position_from-map f p i [] = refl
+position_from-map f p i (x ∷ xs) = ap (λ r. cond (p (f x)) (Some i) r) (position_from-map f p (i + 1) xs)
+
+pub position-map : {X Y : Type 0} (f : X → Y) (p : Y → Bool) (xs : List X) → position p (map f xs) ≡ position (λ x. p (f x)) xs
+position-map f p xs = position_from-zero p (map f xs) ∙ position_from-map f p 0 xs ∙ sym (position_from-zero (λ x. p (f x)) xs)
 
 -- the value that is there
 pub some-value : {X : Type 0} (o : Option X) → IsSome o → (x : X) × (o ≡ Some x)

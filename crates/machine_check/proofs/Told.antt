@@ -1,19 +1,19 @@
 -- What differs in the ranges that an entry may write is what it changed.
-use Rattle.std.proofs.Common.{ℕ, zero, suc, ◌≡◌, ◌<◌, ◌≤◌, ◌+◌, ◌*◌, Bool, true, false, not, ◌&&◌, List, [], ◌∷◌, Option, Some, None, arith, ◌∙◌, ap, sym, refl, inl, inr, ◌⊎◌, nat_eq}
+use Rattle.std.proofs.Common.{ℕ, zero, suc, ◌≡◌, ◌<◌, ◌≤◌, ◌+◌, ◌*◌, true, false, not, ◌&&◌, List, [], ◌∷◌, Option, Some, None, arith, ◌∙◌, ap, sym, refl, inl, inr, ◌⊎◌, nat_eq}
 use Rattle.std.specs.Prelude.{nat_le, sum_by}
 use Rattle.std.specs.List.{list_all}
 use Rattle.std.specs.Option.{option_map}
 use Rattle.std.proofs.lemmas.Bool.{and_parts, or_from, and_left}
 use Rattle.std.proofs.lemmas.Bool.Decides.{nat_tests}
 use Rattle.byte_lanes.specs.Differences.{any_covers, count_in, differs, range_covers, AreApart, IsLeast}
-use Rattle.byte_lanes.proofs.Ranges.{count_in_ranges, least_same}
+use Rattle.byte_lanes.proofs.Ranges.{count_in_ranges, covered, least_same}
 use Rattle.ffm_model.specs.declared.constants.TheConstants.{MAX_IMAGE_BYTES}
 use Rattle.ffm_model.specs.declared.scenario.Bytes.{Bytes}
 use Rattle.ffm_model.specs.declared.system.System.{System}
 use Rattle.ffm_model.specs.WellFormed.{each_pair}
 use Rattle.ffm_model.specs.Ranges.{ranges_of, share_no_byte}
 use Rattle.memory_image.specs.Pieces.{byte_at, fit_an_image, regions_of}
-use Rattle.memory_image.proofs.Compared.{covered, same_outside}
+use Rattle.memory_image.proofs.Compared.{same_outside}
 use Rattle.memory_image.proofs.Systems.{system_fits}
 use Rattle.machine_check.specs.declared.differences.Differences.{Differences}
 use Rattle.machine_check.specs.declared.written.Ranges.{Ranges}
@@ -78,10 +78,6 @@ written-apart regions w fit inside = ranges-apart w.first w.len w.times (few ins
 same_byte : (a b : ℕ) → a ≡ b → not (nat_eq b a) ≡ false
 same_byte a b h = grind (arith, nat_tests)
 
-true_or : (p q : Bool) → (q ≡ false → p ≡ false) → p ≡ true → q ≡ true
-true_or p true h k = refl
-true_or p false h k = let off : p ≡ false = h refl in cc
-
 pub change-told : (s : System) (k a : ℕ) (old new : List Bytes) (w : Ranges) (d : Differences) → regions_of old ≡ ranges_of s.regions → regions_of new ≡ ranges_of s.regions
     → AreInside (ranges_of s.regions) w → ((x : ℕ) → any_covers (ranges_in w) x ≡ false → byte_at new x ≡ byte_at old x)
     → AreDifferences s a (byte_at old) (byte_at new) (ranges_in w) d → IsChangeOf s k a (byte_at old) (byte_at new) (change_of k d)
@@ -94,8 +90,7 @@ change-told s k a old new w d old_regions new_regions inside stays found =
     λ x out. same_outside old new (old_regions ∙ sym new_regions) x (ap (λ r. any_covers r x) old_regions ∙ out) in
     let lowest : IsLeast (differs m n) d.lowest = least_same (λ x. differs m n x && any_covers rs x) (differs m n) d.lowest (λ x. covered (differs m n x) (any_covers rs x) (off x)) found.lowest in
     let count : d.count ≡ count_in (differs m n) (ranges_of s.regions) =
-    found.count ∙ count_in_ranges (differs m n) rs (ranges_of s.regions) 4294967296 (written-apart (ranges_of s.regions) w (system_fits s) inside) (system-apart s)
-    (λ x h. true_or (differs m n x) (any_covers rs x) (off x) h) (λ x h. true_or (differs m n x) (any_covers (ranges_of s.regions) x) (off_regions x) h) in
+    found.count ∙ count_in_ranges (differs m n) rs (ranges_of s.regions) 4294967296 (written-apart (ranges_of s.regions) w (system_fits s) inside) (system-apart s) off off_regions in
     let outside : IsLeast (λ x. differs m n x && not (own_ram s a x)) d.outside =
     least_same (λ x. (differs m n x && not (own_ram s a x)) && any_covers rs x) (λ x. differs m n x && not (own_ram s a x)) d.outside
     (λ x. covered (differs m n x && not (own_ram s a x)) (any_covers rs x) (λ out. and_left (differs m n x) (not (own_ram s a x)) (off x out))) found.outside in

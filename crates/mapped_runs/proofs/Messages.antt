@@ -6,7 +6,7 @@ use Rattle.std.specs.Option.{option_map, option_map_or, option_or}
 use Rattle.std.proofs.lemmas.Bool.{and_parts, and_from, false_from_ne_true, and_right, and_left}
 use Rattle.std.proofs.lemmas.List.Folds.{find-append}
 use Rattle.list_laws.proofs.Counts.{bit, count-cons, find-narrow}
-use Rattle.list_laws.proofs.Tests.{find-passes}
+use Rattle.list_laws.proofs.Tests.{find-map, find-passes, find-same}
 use Rattle.ffm_model.specs.declared.system.System.{System}
 use Rattle.ffm_model.specs.declared.system.Service.{Service}
 use Rattle.ffm_model.specs.declared.machine.Handle.{Handle}
@@ -31,14 +31,6 @@ use Rattle.mapped_runs.proofs.Tables.{handle-flip, same_handle}
 use Rattle.counting_law.proofs.Owners.{owners-same}
 
 -- ---- lists
-
-map-by : {X : Type 0} (g : X → X) (m : X) (o p : Option X) (b : Bool) → p ≡ option_map g o → (if b then Some (g m) else p) ≡ option_map g (if b then Some m else o)
-map-by g m o p true e = refl
-map-by g m o p false e = e
-
-find-map : {X : Type 0} (q : X → Bool) (g : X → X) → ((m : X) → q (g m) ≡ q m) → (ms : List X) → find q (map g ms) ≡ option_map g (find q ms)
-find-map q g h [] = refl
-find-map q g h (m ∷ ms) = ap (λ (x : Bool). if x then Some (g m) else find q (map g ms)) (h m) ∙ map-by g m (find q ms) (find q (map g ms)) (q m) (find-map q g h ms)
 
 filter-by : {X : Type 0} (q : X → Bool) (m : X) (ms rest : List X) (b : Bool) → (q m ≡ true → b ≡ true) → find q rest ≡ find q ms → find q (if b then m ∷ rest else rest) ≡ find q (m ∷ ms)
 filter-by {X = X} q m ms rest true h go = ap (λ (o : Option X). if q m then Some m else o) go
@@ -146,7 +138,8 @@ get-found s b a v h first own itself found none = get-found-in s a v h first own
 
 pub put-held : (s : System) (b : SpmState) (a : ℕ) (h k : Handle) (v : Vectors) → message_held s (with_vectors b h v) a k ≡ option_map (vectors_put h v) (message_held s b a k)
 put-held s b a h k v =
-    find-map (is_mine s a k) (vectors_put h v) (λ m. put-same (λ m. has_handle m.handle h) (is_mine s a k) (λ m. record m { vectors = v }) (λ m. refl) m) b.messages
+    find-map (vectors_put h v) (is_mine s a k) b.messages
+    ∙ ap (option_map (vectors_put h v)) (find-same _ (is_mine s a k) (put-same (λ m. has_handle m.handle h) (is_mine s a k) (λ m. record m { vectors = v }) (λ m. refl)) b.messages)
 
 pub put-at : (h : Handle) (v : Vectors) (m : PendingMessage) → has_handle m.handle h ≡ true → vectors_put h v m ≡ record m { vectors = v }
 put-at h v m e = ap (λ (x : Bool). if x then record m { vectors = v } else m) e

@@ -8,6 +8,7 @@ use Rattle.std.specs.List.{zip, position, position_or_len, range_with_len}
 use Rattle.std.proofs.lemmas.Bool.{and_from}
 use Rattle.byte_lanes.specs.Unequal.{are_unequal}
 use Rattle.byte_lanes.specs.Differences.{differs, range_covers, IsLeast}
+use Rattle.byte_lanes.proofs.Blocks.{told}
 use Rattle.ffm_model.specs.Memory.{ByteMap, bytes_at}
 
 pub length-bytes_at : (m : ByteMap) (a n : ℕ) → length (bytes_at m a n) ≡ n
@@ -65,10 +66,6 @@ run_at m k a (suc n) = run_step (differs m k a) m k a n _ refl (run_at m k (a + 
 length_of_pairs : (m k : ByteMap) (a n : ℕ) → length (pairs m k a n) ≡ n
 length_of_pairs m k a n = grind (arith, length-zip (bytes_at m a n) (bytes_at k a n), length-bytes_at m a n, length-bytes_at k a n)
 
-told : (b : Bool) (d i : ℕ) → Some i ≡ cond b (Some d) None → (b ≡ true) × (i ≡ d)
-told true d i e = (refl, grind (arith, e))
-told false d i e = absurd (grind (arith, e))
-
 told_none : (b : Bool) (d : ℕ) → None ≡ cond b (Some d) None → b ≡ false
 told_none true d e = absurd (grind (arith, e))
 told_none false d e = refl
@@ -86,7 +83,7 @@ found_in m k a n xs ys r one other e =
 
 pub place_within : (m k : ByteMap) (a n : ℕ) (xs ys : List ℕ) (i : ℕ) → xs ≡ bytes_at m a n → ys ≡ bytes_at k a n → Some i ≡ position are_unequal (zip xs ys) → i < n
 place_within m k a n xs ys i one other e =
-    let t = told _ _ i (found_in m k a n xs ys (Some i) one other e) in
+    let t = told _ _ i (sym (found_in m k a n xs ys (Some i) one other e)) in
     let long = length_of_pairs m k a n in
     grind (arith, nat_tests, t.0, t.1, long)
 
@@ -94,9 +91,9 @@ pub least_at : (m k : ByteMap) (a n : ℕ) (xs ys : List ℕ) (i : ℕ) → xs �
     → IsLeast (λ x. differs m k x && range_covers (a, n) x) (Some (a + i))
 least_at m k a n xs ys i one other e =
     let run = run_at m k a n in
-    let t = told _ _ i (found_in m k a n xs ys (Some i) one other e) in
+    let t = told _ _ i (sym (found_in m k a n xs ys (Some i) one other e)) in
     let below = place_within m k a n xs ys i one other e in
-    let there : differs m k (a + i) ≡ true = ap (λ d. differs m k (a + d)) t.1 ∙ run.stops (omega (arith, t.1, below)) in (
+    let there : differs m k (a + i) ≡ true = ap (λ d. differs m k (a + d)) (sym t.1) ∙ run.stops (omega (arith, t.1, below)) in (
       and_from _ _ there (grind (arith, nat_tests, below)),
       λ x low. left_false (differs m k x) (range_covers (a, n) x)
           (λ c. let from : a ≤ x = grind (arith, nat_tests) in run.before x from (omega (arith, t.1, low))),

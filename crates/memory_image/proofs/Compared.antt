@@ -8,7 +8,7 @@ use Rattle.std.proofs.lemmas.List.Folds.{list_any_more, list_any_at}
 use Rattle.std.proofs.lemmas.List.Sums.{sum_by_more, sum_by_more_le, sum_by-le-sum_by}
 use Rattle.std.proofs.lemmas.Bool.{and_left, and_parts, or_parts, or_right}
 use Rattle.byte_lanes.specs.Differences.{differs, range_covers, any_covers, count_in, IsLeast, lesser}
-use Rattle.byte_lanes.proofs.Ranges.{lesser_of, least_same}
+use Rattle.byte_lanes.proofs.Ranges.{covered, lesser_of, least_same}
 use Rattle.ffm_model.specs.declared.scenario.Bytes.{Bytes}
 use Rattle.ffm_model.specs.declared.constants.TheConstants.{MAX_IMAGE_BYTES}
 use Rattle.ffm_model.specs.Memory.{ByteMap}
@@ -69,12 +69,6 @@ least_step p rs k a n least found at one other =
     least_same (λ x. (p x && any_covers before x) || (p x && range_covers (a, n) x)) (λ x. p x && any_covers (take (k + 1) rs) x) (lesser least found)
     (λ x. both (p x) (any_covers before x) (range_covers (a, n) x) ∙ ap (λ b. p x && b) (sym (more x)))
     (lesser_of (λ x. p x && any_covers before x) (λ x. p x && range_covers (a, n) x) least found one other)
-
--- a test that the other one covers
-pub covered : (b c : Bool) → (c ≡ false → b ≡ false) → (b && c) ≡ b
-covered true true h = refl
-covered true false h = sym (h refl)
-covered false c h = refl
 
 -- where only addresses of regions pass, the least in all regions is the least
 pub least_last : (p : ℕ → Bool) (rs : List (ℕ × ℕ)) (k : ℕ) (least : Option ℕ) → length rs ≤ k → ((x : ℕ) → any_covers rs x ≡ false → p x ≡ false) → IsLeastWithin p rs k least → IsLeast p least

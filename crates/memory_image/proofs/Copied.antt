@@ -10,7 +10,7 @@ use Rattle.ffm_model.specs.Memory.{ByteMap, write_bytes, bytes_at, copy_bytes}
 use Rattle.ffm_model.specs.WellFormed.{each_pair}
 use Rattle.ffm_model.specs.Ranges.{has_range, share_no_byte}
 use Rattle.memory_image.specs.Pieces.{byte_at, range_of, IsPut, regions_of}
-use Rattle.ffm_model.proofs.RangeLemmas.{holds_at}
+use Rattle.ffm_model.proofs.TestLemmas.{holds_at}
 use Rattle.memory_image.proofs.Stored.{stored, regions-kept}
 
 read_behind : (p r : Bytes) (ps : List Bytes) (x n : ℕ) → share_no_byte (range_of p) (range_of r) ≡ true → has_range x 1 (range_of r) ≡ true

@@ -15,7 +15,7 @@ use Rattle.ffm_model.specs.Memory.{lies_in, is_ram_of, is_mmio_of, is_writable_m
 use Rattle.ffm_model.specs.Ranges.{range_in, has_range, share_no_byte, ranges_of}
 use Rattle.ffm_model.specs.WellFormed.{each_pair}
 use Rattle.ffm_model.proofs.RangeLemmas.{nowhere, regions_apart}
-use Rattle.ffm_model.proofs.RangeLemmas.{holds_at}
+use Rattle.ffm_model.proofs.TestLemmas.{holds_at}
 
 -- a region of a class that has the range
 abbrev pub has_it : (Class → Bool) → ℕ → ℕ → Region → Bool

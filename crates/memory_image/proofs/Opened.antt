@@ -10,7 +10,7 @@ use Rattle.ffm_model.specs.Memory.{opening_memory, lies_in}
 use Rattle.byte_lanes.specs.Differences.{range_covers}
 use Rattle.ffm_model.specs.Ranges.{has_range, ranges_of}
 use Rattle.memory_image.specs.Pieces.{byte_at, range_of, regions_of, zero_piece, is_inside, open_within}
-use Rattle.ffm_model.proofs.RangeLemmas.{holds_at}
+use Rattle.ffm_model.proofs.TestLemmas.{holds_at}
 
 pub regions_of-zero : (rs : List Region) → regions_of (map zero_piece rs) ≡ ranges_of rs
 regions_of-zero [] = refl

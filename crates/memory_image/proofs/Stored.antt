@@ -14,7 +14,7 @@ use Rattle.std.proofs.lemmas.List.Folds.{list_all-map}
 use Rattle.std.proofs.lemmas.Bool.{and_parts, or_right}
 use Rattle.list_laws.proofs.Tests.{list_any-more}
 use Rattle.list_laws.proofs.Bools.{or_rest}
-use Rattle.ffm_model.proofs.RangeLemmas.{holds_at}
+use Rattle.ffm_model.proofs.TestLemmas.{holds_at}
 
 or_then : (a b : Bool) (P : Type 0) → (a || b) ≡ true → (a ≡ true → P) → (b ≡ true → P) → P
 or_then true b P h first second = first refl

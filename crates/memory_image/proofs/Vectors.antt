@@ -7,7 +7,7 @@ use Rattle.ffm_model.specs.declared.system.System.{System}
 use Rattle.ffm_model.specs.declared.objects.Span.{Span}
 use Rattle.ffm_model.specs.Memory.{ByteMap, spans_at, vectors_read, no_span, valid_buffer, lengths_written, store_number}
 use Rattle.ffm_model.specs.Ranges.{ranges_of}
-use Rattle.ffm_model.proofs.RangeLemmas.{holds_at}
+use Rattle.ffm_model.proofs.TestLemmas.{holds_at}
 use Rattle.memory_image.specs.Pieces.{fit_an_image, is_inside}
 use Rattle.memory_image.proofs.Stored.{ends_below, part_inside}
 use Rattle.memory_image.proofs.Systems.{buffer_inside}

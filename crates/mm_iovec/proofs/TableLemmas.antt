@@ -17,11 +17,6 @@ position-by false n m = grind (arith, nat_tests)
 position-cons : {A : Type 0} (p : A → Bool) (x : A) (xs : List A) → position p (x ∷ xs) ≡ cond (p x) (Some 0) (option_map suc (position p xs))
 position-cons p x xs = position-by (p x) (position_or_len p xs) (length xs)
 
-pub position_of_map : {A B : Type 0} (f : A → B) (p : B → Bool) (xs : List A) → position p (map f xs) ≡ position (λ x. p (f x)) xs
-position_of_map f p [] = refl
-position_of_map f p (x ∷ xs) =
-    position-cons p (f x) (map f xs) ∙ ap (λ o. cond (p (f x)) (Some 0) (option_map suc o)) (position_of_map f p xs) ∙ sym (position-cons (λ y. p (f y)) x xs)
-
 -- ---- a change at the place of a handle
 
 changed-step : (h : Handle) (f : HeldMessage → HeldMessage) (m : HeldMessage) (ms : List HeldMessage) (b : Bool) (o : Option ℕ) (k : ℕ) (d : HeldMessage)

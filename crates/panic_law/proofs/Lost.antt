@@ -10,10 +10,12 @@ use Rattle.ffm_model.specs.declared.objects.PendingMessage.{PendingMessage}
 use Rattle.ffm_model.specs.declared.objects.ConnPhase.{ConnPhase}
 use Rattle.ffm_model.specs.declared.objects.ConnPhase.TheVariants.{Opening, Idle, Busy, Error, Closing, Dead}
 use Rattle.ffm_model.specs.Actors.{is_service_of}
+use Rattle.ffm_model.specs.State.{Rises}
 use Rattle.ffm_model.specs.Panic.{is_dead, lost, without_service, without_client, disconnection}
-use Rattle.counting_law.specs.Objects.{Mark, RisesTo, called_by, connection_marked, is_awaited, is_opening}
+use Rattle.ffm_model.proofs.SerialLemmas.{rises-weaker}
+use Rattle.counting_law.specs.Objects.{Mark, called_by, connection_marked, is_awaited, is_opening}
 use Rattle.counting_law.proofs.Losses.{disconnect_message}
-use Rattle.counting_law.proofs.Parts.{off_right, rising-from}
+use Rattle.counting_law.proofs.Parts.{off_right}
 use Rattle.counting_law.proofs.Panic.{kept_mark}
 
 -- ---- the services are gone
@@ -51,12 +53,12 @@ served-le s p q died (c ∷ cs) =
     (omega arith) (λ unopened. omega (arith, count-cons q (dead c) rest, died c unopened)) (omega (arith, count-cons q c rest)) in
     omega (arith, here, served-le s p q died cs, count-cons q c cs)
 
-pub served-rises : (s : System) (p lo hi : ℕ) (cs : List OpenConnection) → RisesTo lo cs hi → RisesTo lo (filter_map (without_service s p) cs) hi
+pub served-rises : (s : System) (p lo hi : ℕ) (cs : List OpenConnection) → Rises lo cs hi → Rises lo (filter_map (without_service s p) cs) hi
 served-rises s p lo hi [] h = h
 served-rises s p lo hi (c ∷ cs) h =
-    let rest : RisesTo (c.serial + 1) (filter_map (without_service s p) cs) hi = served-rises s p (c.serial + 1) hi cs h.1 in
-    served_cases s p c (filter_map (without_service s p) cs) (λ (xs : List OpenConnection). RisesTo lo xs hi)
-    (rising-from (c.serial + 1) lo hi (filter_map (without_service s p) cs) (omega (arith, h.0)) rest) (λ unopened. (h.0, rest)) (h.0, rest)
+    let rest : Rises (c.serial + 1) (filter_map (without_service s p) cs) hi = served-rises s p (c.serial + 1) hi cs h.1 in
+    served_cases s p c (filter_map (without_service s p) cs) (λ (xs : List OpenConnection). Rises lo xs hi)
+    (rises-weaker (c.serial + 1) lo hi (filter_map (without_service s p) cs) (omega (arith, h.0)) rest) (λ unopened. (h.0, rest)) (h.0, rest)
 
 lost-unmarked : (t : Mark) (c : OpenConnection) (rest : List OpenConnection) (f : ConnPhase)
     → count_by (connection_marked t) (cons_option (option_map (λ g. record c { phase = g }) (lost f)) rest) ≡ count_by (connection_marked t) rest

@@ -77,4 +77,4 @@ disconnect_message c = record { service = c.service; client = c.client; connecti
 
 -- those of the partition's own connections that aren't dead
 abbrev pub disconnect_messages : ℕ → Places OpenConnection → List PendingMessage
-disconnect_messages p linked = filter_map (disconnection p) (connections linked)
+disconnect_messages p pool = filter_map (disconnection p) (connections pool)

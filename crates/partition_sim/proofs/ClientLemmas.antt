@@ -9,10 +9,10 @@ use Rattle.ffm_model.specs.declared.machine.Call.{Call}
 use Rattle.ffm_model.specs.declared.machine.Call.TheVariants as call
 use Rattle.ffm_model.specs.declared.machine.Outcome.{Outcome}
 use Rattle.ffm_model.specs.declared.script.Instruction.{Instruction}
-use Rattle.ffm_model.specs.Plans.{engine_answered, engine_after, plan_of}
+use Rattle.ffm_model.specs.Plans.{engine_answered, engine_after, is_stop, plan_of}
 use Rattle.ffm_model.specs.Records.{is_blocked_outcome, ends_blocked}
 use Rattle.ffm_model.specs.ScriptRuns.{Point, start, arrived, behind}
-use Rattle.ffm_model.specs.Contexts.{DeskView, Contexts, next_context, picked, picked_context, script_of, next_calls, is_stop, is_spent, contexts_call, caller, contexts_behind, context_engine, context_plan, opening_contexts}
+use Rattle.ffm_model.specs.Contexts.{DeskView, Contexts, next_context, picked, picked_context, script_of, next_calls, is_spent, contexts_call, caller, contexts_behind, context_engine, context_plan, opening_contexts}
 use Rattle.partition_sim.specs.declared.context.Context.{Context}
 use Rattle.partition_sim.specs.Clients.{ClientStanding, Reaches, AtCall, EachReaches, EachAtCall, FollowsAll, AskedAll, call_from, contexts_after, desk_of, first_context}
 use Rattle.partition_sim.proofs.StepLemmas.{still}

@@ -9,7 +9,8 @@ use Rattle.ffm_model.specs.declared.machine.Call.{Call}
 use Rattle.ffm_model.specs.declared.machine.Call.TheVariants as call
 use Rattle.ffm_model.specs.declared.script.Instruction.{Instruction}
 use Rattle.ffm_model.specs.ScriptRuns.{Point, start}
-use Rattle.ffm_model.specs.Contexts.{Contexts, first_from, next_context, picked, picked_context, script_of, next_calls, is_stop, is_spent}
+use Rattle.ffm_model.specs.Contexts.{Contexts, first_from, next_context, picked, picked_context, script_of, next_calls, is_spent}
+use Rattle.ffm_model.specs.Plans.{is_stop}
 use Rattle.partition_sim.specs.Clients.{call_from, desk_of}
 use Rattle.ns_contexts.proofs.DeskLemmas.{within-by}
 

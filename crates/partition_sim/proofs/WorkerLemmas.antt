@@ -6,7 +6,8 @@ use Rattle.ffm_model.specs.declared.machine.Call.{Call}
 use Rattle.ffm_model.specs.declared.machine.Entry.{Entry}
 use Rattle.ffm_model.specs.declared.machine.Outcome.{Outcome}
 use Rattle.ffm_model.specs.declared.script.Instruction.{Instruction}
-use Rattle.ffm_model.specs.Passes.{AddsEntry, is_stop}
+use Rattle.ffm_model.specs.Passes.{AddsEntry}
+use Rattle.ffm_model.specs.Plans.{is_stop}
 use Rattle.ffm_model.specs.Records.{ends_blocked, outcomes_of}
 use Rattle.spm_core.specs.Manager.{is_resume}
 use Rattle.partition_sim.specs.declared.workers.Worker.{Worker}

@@ -3,22 +3,17 @@ ghost use Rattle.std.specs.Prelude.{◌≡◌, ◌≤◌, ◌<◌, ℕ, IfSome, 
 ghost use Rattle.std.specs.List.{AllByRecursion, list_any};
 ghost use Rattle.std.specs.Option.{option_map_or};
 ghost use Rattle.ffm_model.specs.declared.script.Instruction.{Instruction};
-ghost use Rattle.ffm_model.specs.Contexts.{is_spent, is_stop, next_calls, script_of};
+ghost use Rattle.ffm_model.specs.Contexts.{is_spent, next_calls, script_of};
+ghost use Rattle.ffm_model.specs.Plans.{is_stop};
 ghost use Rattle.ffm_model.specs.ScriptRuns.{Point, arrived, behind, start};
 ghost use Rattle.ffm_model.specs.Scripts.{IsPart};
 ghost use Rattle.partition_sim.specs.Clients.{AtCall, EachAtCall, EachReaches, Reaches, call_from, first_context};
 
-use crate::calls::is_blocked;
+use crate::calls::{is_blocked, is_stop};
 use crate::context::Context;
 use ffm_model::{Call, Outcome, Part, Script};
 use ns_contexts::Desk;
 use std::marker::Model;
-
-fn is_stop(call: Call) -> bool
-    ensures { result ≡ is_stop call }
-{
-    matches!(call, Call::Stop { .. })
-}
 
 fn is_spent(call: Call) -> bool
     ensures { result ≡ is_spent call }

@@ -1,12 +1,13 @@
 //! Workers, which run scripts over a shared manager.
 ghost use Rattle.std.specs.Prelude.{◌≡◌, ◌==◌, length, true, false, not};
 ghost use Rattle.std.specs.List.{All, count_by};
-ghost use Rattle.ffm_model.specs.Passes.{IsAnswered, is_stop};
+ghost use Rattle.ffm_model.specs.Passes.{IsAnswered};
 ghost use Rattle.ffm_model.specs.Records.{ends_blocked, outcomes_of};
 ghost use Rattle.spm_core.specs.Manager.{is_resume};
 ghost use Rattle.partition_sim.specs.Standing.{role_of};
 ghost use Rattle.partition_sim.specs.Workers.{IsFinished, IsFresh, IsGood, actors_of, roles_of, scripts_of};
 
+use crate::calls::is_stop;
 use crate::runner::Runner;
 use actor_plans::plans_resume_behind_blocked;
 use ffm_model::{Answer, Api, Call, Gate, List, Script};
@@ -48,12 +49,6 @@ impl<P> Worker<P> {
             arrived: false,
         }
     }
-}
-
-fn is_stop(call: Call) -> bool
-    ensures { result ≡ is_stop call }
-{
-    matches!(call, Call::Stop { .. })
 }
 
 // Asks the gate before the first try of an event.

@@ -1,8 +1,8 @@
 -- The first place of each name.
-use Rattle.std.proofs.Common.{ℕ, zero, suc, ◌≡◌, ◌<◌, ◌≤◌, ◌+◌, not, List, [], ◌∷◌, ◌++◌, length, take, get_or, arith, Bor, ◌∙◌, ap, sym, refl, Bool, true, false, cond, Option, Some, None}
+use Rattle.std.proofs.Common.{ℕ, ◌≡◌, ◌<◌, ◌+◌, not, List, [], ◌∷◌, ◌++◌, length, take, get_or, arith, Bor, ◌∙◌, ap, sym, refl, Bool, true, false, cond, Option, Some, None}
 use Rattle.std.specs.Prelude.{find, is_some, IsSome, IfSome}
 use Rattle.std.specs.Option.{option_copied, unwrap_or}
-use Rattle.std.proofs.lemmas.Option.{slice_get-get_or}
+use Rattle.std.proofs.lemmas.Option.{slice_get-get_or, slice_get_past}
 use Rattle.std.specs.List.{position, position_or_len, slice_get}
 use Rattle.std.proofs.lemmas.Bool.Decides.{nat_tests}
 use Rattle.std.specs.Str.{bytes_eq}
@@ -16,11 +16,6 @@ use Rattle.ffm_model.proofs.RangeLemmas.{nowhere}
 -- the element at the first place
 pub position_found : {A : Type 0} (p : A → Bool) (xs : List A) (i : ℕ) → position p xs ≡ Some i → slice_get xs i ≡ find p xs
 position_found p xs i e = grind (arith, nat_tests, find_at p xs)
-
-slice_get_past : {A : Type 0} (xs : List A) (i : ℕ) → length xs ≤ i → slice_get xs i ≡ None
-slice_get_past [] i past = refl
-slice_get_past (x ∷ xs) zero past = absurd (omega arith)
-slice_get_past (x ∷ xs) (suc i) past = slice_get_past xs i (omega arith)
 
 pub got : {A : Type 0} (xs : List A) (i : ℕ) (r : Option (Bor A)) → i < length xs → IfSome r (λ x. x.now ≡ get_or xs i x.now) → IsSome r → option_copied r ≡ slice_get xs i
 got xs i None below is some = cc

@@ -7,7 +7,7 @@ use Rattle.std.specs.Str.{bytes_eq}
 use Rattle.std.proofs.lemmas.Bool.{cases_lt}
 use Rattle.std.proofs.lemmas.Grind.{common_steps}
 use Rattle.std.proofs.lemmas.List.{take-append-le, take_all, map_more}
-use Rattle.std.proofs.lemmas.List.Sums.{sum_by-append}
+use Rattle.std.proofs.lemmas.List.Sums.{sum_by-append, sum_by-cons}
 use Rattle.std.proofs.lemmas.Slice.Eq.{bytes_eq-Decides}
 use Rattle.script_asm.specs.declared.labels.FirstLabel.{FirstLabel}
 use Rattle.script_asm.specs.Labels.{label_in, is_before, HasPlaces, HasLines}
@@ -44,9 +44,6 @@ place-cons-by true c w s o = refl
 place-cons-by false true w s None = refl
 place-cons-by false false w s None = refl
 place-cons-by false c w s (Some k) = refl
-
-sum_by-cons : {A : Type 0} (f : A → ℕ) (x : A) (xs : List A) → sum_by f (x ∷ xs) ≡ f x + sum_by f xs
-sum_by-cons f x xs = sum_by-append f (x ∷ []) xs ∙ ap (λ k. k + sum_by f xs) (zero-add (f x))
 
 place-more : (n : Word) (xs : List Line) (l : Line) → place_of n (xs ++ l ∷ []) ≡ option_or (place_of n xs) (if is_label n l then Some (sum_by width xs) else None)
 unfolding place_of

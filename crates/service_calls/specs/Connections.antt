@@ -9,12 +9,12 @@ use Rattle.spm_tables.specs.declared.item.QueuedMessage.{QueuedMessage}
 
 -- the slot is that of the message's connection, which is there
 abbrev pub IsConnectionOf : Places OpenConnection → QueuedMessage → Slot → Type 0
-IsConnectionOf linked m slot = IsSomeAnd (item_at linked slot) (λ c. (m.serial ≡ Some c.serial) × (find (λ d. d.serial == c.serial) (connections linked) ≡ Some c))
+IsConnectionOf pool m slot = IsSomeAnd (item_at pool slot) (λ c. (m.serial ≡ Some c.serial) × (find (λ d. d.serial == c.serial) (connections pool) ≡ Some c))
 
 -- the slot of the message's connection, which is there, or none where the message is of no connection
 abbrev pub IsLinkOf : Places OpenConnection → QueuedMessage → Option Slot → Type 0
-IsLinkOf linked m None = m.serial ≡ None
-IsLinkOf linked m (Some slot) = IsConnectionOf linked m slot
+IsLinkOf pool m None = m.serial ≡ None
+IsLinkOf pool m (Some slot) = IsConnectionOf pool m slot
 
 -- the connection of a slot is another one with the same serial number and handle, or it is gone; all else is as it was
 abbrev pub ChangesAt : Slot → Places OpenConnection → Places OpenConnection → Type 0

@@ -49,9 +49,9 @@ distinct-push (f ∷ fs) service h fresh =
     let apart = or_parts (f.service == service) (has_function fs service) fresh in
     (AllByRecursion-push (λ y. (f.service == y) ≡ false) (map (λ f. f.service) fs) service h.0 apart.0, distinct-push fs service h.1 apart.1)
 
-pub kept-start : IsSfnScript []
+pub no-functions : IsSfnScript []
 unfolding IsDistinct
-kept-start = record { one_each = tt; fit = tt; short = tt }
+no-functions = record { one_each = tt; fit = tt; short = tt }
 
 pub kept-next : (fs : List SfnFunction) (f : SfnFunction) → IsSfnScript fs → has_function fs f.service ≡ false → IsFunction f.instructions → length f.instructions ≤ MAX_SCRIPT_LINES
     → IsSfnScript (fs ++ f ∷ [])

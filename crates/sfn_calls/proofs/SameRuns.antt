@@ -133,7 +133,7 @@ working-facts p w o es a = facts-by p w o es (returns_at w.lines (reached w)) a
 
 -- ---- the induction
 
-same_signals : (a b : ℕ) → ◌≡◌ {A = Outcome} (outcome.Signals a) (outcome.Signals b) → a ≡ b
+pub same_signals : (a b : ℕ) → ◌≡◌ {A = Outcome} (outcome.Signals a) (outcome.Signals b) → a ≡ b
 same_signals a b e = cc
 
 same_message : (a b : Message) → ◌≡◌ {A = Outcome} (outcome.Got a) (outcome.Got b) → a ≡ b

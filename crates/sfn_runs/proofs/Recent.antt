@@ -7,7 +7,6 @@ use Rattle.counting_law.proofs.Returns.{open-phase, turns-sound}
 use Rattle.ffm_model.specs.declared.system.System.{System}
 use Rattle.ffm_model.specs.declared.machine.Entry.{Entry}
 use Rattle.ffm_model.specs.declared.machine.Call.TheVariants as call
-use Rattle.ffm_model.specs.declared.machine.Outcome.{Outcome}
 use Rattle.ffm_model.specs.declared.machine.Outcome.TheVariants as outcome
 use Rattle.ffm_model.specs.declared.objects.ActorPhase.{ActorPhase}
 use Rattle.ffm_model.specs.declared.objects.ActorPhase.TheVariants.{Running, Blocked, Waiting}
@@ -24,6 +23,7 @@ use Rattle.counting_law.proofs.Resume.{times}
 use Rattle.counting_law.proofs.Steps.{step-kind}
 use Rattle.counting_law.proofs.Runs.{opening-balanced, step-keeps}
 use Rattle.counting_law.proofs.Turns.{Turned, Turns, is_sound, kinds-turn}
+use Rattle.sfn_calls.proofs.SameRuns.{same_signals}
 use Rattle.sfn_runs.proofs.Bits.{and-left}
 use Rattle.sfn_runs.proofs.Signals.{asserted-waits}
 use Rattle.sfn_runs.proofs.Delivery.{Stays, kinds-stay}
@@ -77,9 +77,6 @@ turned-stays p q r (inr (inr k)) h free = absurd (free (sym h ∙ k.0))
 some-same : (x y : Entry) → ◌≡◌ {A = Option Entry} (Some x) (Some y) → x ≡ y
 some-same x y e = cc
 
-signals-same : (m n : ℕ) → ◌≡◌ {A = Outcome} (outcome.Signals m) (outcome.Signals n) → m ≡ n
-signals-same m n e = cc
-
 -- ---- one step
 
 pub step-recent : (s : System) (a : ℕ) → a < length s.partitions → (es : List Entry) (st new : State) (e : Entry) → Recent s a es st → step s st e ≡ Some new → Recent s a (es ++ e ∷ []) new
@@ -103,7 +100,7 @@ step-recent s a inside es st new e r h =
           let was : last_of (entries_of a es) ≡ Some w = ap last_of (sym (front-push (entries_of a es) e)) ∙ (ap (λ (l : List Entry). last_of (front_of l)) (sym pushed) ∙ before) in
           let waiting = r.waits w mask timeout was is blocked in
           let woken = wakes s st new a mask e.outcome inside waiting (own-step s st new e a call.Resume h (sym k) (ap (λ (x : Entry). x.call) same ∙ back)) in
-          let number : bit_and (signals_of s st.spm a) mask ≡ n = signals-same _ n (sym woken.shown ∙ (ap (λ (x : Entry). x.outcome) same ∙ shown)) in (
+          let number : bit_and (signals_of s st.spm a) mask ≡ n = same_signals _ n (sym woken.shown ∙ (ap (λ (x : Entry). x.outcome) same ∙ shown)) in (
             subst (λ (b : SpmState). phase_of b a ≡ Running) (sym woken.spm) (now-running st.spm a mask waiting),
             (λ j v high found bit. subst (λ (b : SpmState). has_undelivered b v ≡ true) (sym woken.spm)
                 (asserted-waits s st.spm a j v high found (and-left (signals_of s st.spm a) mask j (ap (λ (x : ℕ). bit_at x j) number ∙ bit)))),

@@ -8,16 +8,17 @@ use Rattle.std.proofs.lemmas.List.{get_or_append_left, map_push}
 use Rattle.std.proofs.lemmas.List.Elements.{All-cons, All-head, All-map, All-nil, All-push, All-tail, All-weaker, All-filter}
 use Rattle.ffm_model.specs.declared.machine.ActorId.{ActorId}
 use Rattle.ffm_model.specs.declared.objects.OpenConnection.{OpenConnection}
+use Rattle.ffm_model.specs.State.{Rises}
 use Rattle.ffm_model.specs.Names.{NamesSoFar, SlotName, is_same_connection, next_slot, no_slot, with_messages}
+use Rattle.ffm_model.proofs.SerialLemmas.{rises-bounds}
 use Rattle.object_pools.specs.declared.slot.Slot.{Slot}
 use Rattle.object_pools.specs.declared.slot.Held.{Held}
 use Rattle.object_pools.specs.Pool.{Places, IsKept, free_slot, has_slot, item_at, item_put, taken, with_item, without}
 use Rattle.list_laws.proofs.Counts.{bit, count-cons}
 use Rattle.handle_table.specs.Handles.{live_names, slot_name}
-use Rattle.handle_table.specs.Table.{IsTable, Rises, connections}
+use Rattle.handle_table.specs.Table.{IsTable, connections}
 use Rattle.handle_table.proofs.NameLemmas.{next-name, past-after}
 use Rattle.handle_table.proofs.SlotLemmas.{held-of, one_slot}
-use Rattle.handle_table.proofs.TableLemmas.{rises-bounds}
 use Rattle.spm_tables.specs.declared.item.QueuedMessage.{QueuedMessage}
 use Rattle.spm_tables.specs.TablesView.{TablesView}
 use Rattle.slot_names.specs.Named.{NamesAre, IsNamedBy}

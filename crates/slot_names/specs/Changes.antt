@@ -1,18 +1,17 @@
 -- Changes of the tables' pools that take no slot, and the tables in the middle of an event that takes several.
 -- Source: of this repository; FF-M 1.0 leaves open how a manager keeps its connections and messages.
-use Rattle.std.specs.Prelude.{◌≡◌, ℕ, ◌≤◌, ◌==◌, Bool, ◌&&◌, ◌||◌, List, is_some, count_by, filter, map, All}
+use Rattle.std.specs.Prelude.{◌≡◌, ℕ, ◌≤◌, Bool, List, count_by, filter, map, All}
 use Rattle.std.specs.List.{list_any}
-use Rattle.std.specs.Ordering.{int_eq}
 use Rattle.ffm_model.specs.declared.objects.OpenConnection.{OpenConnection}
-use Rattle.ffm_model.specs.State.{SpmState}
+use Rattle.ffm_model.specs.State.{Rises, SpmState}
 use Rattle.ffm_model.specs.declared.objects.PendingMessage.{PendingMessage}
-use Rattle.ffm_model.specs.Names.{NamesSoFar, SlotName, is_same_connection, is_same_message, with_messages}
+use Rattle.ffm_model.specs.Names.{NamesSoFar, SlotName, is_same_message, with_messages}
 use Rattle.object_pools.specs.declared.slot.Held.{Held}
 use Rattle.object_pools.specs.Pool.{Places}
 use Rattle.handle_table.specs.Handles.{live_names, slot_name}
-use Rattle.counting_law.specs.Objects.{Mark, RisesTo, called_by, connection_marked, message_marked}
+use Rattle.counting_law.specs.Objects.{Mark, called_by, connection_marked, message_marked}
 use Rattle.spm_tables.specs.declared.item.QueuedMessage.{QueuedMessage}
-use Rattle.spm_tables.specs.TablesView.{TablesView}
+use Rattle.spm_tables.specs.TablesView.{TablesView, held_message}
 use Rattle.slot_names.specs.Named.{IsNamedBy, NamesAre}
 
 -- no connection is made, and those that are there have the slots and serial numbers that they had: what names the old ones names them
@@ -21,11 +20,11 @@ pub record KeepsConnectionNames (old new : Places OpenConnection) : Type 0 where
   pub takes : new.takes ≡ old.takes
   pub held : (ts : List SlotName) → All (IsNamedBy ts) old.held → All (IsNamedBy ts) new.held
 
--- a message of the same connection, or where there is none of the same client, and of the same kind
+-- the messages of two slots are the same one, for the machine's names
 abbrev pub is_like : Held QueuedMessage → Held QueuedMessage → Bool
-is_like h n = is_same_connection n.item.serial h.item.serial && ((is_some h.item.serial || (n.item.client.0 == h.item.client.0)) && int_eq n.item.kind h.item.kind)
+is_like h n = is_same_message (held_message h) (held_message n)
 
--- no message comes or goes: the slots are the same, in their order, and so are the messages by connection, or client, and kind
+-- no message comes or goes: the slots are the same, in their order, and so are the messages, for the machine's names
 pub record KeepsMessageNames (old new : Places QueuedMessage) : Type 0 where
   pub generations : new.generations ≡ old.generations
   pub takes : new.takes ≡ old.takes
@@ -48,4 +47,4 @@ OneMessageEach b = (n : PendingMessage) → count_by (is_same_message n) b.messa
 pub record PairsOff (b : SpmState) : Type 0 where
   pub paired : (t : Mark) → count_by (message_marked t) b.messages ≡ count_by (connection_marked t) b.connections
   pub calls : (a : ℕ) → count_by (called_by a) b.messages ≤ 1
-  pub rising : RisesTo 0 b.connections b.connections_made
+  pub rising : Rises 0 b.connections b.connections_made

@@ -2,6 +2,7 @@
 use Rattle.std.proofs.Common.{ℕ, ◌≡◌, ◌<◌, ◌≤◌, ◌+◌, Bool, true, false, List, [], ◌∷◌, ◌++◌, length, refl, ap, sym, subst, ◌∙◌, arith, length-append, All, inl, inr}
 use Rattle.std.specs.Prelude.{Option, Some, None, option_and_then, IsSomeAnd, IsSome, IfSome, ◌&&◌, ◌||◌, not, nat_lt, nat_le, is_some, get_or, if◌then◌else◌, ◌⊎◌}
 use Rattle.std.specs.Option.{option_map, option_map_or}
+use Rattle.std.proofs.lemmas.Bool.{and_from}
 use Rattle.std.proofs.lemmas.Bool.Decides.{nat_tests}
 use Rattle.std.proofs.lemmas.List.Folds.{list_any_at}
 use Rattle.std.proofs.lemmas.List.FromFn.{length-range_with_len, get_or-range_with_len}
@@ -160,9 +161,6 @@ due-call : (c : Call) (p : ActorPhase) → is_resume c ≡ may_resume p → retu
 due-call call.Resume p h = sym h
 due-call _ p h = rw (← h) refl
 
-three : (x y z : Bool) → x ≡ true → y ≡ true → z ≡ true → (x && (y && z)) ≡ true
-three x y z h k l = rw (h, k, l) refl
-
 pub may-kept : (o : Opening) (history : List Entry) (bytes : List Bytes) (d : TablesView) (capacity a : ℕ) (c : Call) → Keeps o history bytes d capacity → a < actor_count o.system
     → CallDue o history a c → refusal_at o.system o.limit (length history) (spm_of d) a ≡ None → may_call o.system (spm_of d) a c ≡ true
 may-kept o history bytes d capacity a c keeps below due none =
@@ -174,7 +172,7 @@ may-kept o history bytes d capacity a c keeps below due none =
     let stays : is_actor_gone o history a ≡ false = ap (λ (x : Option State). option_map_or (λ y. is_gone (phase_of y.spm a)) x false) at.is ∙ left.stays in
     let asked : (is_resume c ≡ awaits_return history a) ⊎ (is_actor_gone o history a ≡ true) → is_resume c ≡ awaits_return history a = elim [ inl h ↦ h | inr h ↦ cc ] in
     let there : nat_lt a (actor_count o.system) ≡ true = grind (arith, nat_tests) in
-    three _ _ _ there left.on (due-call c (phase_of (spm_of d) a) (asked due ∙ sym resumes))
+    and_from _ _ there (and_from _ _ left.on (due-call c (phase_of (spm_of d) a) (asked due ∙ sym resumes)))
 
 -- ---- an actor's last entry
 

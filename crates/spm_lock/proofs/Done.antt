@@ -15,7 +15,7 @@ use Rattle.ffm_model.specs.declared.objects.ActorPhase.{ActorPhase}
 use Rattle.ffm_model.specs.declared.objects.ActorPhase.TheVariants as phase
 use Rattle.ffm_model.specs.Actors.{kind_of}
 use Rattle.ffm_model.specs.Calls.{has_call, call_case, effect_or_error, effect_of}
-use Rattle.ffm_model.specs.Passes.{is_stop}
+use Rattle.ffm_model.specs.Plans.{is_stop}
 use Rattle.ffm_model.specs.State.{State, phase_of}
 use Rattle.ffm_model.specs.Signals.{enabled}
 use Rattle.ffm_model.specs.Step.{step, handle_shown}

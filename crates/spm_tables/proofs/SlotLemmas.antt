@@ -4,12 +4,13 @@ use Rattle.std.specs.Prelude.{find, Option, Some, None, map, All, IsSome, IfSome
 use Rattle.std.specs.Option.{option_map}
 use Rattle.std.proofs.lemmas.List.Elements.{All-nil, All-cons, All-push, All-filter, All-weaker, All-map}
 use Rattle.ffm_model.specs.declared.objects.OpenConnection.{OpenConnection}
+use Rattle.ffm_model.specs.State.{Rises}
+use Rattle.ffm_model.proofs.SerialLemmas.{rises-bounds}
 use Rattle.object_pools.specs.declared.slot.Slot.{Slot}
 use Rattle.object_pools.specs.declared.slot.Held.{Held}
 use Rattle.object_pools.specs.Pool.{Places, IsKept, has_slot, item_at, item_put, taken, with_item, without}
-use Rattle.handle_table.specs.Table.{connections, Rises, IsTable}
+use Rattle.handle_table.specs.Table.{connections, IsTable}
 use Rattle.handle_table.proofs.SlotLemmas.{has_own, one_slot, slot-is, held-of}
-use Rattle.handle_table.proofs.TableLemmas.{rises-bounds}
 use Rattle.list_laws.proofs.Tests.{find-passes, find-all, find-map}
 use Rattle.spm_tables.specs.declared.item.MessageItem.{MessageItem}
 use Rattle.spm_tables.specs.declared.item.QueuedMessage.{QueuedMessage}

@@ -5,12 +5,12 @@ use Rattle.ffm_model.specs.declared.objects.OpenConnection.{OpenConnection}
 use Rattle.object_pools.specs.Pool.{Places}
 use Rattle.spm_tables.specs.declared.item.QueuedMessage.{QueuedMessage}
 
-pub record BelongsTo (linked : Places OpenConnection) (m : QueuedMessage) : Type 0 where
+pub record BelongsTo (connections : Places OpenConnection) (m : QueuedMessage) : Type 0 where
   -- its serial number, where it has one, is that of a connection that was made
-  pub made : IfSome m.serial (λ n. n < linked.takes)
+  pub made : IfSome m.serial (λ n. n < connections.takes)
   -- and while its connection is there, it is in the slot that the message names
-  pub slot : All (λ h. m.serial ≡ Some h.item.serial → m.connection ≡ Some h.slot) linked.held
+  pub slot : All (λ h. m.serial ≡ Some h.item.serial → m.connection ≡ Some h.slot) connections.held
 
 -- what the tables keep of their messages
 abbrev pub KeepSlots : Places OpenConnection → Places QueuedMessage → Type 0
-KeepSlots linked waiting = All (λ h. BelongsTo linked h.item) waiting.held
+KeepSlots connections messages = All (λ h. BelongsTo connections h.item) messages.held

@@ -49,11 +49,11 @@ item_of m = record { service = m.service; client = m.client; connection = m.conn
 
 -- the serial number of the connection in the slot, where one is there
 abbrev pub serial_at : Places OpenConnection → Option Slot → Option ℕ
-serial_at linked slot = option_map (λ c. c.serial) (option_and_then (item_at linked) slot)
+serial_at pool slot = option_map (λ c. c.serial) (option_and_then (item_at pool) slot)
 
 -- the message of the connection in its slot
 abbrev pub queued : Places OpenConnection → MessageItem → QueuedMessage
-queued linked m = queued_as (serial_at linked m.connection) m
+queued pool m = queued_as (serial_at pool m.connection) m
 
 -- ---- the state
 

@@ -16,8 +16,9 @@ use Rattle.ffm_model.specs.declared.place.PathStep.TheVariants as step
 use Rattle.ffm_model.specs.declared.place.Root.TheVariants as root
 use Rattle.ffm_model.specs.Keys.{key_text}
 use Rattle.ffm_model.specs.Reading.{Contents, Reading, ◌>>=◌, Gives, Reads}
+use Rattle.ffm_model.specs.Rules.{at_manifest}
 use Rattle.ffm_model.specs.SystemAttributes.{manifest_in, manifest_items_of}
-use Rattle.ffm_model.specs.Systems.{behind, manifest_steps, manifest_place, manifest_item, manifests_after}
+use Rattle.ffm_model.specs.Systems.{behind, manifest_place, manifest_item, manifests_after}
 use Rattle.ffm_model.specs.Manifests.{manifest_of}
 use Rattle.ffm_model.specs.Trees.{tree_of}
 use Rattle.ffm_model.proofs.ReadingLemmas.{after_ok, after_err}
@@ -28,7 +29,7 @@ use Rattle.list_laws.proofs.Lists.{drop-item}
 
 -- ---- a manifest in a file of its own
 
-pub no_manifest : (k : ℕ) (bytes : List ℕ) (e : ReadError) → FailsTree (manifest_place k) e (tree_of bytes) → Reads (λ (m : Manifest). m) (Err e) (behind (manifest_steps k) (manifest_in bytes))
+pub no_manifest : (k : ℕ) (bytes : List ℕ) (e : ReadError) → FailsTree (manifest_place k) e (tree_of bytes) → Reads (λ (m : Manifest). m) (Err e) (behind (at_manifest k) (manifest_in bytes))
 unfolding manifest_in
 no_manifest k bytes read_error.Memory failed = tt
 no_manifest k bytes (read_error.Refused r) failed = rw (failed.0, failed.1) refl

@@ -6,6 +6,7 @@ use Rattle.std.specs.Option.{option_map}
 use Rattle.std.specs.Str.{bytes_eq}
 use Rattle.std.proofs.lemmas.Iterator.Adapters.{position_from-zero}
 use Rattle.std.proofs.lemmas.List.{length-map}
+use Rattle.list_laws.proofs.Tests.{position-map}
 use Rattle.ffm_model.specs.declared.system.Source.{Source}
 use Rattle.ffm_model.specs.declared.system.System.{System}
 use Rattle.ffm_model.specs.Scenarios.{device_names, actor_names, actor_named}
@@ -21,10 +22,6 @@ past_first {X} p i (x ∷ xs) ys h =
     let same : i + 1 + length xs ≡ i + length (x ∷ xs) = omega arith in
     elim (p x) as (λ b. cond b (Some i) (position_from p (i + 1) xs) ≡ None → cond b (Some i) (position_from p (i + 1) (xs ++ ys)) ≡ position_from p (i + length (x ∷ xs)) ys) [ true ↦ λ e. absurd cc | false ↦ λ e. past_first p (i + 1) xs ys e ∙ ap (λ j. position_from p j ys) same ] h
 
-of_map : {X Y : Type 0} (p : Y → Bool) (f : X → Y) (i : ℕ) (xs : List X) → position_from p i (map f xs) ≡ position_from (λ x. p (f x)) i xs
-of_map p f i [] = refl
-of_map p f i (x ∷ xs) = ap (λ r. cond (p (f x)) (Some i) r) (of_map p f (i + 1) xs)
-
 shifted : {X : Type 0} (p : X → Bool) (n i : ℕ) (xs : List X) → position_from p (n + i) xs ≡ option_map (λ k. n + k) (position_from p i xs)
 shifted p n i [] = refl
 shifted p n i (x ∷ xs) =
@@ -39,21 +36,18 @@ in_second p xs ys h =
     let zero_first : 0 + length xs ≡ length xs + 0 = omega arith in
     position_from-zero p (xs ++ ys) ∙ past_first p 0 xs ys (sym (position_from-zero p xs) ∙ h) ∙ ap (λ j. position_from p j ys) zero_first ∙ shifted p (length xs) 0 ys ∙ ap (option_map (λ k. length xs + k)) (sym (position_from-zero p ys))
 
-pub position-map : {X Y : Type 0} (p : Y → Bool) (f : X → Y) (xs : List X) → position p (map f xs) ≡ position (λ x. p (f x)) xs
-position-map p f xs = position_from-zero p (map f xs) ∙ of_map p f 0 xs ∙ sym (position_from-zero (λ x. p (f x)) xs)
-
 -- ---- the actors of a system
 
 pub is_partition : (s : System) (text : List ℕ) (k : ℕ) → position (λ p. bytes_eq text p.name) s.partitions ≡ Some k → actor_named s text ≡ Some (record { 0 = k })
 unfolding actor_names
 is_partition s text k h =
-    ap (option_map (λ place. record { 0 = place })) (in_first (bytes_eq text) (map (λ p. p.name) s.partitions) (s.clients ++ device_names s.sources) k (position-map (bytes_eq text) (λ p. p.name) s.partitions ∙ h))
+    ap (option_map (λ place. record { 0 = place })) (in_first (bytes_eq text) (map (λ p. p.name) s.partitions) (s.clients ++ device_names s.sources) k (position-map (λ p. p.name) (bytes_eq text) s.partitions ∙ h))
 
 past_partitions : (s : System) (text : List ℕ) → position (λ p. bytes_eq text p.name) s.partitions ≡ None → position (bytes_eq text) (actor_names s) ≡ option_map (λ k. length s.partitions + k) (position (bytes_eq text) (s.clients ++ device_names s.sources))
 unfolding actor_names
 past_partitions s text h =
     let names = map (λ p. p.name) s.partitions in
-    in_second (bytes_eq text) names (s.clients ++ device_names s.sources) (position-map (bytes_eq text) (λ p. p.name) s.partitions ∙ h)
+    in_second (bytes_eq text) names (s.clients ++ device_names s.sources) (position-map (λ p. p.name) (bytes_eq text) s.partitions ∙ h)
     ∙ ap (λ n. option_map (λ k. n + k) (position (bytes_eq text) (s.clients ++ device_names s.sources))) (length-map s.partitions (λ p. p.name))
 
 pub is_client : (s : System) (text : List ℕ) (k : ℕ) → position (λ p. bytes_eq text p.name) s.partitions ≡ None → position (bytes_eq text) s.clients ≡ Some k → actor_named s text ≡ Some (record { 0 = length s.partitions + k })

@@ -6,8 +6,9 @@ ghost use Rattle.ffm_model.specs.Attributes.{or_refuse};
 ghost use Rattle.ffm_model.specs.ManifestItems.{IsManifest};
 ghost use Rattle.ffm_model.specs.Manifests.{manifest_of};
 ghost use Rattle.ffm_model.specs.Reading.{Contents, Gives, Reads, file_at};
+ghost use Rattle.ffm_model.specs.Rules.{at_manifest};
 ghost use Rattle.ffm_model.specs.SystemAttributes.{manifest_in, manifest_items_of, level_of, parts_with};
-ghost use Rattle.ffm_model.specs.Systems.{behind, manifest_steps, manifest_place, manifest_named, manifest_item, manifests_after, manifests_of, parts_of, system_of};
+ghost use Rattle.ffm_model.specs.Systems.{behind, manifest_place, manifest_named, manifest_item, manifests_after, manifests_of, parts_of, system_of};
 ghost use Rattle.ffm_model.specs.Trees.{tree_of};
 ghost use Rattle.outside_io.specs.Count.{Rose};
 ghost use Rattle.outside_io.specs.Reads.{HasRead, ReadBetween};
@@ -48,14 +49,14 @@ fn refused_in_system(alloc: Global, steps: &[PathStep], code: u8) -> ReadError
 
 /// The steps to a manifest.
 fn manifest_steps(alloc: Global, number: u32) -> Result<Vec<PathStep>, AllocError>
-    ensures { IfOk result (λ steps. steps.items ≡ manifest_steps number) }
+    ensures { IfOk result (λ steps. steps.items ≡ at_manifest number) }
 {
     Ok(vec![in alloc; PathStep::Key(Key::Manifests), PathStep::Index(number)]?)
 }
 
 /// The manifest that stands at this place of the system file.
 fn manifest_here(alloc: Global, tree: &Value, number: u32) -> Result<Manifest, ReadError>
-    ensures given { Reads (λ m. m) result (behind (manifest_steps number) (manifest_of (view tree.now))) }
+    ensures given { Reads (λ m. m) result (behind (at_manifest number) (manifest_of (view tree.now))) }
     ensures kept { IfOk result IsManifest }
 {
     let front = manifest_steps(alloc, number)?;
@@ -65,7 +66,7 @@ fn manifest_here(alloc: Global, tree: &Value, number: u32) -> Result<Manifest, R
 
 /// The manifest that a file's bytes spell, for this place of the system file.
 fn manifest_in(alloc: Global, bytes: &[u8], number: u32) -> Result<Manifest, ReadError>
-    ensures given { Reads (λ m. m) result (behind (manifest_steps number) (manifest_in bytes.now)) }
+    ensures given { Reads (λ m. m) result (behind (at_manifest number) (manifest_in bytes.now)) }
     ensures kept { IfOk result IsManifest }
 {
     let place = Place {

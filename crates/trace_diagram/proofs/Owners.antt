@@ -5,7 +5,7 @@ use Rattle.std.specs.List.{list_all}
 use Rattle.std.specs.Option.{option_map, option_map_or, unwrap_or}
 use Rattle.std.proofs.lemmas.Bool.{and_from, and_parts, eqb-true}
 use Rattle.list_laws.proofs.Counts.{bit, count-found}
-use Rattle.list_laws.proofs.Tests.{find-passes}
+use Rattle.list_laws.proofs.Tests.{find-list_all, find-passes}
 use Rattle.ffm_model.specs.declared.system.Budget.{Budget}
 use Rattle.ffm_model.specs.declared.system.Service.{Service}
 use Rattle.ffm_model.specs.declared.system.System.{System}
@@ -20,7 +20,6 @@ use Rattle.counting_law.proofs.Balance.{Balanced}
 use Rattle.counting_law.proofs.Parts.{is_itself}
 use Rattle.trace_diagram.specs.Pairs.{Asks}
 use Rattle.counting_law.proofs.Events.{position-passes}
-use Rattle.counting_law.proofs.Callers.{all-at}
 use Rattle.counting_law.proofs.Owners.{held-client}
 
 -- the service at a place has an owner
@@ -45,7 +44,7 @@ budget-owned s a service (Some b) at some =
     let fits : Budget → Bool = λ (x : Budget). nat_lt x.client.0 n && option_map_or (λ (v : Service). not (v.owner == x.client.0)) (slice_get s.services x.service) false in
     let same : b.service ≡ service = eqb-true b.service service (and_parts (b.client.0 == a) (b.service == service) (find-passes (λ (x : Budget). (x.client.0 == a) && (x.service == service)) s.budgets b at)).1 in
     let all : list_all fits s.budgets ≡ true = (and_parts _ _ (and_parts _ _ (budgets_hold s)).0).0 in
-    let passes : option_map_or (λ (v : Service). not (v.owner == b.client.0)) (slice_get s.services b.service) false ≡ true = (and_parts _ _ (all-at fits s.budgets _ b all at)).1 in
+    let passes : option_map_or (λ (v : Service). not (v.owner == b.client.0)) (slice_get s.services b.service) false ≡ true = (and_parts _ _ (find-list_all _ fits s.budgets b at all)).1 in
     subst (Owned s) same (owned-by s b.service (λ (v : Service). not (v.owner == b.client.0)) (slice_get s.services b.service) refl passes)
 
 connection-owned : (s : System) (limit : Handle → ℕ) (b : SpmState) (a : ℕ) (h : Handle) (c : OpenConnection) → Balanced s limit b → connection_held b a h ≡ Some c → Owned s c.service

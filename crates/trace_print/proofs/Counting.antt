@@ -1,7 +1,8 @@
 -- Reading digits one by one.
 use Rattle.std.proofs.Common.{◌≡◌, ℕ, ◌+◌, ◌<◌, ◌≤◌, List, Option, None, Some, drop, length, get_or, sym, ap, ◌∙◌}
 use Rattle.std.proofs.lemmas.List.{drop_more, drop_all}
-use Rattle.trace_print.specs.Numbers.{◌>>=◌, with_digit, number_after}
+use Rattle.ffm_model.specs.Binding.{◌>>=◌}
+use Rattle.trace_print.specs.Numbers.{with_digit, number_after}
 
 after_first : (base n i : ℕ) (digits : List ℕ) (t : Option ℕ) → i < length digits → number_after base n (drop i digits) ≡ t → (with_digit base n (get_or digits i 0) >>= λ m. number_after base m (drop (i + 1) digits)) ≡ t
 unfolding number_after

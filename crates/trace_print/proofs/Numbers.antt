@@ -7,7 +7,8 @@ use Rattle.std.specs.Str.Parse.{AllDigits, digits_value_after}
 use Rattle.std.proofs.lemmas.Fmt.{decimal_is_IsNumeral}
 use Rattle.std.proofs.lemmas.Bool.Decides.{nat_tests}
 use Rattle.ffm_model.specs.TraceText.{hexadecimal_digit, hexadecimal_digits, hexadecimal_word, IsI32}
-use Rattle.trace_print.specs.Numbers.{◌>>=◌, with_digit, number_after, unsigned_of, hexadecimal_of, signed_of, positive, negative}
+use Rattle.ffm_model.specs.Binding.{◌>>=◌}
+use Rattle.trace_print.specs.Numbers.{with_digit, number_after, unsigned_of, hexadecimal_of, signed_of, positive, negative}
 use Rattle.trace_print.proofs.DecimalDigits.{first_digit, well_begun}
 
 digit_again : (m d : ℕ) → d < 16 → m * 16 + d < 2 ^ 32 → with_digit 16 m (hexadecimal_digit d) ≡ Some (m * 16 + d)

@@ -1,7 +1,7 @@
 -- What holds of a value where there is one.
 use Rattle.std.proofs.Common.{◌≡◌, Bool, true, false, Option, None, Some, refl, subst}
 use Rattle.std.specs.Prelude.{IfSome, if◌then◌else◌}
-use Rattle.trace_print.specs.Numbers.{◌>>=◌}
+use Rattle.ffm_model.specs.Binding.{◌>>=◌}
 
 -- P of the one that a test chooses
 pub chosen : {A : Type 0} (P : A → Type 0) (t : Bool) (x y : A) → (t ≡ true → P x) → (t ≡ false → P y) → P (if t then x else y)

@@ -16,8 +16,9 @@ use Rattle.ffm_model.specs.declared.machine.Entry.{Entry}
 use Rattle.ffm_model.specs.declared.machine.Message.{Message}
 use Rattle.ffm_model.specs.declared.machine.Outcome.{Outcome}
 use Rattle.ffm_model.specs.declared.machine.Outcome.TheVariants as outcome
+use Rattle.ffm_model.specs.Binding.{◌>>=◌}
 use Rattle.ffm_model.specs.TraceText.{Word, field_word, hexadecimal_word, call_phrase, outcome_phrase, message_phrase, message_front, size_fields, actor_word, entry_text, IsU32, IsI32, IsActorOf, CallFits, OutcomeFits, MessageFits, AreFourSizes, EntryFits}
-use Rattle.trace_print.specs.Numbers.{◌>>=◌, unsigned_of, hexadecimal_of, signed_of, positive, negative}
+use Rattle.trace_print.specs.Numbers.{unsigned_of, hexadecimal_of, signed_of, positive, negative}
 use Rattle.trace_print.specs.View.{parts}
 use Rattle.trace_print.specs.Reading.{first_by, unsigned_at, hexadecimal_at, signed_at, call_at, call_named, message_call_named, signal_call_named, event_named, version_at, connect_at, invoke_at, close_at, wait_at, get_at, set_rhandle_at, read_at, skip_at, write_at, reply_at, notify_at, eoi_at, irq_enable_at, irq_disable_at, reset_signal_at, fire_at, interrupt_call_named, load_at, store_at, raise_at, stop_at, spent_of, outcome_at, outcome_named, value_at, number_at, signals_at, message_at, sizes_at, place_of, actor_of, behind_arrow, entry_at, entry_of}
 use Rattle.trace_print.proofs.Options.{Gives, done, nothing, after, either, when, weaker, given_is}

@@ -1,12 +1,8 @@
 -- Words of a trace as numbers: each number is read in the one spelling that is printed.
 -- Source: this simulator's.
 use Rattle.std.specs.Prelude.{ℕ, ◌+◌, ◌-◌, ◌*◌, ◌^◌, not, ◌&&◌, ◌||◌, nat_lt, nat_le, ◌==◌, Bool, List, [], ◌∷◌, length, get_or, drop, Option, None, Some, if◌then◌else◌, ℤ, pos, neg_ℤ}
+use Rattle.ffm_model.specs.Binding.{◌>>=◌}
 use Rattle.ffm_model.specs.TraceText.{Word}
-
-infixl 10 ◌>>=◌
-abbrev pub ◌>>=◌ : {A B : Type 0} → Option A → (A → Option B) → Option B
-None >>= f = None
-(Some x) >>= f = f x
 
 -- the digit that a byte is, in base 16
 abbrev pub digit_at : ℕ → Option ℕ

@@ -8,8 +8,9 @@ use Rattle.ffm_model.specs.declared.machine.Call.{Call}
 use Rattle.ffm_model.specs.declared.machine.Call.TheVariants as call
 use Rattle.ffm_model.specs.declared.machine.Outcome.{Outcome}
 use Rattle.ffm_model.specs.declared.machine.Outcome.TheVariants as outcome
+use Rattle.ffm_model.specs.Binding.{◌>>=◌}
 use Rattle.ffm_model.specs.TraceText.{Word}
-use Rattle.trace_print.specs.Numbers.{◌>>=◌, unsigned_of, signed_of, hexadecimal_of}
+use Rattle.trace_print.specs.Numbers.{unsigned_of, signed_of, hexadecimal_of}
 use Rattle.trace_print.specs.View.{parts}
 
 -- the first word, and the words after it

@@ -1,6 +1,6 @@
 use Rattle.std.proofs.Common.{◌∙◌, sym, subst}
 use Rattle.ffm_model.specs.SfnScripts.{IsSfnScript}
-use Rattle.actor_programs.proofs.ProgramLemmas.{no-functions}
+use Rattle.sfn_calls.proofs.AssemblyLemmas.{no-functions}
 use Rattle.actor_programs.proofs.program.empty_program.Goals as goal
 
 pub invariant_of-result : goal.invariant_of-result

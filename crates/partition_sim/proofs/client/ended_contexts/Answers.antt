@@ -1,7 +1,8 @@
 use Rattle.std.proofs.Common.{ℕ, ◌≢◌, ◌<◌, false, length, get_or, ap, sym, ◌∙◌, arith, inl, inr}
 use Rattle.std.specs.Prelude.{slice_set}
 use Rattle.std.proofs.lemmas.List.{get_or-set_same, get_or-set_other, length-set}
-use Rattle.ffm_model.specs.Contexts.{is_stop, script_of}
+use Rattle.ffm_model.specs.Contexts.{script_of}
+use Rattle.ffm_model.specs.Plans.{is_stop}
 use Rattle.ffm_model.specs.ScriptRuns.{start}
 use Rattle.partition_sim.specs.Clients.{call_from}
 use Rattle.partition_sim.proofs.ContextLemmas.{below-or-at}

@@ -1,5 +1,6 @@
 use Rattle.std.proofs.Common.{ℕ, ◌≡◌, ◌<◌, List, length, get_or, false}
-use Rattle.ffm_model.specs.Contexts.{is_stop, script_of}
+use Rattle.ffm_model.specs.Contexts.{script_of}
+use Rattle.ffm_model.specs.Plans.{is_stop}
 use Rattle.ffm_model.specs.ScriptRuns.{Point, start}
 use Rattle.partition_sim.specs.Clients.{EachAtCall, call_from}
 use Rattle.partition_sim.proofs.client.ended_contexts.Given as goal

@@ -4,11 +4,11 @@ use Rattle.ffm_model.specs.declared.script.SfnFunction.{SfnFunction}
 use Rattle.script_asm.specs.Made.{Fails}
 use Rattle.sfn_calls.specs.FunctionLines.{function_of, functions_below}
 use Rattle.sfn_calls.specs.SectionViews.{section_view}
-use Rattle.sfn_calls.proofs.AssemblyLemmas.{below-next, below-wrong, below-end, kept-start, kept-next}
+use Rattle.sfn_calls.proofs.AssemblyLemmas.{below-next, below-wrong, below-end, no-functions, kept-next}
 use Rattle.sfn_calls.proofs.assembly.functions_of_sections.Goals as goal
 
 pub loop-at-init : goal.loop-at-init
-loop-at-init c = rw c.new-functions.ensures.items (record { rest = refl; kept = λ few. kept-start })
+loop-at-init c = rw c.new-functions.ensures.items (record { rest = refl; kept = λ few. no-functions })
 
 pub returns-in_err-function-clause-gives : goal.returns-in_err-function-clause-gives
 returns-in_err-function-clause-gives c =

@@ -4,10 +4,10 @@ use Rattle.std.proofs.lemmas.List.Elements.{All-nil}
 use Rattle.ffm_model.specs.State.{SpmState}
 use Rattle.memory_image.specs.Pieces.{regions_of}
 use Rattle.message_vectors.specs.Vectors.{AreWithin}
-use Rattle.call_tests.proofs.lives.asks_for_a_connection.Goals as goal
+use Rattle.call_tests.proofs.lives.connects_and_closes.Goals as goal
 
-pub assert_connection_made-requires-clause-premises : goal.assert_connection_made-requires-clause-premises
-assert_connection_made-requires-clause-premises g c = record {
+pub assert_connection_lived-requires-clause-premises : goal.assert_connection_lived-requires-clause-premises
+assert_connection_lived-requires-clause-premises g c = record {
   tables = c.in_ok-tables.ensures.premises;
   regions = c.in_ok-image.ensures;
   vectors =
