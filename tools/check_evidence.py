@@ -6,8 +6,8 @@
 Run at the top of the repository. In the tables of PAGES each file, function, clause, wrong body and test has to be
 there, in the file or crate that is named before it in the same cell; a wrong body for which none is named is one
 of the row's contract's crate, and in evidence.md in italics where it stands in wrong_bodies/. In proved.md each
-public call of a crate has to stand in the crate's section, in code marks, and each clause that a section names has
-to be the crate's. The figures of crates, wrong bodies, tests, calls, examples and stored runs that the README and the
+public call of a crate has to stand in the crate's section, in code marks, and each call and clause that a section
+names has to be the crate's. The figures of crates, wrong bodies, tests, calls, examples and stored runs that the README and the
 pages state have to be those counted (figures.py). For each kind of lines in the stored traces rule_of_line.py has to
 find a rule, a definition, a clause and a test. Prints what isn't so. The status is 1 where something is wrong."""
 
@@ -159,6 +159,13 @@ def clauses_told(section):
     return {word for cells in lines if len(cells) == 3 for word in words_of(cells[2])}
 
 
+def calls_told(section):
+    """The names in the first of three columns, each without its type's."""
+    lines = (line.strip("|").split("|") for line in section.splitlines() if line.startswith("|"))
+    names = (name for cells in lines if len(cells) == 3 for name in re.findall(r"`([^`]*)`", cells[0]))
+    return {re.sub(r"<.*?>", "", name).split("::")[-1] for name in names}
+
+
 def wrong_proved(page):
     told = sections(page)
     for crate in sorted(NAMES):
@@ -167,6 +174,7 @@ def wrong_proved(page):
             yield from (f"{crate}: {call} has no row" for call in sorted(set(public_calls(crate)) - words_of(section)))
             files = [*sources(crate), *(CRATES / crate / "specs").glob("*.antt")]
             yield from (f"{crate}: {name} is no clause" for name in sorted(clauses_told(section)) if not has(files, name, NAMED))
+            yield from (f"{crate}: {name} is not there" for name in sorted(calls_told(section)) if not has(files, name, ITEM))
 
 
 def main():

@@ -123,7 +123,6 @@ FIGURES = [
     ("writes {} such lines", lambda: [lines_of_audit("audited_meter")]),
     ("has {} lines of changes", lambda: [lines_of_audit("audited_meter")]),
     ("The first {} lines are the trace", lambda: [lines_of(FIRST / "stdout")]),
-    ("the {} lines of the trace are the last", lambda: [lines_of(FIRST / "stdout")]),
     ("| {} partitions: a secret goes through", lambda: [partitions_of("storage_stack")]),
     ("| {} partitions whose manifests are files of their own", lambda: [partitions_of("firmware")]),
     ("| {} partitions that each break one rule", lambda: [partitions_of("hostile_clients") - 1]),
@@ -138,16 +137,21 @@ def is_number(told, counted):
     return told.lower() in [str(counted), *in_words]
 
 
+def stated_as(form):
+    """Each text of a page that has the form, with the page and the figures that it states."""
+    pattern = re.escape(form).replace(r"\{\}", r"(\d(?:, \d)+ and \d|\w+)")
+    return [(page, stated[0], stated.groups()) for page in PAGES for stated in re.finditer(pattern, page.read_text())]
+
+
 def figures():
     """Each text of a page that has one of the forms, with the page, the figures that it states, and those counted."""
     for form, count in FIGURES:
-        pattern = re.escape(form).replace(r"\{\}", r"(\d(?:, \d)+ and \d|\w+)")
-        for page in PAGES:
-            for stated in re.finditer(pattern, page.read_text()):
-                yield page, stated[0], stated.groups(), count()
+        for page, text, stated in stated_as(form):
+            yield page, text, stated, count()
 
 
 def wrong_figures():
+    yield from (f"no page says: {form}" for form, _ in FIGURES if not stated_as(form))
     for page, text, stated, counted in figures():
         if not all(map(is_number, stated, counted)):
             yield f"{page}: {text}: counted {', '.join(map(str, counted))}"
