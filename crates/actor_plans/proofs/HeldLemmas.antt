@@ -4,6 +4,7 @@ use Rattle.std.specs.Prelude.{Option, Some, None, if◌then◌else◌, slice_get
 use Rattle.std.specs.Option.{option_map, option_map_or}
 use Rattle.std.specs.List.{AllByRecursion}
 use Rattle.std.proofs.lemmas.Bool.{and_right}
+use Rattle.list_laws.proofs.Lists.{AllByRecursion-append}
 use Rattle.ffm_model.specs.declared.machine.Handle.{Handle}
 use Rattle.ffm_model.specs.declared.machine.Message.{Message}
 use Rattle.ffm_model.specs.declared.machine.Entry.{Entry}
@@ -74,13 +75,9 @@ unfolding without
 clean-without h [] c = tt
 clean-without h (m ∷ ms) c = without-by (is_held_as h m) m ms (without h ms) c.0 c.1 (clean-without h ms c.1)
 
-clean-append : (t u : List HeldMessage) → Clean t → Clean u → Clean (t ++ u)
-clean-append [] u c d = d
-clean-append (m ∷ t) u c d = (c.0, clean-append t u c.1 d)
-
 got-by : (b : Bool) (v : HolderService) (m : Message) (t : List HeldMessage) → Clean t
     → Clean (if b then t ++ record { handle = m.handle; kind = m.kind; mm = v.mm; input = map fresh_vector m.in_size; output = map fresh_vector m.out_size } ∷ [] else t)
-got-by true v m t c = clean-append t _ c ((clean-fresh m.in_size, clean-fresh m.out_size), tt)
+got-by true v m t c = AllByRecursion-append CleanMessage t _ c ((clean-fresh m.in_size, clean-fresh m.out_size), tt)
 got-by false v m t c = c
 
 got-in : (o : Option HolderService) (m : Message) (t : List HeldMessage) → Clean t → Clean (option_map_or (λ v. with_message_of v m t) o t)

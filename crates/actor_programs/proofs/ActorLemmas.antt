@@ -34,7 +34,7 @@ few_in_order s c h =
     omega (arith, ap (λ (own : List (List (List ℕ))). length own) (get_or_default c.lines i d [] lt), (h.scripts i low).1, few_scripts s i) in
     omega (arith, h.few, sum_by-le (λ (own : List (List (List ℕ))). length own) 8 c.lines each, h.lines)
 
-abbrev most_of : ActorKind → ℕ
+abbrev pub most_of : ActorKind → ℕ
 most_of k = if is_client k then 8 else 1
 
 few-by : (k : ActorKind) (b : Bool) → b ≡ true → most_of (if b then Partition else k) ≡ 1

@@ -4,7 +4,8 @@ use Rattle.std.specs.List.{AllByRecursion as Each, enumerate_from, list_any}
 use Rattle.std.specs.Option.{option_map, option_map_or}
 use Rattle.std.proofs.lemmas.Option.{slice_get-map}
 use Rattle.std.proofs.lemmas.Bool.{not_from_false, and_from, or_left, or_right, or_cases, false≢true}
-use Rattle.list_laws.proofs.Lists.{map_nil}
+use Rattle.list_laws.proofs.Lists.{map_nil, AllByRecursion-weaker, AllByRecursion-append}
+use Rattle.list_laws.proofs.Bools.{if_passes}
 use Rattle.ffm_model.specs.declared.system.Budget.{Budget}
 use Rattle.ffm_model.specs.declared.system.Service.{Service}
 use Rattle.ffm_model.specs.ManifestItems.{ManifestRecord, ServiceRecord}
@@ -14,7 +15,7 @@ use Rattle.ffm_model.specs.Layout.{Located}
 use Rattle.ffm_model.specs.Permissions.{services_in, Permitted, permitted_to, depends_on, permitted_to_partition, permitted_to_client, permitted, count_for, budgets_of}
 use Rattle.ffm_model.specs.Compiled.{services_of}
 use Rattle.ffm_model.specs.Rules.{has_service, self_dependencies, too_many_connections}
-use Rattle.admitted_systems.proofs.Lists.{get_behind, three, filter_nil, none_any, each_weaker, each_both, each_append, each_map, each_filter_map, all_from, Pairs, pairs_test, pairs_weaker, pairs_map, pairs_append, pairs_filter_map, across_from, across_turned}
+use Rattle.admitted_systems.proofs.Lists.{get_behind, three, filter_nil, none_any, each_both, each_map, each_filter_map, all_from, Pairs, pairs_test, pairs_weaker, pairs_map, pairs_append, pairs_filter_map, across_from, across_turned}
 use Rattle.admitted_systems.proofs.Numbered.{Among, each_numbered, numbers_of, numbers_rise, flat_each, flat_pairs}
 use Rattle.admitted_systems.proofs.Located.{each_item, items_below}
 use Rattle.admitted_systems.proofs.Services.{bare, service_at, services_are}
@@ -40,10 +41,6 @@ pub record Allowed (services : List Service) (client : ℕ) (pair : Permitted) :
 abbrev services_without_index : PartsRecord → List Service
 services_without_index p = map service_at (services_in p)
 
-if_used : {A : Type 0} (P : A → Type 0) (b : Bool) (x : A) → (b ≡ true → P x) → IfSome (if b then Some x else None) P
-if_used P true x h = h refl
-if_used P false x h = tt
-
 others : (client : ℕ) (found : Option Service) (v : Service) → found ≡ Some v → (v.owner ≡ client → ⊥) → option_map_or (λ w. not (w.owner == client)) found false ≡ true
 others client found v e h = rw e (not_from_false _ (ne_eqb _ _ h))
 
@@ -57,9 +54,9 @@ permitted_allowed : (p : PartsRecord) (client : ℕ) (name : List ℕ) (may_use 
     → Each (λ x. may_use x.value ≡ true → x.manifest ≡ client → ⊥) (services_in p) → Each (Allowed (services_without_index p) client) (permitted_to client name may_use (services_in p))
 permitted_allowed p client name may_use h =
     each_filter_map (Allowed (services_without_index p) client) (permit_if client name may_use) (enumerate_from 0 (services_in p))
-    (each_weaker (λ e. (slice_get (services_without_index p) e.0 ≡ Some (service_at e.1)) × (may_use e.1.value ≡ true → e.1.manifest ≡ client → ⊥))
+    (AllByRecursion-weaker (λ e. (slice_get (services_without_index p) e.0 ≡ Some (service_at e.1)) × (may_use e.1.value ≡ true → e.1.manifest ≡ client → ⊥))
     (λ e. IfSome (permit_if client name may_use e) (Allowed (services_without_index p) client))
-    (λ e b. if_used (Allowed (services_without_index p) client) (may_use e.1.value) (permit client name e)
+    (λ e b. if_passes (Allowed (services_without_index p) client) (may_use e.1.value) (permit client name e)
     (λ used. record { actor = refl; other = others client (slice_get (services_without_index p) e.0) (service_at e.1) b.0 (b.1 used) }))
     (enumerate_from 0 (services_in p))
     (each_both (λ e. slice_get (services_without_index p) e.0 ≡ Some (service_at e.1)) (λ e. may_use e.1.value ≡ true → e.1.manifest ≡ client → ⊥) (enumerate_from 0 (services_in p))
@@ -75,9 +72,9 @@ permitted_in_order client name may_use services =
     (pairs_weaker (λ e f. e.0 < f.0)
     (λ e f. IfSome (permit_if client name may_use e)
     (λ b. IfSome (permit_if client name may_use f) (ComesBefore b)))
-    (λ e f l. if_used (λ b. IfSome (permit_if client name may_use f) (ComesBefore b)) (may_use e.1.value)
+    (λ e f l. if_passes (λ b. IfSome (permit_if client name may_use f) (ComesBefore b)) (may_use e.1.value)
     (permit client name e)
-    (λ used. if_used (ComesBefore (permit client name e)) (may_use f.1.value)
+    (λ used. if_passes (ComesBefore (permit client name e)) (may_use f.1.value)
     (permit client name f) (λ used_too. inr (refl, l))))
     (enumerate_from 0 services) (numbers_rise 0 services))
 
@@ -94,10 +91,10 @@ NoneOwn p e = Each (λ d. has_service p e.0 d ≡ false) e.1.dependencies
 
 not_own : (p : PartsRecord) (e : ℕ × ManifestRecord) → NoneOwn p e → Each (λ x. depends_on e.1 x.value ≡ true → x.manifest ≡ e.0 → ⊥) (services_in p)
 not_own p e h =
-    each_weaker (λ x. Each (λ d. ((x.manifest == e.0) && bytes_eq x.value.name d) ≡ false) e.1.dependencies) (λ x. depends_on e.1 x.value ≡ true → x.manifest ≡ e.0 → ⊥)
+    AllByRecursion-weaker (λ x. Each (λ d. ((x.manifest == e.0) && bytes_eq x.value.name d) ≡ false) e.1.dependencies) (λ x. depends_on e.1 x.value ≡ true → x.manifest ≡ e.0 → ⊥)
     (λ x. no_dependency x.value.name x.manifest e.0 e.1.dependencies) (services_in p)
     (across_turned (λ d x. ((x.manifest == e.0) && bytes_eq x.value.name d) ≡ false) e.1.dependencies (services_in p)
-    (each_weaker (λ d. has_service p e.0 d ≡ false) (λ d. Each (λ x. ((x.manifest == e.0) && bytes_eq x.value.name d) ≡ false) (services_in p))
+    (AllByRecursion-weaker (λ d. has_service p e.0 d ≡ false) (λ d. Each (λ x. ((x.manifest == e.0) && bytes_eq x.value.name d) ≡ false) (services_in p))
     (λ d. none_any (λ x. (x.manifest == e.0) && bytes_eq x.value.name d) (services_in p)) e.1.dependencies h))
 
 none_own : (p : PartsRecord) → self_dependencies p ≡ [] → Each (NoneOwn p) (enumerate_from 0 p.manifests)
@@ -109,11 +106,11 @@ of_partition p e h = permitted_allowed p e.0 e.1.name (depends_on e.1) (not_own 
 of_client : (p : PartsRecord) (e : ℕ × List ℕ) → length p.manifests ≤ e.0 → Each (Allowed (services_without_index p) e.0) (permitted_to_client (services_in p) e)
 of_client p e from =
     permitted_allowed p e.0 e.1 (λ v. v.nonsecure)
-    (each_weaker (λ x. x.manifest < 0 + length p.manifests) (λ x. x.value.nonsecure ≡ true → x.manifest ≡ e.0 → ⊥) (λ x below used same. omega arith) (services_in p) (items_below (λ m. m.services) 0 p.manifests))
+    (AllByRecursion-weaker (λ x. x.manifest < 0 + length p.manifests) (λ x. x.value.nonsecure ≡ true → x.manifest ≡ e.0 → ⊥) (λ x below used same. omega arith) (services_in p) (items_below (λ m. m.services) 0 p.manifests))
 
 clients_behind : (p : PartsRecord) → Each (λ e. length p.manifests ≤ e.0) (enumerate_from (length p.manifests) p.clients)
 clients_behind p =
-    each_weaker (λ e. (length p.manifests ≤ e.0) × (e.0 < length p.manifests + length p.clients)) (λ e. length p.manifests ≤ e.0) (λ e h. h.0)
+    AllByRecursion-weaker (λ e. (length p.manifests ≤ e.0) × (e.0 < length p.manifests + length p.clients)) (λ e. length p.manifests ≤ e.0) (λ e h. h.0)
     (enumerate_from (length p.manifests) p.clients) (numbers_of (length p.manifests) p.clients)
 
 abbrev to_partitions : PartsRecord → List Permitted
@@ -136,11 +133,11 @@ of_clients p = flat_each (λ e. length p.manifests ≤ e.0) (Allowed (services_w
 
 all_allowed : (p : PartsRecord) → self_dependencies p ≡ [] → Each (AllowedAmong p 0 (actors_of p)) (permitted p)
 all_allowed p rule =
-    each_append (AllowedAmong p 0 (actors_of p)) (to_partitions p) (to_clients p)
-    (each_weaker (AllowedAmong p 0 (0 + length p.manifests)) (AllowedAmong p 0 (actors_of p))
+    AllByRecursion-append (AllowedAmong p 0 (actors_of p)) (to_partitions p) (to_clients p)
+    (AllByRecursion-weaker (AllowedAmong p 0 (0 + length p.manifests)) (AllowedAmong p 0 (actors_of p))
     (λ a h. record { number = h.number; from = h.from; below = let l : h.number < 0 + length p.manifests = h.below in omega arith; holds = h.holds })
     (to_partitions p) (of_partitions p rule))
-    (each_weaker (AllowedAmong p (length p.manifests) (actors_of p)) (AllowedAmong p 0 (actors_of p))
+    (AllByRecursion-weaker (AllowedAmong p (length p.manifests) (actors_of p)) (AllowedAmong p 0 (actors_of p))
     (λ a h. record { number = h.number; from = omega arith; below = h.below; holds = h.holds })
     (to_clients p) (of_clients p))
 
@@ -195,7 +192,7 @@ budgets_do_fit p n counted self_rule count_rule =
     (all_from (λ b. has_other (services_without_index p) (actors_of p) b ≡ true)
     (has_other (services_of p) (actors_of p)) (λ b h. sym (plain_other p b) ∙ h) (budgets_of p)
     (each_map (λ b. has_other (services_without_index p) (actors_of p) b ≡ true) (budget_for p) (permitted p)
-    (each_weaker (AllowedAmong p 0 (actors_of p))
+    (AllByRecursion-weaker (AllowedAmong p 0 (actors_of p))
     (λ a. has_other (services_without_index p) (actors_of p) (budget_for p a) ≡ true)
     (allowed_fits (services_without_index p) (actors_of p)) (permitted p) (all_allowed p self_rule))))
     (pairs_test (λ b c. budget_before b c ≡ true) budget_before (λ b c h. h) (budgets_of p)

@@ -4,13 +4,13 @@ use Rattle.std.specs.List.{AllByRecursion as Each, range_with_len}
 use Rattle.std.specs.Option.{option_map_or}
 use Rattle.std.proofs.lemmas.Bool.{or_right}
 use Rattle.list_laws.proofs.Counts.{bit, count-cons}
+use Rattle.list_laws.proofs.Lists.{AllByRecursion-weaker}
 use Rattle.ffm_model.specs.ManifestItems.{ServiceRecord}
 use Rattle.ffm_model.specs.PartsItems.{PartsRecord}
 use Rattle.ffm_model.specs.Layout.{Located}
 use Rattle.ffm_model.specs.Permissions.{services_in}
 use Rattle.ffm_model.specs.Compiled.{free_index, index_for, services_from, stated_indices, services_of}
 use Rattle.ffm_model.specs.Rules.{too_many_stateless}
-use Rattle.admitted_systems.proofs.Lists.{each_weaker}
 use Rattle.admitted_systems.proofs.Stateless.{is_taken, found, all_taken}
 use Rattle.ffm_model.proofs.RuleLemmas.{only_if_nil}
 
@@ -173,7 +173,7 @@ all_services taken (x ∷ xs) t room =
     let here : ((i == 0) ≡ x.value.connection_based) × (count_by is_auto xs ≤ free_count (i ∷ taken)) =
     one_service taken x.value.connection_based (x.value.stateless_handle == 0) x.value.stateless_handle (count_by is_auto xs) refl t.0 (rw (← count-cons is_auto x xs) room) in
     ap₂ (λ b bs. b ∷ bs) here.0
-    (all_services (i ∷ taken) xs (each_weaker (λ y. is_taken taken y.value.stateless_handle ≡ true) (λ y. is_taken (i ∷ taken) y.value.stateless_handle ≡ true) (λ y b. or_right (i == y.value.stateless_handle) _ b) xs t.1) here.1)
+    (all_services (i ∷ taken) xs (AllByRecursion-weaker (λ y. is_taken taken y.value.stateless_handle ≡ true) (λ y. is_taken (i ∷ taken) y.value.stateless_handle ≡ true) (λ y b. or_right (i == y.value.stateless_handle) _ b) xs t.1) here.1)
 
 pub all_have_indices : (p : PartsRecord) → Each (λ x. x.value.connection_based ≡ true → x.value.stateless_handle ≡ 0) (services_in p) → too_many_stateless p ≡ []
     → map (λ v. v.stateless == 0) (services_of p) ≡ map (λ x. x.value.connection_based) (services_in p)

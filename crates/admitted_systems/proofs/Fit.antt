@@ -2,7 +2,7 @@
 use Rattle.std.proofs.Common.{ℕ, ◌≡◌, ◌+◌, ◌*◌, ◌^◌, ◌≤◌, true, List, [], ◌∷◌, ◌++◌, ◌==◌, ◌&&◌, map, length, Ok, Err, IsOkAnd, refl, ap, ap₂, sym, arith, nat_lt, le-leb, lt-ltb, ltb-false}
 use Rattle.std.specs.List.{AllByRecursion as Each}
 use Rattle.std.proofs.lemmas.Bool.{and_from}
-use Rattle.list_laws.proofs.Lists.{append_nil}
+use Rattle.list_laws.proofs.Lists.{append_nil, AllByRecursion-weaker}
 use Rattle.ffm_model.specs.declared.place.Refusal.{Refusal}
 use Rattle.ffm_model.specs.declared.system.System.{System}
 use Rattle.ffm_model.specs.declared.system.Partition.{Partition}
@@ -20,7 +20,7 @@ use Rattle.ffm_model.specs.Permissions.{services_in, budgets_of}
 use Rattle.ffm_model.specs.Reading.{refused}
 use Rattle.ffm_model.proofs.PartsLemmas.{system_of_parts, system_with}
 use Rattle.ffm_model.specs.Rules.{broken, duplicate_partitions, duplicate_sids, unknown_dependencies, self_dependencies, dependency_cycle, too_many_signals, unknown_regions, overlapping_regions, too_many_partitions, too_many_connections, budgets_without_permission, duplicate_sources, memory_too_large, duplicate_indices, too_many_stateless}
-use Rattle.admitted_systems.proofs.Lists.{each_weaker, four, eight}
+use Rattle.admitted_systems.proofs.Lists.{four, eight}
 use Rattle.admitted_systems.proofs.Models.{models_do_fit}
 use Rattle.admitted_systems.proofs.Stateless.{items_right, stateless_do_fit}
 use Rattle.admitted_systems.proofs.Enough.{all_have_indices}
@@ -106,7 +106,7 @@ pub stateless_have_indices : (p : PartsRecord) → IsParts p → broken p ≡ []
 stateless_have_indices p parts none =
     let rules : Kept p = kept p none in
     let stated : Each (λ x. x.value.connection_based ≡ true → x.value.stateless_handle ≡ 0) (services_in p) =
-    each_weaker (λ x. IsService x.value) (λ x. x.value.connection_based ≡ true → x.value.stateless_handle ≡ 0) (λ x v. v.unstated) (services_in p) (items_right p.manifests parts.manifests) in
+    AllByRecursion-weaker (λ x. IsService x.value) (λ x. x.value.connection_based ≡ true → x.value.stateless_handle ≡ 0) (λ x v. v.unstated) (services_in p) (items_right p.manifests parts.manifests) in
     all_have_indices p stated rules.stateless
 
 -- the same of lists that are the parts' fields

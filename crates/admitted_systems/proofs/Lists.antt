@@ -2,7 +2,7 @@
 use Rattle.std.proofs.Common.{ℕ, ◌≡◌, Bool, true, false, ◌&&◌, List, [], ◌∷◌, ◌++◌, map, filter, cond, length, Option, Some, None, refl, slice_get, IfSome}
 use Rattle.std.specs.List.{AllByRecursion as Each, list_all, list_any, filter_map, cons_option}
 use Rattle.std.proofs.lemmas.Bool.{and_from, or_parts}
-use Rattle.list_laws.proofs.Lists.{append_nil}
+use Rattle.list_laws.proofs.Lists.{append_nil, AllByRecursion-weaker, AllByRecursion-all, AllByRecursion-append}
 use Rattle.ffm_model.specs.WellFormed.{each_pair}
 use Rattle.ffm_model.specs.Repeats.{only_if, repeated, repeated_after}
 use Rattle.ffm_model.proofs.RuleLemmas.{only_if_nil}
@@ -29,21 +29,9 @@ get_behind (y ∷ ys) x xs k e = rw (← e) (get_behind ys x xs (length ys) refl
 
 -- ---- each item
 
-pub each_weaker : {A : Type 0} (P Q : A → Type 0) → ((x : A) → P x → Q x) → (xs : List A) → Each P xs → Each Q xs
-each_weaker P Q f [] h = tt
-each_weaker P Q f (x ∷ xs) h = (f x h.0, each_weaker P Q f xs h.1)
-
-pub each_always : {A : Type 0} (P : A → Type 0) → ((x : A) → P x) → (xs : List A) → Each P xs
-each_always P f [] = tt
-each_always P f (x ∷ xs) = (f x, each_always P f xs)
-
 pub each_both : {A : Type 0} (P Q : A → Type 0) (xs : List A) → Each P xs → Each Q xs → Each (λ x. P x × Q x) xs
 each_both P Q [] h k = tt
 each_both P Q (x ∷ xs) h k = ((h.0, k.0), each_both P Q xs h.1 k.1)
-
-pub each_append : {A : Type 0} (P : A → Type 0) (xs ys : List A) → Each P xs → Each P ys → Each P (xs ++ ys)
-each_append P [] ys h k = k
-each_append P (x ∷ xs) ys h k = (h.0, each_append P xs ys h.1 k)
 
 pub each_split : {A : Type 0} (P : A → Type 0) (xs ys : List A) → Each P (xs ++ ys) → Each P xs × Each P ys
 each_split P [] ys h = (tt, h)
@@ -95,7 +83,7 @@ pairs_test R p f (x ∷ xs) h = and_from _ _ (all_from (R x) (p x) (f x) xs h.0)
 
 pub pairs_weaker : {A : Type 0} (R S : A → A → Type 0) → ((x y : A) → R x y → S x y) → (xs : List A) → Pairs R xs → Pairs S xs
 pairs_weaker R S f [] h = tt
-pairs_weaker R S f (x ∷ xs) h = (each_weaker (R x) (S x) (f x) xs h.0, pairs_weaker R S f xs h.1)
+pairs_weaker R S f (x ∷ xs) h = (AllByRecursion-weaker (R x) (S x) (f x) xs h.0, pairs_weaker R S f xs h.1)
 
 pub pairs_map : {A B : Type 0} (R : B → B → Type 0) (f : A → B) (xs : List A) → Pairs (λ x y. R (f x) (f y)) xs → Pairs R (map f xs)
 pairs_map R f [] h = tt
@@ -115,12 +103,12 @@ pairs_filter_map R f (x ∷ xs) h = kept_pairs R f xs (f x) (each_kept R f xs (f
 
 pub pairs_append : {A : Type 0} (R : A → A → Type 0) (xs ys : List A) → Pairs R xs → Pairs R ys → Across R xs ys → Pairs R (xs ++ ys)
 pairs_append R [] ys h k c = k
-pairs_append R (x ∷ xs) ys h k c = (each_append (R x) xs ys h.0 c.0, pairs_append R xs ys h.1 k c.1)
+pairs_append R (x ∷ xs) ys h k c = (AllByRecursion-append (R x) xs ys h.0 c.0, pairs_append R xs ys h.1 k c.1)
 
 -- what holds of each item, and of each item of the other list, relates the two
 pub across_from : {A B : Type 0} (P : A → Type 0) (Q : B → Type 0) (R : A → B → Type 0) → ((x : A) (y : B) → P x → Q y → R x y) → (xs : List A) (ys : List B) → Each P xs → Each Q ys → Across R xs ys
 across_from P Q R f [] ys h k = tt
-across_from P Q R f (x ∷ xs) ys h k = (each_weaker Q (R x) (λ y. f x y h.0) ys k, across_from P Q R f xs ys h.1 k)
+across_from P Q R f (x ∷ xs) ys h k = (AllByRecursion-weaker Q (R x) (λ y. f x y h.0) ys k, across_from P Q R f xs ys h.1 k)
 
 -- one item more of the second list, in front
 pub across_cons : {A B : Type 0} (R : A → B → Type 0) (y : B) (ys : List B) (xs : List A) → Each (λ x. R x y) xs → Across R xs ys → Across R xs (y ∷ ys)
@@ -128,17 +116,17 @@ across_cons R y ys xs h k = each_both (λ x. R x y) (λ x. Each (R x) ys) xs h k
 
 pub across_right : {A B : Type 0} (R : A → B → Type 0) (xs : List A) (ys zs : List B) → Across R xs ys → Across R xs zs → Across R xs (ys ++ zs)
 across_right R xs ys zs h k =
-    each_weaker (λ x. Each (R x) ys × Each (R x) zs) (λ x. Each (R x) (ys ++ zs)) (λ x b. each_append (R x) ys zs b.0 b.1) xs
+    AllByRecursion-weaker (λ x. Each (R x) ys × Each (R x) zs) (λ x. Each (R x) (ys ++ zs)) (λ x b. AllByRecursion-append (R x) ys zs b.0 b.1) xs
     (each_both (λ x. Each (R x) ys) (λ x. Each (R x) zs) xs h k)
 
 pub across_turned : {A B : Type 0} (R : A → B → Type 0) (xs : List A) (ys : List B) → Across R xs ys → Across (λ y x. R x y) ys xs
-across_turned R [] ys h = each_always (λ y. Unit {0}) (λ y. tt) ys
+across_turned R [] ys h = AllByRecursion-all (λ y. Unit {0}) (λ y. tt) ys
 across_turned R (x ∷ xs) ys h = across_cons (λ y x. R x y) x xs ys h.0 (across_turned R xs ys h.1)
 
 -- no item in front, or earlier here, is the same as an item here
 none_repeated : {A : Type 0} (same : A → A → Bool) (front xs : List A) → repeated_after same front xs ≡ []
     → Across (λ x y. same x y ≡ false) front xs × Pairs (λ x y. same x y ≡ false) xs
-none_repeated same front [] e = (each_always (λ x. Unit {0}) (λ x. tt) front, tt)
+none_repeated same front [] e = (AllByRecursion-all (λ x. Unit {0}) (λ x. tt) front, tt)
 none_repeated same front (x ∷ xs) e =
     let here : (only_if (list_any (λ y. same y x) front) x ≡ []) × (repeated_after same (front ++ x ∷ []) xs ≡ []) = append_nil _ _ e in
     let new : Each (λ y. same y x ≡ false) front = none_any (λ y. same y x) front (only_if_nil _ _ here.0) in

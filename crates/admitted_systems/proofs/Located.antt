@@ -1,9 +1,10 @@
 -- The items of manifests, with their places.
 use Rattle.std.proofs.Common.{ℕ, ◌+◌, ◌<◌, ◌≤◌, length, List, [], ◌∷◌}
 use Rattle.std.specs.List.{AllByRecursion as Each, enumerate_from}
+use Rattle.list_laws.proofs.Lists.{AllByRecursion-all, AllByRecursion-append, AllByRecursion-weaker}
 use Rattle.ffm_model.specs.ManifestItems.{ManifestRecord}
 use Rattle.ffm_model.specs.Layout.{located_in, located_from}
-use Rattle.admitted_systems.proofs.Lists.{each_always, each_split, each_append, each_weaker}
+use Rattle.admitted_systems.proofs.Lists.{each_split}
 use Rattle.admitted_systems.proofs.Numbered.{numbers_of}
 
 each_in : {A : Type 0} (P : ℕ → A → Type 0) (k i : ℕ) (xs : List A) → Each (λ x. P x.manifest x.value) (located_in k i xs) → Each (P k) xs
@@ -26,10 +27,10 @@ each_item P items k (m ∷ ms) h =
 pub item_each : {A : Type 0} (P : ℕ → A → Type 0) (items : ManifestRecord → List A) (k : ℕ) (ms : List ManifestRecord)
     → Each (λ e. Each (P e.0) (items e.1)) (enumerate_from k ms) → Each (λ x. P x.manifest x.value) (located_from items k ms)
 item_each P items k [] h = tt
-item_each P items k (m ∷ ms) h = each_append (λ x. P x.manifest x.value) _ _ (in_each P k 0 (items m) h.0) (item_each P items (k + 1) ms h.1)
+item_each P items k (m ∷ ms) h = AllByRecursion-append (λ x. P x.manifest x.value) _ _ (in_each P k 0 (items m) h.0) (item_each P items (k + 1) ms h.1)
 
 -- an item's manifest is one of those
 pub items_below : {A : Type 0} (items : ManifestRecord → List A) (k : ℕ) (ms : List ManifestRecord) → Each (λ x. x.manifest < k + length ms) (located_from items k ms)
 items_below items k ms =
     item_each (λ j v. j < k + length ms) items k ms
-    (each_weaker (λ e. (k ≤ e.0) × (e.0 < k + length ms)) (λ e. Each (λ v. e.0 < k + length ms) (items e.1)) (λ e l. each_always (λ v. e.0 < k + length ms) (λ v. l.1) (items e.1)) (enumerate_from k ms) (numbers_of k ms))
+    (AllByRecursion-weaker (λ e. (k ≤ e.0) × (e.0 < k + length ms)) (λ e. Each (λ v. e.0 < k + length ms) (items e.1)) (λ e l. AllByRecursion-all (λ v. e.0 < k + length ms) (λ v. l.1) (items e.1)) (enumerate_from k ms) (numbers_of k ms))

@@ -3,8 +3,7 @@ use Rattle.std.proofs.Common.{ℕ, ◌≡◌, ◌+◌, ◌<◌, ◌≤◌, Bool,
 use Rattle.std.specs.Prelude.{nat_le}
 use Rattle.std.specs.List.{AllByRecursion as Each, enumerate_from, list_any}
 use Rattle.std.specs.Option.{option_map_or}
-use Rattle.std.proofs.lemmas.Bool.{or_left, or_right, and_from}
-use Rattle.std.proofs.lemmas.List.Folds.{list_any-append}
+use Rattle.std.proofs.lemmas.Bool.{or_left, and_from}
 use Rattle.ffm_model.specs.declared.constants.TheConstants.{RAM_BASE}
 use Rattle.ffm_model.specs.declared.system.Class.TheVariants.{Ram}
 use Rattle.ffm_model.specs.declared.system.Partition.{Partition}
@@ -16,15 +15,13 @@ use Rattle.ffm_model.specs.WellFormed.{ram_size, functions_fit, models_fit}
 use Rattle.ffm_model.specs.Layout.{Located, located_in, located_from, ram_needed, domain_at, rams_from, non_secure_of, mmio_of, regions_laid_out}
 use Rattle.ffm_model.specs.Permissions.{services_in}
 use Rattle.ffm_model.specs.Compiled.{index_for, services_from, stated_indices, services_of, partition_of, partitions_of}
-use Rattle.admitted_systems.proofs.Lists.{get_behind, each_weaker, all_from}
+use Rattle.admitted_systems.proofs.Lists.{get_behind, all_from}
 use Rattle.admitted_systems.proofs.Numbered.{each_unnumbered}
-use Rattle.list_laws.proofs.Tests.{list_any-left}
+use Rattle.list_laws.proofs.Tests.{list_any-left, list_any-right}
+use Rattle.list_laws.proofs.Lists.{AllByRecursion-weaker}
 use Rattle.ffm_model.proofs.RuleLemmas.{rounded_up}
 
 -- ---- services of a partition
-
-any_right : {A : Type 0} (p : A → Bool) (xs ys : List A) → list_any p ys ≡ true → list_any p (xs ++ ys) ≡ true
-any_right p xs ys h = list_any-append p xs ys ∙ or_right (list_any p xs) _ h
 
 has_one : (k i : ℕ) (xs : List ServiceRecord) → 0 < length xs → list_any (λ x. x.manifest == k) (located_in k i xs) ≡ true
 has_one k i [] some = absurd (omega arith)
@@ -37,9 +34,9 @@ owners_in k (m ∷ ms) h =
     let here : List (Located ServiceRecord) = located_in k 0 m.services in
     let rest : List (Located ServiceRecord) = located_from (λ m. m.services) (k + 1) ms in (
       λ functions. list_any-left (λ x. x.manifest == k) here rest (has_one k 0 m.services (h.0.has_service functions)),
-      each_weaker (λ e. e.1.sfn ≡ true → list_any (λ x. x.manifest == e.0) (located_from (λ m. m.services) (k + 1) ms) ≡ true)
+      AllByRecursion-weaker (λ e. e.1.sfn ≡ true → list_any (λ x. x.manifest == e.0) (located_from (λ m. m.services) (k + 1) ms) ≡ true)
           (λ e. e.1.sfn ≡ true → list_any (λ x. x.manifest == e.0) (located_from (λ m. m.services) k (m ∷ ms)) ≡ true)
-          (λ e owned functions. any_right (λ x. x.manifest == e.0) here rest (owned functions)) (enumerate_from (k + 1) ms) (owners_in (k + 1) ms h.1),
+          (λ e owned functions. list_any-right (λ x. x.manifest == e.0) here rest (owned functions)) (enumerate_from (k + 1) ms) (owners_in (k + 1) ms h.1),
     )
 
 same_owners : (k : ℕ) (taken : List ℕ) (xs : List (Located ServiceRecord)) → list_any (λ v. v.owner == k) (services_from taken xs) ≡ list_any (λ x. x.manifest == k) xs
@@ -51,7 +48,7 @@ Owned services e = e.1.sfn ≡ true → list_any (λ v. v.owner == e.0) services
 
 all_owned : (p : PartsRecord) → IsParts p → Each (Owned (services_of p)) (enumerate_from 0 p.manifests)
 all_owned p parts =
-    each_weaker (λ e. e.1.sfn ≡ true → list_any (λ x. x.manifest == e.0) (services_in p) ≡ true) (Owned (services_of p))
+    AllByRecursion-weaker (λ e. e.1.sfn ≡ true → list_any (λ x. x.manifest == e.0) (services_in p) ≡ true) (Owned (services_of p))
     (λ e owned functions. same_owners e.0 (stated_indices p) (services_in p) ∙ owned functions) (enumerate_from 0 p.manifests) (owners_in 0 p.manifests parts.manifests)
 
 -- ---- RAM of a partition
@@ -93,4 +90,4 @@ models_do_fit p parts =
     and_from _ _ (all_from (Fits (services_of p) (regions_laid_out p)) (functions_fit (services_of p) (regions_laid_out p)) (λ e h. h.0) (enumerate_from 0 (partitions_of p)) all)
     (all_from (λ q. nat_le q.heap (ram_size (regions_laid_out p) q) ≡ true) (λ q. nat_le q.heap (ram_size (regions_laid_out p) q)) (λ q h. h) (partitions_of p)
     (each_unnumbered (λ q. nat_le q.heap (ram_size (regions_laid_out p) q) ≡ true) 0 (partitions_of p)
-    (each_weaker (Fits (services_of p) (regions_laid_out p)) (λ e. nat_le e.1.heap (ram_size (regions_laid_out p) e.1) ≡ true) (λ e h. h.1) (enumerate_from 0 (partitions_of p)) all)))
+    (AllByRecursion-weaker (Fits (services_of p) (regions_laid_out p)) (λ e. nat_le e.1.heap (ram_size (regions_laid_out p) e.1) ≡ true) (λ e h. h.1) (enumerate_from 0 (partitions_of p)) all)))

@@ -1,7 +1,8 @@
 -- Lists that are made of numbered items.
 use Rattle.std.proofs.Common.{ℕ, ◌≡◌, ◌+◌, ◌<◌, ◌≤◌, List, [], ◌∷◌, ◌++◌, length, flat_map, arith, le_refl}
 use Rattle.std.specs.List.{AllByRecursion as Each, enumerate_from}
-use Rattle.admitted_systems.proofs.Lists.{each_weaker, each_append, Pairs, pairs_append, Across, across_from, across_right}
+use Rattle.list_laws.proofs.Lists.{AllByRecursion-weaker, AllByRecursion-append}
+use Rattle.admitted_systems.proofs.Lists.{Pairs, pairs_append, Across, across_from, across_right}
 
 pub each_numbered : {M : Type 0} (Q : M → Type 0) (k : ℕ) (ms : List M) → Each Q ms → Each (λ e. Q e.1) (enumerate_from k ms)
 each_numbered Q k [] h = tt
@@ -22,13 +23,13 @@ pub numbers_of : {M : Type 0} (k : ℕ) (ms : List M) → Each (λ e. (k ≤ e.0
 numbers_of k [] = tt
 numbers_of k (m ∷ ms) = (
   (le_refl k, omega arith),
-  each_weaker (λ e. (k + 1 ≤ e.0) × (e.0 < k + 1 + length ms)) (λ e. (k ≤ e.0) × (e.0 < k + length (m ∷ ms))) (λ e h. (omega arith, omega arith)) (enumerate_from (k + 1) ms) (numbers_of (k + 1) ms),
+  AllByRecursion-weaker (λ e. (k + 1 ≤ e.0) × (e.0 < k + 1 + length ms)) (λ e. (k ≤ e.0) × (e.0 < k + length (m ∷ ms))) (λ e h. (omega arith, omega arith)) (enumerate_from (k + 1) ms) (numbers_of (k + 1) ms),
 )
 
 pub numbers_rise : {M : Type 0} (k : ℕ) (ms : List M) → Pairs (λ e f. e.0 < f.0) (enumerate_from k ms)
 numbers_rise k [] = tt
 numbers_rise k (m ∷ ms) = (
-  each_weaker (λ e. (k + 1 ≤ e.0) × (e.0 < k + 1 + length ms)) (λ f. k < f.0) (λ e h. omega arith) (enumerate_from (k + 1) ms) (numbers_of (k + 1) ms),
+  AllByRecursion-weaker (λ e. (k + 1 ≤ e.0) × (e.0 < k + 1 + length ms)) (λ f. k < f.0) (λ e h. omega arith) (enumerate_from (k + 1) ms) (numbers_of (k + 1) ms),
   numbers_rise (k + 1) ms,
 )
 
@@ -37,9 +38,9 @@ pub flat_each : {M A : Type 0} (Q : ℕ × M → Type 0) (P : ℕ → A → Type
     → (k : ℕ) (ms : List M) → Each Q (enumerate_from k ms) → Each (Among P k (k + length ms)) (flat_map f (enumerate_from k ms))
 flat_each Q P f each k [] h = tt
 flat_each Q P f each k (m ∷ ms) h =
-    each_append (Among P k (k + length (m ∷ ms))) (f (k, m)) (flat_map f (enumerate_from (k + 1) ms))
-    (each_weaker (P k) (Among P k (k + length (m ∷ ms))) (λ x p. record { number = k; from = le_refl k; below = omega arith; holds = p }) (f (k, m)) (each (k, m) h.0))
-    (each_weaker (Among P (k + 1) (k + 1 + length ms)) (Among P k (k + length (m ∷ ms)))
+    AllByRecursion-append (Among P k (k + length (m ∷ ms))) (f (k, m)) (flat_map f (enumerate_from (k + 1) ms))
+    (AllByRecursion-weaker (P k) (Among P k (k + length (m ∷ ms))) (λ x p. record { number = k; from = le_refl k; below = omega arith; holds = p }) (f (k, m)) (each (k, m) h.0))
+    (AllByRecursion-weaker (Among P (k + 1) (k + 1 + length ms)) (Among P k (k + length (m ∷ ms)))
     (λ x a. record { number = a.number; from = let l : k + 1 ≤ a.number = a.from in omega arith; below = let l : a.number < k + 1 + length ms = a.below in omega arith; holds = a.holds })
     (flat_map f (enumerate_from (k + 1) ms)) (flat_each Q P f each (k + 1) ms h.1))
 
@@ -62,7 +63,7 @@ flat_across Q P S R f g each other inside apart k [] h = tt
 flat_across Q P S R f g each other inside apart k (m ∷ ms) h =
     let fs = flat_map f (enumerate_from (k + 1) ms) in
     let gs = flat_map g (enumerate_from (k + 1) ms) in
-    each_append (λ x. Each (R x) (g (k, m) ++ gs)) (f (k, m)) fs
+    AllByRecursion-append (λ x. Each (R x) (g (k, m) ++ gs)) (f (k, m)) fs
     (across_right R (f (k, m)) (g (k, m)) gs (inside (k, m) h.0)
     (across_from (P k) (Among S (k + 1) (k + 1 + length ms)) R (λ x y p a. let l : k + 1 ≤ a.number = a.from in apart k a.number x y (λ s. omega arith) p a.holds)
     (f (k, m)) gs (each (k, m) h.0) (flat_each Q S g other (k + 1) ms h.1)))

@@ -3,6 +3,7 @@ use Rattle.std.proofs.Common.{ℕ, suc, ◌≡◌, ◌+◌, ◌<◌, ◌≤◌, 
 use Rattle.std.specs.List.{AllByRecursion as Each, enumerate_from, list_any}
 use Rattle.std.specs.Option.{option_map_or}
 use Rattle.std.proofs.lemmas.Bool.{not_from_false, or_left, or_right, cases_eq}
+use Rattle.list_laws.proofs.Lists.{AllByRecursion-weaker}
 use Rattle.ffm_model.specs.declared.constants.TheConstants.{RAM_BASE}
 use Rattle.ffm_model.specs.declared.system.Region.{Region}
 use Rattle.ffm_model.specs.declared.system.Partition.{Partition}
@@ -13,7 +14,7 @@ use Rattle.ffm_model.specs.WellFormed.{is_ram_in, is_ram, partitions_fit}
 use Rattle.ffm_model.specs.Layout.{ram_needed, domain_at, rams_from, rams_of, non_secure_of, mmio_of, regions_laid_out}
 use Rattle.ffm_model.specs.Compiled.{partition_of, partitions_of}
 use Rattle.ffm_model.specs.Rules.{memory_too_large}
-use Rattle.admitted_systems.proofs.Lists.{get_behind, three, each_weaker, each_map, all_from, pairs_test, pairs_map}
+use Rattle.admitted_systems.proofs.Lists.{get_behind, three, each_map, all_from, pairs_test, pairs_map}
 use Rattle.admitted_systems.proofs.Numbered.{each_numbered, numbers_rise}
 use Rattle.admitted_systems.proofs.Regions.{Secure, length_rams, sizes_of, mmio_right}
 
@@ -36,10 +37,10 @@ rams_found level k base (m ∷ ms) front rest e =
 
 -- the regions after the RAM aren't RAM
 front_or_other : (Q : Region → Type 0) (k : ℕ) (xs ys : List Region) → Each Q ys → Each (λ e. (e.0 < k + length xs) ⊎ Q e.1) (enumerate_from k (xs ++ ys))
-front_or_other Q k [] ys h = each_weaker (λ e. Q e.1) (λ e. (e.0 < k + 0) ⊎ Q e.1) (λ e q. inr q) (enumerate_from k ys) (each_numbered Q k ys h)
+front_or_other Q k [] ys h = AllByRecursion-weaker (λ e. Q e.1) (λ e. (e.0 < k + 0) ⊎ Q e.1) (λ e q. inr q) (enumerate_from k ys) (each_numbered Q k ys h)
 front_or_other Q k (x ∷ xs) ys h = (
   inl (omega arith),
-  each_weaker (λ e. (e.0 < k + 1 + length xs) ⊎ Q e.1) (λ e. (e.0 < k + length (x ∷ xs)) ⊎ Q e.1)
+  AllByRecursion-weaker (λ e. (e.0 < k + 1 + length xs) ⊎ Q e.1) (λ e. (e.0 < k + length (x ∷ xs)) ⊎ Q e.1)
       (λ e s. ⊎_elim (λ (l : e.0 < k + 1 + length xs). inl (omega arith)) (λ (q : Q e.1). inr q) s) (enumerate_from (k + 1) (xs ++ ys)) (front_or_other Q (k + 1) xs ys h),
 )
 
@@ -73,5 +74,5 @@ partitions_do_fit p parts size_rule =
     (front_or_other (λ r. is_ram r.class ≡ false) 0 (rams_of p) (non_secure_of p ∷ map (λ x. x.value) (mmio_of p)) (
       refl,
       each_map (λ r. is_ram r.class ≡ false) (λ x. x.value) (mmio_of p)
-          (each_weaker (λ y. Secure (length p.manifests) y.value × (is_ram y.value.class ≡ false)) (λ y. is_ram y.value.class ≡ false) (λ y h. h.1) (mmio_of p) (mmio_right p parts (sizes_of p size_rule))),
+          (AllByRecursion-weaker (λ y. Secure (length p.manifests) y.value × (is_ram y.value.class ≡ false)) (λ y. is_ram y.value.class ≡ false) (λ y h. h.1) (mmio_of p) (mmio_right p parts (sizes_of p size_rule))),
     )))

@@ -5,7 +5,7 @@ use Rattle.std.specs.Option.{option_map_or}
 use Rattle.std.specs.Str.{bytes_eq}
 use Rattle.std.proofs.lemmas.List.Sums.{sum_by-append, sum_by-cons}
 use Rattle.std.proofs.lemmas.Bool.{not-false, or_left, or_right}
-use Rattle.list_laws.proofs.Lists.{append_nil, map_nil}
+use Rattle.list_laws.proofs.Lists.{append_nil, map_nil, AllByRecursion-weaker, AllByRecursion-all, AllByRecursion-append}
 use Rattle.ffm_model.specs.declared.constants.TheConstants.{MAX_IMAGE_BYTES, RAM_BASE}
 use Rattle.ffm_model.specs.declared.manifest.Location.{Location}
 use Rattle.ffm_model.specs.declared.manifest.Location.TheVariants.{Named, Numbered}
@@ -17,7 +17,7 @@ use Rattle.ffm_model.specs.Repeats.{only_if}
 use Rattle.ffm_model.specs.WellFormed.{apart, each_pair, is_nonsecure, is_ram, owner_below, regions_fit}
 use Rattle.ffm_model.specs.Layout.{Located, located_in, located_from, ram_needed, rounded, rams_from, rams_of, non_secure_of, range_named, mmio_placed, mmio_items, mmio_of, regions_laid_out, overlapping, overlaps, is_large, is_large_item, large_from, partition_ram, mmio_item, non_secure_ram, all_regions}
 use Rattle.ffm_model.specs.Rules.{overlapping_regions, memory_too_large}
-use Rattle.admitted_systems.proofs.Lists.{three, four, filter_nil, none_any, each_weaker, each_always, each_both, each_append, each_split, each_map, each_filter_map, all_from, Pairs, pairs_test, pairs_weaker, pairs_map, pairs_append, Across, across_cons}
+use Rattle.admitted_systems.proofs.Lists.{three, four, filter_nil, none_any, each_both, each_split, each_map, each_filter_map, all_from, Pairs, pairs_test, pairs_weaker, pairs_map, pairs_append, Across, across_cons}
 use Rattle.admitted_systems.proofs.Numbered.{each_numbered}
 use Rattle.admitted_systems.proofs.Located.{item_each, items_below}
 use Rattle.ffm_model.proofs.RuleLemmas.{only_if_nil}
@@ -59,7 +59,7 @@ rams_between level k base (m ∷ ms) h =
     let high : ℕ = base + 1048576 * length (m ∷ ms) in
     let size : ram_needed m ≤ 1048576 = h.0 in (
       record { owner = λ n. refl; secure = refl; from = le_refl base; size = size; ends = omega arith },
-      each_weaker (RamBetween (base + ram_needed m) (base + ram_needed m + 1048576 * length ms)) (RamBetween base (base + 1048576 * length (m ∷ ms)))
+      AllByRecursion-weaker (RamBetween (base + ram_needed m) (base + ram_needed m + 1048576 * length ms)) (RamBetween base (base + 1048576 * length (m ∷ ms)))
           (λ r p. record { owner = p.owner; secure = p.secure; from = let l : base + ram_needed m ≤ r.base = p.from in omega arith; size = p.size; ends = let l : r.base + r.size ≤ base + ram_needed m + 1048576 * length ms = p.ends in omega arith })
           (rams_from level (k + 1) (base + ram_needed m) ms) (rams_between level (k + 1) (base + ram_needed m) ms h.1),
     )
@@ -67,7 +67,7 @@ rams_between level k base (m ∷ ms) h =
 rams_in_front : (level k base : ℕ) (ms : List ManifestRecord) → Each Small ms → Pairs InFront (rams_from level k base ms)
 rams_in_front level k base [] h = tt
 rams_in_front level k base (m ∷ ms) h = (
-  each_weaker (RamBetween (base + ram_needed m) (base + ram_needed m + 1048576 * length ms)) (λ r. base + ram_needed m ≤ r.base) (λ r p. p.from)
+  AllByRecursion-weaker (RamBetween (base + ram_needed m) (base + ram_needed m + 1048576 * length ms)) (λ r. base + ram_needed m ≤ r.base) (λ r p. p.from)
       (rams_from level (k + 1) (base + ram_needed m) ms) (rams_between level (k + 1) (base + ram_needed m) ms h.1),
   rams_in_front level (k + 1) (base + ram_needed m) ms h.1,
 )
@@ -85,7 +85,7 @@ none_large regions k (m ∷ ms) e =
     let second : (map (λ x. mmio_item x.manifest x.item) (filter (is_large_item regions) (located_in k 0 m.mmio)) ≡ []) × (large_from regions (k + 1) ms ≡ []) = append_nil _ _ first.1 in
     let rest : Each Small ms × Each (λ x. is_large_item regions x ≡ false) (located_from (λ m. m.mmio) (k + 1) ms) = none_large regions (k + 1) ms second.1 in (
       (not_large (ram_needed m) (only_if_nil _ _ first.0), rest.0),
-      each_append (λ x. is_large_item regions x ≡ false) (located_in k 0 m.mmio) (located_from (λ m. m.mmio) (k + 1) ms) (filter_nil (is_large_item regions) (located_in k 0 m.mmio) (map_nil _ _ second.0)) rest.1,
+      AllByRecursion-append (λ x. is_large_item regions x ≡ false) (located_in k 0 m.mmio) (located_from (λ m. m.mmio) (k + 1) ms) (filter_nil (is_large_item regions) (located_in k 0 m.mmio) (map_nil _ _ second.0)) rest.1,
     )
 
 -- what the rule on sizes says
@@ -134,7 +134,7 @@ placed_by n x (Some e) below small right = (record { owner = lt-ltb _ _ below; s
 items_right : (ms : List ManifestRecord) → Each IsManifest ms → Each (λ x. IsMmio x.value) (located_from (λ m. m.mmio) 0 ms)
 items_right ms h =
     item_each (λ j v. IsMmio v) (λ m. m.mmio) 0 ms
-    (each_numbered (λ m. Each IsMmio m.mmio) 0 ms (each_weaker IsManifest (λ m. Each IsMmio m.mmio) (λ m r. r.mmio) ms h))
+    (each_numbered (λ m. Each IsMmio m.mmio) 0 ms (AllByRecursion-weaker IsManifest (λ m. Each IsMmio m.mmio) (λ m r. r.mmio) ms h))
 
 abbrev MmioRight : ℕ → Located Region → Type 0
 MmioRight n y = Secure n y.value × (is_ram y.value.class ≡ false)
@@ -143,7 +143,7 @@ pub mmio_right : (p : PartsRecord) → IsParts p → Sizes p → Each (λ y. Sec
 mmio_right p parts sizes =
     let n : ℕ = length p.manifests in
     each_filter_map (λ y. Secure (length p.manifests) y.value × (is_ram y.value.class ≡ false)) (mmio_placed p.regions) (mmio_items p)
-    (each_weaker (λ x. (x.manifest < 0 + length p.manifests) × ((is_large_item p.regions x ≡ false) × IsMmio x.value))
+    (AllByRecursion-weaker (λ x. (x.manifest < 0 + length p.manifests) × ((is_large_item p.regions x ≡ false) × IsMmio x.value))
     (λ x. IfSome (mmio_placed p.regions x) (λ y. Secure (length p.manifests) y.value × (is_ram y.value.class ≡ false)))
     (λ x h. placed_by (length p.manifests) x (range_named p.regions x.value.location) (let l : x.manifest < 0 + length p.manifests = h.0 in omega arith) h.1.0 (is_range p.regions x.value.location parts.regions h.1.1.location))
     (mmio_items p)
@@ -152,13 +152,13 @@ mmio_right p parts sizes =
 
 none_overlaps : (front : List Region) (xs : List (Located Region)) → overlapping front xs ≡ []
     → Across (λ r x. apart r x.value ≡ true) front xs × Pairs (λ x y. apart x.value y.value ≡ true) xs
-none_overlaps front [] e = (each_always (λ r. Unit {0}) (λ r. tt) front, tt)
+none_overlaps front [] e = (AllByRecursion-all (λ r. Unit {0}) (λ r. tt) front, tt)
 none_overlaps front (x ∷ xs) e =
     let here : (only_if (list_any (λ r. not (apart r x.value)) front) x ≡ []) × (overlapping (front ++ x.value ∷ []) xs ≡ []) = append_nil _ _ e in
     let new : Each (λ r. not (apart r x.value) ≡ false) front = none_any (λ r. not (apart r x.value)) front (only_if_nil _ _ here.0) in
     let rest : Across (λ r y. apart r y.value ≡ true) (front ++ x.value ∷ []) xs × Pairs (λ y z. apart y.value z.value ≡ true) xs = none_overlaps (front ++ x.value ∷ []) xs here.1 in
     let parts : Across (λ r y. apart r y.value ≡ true) front xs × Across (λ r y. apart r y.value ≡ true) (x.value ∷ []) xs = each_split (λ r. Each (λ y. apart r y.value ≡ true) xs) front (x.value ∷ []) rest.0 in
-    (across_cons (λ r y. apart r y.value ≡ true) x xs front (each_weaker (λ r. not (apart r x.value) ≡ false) (λ r. apart r x.value ≡ true) (λ r. not-false _) front new) parts.0, (parts.1.0, rest.1))
+    (across_cons (λ r y. apart r y.value ≡ true) x xs front (AllByRecursion-weaker (λ r. not (apart r x.value) ≡ false) (λ r. apart r x.value ≡ true) (λ r. not-false _) front new) parts.0, (parts.1.0, rest.1))
 
 -- ---- all regions
 
@@ -173,7 +173,7 @@ front_pairs p sizes =
     pairs_append (λ r q. apart r q ≡ true) (rams_of p) (non_secure_of p ∷ [])
     (pairs_weaker InFront (λ r q. apart r q ≡ true) front_apart (rams_of p) (rams_in_front p.level 0 RAM_BASE p.manifests sizes.rams))
     (tt, tt)
-    (each_weaker (IsRamOf p) (λ r. Each (λ q. apart r q ≡ true) (non_secure_of p ∷ []))
+    (AllByRecursion-weaker (IsRamOf p) (λ r. Each (λ q. apart r q ≡ true) (non_secure_of p ∷ []))
     (λ r b. (behind_apart r (non_secure_of p) (let l : RAM_BASE ≤ r.base = b.from in let m : rounded p.non_secure_ram ≤ 1048576 = sizes.non_secure in omega arith), tt)) (rams_of p) (rams_are_between p sizes))
 
 regions_apart : (p : PartsRecord) → Sizes p → overlaps p ≡ [] → each_pair apart (regions_laid_out p) ≡ true
@@ -182,7 +182,7 @@ regions_apart p sizes e =
     let pairs : Pairs (λ r q. apart r q ≡ true) ((rams_of p ++ non_secure_of p ∷ []) ++ map (λ x. x.value) (mmio_of p)) =
     pairs_append (λ r q. apart r q ≡ true) (rams_of p ++ non_secure_of p ∷ []) (map (λ x. x.value) (mmio_of p)) (front_pairs p sizes)
     (pairs_map (λ r q. apart r q ≡ true) (λ x. x.value) (mmio_of p) none.1)
-    (each_weaker (λ r. Each (λ x. apart r x.value ≡ true) (mmio_of p)) (λ r. Each (λ q. apart r q ≡ true) (map (λ x. x.value) (mmio_of p)))
+    (AllByRecursion-weaker (λ r. Each (λ x. apart r x.value ≡ true) (mmio_of p)) (λ r. Each (λ q. apart r q ≡ true) (map (λ x. x.value) (mmio_of p)))
     (λ r. each_map (λ q. apart r q ≡ true) (λ x. x.value) (mmio_of p)) (rams_of p ++ non_secure_of p ∷ []) none.0) in
     pairs_test (λ r q. apart r q ≡ true) apart (λ r q h. h) (regions_laid_out p)
     (subst (Pairs (λ r q. apart r q ≡ true)) (append_assoc (rams_of p) (non_secure_of p ∷ []) (map (λ x. x.value) (mmio_of p))) pairs)
@@ -194,10 +194,10 @@ none_counted (x ∷ xs) h = rw h.0 (none_counted xs h.1)
 one_non_secure : (p : PartsRecord) → IsParts p → Sizes p → count_by (λ r. is_nonsecure r.class) (regions_laid_out p) ≡ 1
 one_non_secure p parts sizes =
     let rams : count_by (λ r. is_nonsecure r.class) (rams_of p) ≡ 0 =
-    none_counted (rams_of p) (each_weaker (IsRamOf p) (λ r. is_nonsecure r.class ≡ false) (λ r b. b.secure) (rams_of p) (rams_are_between p sizes)) in
+    none_counted (rams_of p) (AllByRecursion-weaker (IsRamOf p) (λ r. is_nonsecure r.class ≡ false) (λ r b. b.secure) (rams_of p) (rams_are_between p sizes)) in
     let mmio : count_by (λ r. is_nonsecure r.class) (map (λ x. x.value) (mmio_of p)) ≡ 0 =
     none_counted (map (λ x. x.value) (mmio_of p)) (each_map (λ r. is_nonsecure r.class ≡ false) (λ x. x.value) (mmio_of p)
-    (each_weaker (MmioRight (length p.manifests)) (λ y. is_nonsecure y.value.class ≡ false) (λ y h. h.0.secure) (mmio_of p) (mmio_right p parts sizes))) in
+    (AllByRecursion-weaker (MmioRight (length p.manifests)) (λ y. is_nonsecure y.value.class ≡ false) (λ y h. h.0.secure) (mmio_of p) (mmio_right p parts sizes))) in
     let one : count_by (λ r. is_nonsecure r.class) (regions_laid_out p) ≡ count_by (λ r. is_nonsecure r.class) (rams_of p) + count_by (λ r. is_nonsecure r.class) (non_secure_of p ∷ map (λ x. x.value) (mmio_of p)) =
     sum_by-append (λ r. cond (is_nonsecure r.class) 1 0) (rams_of p) (non_secure_of p ∷ map (λ x. x.value) (mmio_of p)) in
     let two : count_by (λ r. is_nonsecure r.class) (non_secure_of p ∷ map (λ x. x.value) (mmio_of p)) ≡ 1 + count_by (λ r. is_nonsecure r.class) (map (λ x. x.value) (mmio_of p)) =
@@ -212,12 +212,12 @@ regions_within : (p : PartsRecord) (n : ℕ) → n ≡ length p.manifests → Is
 regions_within p n counted parts few sizes =
     all_from (Within n) (λ r. owner_below n r.class && nat_le r.size 1048576 && nat_le (r.base + r.size) 4294967296)
     (λ r h. three _ _ _ h.0 (le-leb _ _ h.1.0) (le-leb _ _ h.1.1)) (regions_laid_out p)
-    (each_append (Within n) (rams_of p) (non_secure_of p ∷ map (λ x. x.value) (mmio_of p))
-    (each_weaker (IsRamOf p) (Within n)
+    (AllByRecursion-append (Within n) (rams_of p) (non_secure_of p ∷ map (λ x. x.value) (mmio_of p))
+    (AllByRecursion-weaker (IsRamOf p) (Within n)
     (λ r b. (b.owner n, (b.size, let l : r.base + r.size ≤ RAM_BASE + 1048576 * length p.manifests = b.ends in omega arith))) (rams_of p) (rams_are_between p sizes)) (
       (refl, (sizes.non_secure, let l : rounded p.non_secure_ram ≤ 1048576 = sizes.non_secure in omega arith)),
       each_map (Within n) (λ x. x.value) (mmio_of p)
-          (each_weaker (MmioRight (length p.manifests)) (λ y. Within n y.value)
+          (AllByRecursion-weaker (MmioRight (length p.manifests)) (λ y. Within n y.value)
           (λ y h. (rw counted h.0.owner, (h.0.size, h.0.ends))) (mmio_of p) (mmio_right p parts sizes)),
     ))
 
@@ -243,7 +243,7 @@ few_regions p parts size_rule =
     let mmio : List Region = map (λ x. x.value) (mmio_of p) in
     let few : length mmio ≤ sum_by (λ r. r.size) mmio =
     at_most_bytes mmio (each_map (λ r. 0 < r.size) (λ x. x.value) (mmio_of p)
-    (each_weaker (MmioRight (length p.manifests)) (λ y. 0 < y.value.size) (λ y h. h.0.some) (mmio_of p) (mmio_right p parts sizes))) in
+    (AllByRecursion-weaker (MmioRight (length p.manifests)) (λ y. 0 < y.value.size) (λ y h. h.0.some) (mmio_of p) (mmio_right p parts sizes))) in
     let counted : length (regions_laid_out p) ≡ length (rams_of p) + suc (length mmio) = length-append (rams_of p) (non_secure_of p ∷ mmio) in
     let bytes : sum_by (λ r. r.size) (regions_laid_out p) ≡ sum_by (λ r. r.size) (rams_of p) + sum_by (λ r. r.size) (non_secure_of p ∷ mmio) =
     sum_by-append (λ r. r.size) (rams_of p) (non_secure_of p ∷ mmio) in

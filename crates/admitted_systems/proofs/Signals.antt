@@ -3,7 +3,7 @@ use Rattle.std.proofs.Common.{ℕ, zero, suc, ◌≡◌, ◌+◌, ◌^◌, ◌<�
 use Rattle.std.specs.List.{AllByRecursion as Each, enumerate_from, list_all, list_any, range_with_len}
 use Rattle.std.proofs.Math.Pow.{pow-lt}
 use Rattle.std.proofs.lemmas.Bool.{and_from, cases_order, false_from_ne_true, not_from_false, and_parts, or_left, or_right}
-use Rattle.list_laws.proofs.Lists.{map_nil}
+use Rattle.list_laws.proofs.Lists.{map_nil, AllByRecursion-weaker}
 use Rattle.ffm_model.specs.declared.constants.TheConstants.{MAX_SIGNALS}
 use Rattle.ffm_model.specs.declared.system.Service.{Service}
 use Rattle.ffm_model.specs.ManifestItems.{ManifestRecord, ServiceRecord}
@@ -11,7 +11,7 @@ use Rattle.ffm_model.specs.PartsItems.{PartsRecord}
 use Rattle.ffm_model.specs.WellFormed.{is_signal_bit, signal_fits, signals_fit}
 use Rattle.ffm_model.specs.Compiled.{signal_at, service_of, source_of, sources_of_manifest, sources_of}
 use Rattle.ffm_model.specs.Rules.{too_many_signals}
-use Rattle.admitted_systems.proofs.Lists.{five, each_weaker, filter_nil, all_from, Pairs, pairs_test, across_from}
+use Rattle.admitted_systems.proofs.Lists.{five, filter_nil, all_from, Pairs, pairs_test, across_from}
 use Rattle.admitted_systems.proofs.Numbered.{Among, flat_each, flat_pairs, flat_across}
 
 -- ---- bits
@@ -51,7 +51,7 @@ module _ {A B : Type 0} (f : ℕ × A → B) (owner signal : B → ℕ) (k : ℕ
   each_placed i [] = tt
   each_placed i (x ∷ xs) = (
     record { place = i; owned = owned (i, x); from = omega arith; below = omega arith; is = signalled (i, x) },
-    each_weaker (λ v. Placed k (i + 1) (i + 1 + length xs) (owner v) (signal v)) (λ v. Placed k i (i + length (x ∷ xs)) (owner v) (signal v))
+    AllByRecursion-weaker (λ v. Placed k (i + 1) (i + 1 + length xs) (owner v) (signal v)) (λ v. Placed k i (i + length (x ∷ xs)) (owner v) (signal v))
         (λ v p. record { place = p.place; owned = p.owned; from = let l : i + 1 ≤ p.place = p.from in omega arith; below = let l : p.place < i + 1 + length xs = p.below in omega arith; is = p.is })
         (map f (enumerate_from (i + 1) xs)) (each_placed (i + 1) xs),
   )
@@ -59,7 +59,7 @@ module _ {A B : Type 0} (f : ℕ × A → B) (owner signal : B → ℕ) (k : ℕ
   pairs_different : (i : ℕ) (xs : List A) → Pairs (λ v w. Different (owner v) (signal v) (owner w) (signal w)) (map f (enumerate_from i xs))
   pairs_different i [] = tt
   pairs_different i (x ∷ xs) = (
-    each_weaker (λ v. Placed k (i + 1) (i + 1 + length xs) (owner v) (signal v)) (λ v. Different (owner (f (i, x))) (signal (f (i, x))) (owner v) (signal v))
+    AllByRecursion-weaker (λ v. Placed k (i + 1) (i + 1 + length xs) (owner v) (signal v)) (λ v. Different (owner (f (i, x))) (signal (f (i, x))) (owner v) (signal v))
         (λ v p. different_from k i (i + 1) (i + 1) (i + 1 + length xs) (owner (f (i, x))) (signal (f (i, x))) (owner v) (signal v) (record { place = i; owned = owned (i, x); from = omega arith; below = omega arith; is = signalled (i, x) }) p (omega arith))
         (map f (enumerate_from (i + 1) xs)) (each_placed (i + 1) xs),
     pairs_different (i + 1) xs,
@@ -92,12 +92,12 @@ sources_placed e = each_placed (source_of e.1.framework e.0) (λ v. v.owner) (λ
 
 services_at : (e : ℕ × ManifestRecord) → Few e → Each (λ v. Placed e.0 0 28 v.owner v.signal) (services_of_manifest e)
 services_at e few =
-    each_weaker (λ v. Placed e.0 0 (0 + length e.1.services) v.owner v.signal) (λ v. Placed e.0 0 28 v.owner v.signal)
+    AllByRecursion-weaker (λ v. Placed e.0 0 (0 + length e.1.services) v.owner v.signal) (λ v. Placed e.0 0 28 v.owner v.signal)
     (λ v. within e.0 0 (0 + length e.1.services) v.owner v.signal (omega arith)) (services_of_manifest e) (services_placed e)
 
 sources_at : (e : ℕ × ManifestRecord) → Few e → Each (λ v. Placed e.0 0 28 v.owner v.signal) (sources_of_manifest e)
 sources_at e few =
-    each_weaker (λ v. Placed e.0 (length e.1.services) (length e.1.services + length e.1.irqs) v.owner v.signal) (λ v. Placed e.0 0 28 v.owner v.signal)
+    AllByRecursion-weaker (λ v. Placed e.0 (length e.1.services) (length e.1.services + length e.1.irqs) v.owner v.signal) (λ v. Placed e.0 0 28 v.owner v.signal)
     (λ v. within e.0 (length e.1.services) (length e.1.services + length e.1.irqs) v.owner v.signal (omega arith)) (sources_of_manifest e) (sources_placed e)
 
 other_owners : (i j a s b t : ℕ) → (i ≡ j → ⊥) → Placed i 0 28 a s → Placed j 0 28 b t → Different a s b t
@@ -106,7 +106,7 @@ other_owners i j a s b t other p q o e = other (sym p.owned ∙ o ∙ q.owned)
 pub few_signals : (p : PartsRecord) → too_many_signals p ≡ [] → Each (λ e. Few e) (enumerate_from 0 p.manifests)
 few_signals p e =
     let none : Each (λ m. nat_lt MAX_SIGNALS (length m.1.services + length m.1.irqs) ≡ false) (enumerate_from 0 p.manifests) = filter_nil _ _ (map_nil _ _ e) in
-    each_weaker (λ m. nat_lt MAX_SIGNALS (length m.1.services + length m.1.irqs) ≡ false) (λ m. length m.1.services + length m.1.irqs ≤ 28) (λ m t. ltb-false _ _ t) (enumerate_from 0 p.manifests) none
+    AllByRecursion-weaker (λ m. nat_lt MAX_SIGNALS (length m.1.services + length m.1.irqs) ≡ false) (λ m. length m.1.services + length m.1.irqs ≤ 28) (λ m t. ltb-false _ _ t) (enumerate_from 0 p.manifests) none
 
 fits : (n k owner signal : ℕ) → k < n → Placed k 0 28 owner signal → signal_fits n owner signal ≡ true
 fits n k owner signal below p =

@@ -4,7 +4,8 @@ use Rattle.std.specs.Prelude.{nat_le}
 use Rattle.std.specs.List.{AllByRecursion as Each, list_any, list_all, enumerate_from, range_with_len}
 use Rattle.std.specs.Option.{option_map_or}
 use Rattle.std.proofs.lemmas.Bool.{or_left, or_right, and_from, not_from_false, false_from_ne_true, false≢true}
-use Rattle.list_laws.proofs.Lists.{map_nil}
+use Rattle.list_laws.proofs.Lists.{map_nil, AllByRecursion-weaker, AllByRecursion-append}
+use Rattle.list_laws.proofs.Bools.{if_passes}
 use Rattle.ffm_model.specs.declared.system.Service.{Service}
 use Rattle.ffm_model.specs.ManifestItems.{ManifestRecord, ServiceRecord, IsManifest, IsService}
 use Rattle.ffm_model.specs.PartsItems.{PartsRecord, IsParts}
@@ -13,7 +14,7 @@ use Rattle.ffm_model.specs.Permissions.{services_in, Permitted, permitted_to, de
 use Rattle.ffm_model.specs.Compiled.{free_index, index_for, service_of, services_from, stated_indices, services_of}
 use Rattle.ffm_model.specs.Rules.{duplicate_indices}
 use Rattle.ffm_model.specs.WellFormed.{budget_is_fitting, each_pair, stateless_fit}
-use Rattle.admitted_systems.proofs.Lists.{three, get_behind, each_weaker, each_both, each_append, each_map, each_filter_map, all_from, Pairs, pairs_weaker, repeated_nil}
+use Rattle.admitted_systems.proofs.Lists.{three, get_behind, each_both, each_map, each_filter_map, all_from, Pairs, pairs_weaker, repeated_nil}
 use Rattle.admitted_systems.proofs.Numbered.{each_numbered}
 use Rattle.admitted_systems.proofs.Located.{item_each}
 
@@ -33,7 +34,7 @@ found p P (x ∷ xs) h = found_by p P (p x) x (find p xs) refl h.0 (found p P xs
 
 in_range : (a n : ℕ) → Each (λ i. i < a + n) (range_with_len a n)
 in_range a zero = tt
-in_range a (suc n) = (omega arith, each_weaker (λ i. i < a + 1 + n) (λ i. i < a + suc n) (λ i l. omega arith) (range_with_len (a + 1) n) (in_range (a + 1) n))
+in_range a (suc n) = (omega arith, AllByRecursion-weaker (λ i. i < a + 1 + n) (λ i. i < a + suc n) (λ i l. omega arith) (range_with_len (a + 1) n) (in_range (a + 1) n))
 
 abbrev IsFree : List ℕ → ℕ → Type 0
 IsFree taken i = (not (is_taken taken i) ≡ true) × (i < 33)
@@ -116,15 +117,15 @@ all_differ taken (x ∷ xs) t h =
     let i : ℕ = index_for taken x.value in
     and_from _ _
     (others_differ i (i ∷ taken) xs (or_left _ _ (eq-eqb i i refl))
-    (each_weaker (λ y. (is_taken taken (stated y) ≡ true) × (differ (stated x) (stated y) ≡ true)) (λ y. differ i (stated y) ≡ true) (λ y b. stated_differs taken x.value (stated y) b.0 b.1) xs
+    (AllByRecursion-weaker (λ y. (is_taken taken (stated y) ≡ true) × (differ (stated x) (stated y) ≡ true)) (λ y. differ i (stated y) ≡ true) (λ y b. stated_differs taken x.value (stated y) b.0 b.1) xs
     (each_both (λ y. is_taken taken (stated y) ≡ true) (λ y. differ (stated x) (stated y) ≡ true) xs t.1 h.0)))
-    (all_differ (i ∷ taken) xs (each_weaker (λ y. is_taken taken (stated y) ≡ true) (λ y. is_taken (i ∷ taken) (stated y) ≡ true) (λ y b. or_right (i == stated y) _ b) xs t.1) h.1)
+    (all_differ (i ∷ taken) xs (AllByRecursion-weaker (λ y. is_taken taken (stated y) ≡ true) (λ y. is_taken (i ∷ taken) (stated y) ≡ true) (λ y b. or_right (i == stated y) _ b) xs t.1) h.1)
 
 pub all_taken : (xs : List (Located ServiceRecord)) → Each (λ y. is_taken (map (λ x. x.value.stateless_handle) xs) (stated y) ≡ true) xs
 all_taken [] = tt
 all_taken (x ∷ xs) = (
   or_left _ _ (eq-eqb (stated x) (stated x) refl),
-  each_weaker (λ y. is_taken (map (λ x. x.value.stateless_handle) xs) (stated y) ≡ true) (λ y. is_taken (map (λ x. x.value.stateless_handle) (x ∷ xs)) (stated y) ≡ true) (λ y b. or_right (stated x == stated y) _ b) xs (all_taken xs),
+  AllByRecursion-weaker (λ y. is_taken (map (λ x. x.value.stateless_handle) xs) (stated y) ≡ true) (λ y. is_taken (map (λ x. x.value.stateless_handle) (x ∷ xs)) (stated y) ≡ true) (λ y b. or_right (stated x == stated y) _ b) xs (all_taken xs),
 )
 
 -- no index is stated twice
@@ -139,7 +140,7 @@ stated_apart p rule =
 pub items_right : (ms : List ManifestRecord) → Each IsManifest ms → Each (λ x. IsService x.value) (located_from (λ m. m.services) 0 ms)
 items_right ms h =
     item_each (λ j v. IsService v) (λ m. m.services) 0 ms
-    (each_numbered (λ m. Each IsService m.services) 0 ms (each_weaker IsManifest (λ m. Each IsService m.services) (λ m r. r.services) ms h))
+    (each_numbered (λ m. Each IsService m.services) 0 ms (AllByRecursion-weaker IsManifest (λ m. Each IsService m.services) (λ m r. r.services) ms h))
 
 -- ---- budgets
 
@@ -163,25 +164,21 @@ connected_from taken k (x ∷ xs) front e =
 abbrev Fitting : List Service → Permitted → Type 0
 Fitting services pair = pair.connects ≡ true → option_map_or (λ v. v.stateless == 0) (slice_get services pair.service) true ≡ true
 
-if_used : {A : Type 0} (P : A → Type 0) (b : Bool) (x : A) → P x → IfSome (if b then Some x else None) P
-if_used P true x h = h
-if_used P false x h = tt
-
 fitting_to : (services : List Service) (client : ℕ) (name : List ℕ) (may_use : ServiceRecord → Bool) (xs : List (Located ServiceRecord)) → Each (Connected services) (enumerate_from 0 xs)
     → Each (Fitting services) (permitted_to client name may_use xs)
 fitting_to services client name may_use xs h =
     each_filter_map (Fitting services) (λ e. if may_use e.1.value then Some (record { client = client; client_name = name; service = e.0; service_name = e.1.value.name; connects = e.1.value.connection_based }) else None) (enumerate_from 0 xs)
-    (each_weaker (Connected services) (λ e. IfSome (if may_use e.1.value then Some (record { client = client; client_name = name; service = e.0; service_name = e.1.value.name; connects = e.1.value.connection_based }) else None) (Fitting services))
-    (λ e c. if_used (Fitting services) (may_use e.1.value) (record { client = client; client_name = name; service = e.0; service_name = e.1.value.name; connects = e.1.value.connection_based }) c) (enumerate_from 0 xs) h)
+    (AllByRecursion-weaker (Connected services) (λ e. IfSome (if may_use e.1.value then Some (record { client = client; client_name = name; service = e.0; service_name = e.1.value.name; connects = e.1.value.connection_based }) else None) (Fitting services))
+    (λ e c. if_passes (Fitting services) (may_use e.1.value) (record { client = client; client_name = name; service = e.0; service_name = e.1.value.name; connects = e.1.value.connection_based }) (λ used. c)) (enumerate_from 0 xs) h)
 
 each_flat : {A B : Type 0} (P : B → Type 0) (f : A → List B) → ((x : A) → Each P (f x)) → (xs : List A) → Each P (flat_map f xs)
 each_flat P f h [] = tt
-each_flat P f h (x ∷ xs) = each_append P (f x) (flat_map f xs) (h x) (each_flat P f h xs)
+each_flat P f h (x ∷ xs) = AllByRecursion-append P (f x) (flat_map f xs) (h x) (each_flat P f h xs)
 
 all_fitting : (p : PartsRecord) → Each (Fitting (services_of p)) (permitted p)
 all_fitting p =
     let connected : Each (Connected (services_of p)) (enumerate_from 0 (services_in p)) = connected_from (stated_indices p) 0 (services_in p) [] refl in
-    each_append (Fitting (services_of p)) (flat_map (permitted_to_partition (services_in p)) (enumerate_from 0 p.manifests)) (flat_map (permitted_to_client (services_in p)) (enumerate_from (length p.manifests) p.clients))
+    AllByRecursion-append (Fitting (services_of p)) (flat_map (permitted_to_partition (services_in p)) (enumerate_from 0 p.manifests)) (flat_map (permitted_to_client (services_in p)) (enumerate_from (length p.manifests) p.clients))
     (each_flat (Fitting (services_of p)) (permitted_to_partition (services_in p)) (λ e. fitting_to (services_of p) e.0 e.1.name (depends_on e.1) (services_in p) connected) (enumerate_from 0 p.manifests))
     (each_flat (Fitting (services_of p)) (permitted_to_client (services_in p)) (λ e. fitting_to (services_of p) e.0 e.1 (λ v. v.nonsecure) (services_in p) connected) (enumerate_from (length p.manifests) p.clients))
 
@@ -196,12 +193,12 @@ budgets_fitting : (p : PartsRecord) → list_all (budget_is_fitting (services_of
 budgets_fitting p =
     all_from (λ b. budget_is_fitting (services_of p) b ≡ true) (budget_is_fitting (services_of p)) (λ b h. h) (budgets_of p)
     (each_map (λ b. budget_is_fitting (services_of p) b ≡ true) (λ pair. record { client = record { 0 = pair.client }; service = pair.service; count = count_for p.connections pair }) (permitted p)
-    (each_weaker (Fitting (services_of p)) (λ pair. budget_is_fitting (services_of p) (record { client = record { 0 = pair.client }; service = pair.service; count = count_for p.connections pair }) ≡ true)
+    (AllByRecursion-weaker (Fitting (services_of p)) (λ pair. budget_is_fitting (services_of p) (record { client = record { 0 = pair.client }; service = pair.service; count = count_for p.connections pair }) ≡ true)
     (λ pair h. count_by_kind (slice_get (services_of p) pair.service) pair.connects _ h) (permitted p) (all_fitting p)))
 
 pub stateless_do_fit : (p : PartsRecord) → IsParts p → duplicate_indices p ≡ [] → stateless_fit (services_of p) (budgets_of p) ≡ true
 stateless_do_fit p parts rule =
     three _ _ _
-    (all_low (stated_indices p) (services_in p) (each_weaker (λ x. IsService x.value) (λ x. x.value.stateless_handle ≤ 32) (λ x s. s.index) (services_in p) (items_right p.manifests parts.manifests)))
+    (all_low (stated_indices p) (services_in p) (AllByRecursion-weaker (λ x. IsService x.value) (λ x. x.value.stateless_handle ≤ 32) (λ x s. s.index) (services_in p) (items_right p.manifests parts.manifests)))
     (all_differ (stated_indices p) (services_in p) (all_taken (services_in p)) (stated_apart p rule))
     (budgets_fitting p)

@@ -1,17 +1,15 @@
 -- The return of psa_connect: the client is told a handle that no other object has, and connections and messages fit as before.
 use Rattle.std.proofs.Common.{ℕ, zero, suc, ◌≡◌, ◌<◌, ◌≤◌, ◌+◌, ◌*◌, ◌==◌, Bool, true, false, cond, not, ◌&&◌, ◌||◌, List, [], ◌∷◌, get_or, arith, ◌∙◌, ap, sym, refl, subst}
 use Rattle.std.specs.Prelude.{Option, Some, None, All, IfSome, IsSomeAnd, IsTrue, count_by, find, map, is_none, option_and_then}
-use Rattle.std.specs.List.{list_any}
 use Rattle.std.proofs.lemmas.List.Elements.{All-head, All-tail}
 use Rattle.std.proofs.lemmas.Bool.{and_from, and_parts, eqb-true}
-use Rattle.list_laws.proofs.Counts.{any-count, bit, count-cons, count-found, some-found}
+use Rattle.list_laws.proofs.Counts.{bit, count-cons, count-found, some-found}
 use Rattle.list_laws.proofs.Tests.{find-passes}
 use Rattle.ffm_model.specs.declared.system.System.{System}
 use Rattle.ffm_model.specs.declared.machine.Handle.{Handle}
 use Rattle.ffm_model.specs.declared.objects.ActorPhase.{ActorPhase}
 use Rattle.ffm_model.specs.declared.objects.ActorPhase.TheVariants.{Connected, Running, Ended}
 use Rattle.ffm_model.specs.declared.objects.OpenConnection.{OpenConnection}
-use Rattle.ffm_model.specs.declared.objects.PendingMessage.{PendingMessage}
 use Rattle.ffm_model.specs.State.{SpmState, handle_eq, has_handle, phase_of, with_connection_handle, with_phase}
 use Rattle.object_pools.specs.declared.slot.Slot.{Slot}
 use Rattle.object_pools.specs.declared.slot.Held.{Held}
@@ -23,60 +21,15 @@ use Rattle.handle_table.proofs.FreshLemmas.{apart}
 use Rattle.handle_table.proofs.SlotLemmas.{held-of, nameable, nameable-at}
 use Rattle.handle_table.proofs.TableLemmas.{found-at, is_shown}
 use Rattle.handle_table.proofs.Twins.{count-map}
-use Rattle.counting_law.specs.Objects.{ObjectsFit, accepted_as, is_joining, is_opening, objects_with, same, wrongly_shown}
-use Rattle.counting_law.proofs.Balance.{Balanced, balanced-fit}
+use Rattle.counting_law.specs.Objects.{ObjectsFit, accepted_as, is_joining, is_opening, same, wrongly_shown}
+use Rattle.counting_law.proofs.Balance.{balanced-fit}
+use Rattle.counting_law.proofs.CallsFit.{handles_held, held-balanced, held-times}
 use Rattle.counting_law.proofs.Parts.{is_itself, off_from}
-use Rattle.counting_law.proofs.Resume.{int_flip, named-keeps, times}
+use Rattle.counting_law.proofs.Resume.{named-keeps, times}
+use Rattle.counting_law.proofs.Walk.{shown-taken}
 use Rattle.spm_core.proofs.Accepted.{accepted-first, joined-accepted}
 use Rattle.spm_tables.specs.declared.item.QueuedMessage.{QueuedMessage}
 use Rattle.spm_tables.specs.TablesView.{TablesView, held_message, spm_of}
-
--- ---- the handles that a state shows
-
-abbrev with_shown : Option Handle → List Handle → List Handle
-with_shown None hs = hs
-with_shown (Some h) hs = h ∷ hs
-
--- the handles that these have, before others
-abbrev shown_by : {X : Type 0} → (X → Option Handle) → List X → List Handle → List Handle
-shown_by f [] rest = rest
-shown_by f (x ∷ xs) rest = with_shown (f x) (shown_by f xs rest)
-
-shown-times : {X : Type 0} (f : X → Option Handle) (xs : List X) (rest : List Handle) (k : Handle) → times (shown_by f xs rest) k ≡ count_by (λ x. has_handle (f x) k) xs + times rest k
-shown-times f [] rest k = omega arith
-shown-times {X = X} f (x ∷ xs) rest k =
-    let hs : List Handle = shown_by f xs rest in
-    let go : (o : Option Handle) → times (with_shown o hs) k ≡ bit (has_handle o k) + times hs k = elim [
-      | None ↦ omega arith
-      | Some h ↦ count-cons (handle_eq k) h hs ∙ ap (λ (b : Bool). bit b + times hs k) (int_flip k.0 h.0)
-    ] in
-    omega (arith, go (f x), shown-times f xs rest k, count-cons (λ y. has_handle (f y) k) x xs)
-
-abbrev all_shown : SpmState → List Handle
-all_shown b = shown_by (λ (m : PendingMessage). m.handle) b.messages (shown_by (λ (c : OpenConnection). c.handle) b.connections [])
-
-all-times : (b : SpmState) (k : Handle) → times (all_shown b) k ≡ objects_with b k
-all-times b k = omega (arith, shown-times (λ (m : PendingMessage). m.handle) b.messages (shown_by (λ (c : OpenConnection). c.handle) b.connections []) k, shown-times (λ (c : OpenConnection). c.handle) b.connections [] k)
-
-not-any : (given : List Handle) (h : Handle) → times given h ≡ 0 → list_any (handle_eq h) given ≡ false
-not-any given h none =
-    let go : (b : Bool) → list_any (handle_eq h) given ≡ b → b ≡ false = elim [
-      | true ↦ λ e. absurd (omega (arith, any-count (handle_eq h) given e))
-      | false ↦ λ e. refl
-    ] in
-    go (list_any (handle_eq h) given) refl
-
-all-balanced : (s : System) (b : SpmState) → ObjectsFit s b → Balanced s (times (all_shown b)) b
-all-balanced s b fit = record {
-  within = fit.budgets;
-  paired = fit.paired;
-  called = fit.called;
-  rising = fit.rising;
-  fitting = fit.phases;
-  shown = fit.shown;
-  handles = λ k. omega (arith, all-times b k);
-  single = λ k. omega (arith, all-times b k, fit.handles k);
-}
 
 -- ---- no object has the handle of a connection that wasn't told
 
@@ -158,13 +111,13 @@ told-fits s d a n slot c kept messages table fits live client serial joined =
     let b : SpmState = spm_of d in
     let h : Handle = handle_at Connection slot in
     let name : IsNameable Connection slot = nameable-at Connection d.connections slot c kept live in
-    let none : times (all_shown b) h ≡ 0 = omega (
+    let none : times (handles_held b) h ≡ 0 = omega (
       arith,
-      all-times b h,
+      held-times b h,
       no-connection d.connections slot c kept table live (untold s d a n slot c fits live client serial joined),
       no-message slot (omega (arith, name.index)) d.messages.held (nameable Message d.messages messages),
     ) in
-    balanced-fit s _ _ (named-keeps s (all_shown b) b a n h (all-balanced s b fits) joined (not-any (all_shown b) h none))
+    balanced-fit s _ _ (named-keeps s (handles_held b) b a n h (held-balanced s b fits) joined (shown-taken (handles_held b) h 0 (omega (arith, none)) (omega arith)))
 
 -- the same by the clauses of the calls: the client's first connection from the serial number on is found, told its handle, and the client runs
 pub told-left : (s : System) (d e new : TablesView) (a n : ℕ) (slot : Slot) (h : Handle) → IsKept 256 d.connections → IsKept 304 d.messages → IsTable d.connections → ObjectsFit s (spm_of d) → phase_of (spm_of d) a ≡ Connected n

@@ -2,9 +2,8 @@
 
 ghost use Rattle.std.specs.Prelude.{◌≡◌, ◌≤◌, ◌+◌, IfOk};
 ghost use Rattle.counting_law.specs.Objects.{ObjectsFit};
-ghost use Rattle.ffm_model.specs.declared.system.System.{System as TheSystem};
 ghost use Rattle.ffm_model.specs.State.{phase_of};
-ghost use Rattle.slot_names.specs.Premises.{AreLeft, Premises, PremisesWithMemory};
+ghost use Rattle.slot_names.specs.Premises.{AreLeft, Premises, PremisesWithMemory, KeepsFit};
 ghost use Rattle.spm_tables.specs.TablesView.{shape_of, spm_of};
 
 use crate::setup::{CLIENT, STATELESS, SYSTEM, VAULT, image_of, ready, runs};
@@ -71,7 +70,7 @@ fn told(system: &System, tables: &mut Tables, client: ActorId) -> Result<Handle,
 // The outcome of a client's call that was answered; the client runs on.
 fn returned(tables: &mut Tables, client: ActorId) -> Result<Outcome, Fault>
     ensures running { IfOk result (λ o. phase_of (spm_of tables.new) client.0 ≡ ActorPhase.Running) }
-    ensures fits { (s : TheSystem) → ObjectsFit s (spm_of tables.old) → ObjectsFit s (spm_of tables.new) }
+    ensures fits { KeepsFit tables.old tables.new }
     ensures queue { (spm_of tables.new).messages ≡ (spm_of tables.old).messages }
     ensures shape { shape_of tables.new ≡ shape_of tables.old }
     ensures takes { tables.new.messages.takes ≡ tables.old.messages.takes }

@@ -1,9 +1,7 @@
 //! What the calls are made on: tables at their start and an image, of a system of one partition and one client.
 ghost use Rattle.std.specs.Prelude.{◌≡◌, IfOk, IsTrue};
 ghost use Rattle.ffm_model.specs.State.{opening_spm, phase_of};
-ghost use Rattle.ffm_model.specs.Ranges.{ranges_of};
-ghost use Rattle.memory_image.specs.Pieces.{regions_of};
-ghost use Rattle.slot_names.specs.Premises.{Premises};
+ghost use Rattle.slot_names.specs.Premises.{Premises, HasRegions};
 ghost use Rattle.spm_tables.specs.TablesView.{spm_of};
 
 use ffm_model::{ActorId, ActorPhase, Bytes, List, System};
@@ -52,7 +50,7 @@ pub(crate) fn ready(alloc: Global, system: &System) -> Result<Tables, Fail>
 // In the client's RAM the descriptor of a vector, and after it the vector's four bytes.
 #[tactic(auto, using(memory_image::proofs::Systems::system_fits, ffm_model::proofs::RangeLemmas::regions_few))]
 pub(crate) fn image_of(rt: &impl Abort, alloc: Global, system: &System) -> Result<Image, Fail>
-    ensures { IfOk result (λ image. regions_of image ≡ ranges_of system.now.regions) }
+    ensures { IfOk result (HasRegions system.now) }
 {
     let vector = Bytes {
         address: 0x2000_0000,

@@ -1,7 +1,6 @@
 //! Whole runs, made step by step over systems put together of their parts, and the judge's word on each.
-ghost use Rattle.std.specs.Prelude.{◌≡◌, IfOk};
-ghost use Rattle.ffm_model.specs.Ranges.{ranges_of};
-ghost use Rattle.memory_image.specs.Pieces.{regions_of};
+ghost use Rattle.std.specs.Prelude.{IfOk};
+ghost use Rattle.slot_names.specs.Premises.{HasRegions};
 
 use crate::parts::{clock, timer};
 use ffm_model::{Answer, Call, Entry, List, Outcome, System, Trace, Verdict};
@@ -36,7 +35,7 @@ quiet 12
 // A memory whose bytes are 0.
 #[tactic(auto, using(memory_image::proofs::Systems::system_fits, ffm_model::proofs::RangeLemmas::regions_few))]
 fn zeros(alloc: Global, system: &System) -> Result<Image, Fail>
-    ensures { IfOk result (λ image. regions_of image ≡ ranges_of system.now.regions) }
+    ensures { IfOk result (HasRegions system.now) }
 {
     let none = List::of(Vec::new(alloc));
     Ok(Image::new(alloc, system.regions.list(), &none)?)

@@ -2,6 +2,7 @@
 use Rattle.std.proofs.Common.{ℕ, ◌≡◌, ◌<◌, ◌==◌, false, ◌&&◌, length, arith, ◌∙◌, ap, sym, refl, subst}
 use Rattle.std.specs.Prelude.{ℤ, pos, int_lt, Option, Some, None, IsSome, IsSomeAnd, IfSome}
 use Rattle.std.specs.Ordering.{int_eq}
+use Rattle.list_laws.proofs.Options.{some-and, if-some}
 use Rattle.ffm_model.specs.declared.constants.TheConstants.{PSA_NULL_HANDLE, PSA_IPC_DISCONNECT}
 use Rattle.ffm_model.specs.declared.system.System.{System}
 use Rattle.ffm_model.specs.declared.machine.Handle.{Handle}
@@ -24,7 +25,7 @@ use Rattle.counting_law.proofs.Rooms.{request-room}
 use Rattle.spm_tables.specs.TablesView.{TablesView, MadeFor, spm_of}
 use Rattle.spm_tables.proofs.PoolLemmas.{item-put}
 use Rattle.client_calls.proofs.ServiceLemmas.{connection-service, made-services}
-use Rattle.client_calls.proofs.SendLemmas.{at-item, has-item, room-for-message}
+use Rattle.client_calls.proofs.SendLemmas.{room-for-message}
 use Rattle.counting_law.proofs.Owners.{held-client}
 
 -- the connection that the actor holds, in its slot
@@ -50,7 +51,7 @@ held-item d p a k s same live found =
 -- what is told of it
 pub told-phase : (d : TablesView) (p : Places OpenConnection) (s : Slot) (c : OpenConnection) (t : TheConnection) → p ≡ d.connections → item_at d.connections s ≡ Some c → IfSome (item_at p s) (λ x. t ≡ table.connection_of x) → t.phase ≡ c.phase
 told-phase d p s c t same live told =
-    ap (λ (x : TheConnection). x.phase) (at-item (item_at p s) c (λ x. t ≡ table.connection_of x) (ap (λ (q : Places OpenConnection). item_at q s) same ∙ live) told)
+    ap (λ (x : TheConnection). x.phase) (if-some (item_at p s) c (λ x. t ≡ table.connection_of x) (ap (λ (q : Places OpenConnection). item_at q s) same ∙ live) told)
 
 -- the connection of a slot was put into a phase
 abbrev pub Phased : TablesView → Slot → ConnPhase → TablesView → Type 0
@@ -58,7 +59,7 @@ Phased d s ph m = IfSome (item_at d.connections s) (λ c. m ≡ record d { conne
 
 module _ (d m : TablesView) (a : ℕ) (k : Handle) (s : Slot) (c : OpenConnection) (ph : ConnPhase) (h : IsHeld d a k s c) (phased : Phased d s ph m) where
   pub after-phase : m ≡ record d { connections = with_item d.connections s (record c { phase = ph }) }
-  after-phase = at-item (item_at d.connections s) c (λ x. m ≡ record d { connections = with_item d.connections s (record x { phase = ph }) }) h.live phased
+  after-phase = if-some (item_at d.connections s) c (λ x. m ≡ record d { connections = with_item d.connections s (record x { phase = ph }) }) h.live phased
 
   pub item-phased : item_at m.connections s ≡ Some (record c { phase = ph })
   item-phased = ap (λ (x : TablesView). item_at x.connections s) after-phase ∙ item-put d.connections s c (record c { phase = ph }) h.live
@@ -66,7 +67,7 @@ module _ (d m : TablesView) (a : ℕ) (k : Handle) (s : Slot) (c : OpenConnectio
   pub may-send : (y : System) → MadeFor d y → ObjectsFit y (spm_of d) → IsSomeAnd (item_at m.connections s) (λ x. x.service < length m.services)
   may-send y made fit =
       let there : c.service < length y.services = connection-service y (spm_of d) (λ x. (x.client.0 == a) && has_handle x.handle k) c fit h.held in
-      has-item (item_at m.connections s) (record c { phase = ph }) (λ x. x.service < length m.services) item-phased
+      some-and (item_at m.connections s) (record c { phase = ph }) (λ x. x.service < length m.services) item-phased
       (omega (arith, made-services d y made, ap (λ (x : TablesView). length x.services) after-phase))
 
   pub has-room : (y : System) → MadeFor d y → ObjectsFit y (spm_of d) → phase_of (spm_of d) a ≡ Running → is_dead c.phase ≡ false → length (spm_of m).messages < length m.messages.generations
@@ -78,9 +79,9 @@ module _ (d m : TablesView) (a : ℕ) (k : Handle) (s : Slot) (c : OpenConnectio
       → IfSome (item_at m.connections s) (λ x. spm_of new ≡ with_phase (with_message (spm_of m) x kind v) x.client.0 Blocked)
       → spm_of new ≡ with_phase (with_message (with_connection_phase (spm_of d) c.serial ph) c kind v) a Blocked
   sent-state new kind v phase sent =
-      let changed : spm_of m ≡ with_connection_phase (spm_of d) c.serial ph = at-item (item_at d.connections s) c (λ x. spm_of m ≡ with_connection_phase (spm_of d) x.serial ph) h.live phase in
+      let changed : spm_of m ≡ with_connection_phase (spm_of d) c.serial ph = if-some (item_at d.connections s) c (λ x. spm_of m ≡ with_connection_phase (spm_of d) x.serial ph) h.live phase in
       let put : spm_of new ≡ with_phase (with_message (spm_of m) c kind v) c.client.0 Blocked =
-      at-item (item_at m.connections s) (record c { phase = ph }) (λ x. spm_of new ≡ with_phase (with_message (spm_of m) x kind v) x.client.0 Blocked) item-phased sent in
+      if-some (item_at m.connections s) (record c { phase = ph }) (λ x. spm_of new ≡ with_phase (with_message (spm_of m) x kind v) x.client.0 Blocked) item-phased sent in
       put ∙ ap (λ (b : SpmState). with_phase (with_message b c kind v) c.client.0 Blocked) changed
       ∙ ap (λ (n : ℕ). with_phase (with_message (with_connection_phase (spm_of d) c.serial ph) c kind v) n Blocked) (held-client (spm_of d) a k c h.held)
 

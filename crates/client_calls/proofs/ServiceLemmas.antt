@@ -4,6 +4,7 @@ use Rattle.std.specs.Prelude.{find, Option, Some, None, nat_lt, slice_get}
 use Rattle.std.specs.Option.{option_map, option_map_or, unwrap_or}
 use Rattle.std.proofs.lemmas.List.{length-map}
 use Rattle.std.proofs.lemmas.Option.{slice_get_within}
+use Rattle.std.proofs.lemmas.Bool.{and_parts, eqb-true}
 use Rattle.list_laws.proofs.Counts.{bit, count-found}
 use Rattle.list_laws.proofs.Tests.{find-list_all, find-passes}
 use Rattle.ffm_model.specs.declared.system.Budget.{Budget}
@@ -14,13 +15,12 @@ use Rattle.ffm_model.specs.Actors.{is_stateless, version_fits}
 use Rattle.ffm_model.specs.ClientCalls.{takes_version}
 use Rattle.ffm_model.specs.State.{SpmState, in_use}
 use Rattle.ffm_model.proofs.WellFormedLemmas.{is_between_actors, budgets_between_actors}
-use Rattle.handle_table.proofs.SlotLemmas.{both}
 use Rattle.counting_law.specs.Objects.{ObjectsFit, allowed}
 use Rattle.spm_tables.specs.TablesView.{TablesView, MadeFor, Shape, service_signal}
 
 there : (s : System) (b : Budget) → is_between_actors s b ≡ true → b.service < length s.services
 there s b e =
-    let parts = both (nat_lt b.client.0 (length s.partitions + length s.clients)) _ e in
+    let parts = and_parts (nat_lt b.client.0 (length s.partitions + length s.clients)) _ e in
     let go : (o : Option Service) → slice_get s.services b.service ≡ o → option_map_or (λ v. not (v.owner == b.client.0)) o false ≡ true → b.service < length s.services =
     elim [ None ↦ λ f g. cc | Some v ↦ λ f g. slice_get_within s.services b.service v f ] in
     go (slice_get s.services b.service) refl parts.1
@@ -32,12 +32,10 @@ allowed-service s a v some =
     elim [
       | None ↦ λ f g. absurd (omega arith)
       | Some b ↦ λ f g.
-          let same : b.service ≡ v = equal b.service v (both (b.client.0 == a) (b.service == v) (find-passes test s.budgets b f)).1 in
+          let same : b.service ≡ v = eqb-true b.service v (and_parts (b.client.0 == a) (b.service == v) (find-passes test s.budgets b f)).1 in
           omega (arith, there s b (find-list_all test (is_between_actors s) s.budgets b f (budgets_between_actors s)))
     ] in
-    go (find test s.budgets) refl some where
-      equal : (k m : ℕ) → (k == m) ≡ true → k ≡ m
-      equal k m f = grind arith
+    go (find test s.budgets) refl some
 
 -- that of a connection
 pub connection-service : (s : System) (b : SpmState) (q : OpenConnection → Bool) (c : OpenConnection) → ObjectsFit s b → find q b.connections ≡ Some c → c.service < length s.services

@@ -1,14 +1,12 @@
 //! `psa_close`.
-ghost use Rattle.std.specs.Prelude.{◌≡◌, ◌+◌, ◌≤◌, ℕ, All, List};
+ghost use Rattle.std.specs.Prelude.{◌≡◌, ◌+◌, ◌≤◌};
 ghost use Rattle.ffm_model.specs.declared.system.System.{System as SystemSeen};
 ghost use Rattle.ffm_model.specs.State.{phase_of};
 ghost use Rattle.ffm_model.specs.ClientCalls.{psa_close};
-ghost use Rattle.counting_law.specs.Objects.{ObjectsFit};
-ghost use Rattle.message_vectors.specs.Vectors.{AreWithin};
 ghost use Rattle.spm_tables.specs.TablesView.{MadeFor, shape_of, spm_of};
 ghost use Rattle.spm_tables.specs.Answers.{Answers};
 ghost use Rattle.slot_names.specs.Named.{KeepsNames};
-ghost use Rattle.slot_names.specs.Premises.{AreLeft, Premises};
+ghost use Rattle.slot_names.specs.Premises.{AreLeft, Premises, KeepsVectors, KeepsFit};
 
 use crate::sending::{NO_VECTORS, send};
 use ffm_model::{
@@ -31,9 +29,9 @@ pub fn close(tables: &mut Tables, actor: ActorId, handle: Handle) -> Result<Outc
     ensures answer { Answers (λ o. o) (psa_close (spm_of tables.old) actor.0 handle) tables.old result tables.new }
     ensures shape { shape_of tables.new ≡ shape_of tables.old }
     ensures names { (s : SystemSeen) → MadeFor tables.old s → KeepsNames s tables.old tables.new }
-    ensures fits { (s : SystemSeen) → ObjectsFit s (spm_of tables.old) → ObjectsFit s (spm_of tables.new) }
+    ensures fits { KeepsFit tables.old tables.new }
     ensures takes { tables.new.messages.takes ≤ tables.old.messages.takes + 1 }
-    ensures within { (ranges : List (ℕ × ℕ)) → All (λ m. AreWithin ranges m.vectors) (spm_of tables.old).messages → All (λ m. AreWithin ranges m.vectors) (spm_of tables.new).messages }
+    ensures within { KeepsVectors tables.old tables.new }
 {
     if handle.0 == PSA_NULL_HANDLE {
         return Ok(Outcome::Done);

@@ -1,16 +1,15 @@
 //! `psa_call`.
-ghost use Rattle.std.specs.Prelude.{◌≡◌, ◌+◌, ◌≤◌, All, List};
+ghost use Rattle.std.specs.Prelude.{◌≡◌, ◌+◌, ◌≤◌, List};
 ghost use Rattle.ffm_model.specs.declared.machine.Handle.{Handle as HandleSeen};
 ghost use Rattle.ffm_model.specs.State.{phase_of};
 ghost use Rattle.ffm_model.specs.ClientCalls.{connection_called, psa_call, refuses_requests, service_called};
 ghost use Rattle.ffm_model.specs.Panic.{is_dead};
 ghost use Rattle.counting_law.specs.Objects.{ObjectsFit};
-ghost use Rattle.memory_image.specs.Pieces.{byte_at, regions_of};
-ghost use Rattle.message_vectors.specs.Vectors.{AreWithin};
+ghost use Rattle.memory_image.specs.Pieces.{byte_at};
 ghost use Rattle.spm_tables.specs.TablesView.{shape_of, spm_of};
 ghost use Rattle.spm_tables.specs.Answers.{Answers, state_with};
 ghost use Rattle.slot_names.specs.Named.{KeepsNames};
-ghost use Rattle.slot_names.specs.Premises.{AreLeft, PremisesWithImage};
+ghost use Rattle.slot_names.specs.Premises.{AreLeft, PremisesWithImage, VectorsLie};
 
 use crate::connecting::is_service_panicked;
 use crate::sending::{send, send_request};
@@ -144,7 +143,7 @@ pub fn invoke(
     ensures names { KeepsNames system.now tables.old tables.new }
     ensures takes { tables.new.messages.takes ≤ tables.old.messages.takes + 1 }
     ensures fits { ObjectsFit system.now (spm_of tables.new) }
-    ensures vectors { All (λ m. AreWithin (regions_of image.now) m.vectors) (spm_of tables.old).messages → All (λ m. AreWithin (regions_of image.now) m.vectors) (spm_of tables.new).messages }
+    ensures vectors { VectorsLie tables.old image.now → VectorsLie tables.new image.now }
 {
     match stateless_index(handle) {
         Some(index) => call_service(

@@ -388,7 +388,7 @@ fn shown(alloc: Global, parts: &Parts) -> Result<String, Fail> {
 }
 
 // The regions of the system file that a layout's lines tell.
-fn regions_of(alloc: Global, lines: &str) -> Result<Vec<RegionItem>, Fail>
+fn regions_told(alloc: Global, lines: &str) -> Result<Vec<RegionItem>, Fail>
     ensures { IfOk result (λ regions. AllByRecursion IsRegion regions.items) }
 {
     let mut regions = Vec::new(alloc);
@@ -422,7 +422,7 @@ fn manifests_of(alloc: Global, lines: &str) -> Result<Vec<Manifest>, Fail>
 
 // What comes of a layout's lines, with these words after them.
 fn laid_out(alloc: Global, lines: &str, given: &str) -> Result<String, Fail> {
-    let regions = regions_of(alloc, lines)?;
+    let regions = regions_told(alloc, lines)?;
     let manifests = manifests_of(alloc, lines)?;
     let parts = parts(alloc, regions, manifests, &mut given.split_whitespace())?;
     shown(alloc, &parts)

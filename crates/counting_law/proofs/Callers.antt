@@ -20,7 +20,7 @@ use Rattle.ffm_model.specs.Names.{calls_stateless, capacity, message_capacity}
 use Rattle.ffm_model.proofs.WellFormedLemmas.{budgets_between_actors}
 use Rattle.counting_law.specs.Objects.{ObjectsFit, called_by, is_awaited, message_marked, wrongly_called}
 use Rattle.counting_law.proofs.Bounds.{count-all, few-connections}
-use Rattle.counting_law.proofs.Pairs.{count-sum, none-counts}
+use Rattle.counting_law.proofs.Pairs.{count-sum, none-counts, not_wrong}
 use Rattle.counting_law.proofs.Slots.{one-call}
 
 -- the budget of a permitted pair
@@ -46,14 +46,9 @@ permitted-calls s a v e stateless =
     (omega (arith, count-found (λ c. (c.client.0 == a) && (c.service == v)) (λ b. (b.client.0 == a) && is_stateless s b.service) s.budgets it.0 it.1, ap bit own))
 
 -- a request of an actor shows that it may call
-and_not : (x y : Bool) → x ≡ true → bit (x && not y) ≡ 0 → y ≡ true
-and_not true true e h = refl
-and_not true false e h = absurd (omega (arith, h))
-and_not false y e h = cc
-
 lawful : (s : System) (m : PendingMessage) → is_none m.connection ≡ true → bit (wrongly_called s m) ≡ 0 → (is_stateless s m.service ≡ true) × (permits s m.client.0 m.service ≡ true)
 lawful s m none h =
-    let all : (int_le PSA_IPC_CALL m.kind && (is_stateless s m.service && permits s m.client.0 m.service)) ≡ true = and_not _ _ none h in
+    let all : (int_le PSA_IPC_CALL m.kind && (is_stateless s m.service && permits s m.client.0 m.service)) ≡ true = not_wrong _ _ none h in
     let both : (is_stateless s m.service && permits s m.client.0 m.service) ≡ true = (and_parts _ _ all).1 in
     ((and_parts _ _ both).0, (and_parts _ _ both).1)
 

@@ -28,7 +28,7 @@ use Rattle.counting_law.proofs.Resume.{delivered-keeps, int_flip, times, vectors
 
 -- ---- the handles that a state's objects have, as if no others had been given
 
-abbrev handles_held : SpmState → List Handle
+abbrev pub handles_held : SpmState → List Handle
 handles_held b = filter_map (λ (m : PendingMessage). m.handle) b.messages ++ filter_map (λ (c : OpenConnection). c.handle) b.connections
 
 times-held : {X : Type 0} (f : X → Option Handle) (h : Handle) (xs : List X) → times (filter_map f xs) h ≡ count_by (λ x. has_handle (f x) h) xs
@@ -40,7 +40,7 @@ times-held f h (x ∷ xs) =
     ] in
     omega (arith, go (f x), count-cons (λ y. has_handle (f y) h) x xs, times-held f h xs)
 
-held-times : (b : SpmState) (k : Handle) → times (handles_held b) k ≡ objects_with b k
+pub held-times : (b : SpmState) (k : Handle) → times (handles_held b) k ≡ objects_with b k
 held-times b k =
     omega (
       arith,
@@ -49,7 +49,7 @@ held-times b k =
       times-held (λ (c : OpenConnection). c.handle) k b.connections,
     )
 
-held-balanced : (s : System) (b : SpmState) → ObjectsFit s b → Balanced s (times (handles_held b)) b
+pub held-balanced : (s : System) (b : SpmState) → ObjectsFit s b → Balanced s (times (handles_held b)) b
 held-balanced s b h =
     record {
       within = h.budgets;

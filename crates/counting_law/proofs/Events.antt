@@ -283,13 +283,9 @@ replies s st a h status d Q k running =
     go _ refl
 
 -- psa_notify, psa_clear, psa_eoi, interrupts, memory: nothing but doorbells and sources
-choice : (P : Option Effect → Type 0) (x : Bool) (e : Effect) → P None → P (Some e) → P (if x then Some e else None)
-choice P true e none some = some
-choice P false e none some = none
-
-choice_of : (P : Option Move → Type 0) (x : Bool) (m : Move) → P None → P (Some m) → P (if x then Some m else None)
-choice_of P true m none some = some
-choice_of P false m none some = none
+choice : {X : Type 0} (P : Option X → Type 0) (b : Bool) (x : X) → P None → P (Some x) → P (if b then Some x else None)
+choice P true x none some = some
+choice P false x none some = none
 
 -- whatever becomes of the flags of the source that has a signal
 sources : (s : System) (b : SpmState) (given : List Handle) (a signal : ℕ) (d : Call) (Q : Outcome → SpmState → List Handle → Type 0) (test : ℕ → Bool) (says : ℕ → Outcome) (flags : ℕ → List SourceFlags) → EachKind s b given a d Q
@@ -298,7 +294,7 @@ sources : (s : System) (b : SpmState) (given : List Handle) (a signal : ℕ) (d 
 sources s b given a signal d Q test says flags k running plain =
     elim (source_of_signal s a signal) as (λ (o : Option ℕ). IfMoved Q given (option_and_then (λ i. if test i then Some (move (says i) (record b { sources = flags i })) else None) o)) [
       | None ↦ tt
-      | Some i ↦ choice_of (IfMoved Q given) (test i) _ tt (k.beside running (says i) b.doorbells (flags i) (plain i))
+      | Some i ↦ choice (IfMoved Q given) (test i) _ tt (k.beside running (says i) b.doorbells (flags i) (plain i))
     ]
 
 any_source : (s : System) (b : SpmState) (given : List Handle) (a signal : ℕ) (d : Call) (Q : Outcome → SpmState → List Handle → Type 0) (says : ℕ → Outcome) (flags : ℕ → List SourceFlags) → EachKind s b given a d Q
@@ -325,9 +321,9 @@ call-kind s st a (call.Skip c i len) h Q k may new = moved st Q _ (skips s st.sp
 call-kind s st a (call.Write c i at len) h Q k may new = writes s st a c i at len (call.Write c i at len) Q k (caller-running s st.spm a (call.Write c i at len) (λ p. refl) may)
 call-kind s st a (call.Reply c status) h Q k may new = replies s st a c status.0 (call.Reply c status) Q k (caller-running s st.spm a (call.Reply c status) (λ p. refl) may)
 call-kind s st a (call.Notify id) h Q k may new =
-    moved st Q _ (choice_of (IfMoved Q st.handles_given) _ _ tt (k.beside (caller-running s st.spm a (call.Notify id) (λ p. refl) may) outcome.Done _ st.spm.sources refl))
+    moved st Q _ (choice (IfMoved Q st.handles_given) _ _ tt (k.beside (caller-running s st.spm a (call.Notify id) (λ p. refl) may) outcome.Done _ st.spm.sources refl))
 call-kind s st a call.Clear h Q k may new =
-    moved st Q _ (choice_of (IfMoved Q st.handles_given) _ _ tt (k.beside (caller-running s st.spm a call.Clear (λ p. refl) may) outcome.Done _ st.spm.sources refl))
+    moved st Q _ (choice (IfMoved Q st.handles_given) _ _ tt (k.beside (caller-running s st.spm a call.Clear (λ p. refl) may) outcome.Done _ st.spm.sources refl))
 call-kind s st a (call.Eoi signal) h Q k may new =
     moved st Q _ (sources s st.spm st.handles_given a signal (call.Eoi signal) Q _ (λ i. outcome.Done) _ k (caller-running s st.spm a (call.Eoi signal) (λ p. refl) may) (λ i. refl))
 call-kind s st a (call.IrqEnable signal) h Q k may new =
@@ -342,12 +338,12 @@ call-kind s st a (call.Load at size) h Q k may new =
 call-kind s st a (call.Store at size v) h Q k may new =
     choice (λ o. IfThere o (Says Q)) _ _ tt (k.beside (caller-running s st.spm a (call.Store at size v) (λ p. refl) may) outcome.Done st.spm.doorbells st.spm.sources refl)
 call-kind s st a (call.Raise source) h Q k may new =
-    moved st Q _ (choice_of (IfMoved Q st.handles_given) _ _ tt (k.beside (caller-running s st.spm a (call.Raise source) (λ p. refl) may) outcome.Done st.spm.doorbells _ refl))
+    moved st Q _ (choice (IfMoved Q st.handles_given) _ _ tt (k.beside (caller-running s st.spm a (call.Raise source) (λ p. refl) may) outcome.Done st.spm.doorbells _ refl))
 call-kind s st a (call.Fire source result) h Q k may new =
     let running : phase_of st.spm a ≡ Running = caller-running s st.spm a (call.Fire source result) (λ p. refl) may in
     let fired : (x : Bool) → IfMoved Q st.handles_given (Some (move outcome.Done (if x then interrupted s st.spm source else st.spm))) =
     elim [ true ↦ k.beside running outcome.Done st.spm.doorbells _ refl | false ↦ k.beside running outcome.Done st.spm.doorbells st.spm.sources refl ] in
-    moved st Q _ (choice_of (IfMoved Q st.handles_given) _ _ tt (fired (result == 1)))
+    moved st Q _ (choice (IfMoved Q st.handles_given) _ _ tt (fired (result == 1)))
 call-kind s st a (call.Stop spent) h Q k may new = k.ends (caller-running s st.spm a (call.Stop spent) (λ p. refl) may)
 call-kind s st a call.Resume h Q k may new =
     returns s st a h Q (phase_of st.spm a) k refl (and_parts (enabled s st.spm a) _ (and_parts _ _ may).1).1 (λ e. new e refl)

@@ -8,7 +8,7 @@ use Rattle.std.proofs.lemmas.Bool.Decides.{nat_tests}
 use Rattle.std.proofs.lemmas.List.Sums.{count_by-le-length}
 use Rattle.std.proofs.lemmas.List.FromFn.{length-range_with_len}
 use Rattle.std.proofs.lemmas.Bool.{and_from, and_parts, eqb-true, or_right}
-use Rattle.list_laws.proofs.Counts.{bit, both-le-right, count-cons, count-found, count-map-same, count-push, none-count, some-found}
+use Rattle.list_laws.proofs.Counts.{bit, both-le-right, count-cons, count-found, count-map-same, count-push, none-count, some-found, count-le-at}
 use Rattle.list_laws.proofs.Tests.{find-passes}
 use Rattle.ffm_model.specs.declared.constants.TheConstants.{MAX_ENTRIES}
 use Rattle.ffm_model.specs.declared.system.System.{System}
@@ -31,19 +31,19 @@ use Rattle.ffm_model.proofs.ActorLemmas.{few_partitions, few_clients}
 use Rattle.ffm_model.proofs.WellFormedLemmas.{few_connections}
 use Rattle.ffm_model.specs.Names.{NamedState, NamesSoFar, SlotName, calls_stateless, capacity, message_capacity, first_named, name_at_return, name_due, name_of, named_after, named_step, names_after, no_slot, shows_name, slots_kept, stays, with_connection, with_messages}
 use Rattle.ffm_model.proofs.SerialLemmas.{rises-bounds}
-use Rattle.counting_law.specs.Objects.{PhaseFits, is_joining, is_opening, accepted_as, awaited_by, asked_by}
+use Rattle.counting_law.specs.Objects.{is_joining, is_opening, accepted_as, awaited_by, asked_by}
 use Rattle.counting_law.specs.Takes.{TakesFew, last_generation}
 use Rattle.counting_law.specs.Fresh.{NamesFit, slots_named}
 use Rattle.counting_law.proofs.Balance.{Balanced, balanced-fit}
 use Rattle.counting_law.proofs.Parts.{found-serial, is_itself, off_from}
-use Rattle.counting_law.proofs.Pairs.{member-counts}
+use Rattle.counting_law.proofs.Pairs.{member-counts, joined-one}
 use Rattle.counting_law.proofs.Reply.{both_same, rightly}
 use Rattle.counting_law.proofs.Resume.{delivered-same, int_same, times}
 use Rattle.counting_law.proofs.Panic.{count-append, count-filter}
 use Rattle.counting_law.proofs.Steps.{Stepped, step-is, step-kind}
 use Rattle.counting_law.proofs.Runs.{step-keeps, folds-keep, opening-balanced}
 use Rattle.counting_law.proofs.Takes.{Spends, kinds-spend, length-filter, length-map, length-delivered, same_message}
-use Rattle.counting_law.proofs.Slots.{count-le-at, kept-length, named-step-is, names-lengths, stays-at}
+use Rattle.counting_law.proofs.Slots.{kept-length, named-step-is, names-lengths, stays-at}
 use Rattle.counting_law.proofs.SlotNames.{Taken, names-distinct, none-taken, small_from, positive_from}
 use Rattle.counting_law.proofs.Shapes.{Got, Joined, Quiet, Shape, kinds-shape}
 use Rattle.counting_law.proofs.Walk.{Extends, Joins, extend, join, was_shown, kept-alike, count-kept, shown-push, slots-append, slots-delivered, slots-kept, slots-member, slots-right, slots-sum, with_slots, place-found, place-passes}
@@ -216,12 +216,9 @@ found-below lo hi q (d ∷ ds) c h f =
     ] in
     go (q d) f
 
-connected-one : (p : ActorPhase) (x y m : ℕ) (j : ℕ → ℕ) → p ≡ Connected m → PhaseFits p x y j → j m ≡ 1
-connected-one p x y m j e h = (subst (λ (q : ActorPhase). PhaseFits q x y j) e h).1
-
 live : (s : System) (limit : Handle → ℕ) (b : SpmState) (a n : ℕ) → Balanced s limit b → phase_of b a ≡ Connected n → Live b a n
 live s limit b a n h phase =
-    let one : count_by (accepted_as a n) b.connections ≡ 1 = connected-one (phase_of b a) (awaited_by b.connections b.messages a) (asked_by b.connections b.messages a) n (λ m. count_by (accepted_as a m) b.connections) phase (h.fitting a) in
+    let one : count_by (accepted_as a n) b.connections ≡ 1 = joined-one (phase_of b a) (awaited_by b.connections b.messages a) (asked_by b.connections b.messages a) n (λ m. count_by (accepted_as a m) b.connections) (h.fitting a) phase in
     let it = some-found (accepted_as a n) b.connections (omega (arith, one)) in
     let passes : accepted_as a n it.0 ≡ true = find-passes (accepted_as a n) b.connections it.0 it.1 in
     let serial : it.0.serial ≡ n = eqb-true it.0.serial n (and_parts _ _ passes).0 in

@@ -3,7 +3,6 @@ use Rattle.std.proofs.Common.{ℕ, ◌≡◌, ◌==◌, Bool, true, false, not, 
 use Rattle.std.specs.Prelude.{Option, Some, None, option_and_then, filter, slice_set, if◌then◌else◌}
 use Rattle.std.specs.List.{filter_map, cons_option}
 use Rattle.std.specs.Option.{option_map}
-use Rattle.ffm_model.specs.declared.constants.TheConstants.{PSA_IPC_DISCONNECT}
 use Rattle.ffm_model.specs.declared.system.System.{System}
 use Rattle.ffm_model.specs.declared.objects.OpenConnection.{OpenConnection}
 use Rattle.ffm_model.specs.declared.objects.PendingMessage.{PendingMessage}
@@ -11,9 +10,8 @@ use Rattle.ffm_model.specs.declared.objects.ConnPhase.{ConnPhase}
 use Rattle.ffm_model.specs.declared.objects.ConnPhase.TheVariants.{Opening, Closing, Dead}
 use Rattle.ffm_model.specs.declared.objects.ActorPhase.TheVariants.{Panicked}
 use Rattle.ffm_model.specs.Actors.{is_service_of}
-use Rattle.ffm_model.specs.Memory.{no_vectors}
 use Rattle.ffm_model.specs.State.{SpmState}
-use Rattle.ffm_model.specs.Panic.{is_dead, lost, without_service, without_client, disconnection, clients_answered, callers_answered, panic_effect}
+use Rattle.ffm_model.specs.Panic.{is_dead, lost, without_service, without_client, disconnection, clients_answered, callers_answered, panic_effect, disconnect_message}
 
 -- whether the connection outlives the panic of its service
 abbrev pub survives : ConnPhase → Bool
@@ -32,16 +30,13 @@ abbrev pub all_left : System → ℕ → List OpenConnection → List OpenConnec
 all_left s p [] = []
 all_left s p (c ∷ cs) = left_as (is_service_of s p c.service) (c.client.0 == p) c.phase c ++ all_left s p cs
 
--- the disconnection of one of the partition's own
-abbrev pub disconnect_message : OpenConnection → PendingMessage
-disconnect_message c = record { service = c.service; client = c.client; connection = Some c.serial; kind = PSA_IPC_DISCONNECT; vectors = no_vectors; handle = None }
-
+-- the disconnections of the partition's own
 abbrev pub disconnect_as : Bool → Bool → ConnPhase → OpenConnection → List PendingMessage
 disconnect_as o k ph c = if o then [] else (if k then (if is_dead ph then [] else disconnect_message c ∷ []) else [])
 
-abbrev pub disconnect_messages : System → ℕ → List OpenConnection → List PendingMessage
-disconnect_messages s p [] = []
-disconnect_messages s p (c ∷ cs) = disconnect_as (is_service_of s p c.service) (c.client.0 == p) c.phase c ++ disconnect_messages s p cs
+abbrev pub all_disconnects : System → ℕ → List OpenConnection → List PendingMessage
+all_disconnects s p [] = []
+all_disconnects s p (c ∷ cs) = disconnect_as (is_service_of s p c.service) (c.client.0 == p) c.phase c ++ all_disconnects s p cs
 
 -- the loss of the service, in these cases
 abbrev served : Bool → ConnPhase → OpenConnection → Option OpenConnection
@@ -84,19 +79,19 @@ all_left-is s p (c ∷ cs) =
     ∙ ap (λ o. cons_option o (all_left s p cs)) (left-one p c (is_service_of s p c.service) (lost c.phase))
     ∙ left-cases c (all_left s p cs) (is_service_of s p c.service) (c.client.0 == p) c.phase
 
-disconnects-is : (s : System) (p : ℕ) (cs : List OpenConnection) → filter_map (λ c. option_and_then (disconnection p) (without_service s p c)) cs ≡ disconnect_messages s p cs
+disconnects-is : (s : System) (p : ℕ) (cs : List OpenConnection) → filter_map (λ c. option_and_then (disconnection p) (without_service s p c)) cs ≡ all_disconnects s p cs
 disconnects-is s p [] = refl
 disconnects-is s p (c ∷ cs) =
     ap (λ xs. cons_option (option_and_then (disconnection p) (without_service s p c)) xs) (disconnects-is s p cs)
-    ∙ ap (λ o. cons_option o (disconnect_messages s p cs)) (disconnect-one p c (is_service_of s p c.service) (lost c.phase))
-    ∙ disconnect-cases c (disconnect_messages s p cs) (is_service_of s p c.service) (c.client.0 == p) c.phase
+    ∙ ap (λ o. cons_option o (all_disconnects s p cs)) (disconnect-one p c (is_service_of s p c.service) (lost c.phase))
+    ∙ disconnect-cases c (all_disconnects s p cs) (is_service_of s p c.service) (c.client.0 == p) c.phase
 
 -- the effect of a panic in these words
 abbrev pub after_panic : System → SpmState → ℕ → SpmState
 after_panic s b p = record b {
   phases = callers_answered s p b.messages (clients_answered s p b.connections (slice_set b.phases p Panicked));
   connections = all_left s p b.connections;
-  messages = filter (λ m. not (is_service_of s p m.service)) b.messages ++ disconnect_messages s p b.connections;
+  messages = filter (λ m. not (is_service_of s p m.service)) b.messages ++ all_disconnects s p b.connections;
 }
 
 pub after_panic-is : (s : System) (b : SpmState) (p : ℕ) → panic_effect s b p ≡ after_panic s b p

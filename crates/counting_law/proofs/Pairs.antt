@@ -17,9 +17,10 @@ use Rattle.ffm_model.specs.declared.objects.ActorPhase.TheVariants.{Blocked, Con
 use Rattle.ffm_model.specs.Actors.{is_stateless, permits}
 use Rattle.ffm_model.specs.State.{SpmState, phase_of}
 use Rattle.ffm_model.specs.Panic.{is_dead}
+use Rattle.ffm_model.proofs.SerialLemmas.{serial-once}
 use Rattle.counting_law.specs.Objects.{ObjectsFit, PhaseFits, Mark, phase_for, is_awaited, is_asking, is_opening, is_joining, awaited_by, asked_by, called_by, wrongly_called, awaited_of, asking_of, accepted_as, wrongly_shown, message_marked, connection_marked}
 use Rattle.counting_law.specs.Pairs.{MessagesPair, IsCall, is_numbered, kind_fits, is_message_of, client_waits, is_disconnection}
-use Rattle.counting_law.proofs.Parts.{is_itself, off_from, on_left, unique, asking-blocked}
+use Rattle.counting_law.proofs.Parts.{is_itself, off_from, on_left, asking-blocked}
 use Rattle.counting_law.proofs.Reply.{asking_le, both_same, blocked-one, marked_as}
 
 -- an item of a list counts
@@ -113,12 +114,12 @@ belongs s b h i d lt =
       h.paired t,
       alike,
       count-le (of (Some k)) (λ c. c.serial == k) (λ c. both-le-left (c.serial == k) _) b.connections,
-      unique 0 b.connections_made k b.connections h.rising,
+      serial-once 0 b.connections_made k b.connections h.rising,
     ) in
     let go : (o : Option ℕ) → m.connection ≡ o → count_by (of o) b.connections ≡ (if is_none o then 0 else 1) = elim [ None ↦ λ e. none-counts (of None) (λ c. refl) b.connections | Some k ↦ λ e. on k e ] in
     go m.connection refl
 
-not_wrong : (x y : Bool) → x ≡ true → bit (x && not y) ≡ 0 → y ≡ true
+pub not_wrong : (x y : Bool) → x ≡ true → bit (x && not y) ≡ 0 → y ≡ true
 not_wrong true true e h = refl
 not_wrong true false e h = absurd (omega (arith, h))
 not_wrong false y e h = cc
@@ -153,7 +154,7 @@ carries s b h i d lt =
     ap (λ n. n + count_by (λ x. not (is_awaited x.phase) && (x.serial == c.serial)) b.connections)
     (count-ext (connection_marked t) (λ x. is_awaited x.phase && (x.serial == c.serial)) (λ x. ap (λ y. is_awaited x.phase && y) (turn x.serial c.serial)) b.connections)
     ∙ count-split (λ x. is_awaited x.phase) (λ x. x.serial == c.serial) b.connections in
-    let few : count_by (λ x. x.serial == c.serial) b.connections ≤ 1 = unique 0 b.connections_made c.serial b.connections h.rising in
+    let few : count_by (λ x. x.serial == c.serial) b.connections ≤ 1 = serial-once 0 b.connections_made c.serial b.connections h.rising in
     let go : (x : Bool) → bit (x && (c.serial == c.serial)) ≤ count_by (connection_marked t) b.connections → bit (not x && (c.serial == c.serial)) ≤ count_by (λ x. not (is_awaited x.phase) && (x.serial == c.serial)) b.connections
     → count_by (connection_marked t) b.connections ≡ (if x then 1 else 0) =
     elim [
@@ -181,7 +182,7 @@ waits s b h i d lt e =
     (omega (arith, member-counts (awaited_of a) b.connections i d lt, on_left (a == a) (is_awaited c.phase) (is_itself a), ap bit e))
     (omega (arith, member-counts (asking_of a) b.connections i d lt, on_left (a == a) (is_asking c.phase) (is_itself a)))
 
-joined-one : (p : ActorPhase) (n k m : ℕ) (j : ℕ → ℕ) → PhaseFits p n k j → p ≡ Connected m → j m ≡ 1
+pub joined-one : (p : ActorPhase) (n k m : ℕ) (j : ℕ → ℕ) → PhaseFits p n k j → p ≡ Connected m → j m ≡ 1
 joined-one p n k m j h e = (subst (λ (q : ActorPhase). PhaseFits q n k j) e h).1
 
 shown : (s : System) (b : SpmState) → ObjectsFit s b → (i : ℕ) (d : OpenConnection) → i < length b.connections

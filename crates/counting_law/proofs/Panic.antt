@@ -22,10 +22,10 @@ use Rattle.counting_law.specs.Objects.{same}
 use Rattle.ffm_model.specs.State.{Rises, SpmState, phase_of, has_handle}
 use Rattle.counting_law.proofs.Balance.{Balanced}
 use Rattle.counting_law.specs.Objects.{PhaseFits, PhaseFitsAt, Mark, phase_for, awaited_by, asked_by, called_by, wrongly_called, is_joining, is_opening, is_awaited, is_asking, is_accepted, awaited_of, asking_of, accepted_as, wrongly_shown, message_marked, connection_marked}
-use Rattle.ffm_model.specs.Panic.{is_dead, is_lost_request, callers_answered, client_answered, clients_answered, panic_effect}
-use Rattle.ffm_model.proofs.SerialLemmas.{rises-weaker}
-use Rattle.counting_law.proofs.Losses.{survives, left_as, all_left, disconnect_message, disconnect_as, disconnect_messages, after_panic, after_panic-is}
-use Rattle.counting_law.proofs.Parts.{is_plain, same_or_not, is_there, phase_same, phase_other, off_left, off_right, on_left, flipped, unique, off_from}
+use Rattle.ffm_model.specs.Panic.{is_dead, is_lost_request, callers_answered, client_answered, clients_answered, panic_effect, disconnect_message}
+use Rattle.ffm_model.proofs.SerialLemmas.{rises-weaker, serial-once}
+use Rattle.counting_law.proofs.Losses.{survives, left_as, all_left, disconnect_as, all_disconnects, after_panic, after_panic-is}
+use Rattle.counting_law.proofs.Parts.{is_plain, same_or_not, is_there, phase_same, phase_other, off_left, off_right, on_left, flipped, off_from}
 use Rattle.counting_law.proofs.Updates.{in_phase}
 use Rattle.counting_law.proofs.Reply.{awaited_client, blocked-one, panicked-none, asking_le}
 
@@ -84,7 +84,7 @@ mark-step t c false false Dead e = refl
 mark-step t c false false ph e = omega (arith, count-cons (connection_marked t) (in_phase c ph) [])
 
 marks-left : (s : System) (p : ℕ) (t : Mark) (cs : List OpenConnection) → count_by (awaited_of p) cs ≡ 0
-    → count_by (connection_marked t) (all_left s p cs) ≡ count_by (connection_marked (kept_mark s p t)) cs + count_by (message_marked t) (disconnect_messages s p cs)
+    → count_by (connection_marked t) (all_left s p cs) ≡ count_by (connection_marked (kept_mark s p t)) cs + count_by (message_marked t) (all_disconnects s p cs)
 marks-left s p t [] h = refl
 marks-left s p t (c ∷ cs) h =
     let o : Bool = is_service_of s p c.service in
@@ -96,7 +96,7 @@ marks-left s p t (c ∷ cs) h =
       mark-step t c o k c.phase (off_from _ own),
       marks-left s p t cs rest,
       count-append (connection_marked t) (left_as o k c.phase c) (all_left s p cs),
-      count-append (message_marked t) (disconnect_as o k c.phase c) (disconnect_messages s p cs),
+      count-append (message_marked t) (disconnect_as o k c.phase c) (all_disconnects s p cs),
       count-cons (connection_marked (kept_mark s p t)) c cs,
     )
 
@@ -109,7 +109,7 @@ count-filter {X = X} q r (x ∷ xs) =
     omega (arith, count-cons (λ y. r y && q y) x xs, go (r x))
 
 -- a test that no disconnection passes
-no-disconnects : (s : System) (p : ℕ) (q : PendingMessage → Bool) → ((c : OpenConnection) → q (disconnect_message c) ≡ false) → (cs : List OpenConnection) → count_by q (disconnect_messages s p cs) ≡ 0
+no-disconnects : (s : System) (p : ℕ) (q : PendingMessage → Bool) → ((c : OpenConnection) → q (disconnect_message c) ≡ false) → (cs : List OpenConnection) → count_by q (all_disconnects s p cs) ≡ 0
 no-disconnects s p q off [] = refl
 no-disconnects s p q off (c ∷ cs) =
     let here : (o k : Bool) (ph : ConnPhase) → count_by q (disconnect_as o k ph c) ≡ 0 =
@@ -124,7 +124,7 @@ no-disconnects s p q off (c ∷ cs) =
       arith,
       here (is_service_of s p c.service) (c.client.0 == p) c.phase,
       no-disconnects s p q off cs,
-      count-append q (disconnect_as (is_service_of s p c.service) (c.client.0 == p) c.phase c) (disconnect_messages s p cs),
+      count-append q (disconnect_as (is_service_of s p c.service) (c.client.0 == p) c.phase c) (all_disconnects s p cs),
     )
 
 -- ---- requests by stateless handles
@@ -157,11 +157,11 @@ calls-left s p a (m ∷ ms) =
     )
 
 calls-after : (s : System) (p a : ℕ) (ms : List PendingMessage) (cs : List OpenConnection)
-    → count_by (called_by a) (filter (λ m. not (is_service_of s p m.service)) ms ++ disconnect_messages s p cs) + count_by (lost_call s p a) ms ≡ count_by (called_by a) ms
+    → count_by (called_by a) (filter (λ m. not (is_service_of s p m.service)) ms ++ all_disconnects s p cs) + count_by (lost_call s p a) ms ≡ count_by (called_by a) ms
 calls-after s p a ms cs =
     omega (
       arith,
-      count-append (called_by a) (filter (λ m. not (is_service_of s p m.service)) ms) (disconnect_messages s p cs),
+      count-append (called_by a) (filter (λ m. not (is_service_of s p m.service)) ms) (all_disconnects s p cs),
       no-disconnects s p (called_by a) (λ c. refl) cs,
       calls-left s p a ms,
     )
@@ -483,14 +483,14 @@ after_panic-keeps : (s : System) (limit : Handle → ℕ) (b : SpmState) (p : �
 after_panic-keeps s limit b p h inside quiet free =
     let left : List OpenConnection = all_left s p b.connections in
     let told : List ActorPhase = phases_told s b p in
-    let sent : List PendingMessage = filter (λ m. not (is_service_of s p m.service)) b.messages ++ disconnect_messages s p b.connections in
+    let sent : List PendingMessage = filter (λ m. not (is_service_of s p m.service)) b.messages ++ all_disconnects s p b.connections in
     let alone : count_by (awaited_of p) b.connections ≡ 0 = omega (arith, quiet) in
     let rises : Rises 0 left b.connections_made = rising-left s p 0 b.connections_made b.connections h.rising in
     record {
       within = λ x w. omega (arith, h.within x w, left-le s p (λ c. (c.client.0 == x) && (c.service == w)) (λ c ph. refl) b.connections);
       paired = λ t. omega (
         arith,
-        count-append (message_marked t) (filter (λ m. not (is_service_of s p m.service)) b.messages) (disconnect_messages s p b.connections),
+        count-append (message_marked t) (filter (λ m. not (is_service_of s p m.service)) b.messages) (all_disconnects s p b.connections),
         count-filter (message_marked t) (λ m. not (is_service_of s p m.service)) b.messages,
         count-ext (λ m. not (is_service_of s p m.service) && message_marked t m) (message_marked (kept_mark s p t))
             (λ m. mark-kept (is_service_of s p m.service) (λ n. t n m.client.0 m.service (phase_for m.kind)) m.connection) b.messages,
@@ -499,7 +499,7 @@ after_panic-keeps s limit b p h inside quiet free =
       );
       called = omega (
         arith,
-        count-append (wrongly_called s) (filter (λ m. not (is_service_of s p m.service)) b.messages) (disconnect_messages s p b.connections),
+        count-append (wrongly_called s) (filter (λ m. not (is_service_of s p m.service)) b.messages) (all_disconnects s p b.connections),
         no-disconnects s p (wrongly_called s) (λ c. refl) b.connections,
         count-filter-le (wrongly_called s) (λ m. not (is_service_of s p m.service)) b.messages,
         h.called,
@@ -515,7 +515,7 @@ after_panic-keeps s limit b p h inside quiet free =
           (λ z now. subst (λ (q : ActorPhase). PhaseFits q (awaited_by left sent a) (asked_by left sent a) (λ n. count_by (accepted_as a n) left)) (sym now)
           (fits-kept (phase_of b a) _ _ _ _ _ (λ n. count_by (accepted_as a n) left) (omega (arith, z, calls-after s p a b.messages b.connections, awaited-left s p a b.connections e)) (omega (arith, z, calls-after s p a b.messages b.connections, asking-left s p a b.connections))
           (λ m. accepted-left s p a m b.connections e)
-          (λ m. omega (arith, unique 0 b.connections_made m left rises, count-le (accepted_as a m) (λ d. d.serial == m) (λ d. both-le-left (d.serial == m) ((d.client.0 == a) && is_accepted d.phase)) left))
+          (λ m. omega (arith, serial-once 0 b.connections_made m left rises, count-le (accepted_as a m) (λ d. d.serial == m) (λ d. both-le-left (d.serial == m) ((d.client.0 == a) && is_accepted d.phase)) left))
           (h.fitting a)))
           (λ o blocked one now plain.
           let all : awaited_by b.connections b.messages a ≡ 1 = blocked-one (phase_of b a) _ _ (λ m. count_by (accepted_as a m) b.connections) blocked (h.fitting a) in
@@ -536,7 +536,7 @@ after_panic-keeps s limit b p h inside quiet free =
         arith,
         h.handles k,
         left-le s p (λ c. has_handle c.handle k) (λ c ph. refl) b.connections,
-        count-append (λ m. has_handle m.handle k) (filter (λ m. not (is_service_of s p m.service)) b.messages) (disconnect_messages s p b.connections),
+        count-append (λ m. has_handle m.handle k) (filter (λ m. not (is_service_of s p m.service)) b.messages) (all_disconnects s p b.connections),
         no-disconnects s p (λ m. has_handle m.handle k) (λ c. refl) b.connections,
         count-filter (λ m. has_handle m.handle k) (λ m. not (is_service_of s p m.service)) b.messages,
         count-le (λ m. not (is_service_of s p m.service) && has_handle m.handle k) (λ m. has_handle m.handle k) (λ m. both-le-right (not (is_service_of s p m.service)) (has_handle m.handle k)) b.messages,

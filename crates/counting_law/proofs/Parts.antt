@@ -1,9 +1,9 @@
 -- What the parts of the balance keep when a list is updated.
 use Rattle.std.proofs.Common.{ℕ, zero, suc, ◌≡◌, ◌<◌, ◌≤◌, ◌+◌, ◌==◌, Bool, true, false, cond, ◌&&◌, List, [], ◌∷◌, length, get_or, arith, ◌∙◌, ap, sym, refl, subst}
-use Rattle.std.specs.Prelude.{count_by, find, Some, slice_set}
+use Rattle.std.specs.Prelude.{find, Some, slice_set}
 use Rattle.std.proofs.lemmas.Grind.{common_steps}
 use Rattle.std.proofs.lemmas.Bool.{eq-eqb}
-use Rattle.list_laws.proofs.Counts.{bit, count-cons}
+use Rattle.list_laws.proofs.Counts.{bit}
 use Rattle.ffm_model.specs.declared.machine.Outcome.{Outcome}
 use Rattle.ffm_model.specs.declared.machine.Outcome.TheVariants as outcome
 use Rattle.ffm_model.specs.declared.objects.OpenConnection.{OpenConnection}
@@ -59,25 +59,6 @@ joining-set phases a n x p inside old new =
     same_or_not x a (is_joining (get_or (slice_set phases a p) x Ended) n ≡ is_joining (get_or phases x Ended) n)
     (λ e. ap (λ y. is_joining (get_or (slice_set phases a p) y Ended) n) e ∙ ap (λ q. is_joining q n) (phase_same phases a p inside) ∙ new ∙ sym old ∙ ap (λ y. is_joining (get_or phases y Ended) n) (sym e))
     (λ e. ap (λ q. is_joining q n) (phase_other phases a x p e))
-
-not_same : (x n : ℕ) → n < x → bit (x == n) ≡ 0
-not_same x n h = grind arith
-
--- no connection before the first number
-pub none-before : (lo hi n : ℕ) (cs : List OpenConnection) → Rises lo cs hi → n < lo → count_by (λ c. c.serial == n) cs ≡ 0
-none-before lo hi n [] h below = refl
-none-before lo hi n (c ∷ cs) h below =
-    omega (arith, count-cons (λ d. d.serial == n) c cs, not_same c.serial n (omega (arith, h.0)), none-before (c.serial + 1) hi n cs h.1 (omega (arith, h.0)))
-
-pub unique : (lo hi n : ℕ) (cs : List OpenConnection) → Rises lo cs hi → count_by (λ c. c.serial == n) cs ≤ 1
-unique lo hi n [] h = omega arith
-unique lo hi n (c ∷ cs) h =
-    let go : (b : Bool) → (c.serial == n) ≡ b → bit b + count_by (λ d. d.serial == n) cs ≤ 1 =
-    elim [
-      | true ↦ λ e. let it : c.serial ≡ n = grind arith in omega (arith, none-before (c.serial + 1) hi n cs h.1 (omega arith))
-      | false ↦ λ e. omega (arith, unique (c.serial + 1) hi n cs h.1)
-    ] in
-    omega (arith, count-cons (λ d. d.serial == n) c cs, go (c.serial == n) refl)
 
 -- a connection that is found by any test is the one with its serial number
 found-above : (lo hi : ℕ) (q : OpenConnection → Bool) (cs : List OpenConnection) (c : OpenConnection) → Rises lo cs hi → find q cs ≡ Some c → lo ≤ c.serial

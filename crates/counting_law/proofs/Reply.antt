@@ -26,10 +26,10 @@ use Rattle.ffm_model.specs.State.{SpmState, message_held, phase_of, has_handle, 
 use Rattle.ffm_model.specs.declared.constants.TheConstants.{PSA_IPC_CALL, PSA_IPC_CONNECT, PSA_ERROR_PROGRAMMER_ERROR, PSA_SUCCESS}
 use Rattle.ffm_model.specs.ClientCalls.{is_busy}
 use Rattle.ffm_model.specs.ServiceCalls.{connect_answered, close_answered, with_request_phase}
-use Rattle.ffm_model.proofs.SerialLemmas.{rises-map}
+use Rattle.ffm_model.proofs.SerialLemmas.{rises-map, serial-once}
 use Rattle.counting_law.proofs.Balance.{Balanced}
 use Rattle.counting_law.specs.Objects.{PhaseFits, Mark, awaited_by, asked_by, called_by, wrongly_called, phase_for, is_joining, is_opening, is_awaited, is_asking, is_accepted, awaited_of, asking_of, accepted_as, wrongly_shown, message_marked, connection_marked}
-use Rattle.counting_law.proofs.Parts.{is_there, found-serial, off_left, off_right, on_left, flipped, is_itself, off_from, set_same, asking-blocked, unique}
+use Rattle.counting_law.proofs.Parts.{is_there, found-serial, off_left, off_right, on_left, flipped, is_itself, off_from, set_same, asking-blocked}
 use Rattle.counting_law.proofs.Updates.{serial-phase_put, put, out, moved-keeps, removed-keeps, sent-keeps, Moves}
 
 -- the connection that a message belongs to, by its serial number n; u is a test that the phase for its kind passes
@@ -172,7 +172,7 @@ accept-own s limit b p h n m c balanced found conn kind it =
         on_left (a == a) true (is_itself a),
         off_right (c.serial == c.serial) ((a == a) && is_accepted c.phase) (off_from _ (off_right (a == a) (is_accepted c.phase) (ap is_accepted opening))),
         count-le (accepted_as a c.serial) (λ d. d.serial == c.serial) (λ d. both-le-left (d.serial == c.serial) ((d.client.0 == a) && is_accepted d.phase)) after,
-        unique 0 b.connections_made c.serial after (rises-map 0 b.connections_made (phase_put c.serial Idle) (serial-phase_put c.serial Idle) b.connections balanced.rising),
+        serial-once 0 b.connections_made c.serial after (rises-map 0 b.connections_made (phase_put c.serial Idle) (serial-phase_put c.serial Idle) b.connections balanced.rising),
       ),
     )
     (ap (λ k. same k (false || (c.serial == c.serial))) none ∙ is_itself c.serial)

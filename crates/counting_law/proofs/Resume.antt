@@ -18,10 +18,10 @@ use Rattle.ffm_model.specs.declared.objects.ActorPhase.{ActorPhase}
 use Rattle.ffm_model.specs.declared.objects.ActorPhase.TheVariants.{Running, Connected, Ended}
 use Rattle.counting_law.specs.Objects.{same}
 use Rattle.ffm_model.specs.State.{SpmState, State, phase_of, has_handle, handle_eq, handle_put, with_connection_handle, with_phase, fresh, is_undelivered, delivered, vectors_put}
-use Rattle.ffm_model.proofs.SerialLemmas.{rises-map}
+use Rattle.ffm_model.proofs.SerialLemmas.{rises-map, serial-once}
 use Rattle.counting_law.proofs.Balance.{Balanced}
 use Rattle.counting_law.specs.Objects.{PhaseFits, PhaseFitsAt, awaited_by, asked_by, called_by, wrongly_called, is_joining, is_opening, is_accepted, awaited_of, asking_of, accepted_as, wrongly_shown, message_marked, connection_marked}
-use Rattle.counting_law.proofs.Parts.{fits_same, is_there, fitting-set, joining-set, phase_same, found-serial, flipped, unique}
+use Rattle.counting_law.proofs.Parts.{fits_same, is_there, fitting-set, joining-set, phase_same, found-serial, flipped}
 
 pub int_flip : (x y : ℤ) → int_eq x y ≡ int_eq y x
 int_flip x y = grind (arith, Decides-int_eq)
@@ -82,7 +82,7 @@ named-keeps s given b a n h balanced joined new =
     let here : find (λ d. d.serial == n) b.connections ≡ Some c = subst (λ (x : ℕ). find (λ d. d.serial == x) b.connections ≡ Some c) serial (found-serial 0 b.connections_made _ b.connections c balanced.rising it.1) in
     let after : List OpenConnection = map (handle_put n h) b.connections in
     let change : (q : OpenConnection → Bool) → count_by q after + bit (q c) ≡ count_by q b.connections + bit (q (named h c)) =
-    λ q. count-put (λ d. d.serial == n) q q (named h) (λ y e. refl) b.connections c (unique 0 b.connections_made n b.connections balanced.rising) here in
+    λ q. count-put (λ d. d.serial == n) q q (named h) (λ y e. refl) b.connections c (serial-once 0 b.connections_made n b.connections balanced.rising) here in
     let right : bit (wrongly_shown (slice_set b.phases a Running) (named h c)) ≡ 0 =
     ap (λ x. bit (not (same false (is_opening c.phase || is_joining (get_or (slice_set b.phases a Running) x Ended) c.serial)))) client
     ∙ ap (λ q. bit (not (same false (is_opening c.phase || is_joining q c.serial)))) (phase_same b.phases a Running inside)
@@ -106,7 +106,7 @@ named-keeps s given b a n h balanced joined new =
         count-put (λ d. d.serial == n) (wrongly_shown b.phases) (wrongly_shown (slice_set b.phases a Running)) (named h)
             (λ y e. ap (λ k. not (same (is_none y.handle) (is_opening y.phase || k)))
             (joining-set b.phases a y.serial y.client.0 Running inside (ap (λ q. is_joining q y.serial) joined ∙ flipped y.serial n e) refl))
-            b.connections c (unique 0 b.connections_made n b.connections balanced.rising) here,
+            b.connections c (serial-once 0 b.connections_made n b.connections balanced.rising) here,
       );
       handles = λ k. omega (arith, change (λ d. has_handle d.handle k), balanced.handles k, count-push (handle_eq k) given h, ap bit (int_flip h.0 k.0));
       single = λ k. omega (arith, count-push (handle_eq k) given h, times-push given h k new (balanced.single k));

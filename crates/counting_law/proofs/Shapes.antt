@@ -24,7 +24,7 @@ use Rattle.ffm_model.specs.declared.objects.ConnPhase.TheVariants.{Idle, Busy, C
 use Rattle.ffm_model.specs.declared.objects.ActorPhase.TheVariants.{Blocked, Connected}
 use Rattle.ffm_model.specs.Actors.{is_service_of}
 use Rattle.ffm_model.specs.State.{SpmState, phase_of, handle_eq, has_handle, is_undelivered, handle_put, vectors_put, delivered, message_held, with_phase, with_request, without_connection}
-use Rattle.ffm_model.specs.Panic.{is_dead, panic_effect}
+use Rattle.ffm_model.specs.Panic.{is_dead, panic_effect, disconnect_message}
 use Rattle.ffm_model.specs.ClientCalls.{Move, move, call_on, close_on, is_service_panicked, new_connection}
 use Rattle.ffm_model.specs.ServiceCalls.{service_of_signal}
 use Rattle.ffm_model.specs.Step.{handle_shown}
@@ -37,7 +37,7 @@ use Rattle.counting_law.proofs.Bounds.{count-all}
 use Rattle.counting_law.proofs.Pairs.{carries, count-sum, member-counts, none-counts}
 use Rattle.counting_law.proofs.Resume.{times, put-same}
 use Rattle.counting_law.proofs.Reply.{settled, settled-keeps, message-out}
-use Rattle.counting_law.proofs.Losses.{disconnect_message, disconnect_as, disconnect_messages, after_panic-is}
+use Rattle.counting_law.proofs.Losses.{disconnect_as, all_disconnects, after_panic-is}
 use Rattle.counting_law.proofs.Panic.{left-le}
 use Rattle.counting_law.proofs.Turns.{settled-cases}
 use Rattle.counting_law.proofs.Takes.{same_message, filter-all, length-filter}
@@ -204,12 +204,12 @@ stays-append xs ys old =
     count-sum (stays (xs ++ ys)) (stays xs) (stays ys) (λ m. omega (arith, ap bit (list_any-append (same_message m) xs ys), either (stays xs m) (stays ys m))) old
 
 all-sent-apart : (s : System) (p : ℕ) (old : List PendingMessage) (cs : List OpenConnection)
-    → ((i : ℕ) (d : OpenConnection) → i < length cs → ((get_or cs i d).client.0 == p) ≡ true → count_by (λ m. same_message m (disconnect_message (get_or cs i d))) old ≡ 0) → count_by (stays (disconnect_messages s p cs)) old ≡ 0
+    → ((i : ℕ) (d : OpenConnection) → i < length cs → ((get_or cs i d).client.0 == p) ≡ true → count_by (λ m. same_message m (disconnect_message (get_or cs i d))) old ≡ 0) → count_by (stays (all_disconnects s p cs)) old ≡ 0
 all-sent-apart s p old [] none = none-counts (stays []) (λ m. refl) old
 all-sent-apart s p old (c ∷ cs) none =
     omega (
       arith,
-      stays-append (disconnect_as (is_service_of s p c.service) (c.client.0 == p) c.phase c) (disconnect_messages s p cs) old,
+      stays-append (disconnect_as (is_service_of s p c.service) (c.client.0 == p) c.phase c) (all_disconnects s p cs) old,
       sent-apart p old c (is_service_of s p c.service) (c.client.0 == p) c.phase (λ e. none 0 c (omega arith) e),
       all-sent-apart s p old cs (λ i d lt e. none (suc i) d (omega (arith, lt)) e),
     )
@@ -224,7 +224,7 @@ panic-shape : (s : System) (b mid : SpmState) (r : PendingMessage → Bool) (p :
 panic-shape s b mid r p given it fit fit_mid quiet only =
     let q : PendingMessage → Bool = λ m. not (is_service_of s p m.service) in
     let both : PendingMessage → Bool = λ m. r m && q m in
-    let sent : List PendingMessage = disconnect_messages s p mid.connections in
+    let sent : List PendingMessage = all_disconnects s p mid.connections in
     let order : filter q mid.messages ++ sent ≡ filter both b.messages ++ sent =
     ap (λ (ms : List PendingMessage). filter q ms ++ sent) it.messages ∙ ap (λ (ms : List PendingMessage). ms ++ sent) (filter-twice r q b.messages) in
     let apart : count_by (stays sent) b.messages ≡ 0 =

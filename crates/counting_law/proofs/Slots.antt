@@ -5,7 +5,7 @@ use Rattle.std.specs.Option.{option_map, option_map_or}
 use Rattle.std.specs.Ordering.{int_eq}
 use Rattle.std.proofs.lemmas.Bool.Decides.{Decides-int_eq, nat_tests}
 use Rattle.std.proofs.lemmas.Bool.{and_from}
-use Rattle.list_laws.proofs.Counts.{bit, both-le-left, both-le-right, count-cons, count-le, some-any}
+use Rattle.list_laws.proofs.Counts.{bit, both-le-left, both-le-right, count-cons, count-le, some-any, count-le-at}
 use Rattle.ffm_model.specs.declared.system.System.{System}
 use Rattle.ffm_model.specs.declared.machine.Entry.{Entry}
 use Rattle.ffm_model.specs.declared.objects.PendingMessage.{PendingMessage}
@@ -15,10 +15,11 @@ use Rattle.ffm_model.specs.declared.objects.ActorPhase.TheVariants.{Connected}
 use Rattle.ffm_model.specs.State.{SpmState, State, phase_of}
 use Rattle.ffm_model.specs.Step.{step, after}
 use Rattle.ffm_model.specs.Names.{NamesSoFar, NamedState, SlotName, capacity, message_capacity, is_same_connection, live_connections, named_step, names_after, next_slot, shows_name, slots_kept, stays, with_connection, with_messages}
+use Rattle.ffm_model.proofs.SerialLemmas.{serial-once}
 use Rattle.counting_law.specs.Objects.{ObjectsFit, PhaseFits, Mark, called_by, awaited_of, asking_of, accepted_as, message_marked, connection_marked, is_awaited}
 use Rattle.counting_law.specs.Takes.{TakesFew}
 use Rattle.counting_law.proofs.Balance.{Balanced}
-use Rattle.counting_law.proofs.Parts.{is_itself, unique}
+use Rattle.counting_law.proofs.Parts.{is_itself}
 use Rattle.counting_law.proofs.Pairs.{member-counts, count-sum, none-counts}
 use Rattle.counting_law.proofs.Resume.{times}
 use Rattle.counting_law.proofs.Steps.{step-kind}
@@ -26,10 +27,6 @@ use Rattle.counting_law.proofs.Runs.{step-keeps, run-has, opening-balanced}
 use Rattle.counting_law.proofs.Takes.{Spends, same_message, kinds-spend}
 
 -- ---- the messages that stay
-
-pub count-le-at : {X : Type 0} (p q : X → Bool) (xs : List X) → ((i : ℕ) (d : X) → i < length xs → bit (p (get_or xs i d)) ≤ bit (q (get_or xs i d))) → count_by p xs ≤ count_by q xs
-count-le-at p q [] h = omega arith
-count-le-at p q (x ∷ xs) h = omega (arith, count-cons p x xs, count-cons q x xs, h 0 x (omega arith), count-le-at p q xs (λ i d lt. h (suc i) d (omega arith)))
 
 connection-self : (o : Option ℕ) → is_same_connection o o ≡ true
 connection-self (Some n) = is_itself n
@@ -100,7 +97,7 @@ one-each s b h n =
             count-le (λ m. same_message m n) (message_marked (t i)) (λ m. like n.connection m.connection ((is_some m.connection || (n.client.0 == m.client.0)) && int_eq n.kind m.kind) i e) b.messages,
             h.paired (t i),
             count-le (connection_marked (t i)) (λ c. c.serial == i) (λ c. both-le-right (is_awaited c.phase) (c.serial == i)) b.connections,
-            unique 0 b.connections_made i b.connections h.rising,
+            serial-once 0 b.connections_made i b.connections h.rising,
           )
     ] in
     go n.connection refl

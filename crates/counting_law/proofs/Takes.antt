@@ -18,7 +18,7 @@ use Rattle.ffm_model.specs.Actors.{is_service_of}
 use Rattle.ffm_model.specs.State.{SpmState, phase_of, has_handle, phase_put, handle_put, rhandle_put, vectors_put, delivered, message_held, with_phase, with_request, without_connection}
 use Rattle.ffm_model.specs.Names.{is_same_message}
 use Rattle.ffm_model.specs.Signals.{is_panicked}
-use Rattle.ffm_model.specs.Panic.{is_dead, panic_effect}
+use Rattle.ffm_model.specs.Panic.{is_dead, panic_effect, disconnect_message}
 use Rattle.ffm_model.specs.ClientCalls.{Move, move, call_on, close_on, is_service_panicked, new_connection}
 use Rattle.counting_law.specs.Objects.{awaited_by, accepted_as}
 use Rattle.counting_law.specs.Takes.{is_owned, owned}
@@ -27,7 +27,7 @@ use Rattle.counting_law.proofs.Parts.{same_or_not, is_there, phase_other, runnin
 use Rattle.counting_law.proofs.Bounds.{count-all}
 use Rattle.counting_law.proofs.Resume.{times, delivered-same, put-same}
 use Rattle.counting_law.proofs.Reply.{settled, settled-keeps}
-use Rattle.counting_law.proofs.Losses.{left_as, all_left, disconnect_as, disconnect_messages, disconnect_message, after_panic, after_panic-is}
+use Rattle.counting_law.proofs.Losses.{left_as, all_left, disconnect_as, all_disconnects, after_panic, after_panic-is}
 use Rattle.counting_law.proofs.Panic.{count-append, count-filter, left_cases}
 use Rattle.counting_law.proofs.Keeps.{request-ready, ready-quiet}
 use Rattle.counting_law.proofs.Turns.{Turned, settled-cases, panicked-self, panicked-other}
@@ -164,14 +164,14 @@ disconnect-step b new p c o k ph alive dead le e =
     omega (arith, left, few o k (is_dead ph), go k refl)
 
 disconnects-owned : (s : System) (b new : SpmState) (p : ℕ) → is_panicked (phase_of b p) ≡ false → is_panicked (phase_of new p) ≡ true → ((x : ℕ) → bit (not (is_panicked (phase_of new x))) ≤ bit (not (is_panicked (phase_of b x))))
-    → (cs : List OpenConnection) → length (disconnect_messages s p cs) + count_by (is_owned new) (all_left s p cs) ≤ count_by (is_owned b) cs
+    → (cs : List OpenConnection) → length (all_disconnects s p cs) + count_by (is_owned new) (all_left s p cs) ≤ count_by (is_owned b) cs
 disconnects-owned s b new p alive dead le [] = omega arith
 disconnects-owned s b new p alive dead le (c ∷ cs) =
     omega (
       arith,
       disconnect-step b new p c (is_service_of s p c.service) (c.client.0 == p) c.phase alive dead (le c.client.0) refl,
       disconnects-owned s b new p alive dead le cs,
-      length-append (disconnect_as (is_service_of s p c.service) (c.client.0 == p) c.phase c) (disconnect_messages s p cs),
+      length-append (disconnect_as (is_service_of s p c.service) (c.client.0 == p) c.phase c) (all_disconnects s p cs),
       count-append (is_owned new) (left_as (is_service_of s p c.service) (c.client.0 == p) c.phase c) (all_left s p cs),
       count-cons (is_owned b) c cs,
     )
@@ -197,8 +197,8 @@ panic-spends s limit b mid q p it balanced inside alive quiet =
     λ x. same_or_not x p (bit (not (is_panicked (phase_of new x))) ≤ bit (not (is_panicked (phase_of mid x))))
     (λ e. omega (arith, ap (λ (y : ℕ). bit (not (is_panicked (phase_of new y)))) e, ap (λ (z : ActorPhase). bit (not (is_panicked z))) gone))
     (λ e. turned-alive (phase_of mid x) (phase_of new x) (panicked-other s limit mid p x balanced e)) in
-    let owners : length (disconnect_messages s p mid.connections) + owned new ≤ owned mid = disconnects-owned s mid new p alive (ap is_panicked gone) le mid.connections in
-    let sent : List PendingMessage = disconnect_messages s p mid.connections in
+    let owners : length (all_disconnects s p mid.connections) + owned new ≤ owned mid = disconnects-owned s mid new p alive (ap is_panicked gone) le mid.connections in
+    let sent : List PendingMessage = all_disconnects s p mid.connections in
     subst (λ (x : SpmState). Spends b x) (sym same) (record {
       made = omega (arith, it.made);
       grows = omega (arith, it.made);

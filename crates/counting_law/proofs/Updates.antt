@@ -12,10 +12,10 @@ use Rattle.ffm_model.specs.declared.objects.ActorPhase.{ActorPhase}
 use Rattle.ffm_model.specs.declared.objects.ActorPhase.TheVariants.{Ended}
 use Rattle.counting_law.specs.Objects.{same}
 use Rattle.ffm_model.specs.State.{Rises, SpmState, phase_of, has_handle, phase_put}
-use Rattle.ffm_model.proofs.SerialLemmas.{rises-filter, rises-map}
+use Rattle.ffm_model.proofs.SerialLemmas.{rises-filter, rises-map, serial-once}
 use Rattle.counting_law.proofs.Balance.{Balanced}
 use Rattle.counting_law.specs.Objects.{PhaseFits, Mark, awaited_by, asked_by, called_by, wrongly_called, is_joining, is_opening, is_awaited, is_asking, is_accepted, awaited_of, asking_of, accepted_as, wrongly_shown, message_marked, connection_marked}
-use Rattle.counting_law.proofs.Parts.{phase_same, fitting-set, joining-set, unique, off_left, off_right, flipped}
+use Rattle.counting_law.proofs.Parts.{phase_same, fitting-set, joining-set, off_left, off_right, flipped}
 
 abbrev pub in_phase : OpenConnection → ConnPhase → OpenConnection
 in_phase c ph = record c { phase = ph }
@@ -45,12 +45,12 @@ pub record Moves (s : System) (limit : Handle → ℕ) (b : SpmState) (c : OpenC
 pub put : (b : SpmState) (c : OpenConnection) (ph : ConnPhase) → Rises 0 b.connections b.connections_made → find (λ d. d.serial == c.serial) b.connections ≡ Some c
     → (q : OpenConnection → Bool) → count_by q (map (phase_put c.serial ph) b.connections) + bit (q c) ≡ count_by q b.connections + bit (q (in_phase c ph))
 put b c ph rising here q =
-    count-put (λ d. d.serial == c.serial) q q (λ d. in_phase d ph) (λ y e. refl) b.connections c (unique 0 b.connections_made c.serial b.connections rising) here
+    count-put (λ d. d.serial == c.serial) q q (λ d. in_phase d ph) (λ y e. refl) b.connections c (serial-once 0 b.connections_made c.serial b.connections rising) here
 
 -- a count over the connections, where c goes
 pub out : (b : SpmState) (c : OpenConnection) → Rises 0 b.connections b.connections_made → find (λ d. d.serial == c.serial) b.connections ≡ Some c
     → (q : OpenConnection → Bool) → count_by q (filter (λ d. not (d.serial == c.serial)) b.connections) + bit (q c) ≡ count_by q b.connections
-out b c rising here q = count-out (λ d. d.serial == c.serial) q q (λ y e. refl) b.connections c (unique 0 b.connections_made c.serial b.connections rising) here
+out b c rising here q = count-out (λ d. d.serial == c.serial) q q (λ y e. refl) b.connections c (serial-once 0 b.connections_made c.serial b.connections rising) here
 
 pub moved-keeps : (s : System) (limit : Handle → ℕ) (b : SpmState) (c : OpenConnection) (ph : ConnPhase) (p : ActorPhase) (messages : List PendingMessage) → Moves s limit b c p messages
     → ((t : Mark) → count_by (message_marked t) messages + bit (connection_marked t c) ≡ count_by (message_marked t) b.messages + bit (connection_marked t (in_phase c ph)))
@@ -89,7 +89,7 @@ moved-keeps s limit b c ph p messages h paired fits shown =
         count-put (λ d. d.serial == c.serial) (wrongly_shown b.phases) (wrongly_shown (slice_set b.phases a p)) (λ d. in_phase d ph)
             (λ y e. ap (λ k. not (same (is_none y.handle) (is_opening y.phase || k)))
             (joining-other b.phases a c.serial y.serial y.client.0 p h.client h.joined h.joins e))
-            b.connections c (unique 0 b.connections_made c.serial b.connections h.balanced.rising) h.here,
+            b.connections c (serial-once 0 b.connections_made c.serial b.connections h.balanced.rising) h.here,
       );
       handles = λ k. omega (arith, change (λ d. has_handle d.handle k), h.handles k, h.balanced.handles k);
       single = h.balanced.single;
@@ -124,7 +124,7 @@ removed-keeps s limit b c p messages h paired fits =
         count-out (λ d. d.serial == c.serial) (wrongly_shown b.phases) (wrongly_shown (slice_set b.phases a p))
             (λ y e. ap (λ k. not (same (is_none y.handle) (is_opening y.phase || k)))
             (joining-other b.phases a c.serial y.serial y.client.0 p h.client h.joined h.joins e))
-            b.connections c (unique 0 b.connections_made c.serial b.connections h.balanced.rising) h.here,
+            b.connections c (serial-once 0 b.connections_made c.serial b.connections h.balanced.rising) h.here,
       );
       handles = λ k. omega (arith, change (λ d. has_handle d.handle k), h.handles k, h.balanced.handles k);
       single = h.balanced.single;

@@ -6,7 +6,7 @@ use Rattle.std.proofs.Math.Seq.{get_or-append_seam}
 use Rattle.std.proofs.lemmas.Bool.Decides.{Decides-int_eq}
 use Rattle.std.proofs.lemmas.List.{append_assoc, append-nil, get_or_append_left}
 use Rattle.std.proofs.lemmas.List.Folds.{list_any-append}
-use Rattle.list_laws.proofs.Counts.{any-count, bit, count-cons, count-push}
+use Rattle.list_laws.proofs.Counts.{any-count, bit, count-cons, count-push, count-le-at}
 use Rattle.ffm_model.specs.declared.machine.Handle.{Handle}
 use Rattle.ffm_model.specs.declared.objects.PendingMessage.{PendingMessage}
 use Rattle.ffm_model.specs.State.{SpmState, delivered, handle_eq, is_undelivered}
@@ -14,7 +14,6 @@ use Rattle.ffm_model.specs.Names.{NamesSoFar, SlotName, live_connections, name_o
 use Rattle.counting_law.specs.Fresh.{slots_named}
 use Rattle.counting_law.proofs.Resume.{times, int_flip}
 use Rattle.counting_law.proofs.Pairs.{member-counts}
-use Rattle.counting_law.proofs.Slots.{count-le-at}
 use Rattle.counting_law.proofs.SlotNames.{Taken, names-distinct, next-taken}
 
 pub handle-self : (h : Handle) → handle_eq h h ≡ true

@@ -10,6 +10,7 @@ use Rattle.list_laws.proofs.Tests.{find-map, find-passes}
 use Rattle.ffm_model.specs.Circles.{is_circle, is_way, are_different, lists_up_to, first_circle}
 use Rattle.dependency_circle.specs.Circles.{is_not_after, IsFirstCircle, AnswersCircle}
 use Rattle.dependency_circle.proofs.Lists.{circle_fits}
+use Rattle.dependency_circle.proofs.WayLemmas.{clash}
 
 -- ---- one answer
 
@@ -26,9 +27,6 @@ same_list (x ∷ c) [] h k = cc
 same_list (x ∷ c) (y ∷ d) h k =
     let e : x ≡ y = same_first x y c d h k in
     ap (λ z. z ∷ c) e ∙ ap (λ t. y ∷ t) (same_list c d (rest_after x y c d e h) (rest_after y x d c (sym e) k))
-
-clash : (b : Bool) → b ≡ false → b ≡ true → ⊥
-clash b e f = cc
 
 pub same_first_circle : (n : ℕ) (edge : ℕ → ℕ → Bool) (c d : List ℕ) → IsFirstCircle n edge c → IsFirstCircle n edge d → c ≡ d
 same_first_circle n edge c d f g = same_list c d (f.least d g.circle) (g.least c f.circle)

@@ -10,6 +10,7 @@ use lib.Dec.{eqb}
 use Rattle.ffm_model.specs.Circles.{is_circle, are_different, is_way, is_new}
 use Rattle.dependency_circle.specs.Circles.{is_not_after}
 use Rattle.dependency_circle.specs.Ways.{Begins, IsNext}
+use Rattle.dependency_circle.proofs.WayLemmas.{clash}
 
 -- what a list that comes no later is: a beginning, or one that stays before however it goes on
 pub data Before (c d : List ℕ) : Type 0 where
@@ -56,9 +57,6 @@ IsLeast n edge c = (d : List ℕ) → is_circle n edge d ≡ true → is_not_aft
 rest_begins : (n : ℕ) (edge : ℕ → ℕ → Bool) (front w : List ℕ) → is_circle n edge front ≡ false → is_circle n edge (front ++ w) ≡ true
     → (j : ℕ) × ((v : List ℕ) × ((w ≡ j ∷ v) × Begins n edge (front ++ j ∷ [])))
 rest_begins n edge front [] wide closed = absurd (clash (is_circle n edge front) wide (ap (is_circle n edge) (sym (append-nil front)) ∙ closed))
-  where
-    clash : (b : Bool) → b ≡ false → b ≡ true → ⊥
-    clash b e f = cc
 rest_begins n edge front (j ∷ v) wide closed = (j, (v, (refl, record { rest = v; circle = ap (is_circle n edge) (append_assoc front (j ∷ []) v) ∙ closed })))
 
 least_by : (n : ℕ) (edge : ℕ → ℕ → Bool) (front d : List ℕ) (k : ℕ) → is_circle n edge front ≡ false → is_circle n edge d ≡ true

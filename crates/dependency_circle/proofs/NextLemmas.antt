@@ -1,11 +1,12 @@
 -- The least place that goes on to a circle.
-use Rattle.std.proofs.Common.{ℕ, ◌≡◌, ◌<◌, ◌+◌, ◌&&◌, ◌⊎◌, inl, inr, List, [], ◌∷◌, ◌++◌, get_or, arith, sym, subst, Bool, true, false}
+use Rattle.std.proofs.Common.{ℕ, ◌≡◌, ◌<◌, ◌+◌, ◌&&◌, List, [], ◌∷◌, ◌++◌, get_or, arith, sym, subst, Bool, true, false}
 use Rattle.std.specs.Prelude.{nat_lt}
-use Rattle.std.proofs.lemmas.Bool.{cases_eq, ltb-true, and_parts, and_from}
+use Rattle.std.proofs.lemmas.Bool.{ltb-true, and_parts, and_from}
 use Rattle.std.proofs.lemmas.Bool.Decides.{nat_tests}
 use Rattle.ffm_model.specs.Circles.{is_way, is_new, are_different}
 use Rattle.dependency_circle.specs.Ways.{Begins, goes, are_apart, Homeward, TellsWays}
-use Rattle.dependency_circle.proofs.WayLemmas.{begins_by, goes_by, GoesOn, apart_none}
+use Rattle.dependency_circle.proofs.WayLemmas.{begins_by, goes_by, GoesOn, apart_none, clash}
+use Rattle.dependency_circle.proofs.SpreadLemmas.{below_or_at}
 
 pub goes_below : (n : ℕ) (edge : ℕ → ℕ → Bool) (home : ℕ) (t : List ℕ) (k : ℕ) → goes n edge home t k ≡ true → k < n
 goes_below n edge home [] k h = let e : nat_lt k n ≡ true = (and_parts (nat_lt k n) _ h).0 in lower k n e
@@ -17,19 +18,6 @@ goes_below n edge home (y ∷ t) k h = goes_below n edge y t k (and_parts (edge 
 -- no place below k goes on from front
 abbrev pub NoneBelow : ℕ → (ℕ → ℕ → Bool) → List ℕ → ℕ → Type 0
 NoneBelow n edge front k = (j : ℕ) → j < k → ¬ Begins n edge (front ++ j ∷ [])
-
-clash : (b : Bool) → b ≡ false → b ≡ true → ⊥
-clash b e f = cc
-
-more_below : (P : ℕ → Type 0) (k : ℕ) → ((j : ℕ) → j < k → P j) → P k → (j : ℕ) → j < k + 1 → P j
-more_below P k below here j h = by (cases_eq k j)
-  where
-    under : (k ≡ j → ⊥) → j < k
-    under ne = omega (arith, h, ne)
-
-    by : (k ≡ j) ⊎ (k ≡ j → ⊥) → P j
-    by (inl e) = subst P e here
-    by (inr ne) = below j (under ne)
 
 -- the test by which a place goes on from front
 abbrev pub goes_on : ℕ → (ℕ → ℕ → Bool) → ℕ → List ℕ → List ℕ → List Bool → ℕ → Bool
@@ -64,7 +52,7 @@ after_not n edge home t front marks k e tells h b =
 pub after_more : (n : ℕ) (edge : ℕ → ℕ → Bool) (home : ℕ) (t front : List ℕ) (marks : List Bool) (k : ℕ) → front ≡ home ∷ t → TellsWays n edge home front marks
     → NoneBelow n edge front k → goes_on n edge home t front marks k ≡ false → NoneBelow n edge front (k + 1)
 after_more n edge home t front marks k e tells below h =
-    let P : ℕ → Type 0 = λ j. Begins n edge (front ++ j ∷ []) → ⊥ in more_below P k below (after_not n edge home t front marks k e tells h)
+    let P : ℕ → Type 0 = λ j. Begins n edge (front ++ j ∷ []) → ⊥ in below_or_at P k below (after_not n edge home t front marks k e tells h)
 
 pub after_none : (n : ℕ) (edge : ℕ → ℕ → Bool) (home : ℕ) (t front : List ℕ) → front ≡ home ∷ t → NoneBelow n edge front n → (j : ℕ) → ¬ Begins n edge (front ++ j ∷ [])
 after_none n edge home t front e below j b =
@@ -87,7 +75,7 @@ homeward_first n edge k b =
 pub first_more : (n : ℕ) (edge : ℕ → ℕ → Bool) (marks : List Bool) (k : ℕ) → TellsWays n edge k [] marks → NoneBelow n edge [] k → get_or marks k false ≡ false → NoneBelow n edge [] (k + 1)
 first_more n edge marks k tells below h =
     let P : ℕ → Type 0 = λ j. Begins n edge ([] ++ j ∷ []) → ⊥ in
-    more_below P k below (λ b. let two : (k < n) × Homeward n edge k [] k = homeward_first n edge k b in clash (get_or marks k false) h (tells.all k two.0 two.1))
+    below_or_at P k below (λ b. let two : (k < n) × Homeward n edge k [] k = homeward_first n edge k b in clash (get_or marks k false) h (tells.all k two.0 two.1))
 
 pub first_none : (n : ℕ) (edge : ℕ → ℕ → Bool) → NoneBelow n edge [] n → (j : ℕ) → ¬ Begins n edge ([] ++ j ∷ [])
 first_none n edge below j b = below j (homeward_first n edge j b).0 b

@@ -6,7 +6,7 @@ use Rattle.std.proofs.lemmas.Bool.Decides.{nat_tests}
 use Rattle.std.proofs.lemmas.List.{take_all, take_more, take-append-le, get_or_default}
 use Rattle.std.proofs.lemmas.List.Folds.{list_any-append}
 use Rattle.std.proofs.lemmas.Map.Steps.{length-le_from_distinct_below}
-use Rattle.std.proofs.lemmas.Bool.{and_from, and_parts, cases_Bool, or_left}
+use Rattle.std.proofs.lemmas.Bool.{and_from, and_parts, cases_Bool, or_left, eqb-true}
 use Rattle.list_laws.proofs.Bools.{or_rest}
 use Rattle.ffm_model.specs.Circles.{is_new, are_different}
 use Rattle.dependency_circle.specs.Ways.{marked, are_apart, is_unmarked_before, IsMarked, MarksMore, TellsWays}
@@ -88,14 +88,11 @@ spread_done n edge home front found i low before = record { done = λ x y under 
     shape y h = sym (regroup (y == home) (marked (take i found) y) (y == get_or found i 0))
         ∙ ap (λ b. (y == home) || b) (sym (list_any-append (λ z. y == z) (take i found) (get_or found i 0 ∷ []))) ∙ ap (λ t. (y == home) || marked t y) (sym (front_is _)) ∙ h
 
-    same : (y z : ℕ) → (y == z) ≡ true → y ≡ z
-    same y z e = grind (arith, nat_tests)
-
     one : (x y : ℕ) → x < n → is_new x front ≡ true → edge x y ≡ true → (((y == home) || marked (take i found) y) || (y == get_or found i 0)) ≡ true
         → marked (spread_from n edge front (get_or found i 0) found) x ≡ true
     one x y under new step h = or_by ((y == home) || marked (take i found) y) (y == get_or found i 0) h
         (λ e. marked_more found _ x (before.done x y under new step e))
-        (λ _ e. spreads n edge front (get_or found i 0) found x under new (ap (edge x) (sym (same y (get_or found i 0) e)) ∙ step))
+        (λ _ e. spreads n edge front (get_or found i 0) found x under new (ap (edge x) (sym (eqb-true y (get_or found i 0) e)) ∙ step))
 
 -- ---- the places found differ
 all_new : (p : ℕ → Bool) (old xs : List ℕ) → ((z : ℕ) → p z ≡ true → is_new z old ≡ true) → are_apart old (filter p xs) ≡ true
@@ -155,7 +152,7 @@ at_marked (x ∷ xs) (suc i) h = or_right (get_or xs i 0 == x) _ (at_marked xs i
 first_search : (n : ℕ) (edge : ℕ → ℕ → Bool) (home : ℕ) (front : List ℕ) → Search n edge home front (spread_from n edge front home []) 0
 first_search n edge home front = record {
   sound = spread_sound n edge home front home [] (λ x h. absurd (nothing h)) (inl refl);
-  done = record { done = λ x y low new step from. spreads n edge front home [] x low new (ap (edge x) (sym (same y (left (y == home) from))) ∙ step) };
+  done = record { done = λ x y low new step from. spreads n edge front home [] x low new (ap (edge x) (sym (eqb-true y home (left (y == home) from))) ∙ step) };
   different = spread_different n edge front home [] refl;
   within = omega arith;
 }
@@ -166,9 +163,6 @@ first_search n edge home front = record {
     left : (b : Bool) → (b || false) ≡ true → b ≡ true
     left true h = refl
     left false h = h
-
-    same : (y : ℕ) → (y == home) ≡ true → y ≡ home
-    same y e = grind (arith, nat_tests)
 
 pub search_init : (n : ℕ) (edge : ℕ → ℕ → Bool) (home : ℕ) (front old now : List ℕ) (before after : List Bool) → old ≡ [] → IsMarked n front [] before
     → now ≡ old ++ filter (is_unmarked_before before edge home) (range_with_len 0 n) → MarksMore n edge home before after

@@ -2,7 +2,7 @@
 use Rattle.std.proofs.Common.{ℕ, ◌≡◌, ◌<◌, ◌≤◌, ◌+◌, ◌&&◌, ◌||◌, ◌⊎◌, inl, inr, not, List, [], ◌∷◌, ◌++◌, length, get_or, set, arith, ◌∙◌, ap, sym, refl, subst, Bool, true, false, append_assoc, filter, cond, length-set, add-one, zero, suc}
 use Rattle.std.specs.Prelude.{◌==◌}
 use Rattle.std.specs.List.{range_with_len}
-use Rattle.std.proofs.lemmas.Bool.{cases_eq}
+use Rattle.std.proofs.lemmas.Bool.{cases_eq, eqb-true}
 use Rattle.std.proofs.lemmas.List.{append-nil, get_or-set_same, get_or-set_other}
 use Rattle.std.proofs.lemmas.List.Folds.{list_any-append}
 use Rattle.std.proofs.lemmas.List.Elements.{filter-append}
@@ -34,7 +34,8 @@ pub record Spread (edge : ℕ → ℕ → Bool) (y : ℕ) (old : List ℕ) (befo
   pub past : (z : ℕ) → z < x → get_or marks z false ≡ (get_or before z false || edge z y)
   pub rest : (z : ℕ) → x ≤ z → get_or marks z false ≡ get_or before z false
 
-below_or_at : (P : ℕ → Type 0) (x : ℕ) → ((z : ℕ) → z < x → P z) → P x → (z : ℕ) → z < x + 1 → P z
+-- what holds below a place and at it, holds below the next
+pub below_or_at : (P : ℕ → Type 0) (x : ℕ) → ((z : ℕ) → z < x → P z) → P x → (z : ℕ) → z < x + 1 → P z
 below_or_at P x below here z h = by (cases_eq x z)
   where
     under : (x ≡ z → ⊥) → z < x
@@ -100,11 +101,8 @@ filter_marked p [] z = and_false (p z)
     and_false true = refl
     and_false false = refl
 filter_marked p (x ∷ xs) z =
-    inner (p x) (filter p xs) ∙ split (p x) (p z) (z == x) (marked (filter p xs) z) (marked xs z) (filter_marked p xs z) (λ e. ap p (same z x e))
+    inner (p x) (filter p xs) ∙ split (p x) (p z) (z == x) (marked (filter p xs) z) (marked xs z) (filter_marked p xs z) (λ e. ap p (eqb-true z x e))
   where
-    same : (z x : ℕ) → (z == x) ≡ true → z ≡ x
-    same z x e = grind (arith, nat_tests)
-
     inner : (b : Bool) (rest : List ℕ) → marked (cond b (x ∷ rest) rest) z ≡ cond b ((z == x) || marked rest z) (marked rest z)
     inner true rest = refl
     inner false rest = refl

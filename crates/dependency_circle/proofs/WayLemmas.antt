@@ -23,6 +23,9 @@ IsClosed n edge home front marks = (x y : ℕ) → x < n → is_new x front ≡ 
 
 -- ---- tests
 
+pub clash : (b : Bool) → b ≡ false → b ≡ true → ⊥
+clash b e f = cc
+
 -- ---- marks that are closed reach every way home
 pub reached : (n : ℕ) (edge : ℕ → ℕ → Bool) (home : ℕ) (front : List ℕ) (marks : ℕ → Bool) → IsClosed n edge home front marks
     → (x : ℕ) (rest : List ℕ) → x < n → is_way n edge home x rest ≡ true → are_apart front (x ∷ rest) ≡ true → marks x ≡ true
@@ -50,9 +53,6 @@ new_of_unmarked marks x (z ∷ zs) h all =
   where
     step : (x z : ℕ) (b : Bool) → (x ≡ z → ⊥) → not b ≡ true → not ((x == z) || b) ≡ true
     step x z b ne h = grind (arith, nat_tests)
-
-    clash : (b : Bool) → b ≡ false → b ≡ true → ⊥
-    clash b e f = cc
 
     differ : (x ≡ z) ⊎ (x ≡ z → ⊥) → x ≡ z → ⊥
     differ _ e = clash (marks x) h (ap marks e ∙ (and_parts (marks z) (list_all marks zs) all).0)

@@ -1,11 +1,10 @@
 //! The doorbells of partitions.
-ghost use Rattle.std.specs.Prelude.{◌≡◌, ℕ, All, List, pos, length, int_le, true, ◌&&◌, if◌then◌else◌, Some, None};
+ghost use Rattle.std.specs.Prelude.{◌≡◌, pos, length, int_le, true, ◌&&◌, if◌then◌else◌, Some, None};
 ghost use Rattle.ffm_model.specs.declared.machine.Outcome.TheVariants as outcome;
 ghost use Rattle.ffm_model.specs.declared.system.System.{System as SystemSeen};
 ghost use Rattle.ffm_model.specs.SignalCalls.{place_of_id, psa_clear, psa_notify};
-ghost use Rattle.counting_law.specs.Objects.{ObjectsFit};
-ghost use Rattle.message_vectors.specs.Vectors.{AreWithin};
 ghost use Rattle.slot_names.specs.Named.{KeepsNames};
+ghost use Rattle.slot_names.specs.Premises.{KeepsVectors, KeepsFit};
 ghost use Rattle.spm_tables.specs.Answers.{Answers};
 ghost use Rattle.spm_tables.specs.TablesView.{MadeFor, shape_of, spm_of};
 
@@ -34,8 +33,9 @@ pub fn notify(system: &System, tables: &mut Tables, partition: i32) -> Result<()
     ensures answer { Answers (λ _. outcome.Done) (psa_notify system.now (spm_of tables.old) partition) tables.old result tables.new }
     ensures shape { shape_of tables.new ≡ shape_of tables.old }
     ensures names { (s : SystemSeen) → MadeFor tables.old s → KeepsNames s tables.old tables.new }
-    ensures fits { (s : SystemSeen) → ObjectsFit s (spm_of tables.old) → ObjectsFit s (spm_of tables.new) }
-    ensures within { (ranges : List (ℕ × ℕ)) → All (λ m. AreWithin ranges m.vectors) (spm_of tables.old).messages → All (λ m. AreWithin ranges m.vectors) (spm_of tables.new).messages }
+    ensures fits { KeepsFit tables.old tables.new }
+    ensures within { KeepsVectors tables.old tables.new }
+    ensures takes { tables.new.messages.takes ≡ tables.old.messages.takes }
 {
     let notified = place_of_id(system, partition).ok_or(Fault)?;
     tables.set_doorbell(notified, true);
@@ -48,8 +48,9 @@ pub fn clear(tables: &mut Tables, actor: ActorId) -> Result<(), Fault>
     ensures answer { Answers (λ _. outcome.Done) (psa_clear (spm_of tables.old) actor.0) tables.old result tables.new }
     ensures shape { shape_of tables.new ≡ shape_of tables.old }
     ensures names { (s : SystemSeen) → MadeFor tables.old s → KeepsNames s tables.old tables.new }
-    ensures fits { (s : SystemSeen) → ObjectsFit s (spm_of tables.old) → ObjectsFit s (spm_of tables.new) }
-    ensures within { (ranges : List (ℕ × ℕ)) → All (λ m. AreWithin ranges m.vectors) (spm_of tables.old).messages → All (λ m. AreWithin ranges m.vectors) (spm_of tables.new).messages }
+    ensures fits { KeepsFit tables.old tables.new }
+    ensures within { KeepsVectors tables.old tables.new }
+    ensures takes { tables.new.messages.takes ≡ tables.old.messages.takes }
 {
     if !tables.doorbell(actor) {
         return Err(Fault);

@@ -1,13 +1,12 @@
 //! The interrupt sources: what the device raises, and what a partition enables, disables and ends. A source's number is its place
 //! in the system's list, counted from 0, and a signal is the source's bit.
-ghost use Rattle.std.specs.Prelude.{◌≡◌, ℕ, All, List, ◌≤◌, ◌<◌, ◌==◌, ◌&&◌, true, false, length, position, slice_set, Some, if◌then◌else◌};
+ghost use Rattle.std.specs.Prelude.{◌≡◌, ◌≤◌, ◌<◌, ◌==◌, ◌&&◌, true, false, length, position, slice_set, None, Some, if◌then◌else◌};
 ghost use Rattle.ffm_model.specs.declared.machine.Outcome.TheVariants as outcome;
 ghost use Rattle.ffm_model.specs.declared.system.System.{System as SystemSeen};
 ghost use Rattle.ffm_model.specs.ClientCalls.{move};
 ghost use Rattle.ffm_model.specs.SignalCalls.{forwarded, has_flih, psa_eoi, psa_irq_disable, psa_irq_enable, psa_reset_signal, source_of_signal, with_forwarded, fire, interrupted, raise};
-ghost use Rattle.counting_law.specs.Objects.{ObjectsFit};
-ghost use Rattle.message_vectors.specs.Vectors.{AreWithin};
 ghost use Rattle.slot_names.specs.Named.{KeepsNames};
+ghost use Rattle.slot_names.specs.Premises.{KeepsVectors, KeepsFit};
 ghost use Rattle.spm_tables.specs.Answers.{Answers};
 ghost use Rattle.spm_tables.specs.TablesView.{MadeFor, handling, shape_of, spm_of};
 
@@ -54,40 +53,31 @@ fn put_forwarded(tables: &mut Tables, source: u32, flags: SourceFlags)
     ensures after { tables.new ≡ record tables.old { flags = slice_set tables.old.flags source (forwarded (handling tables.old source) flags) } }
     ensures shape { shape_of tables.new ≡ shape_of tables.old }
     ensures names { (s : SystemSeen) → MadeFor tables.old s → KeepsNames s tables.old tables.new }
-    ensures fits { (s : SystemSeen) → ObjectsFit s (spm_of tables.old) → ObjectsFit s (spm_of tables.new) }
-    ensures within { (ranges : List (ℕ × ℕ)) → All (λ m. AreWithin ranges m.vectors) (spm_of tables.old).messages → All (λ m. AreWithin ranges m.vectors) (spm_of tables.new).messages }
+    ensures fits { KeepsFit tables.old tables.new }
+    ensures within { KeepsVectors tables.old tables.new }
+    ensures takes { tables.new.messages.takes ≡ tables.old.messages.takes }
 {
     let flih = tables.has_flih(source);
     tables.set_source_flags(source, forwarded(flih, flags));
 }
 
-// An interrupt of a source is pending, and then forwarded.
-fn interrupt(tables: &mut Tables, source: u32)
-    ensures answer { (s : SystemSeen) → MadeFor tables.old s → spm_of tables.new ≡ interrupted s (spm_of tables.old) source }
+/// The device raises the interrupt of a source: it is pending, and where the source is enabled and its signal clear, the signal is
+/// asserted in its place. A source with a first-level handler has no such event; there it does what `fire` does with the answer 1.
+pub fn raise(tables: &mut Tables, source: u32)
+    requires exists { source < length tables.old.sources }
+    ensures answer { (s : SystemSeen) → MadeFor tables.old s → raise s (spm_of tables.old) source ≡ (if handling tables.old source then None else Some (move outcome.Done (spm_of tables.new))) }
+    ensures interrupted { (s : SystemSeen) → MadeFor tables.old s → spm_of tables.new ≡ interrupted s (spm_of tables.old) source }
     ensures shape { shape_of tables.new ≡ shape_of tables.old }
     ensures names { (s : SystemSeen) → MadeFor tables.old s → KeepsNames s tables.old tables.new }
-    ensures fits { (s : SystemSeen) → ObjectsFit s (spm_of tables.old) → ObjectsFit s (spm_of tables.new) }
-    ensures within { (ranges : List (ℕ × ℕ)) → All (λ m. AreWithin ranges m.vectors) (spm_of tables.old).messages → All (λ m. AreWithin ranges m.vectors) (spm_of tables.new).messages }
+    ensures fits { KeepsFit tables.old tables.new }
+    ensures within { KeepsVectors tables.old tables.new }
+    ensures takes { tables.new.messages.takes ≡ tables.old.messages.takes }
 {
     let pending = SourceFlags {
         pending: true,
         ..tables.source_flags(source)
     };
     put_forwarded(tables, source, pending);
-}
-
-/// The device raises the interrupt of a source with a second-level handler: it is pending, and where the source is enabled and its
-/// signal clear, the signal is asserted in its place.
-pub fn raise(tables: &mut Tables, source: u32)
-    requires exists { source < length tables.old.sources }
-    requires slih { handling tables.old source ≡ false }
-    ensures answer { (s : SystemSeen) → MadeFor tables.old s → raise s (spm_of tables.old) source ≡ Some (move outcome.Done (spm_of tables.new)) }
-    ensures shape { shape_of tables.new ≡ shape_of tables.old }
-    ensures names { (s : SystemSeen) → MadeFor tables.old s → KeepsNames s tables.old tables.new }
-    ensures fits { (s : SystemSeen) → ObjectsFit s (spm_of tables.old) → ObjectsFit s (spm_of tables.new) }
-    ensures within { (ranges : List (ℕ × ℕ)) → All (λ m. AreWithin ranges m.vectors) (spm_of tables.old).messages → All (λ m. AreWithin ranges m.vectors) (spm_of tables.new).messages }
-{
-    interrupt(tables, source);
 }
 
 /// The device raises the interrupt of a source with a first-level handler, which answers 1 where the partition is to be told, else
@@ -100,11 +90,12 @@ pub fn fire(tables: &mut Tables, source: u32, answer: u32)
     ensures answer { (s : SystemSeen) → MadeFor tables.old s → fire s (spm_of tables.old) source answer ≡ Some (move outcome.Done (spm_of tables.new)) }
     ensures shape { shape_of tables.new ≡ shape_of tables.old }
     ensures names { (s : SystemSeen) → MadeFor tables.old s → KeepsNames s tables.old tables.new }
-    ensures fits { (s : SystemSeen) → ObjectsFit s (spm_of tables.old) → ObjectsFit s (spm_of tables.new) }
-    ensures within { (ranges : List (ℕ × ℕ)) → All (λ m. AreWithin ranges m.vectors) (spm_of tables.old).messages → All (λ m. AreWithin ranges m.vectors) (spm_of tables.new).messages }
+    ensures fits { KeepsFit tables.old tables.new }
+    ensures within { KeepsVectors tables.old tables.new }
+    ensures takes { tables.new.messages.takes ≡ tables.old.messages.takes }
 {
     if answer == 1 {
-        interrupt(tables, source);
+        raise(tables, source);
     }
 }
 
@@ -116,8 +107,9 @@ pub fn eoi(system: &System, tables: &mut Tables, actor: ActorId, signal: u32) ->
     ensures answer { Answers (λ _. outcome.Done) (psa_eoi system.now (spm_of tables.old) actor.0 signal) tables.old result tables.new }
     ensures shape { shape_of tables.new ≡ shape_of tables.old }
     ensures names { (s : SystemSeen) → MadeFor tables.old s → KeepsNames s tables.old tables.new }
-    ensures fits { (s : SystemSeen) → ObjectsFit s (spm_of tables.old) → ObjectsFit s (spm_of tables.new) }
-    ensures within { (ranges : List (ℕ × ℕ)) → All (λ m. AreWithin ranges m.vectors) (spm_of tables.old).messages → All (λ m. AreWithin ranges m.vectors) (spm_of tables.new).messages }
+    ensures fits { KeepsFit tables.old tables.new }
+    ensures within { KeepsVectors tables.old tables.new }
+    ensures takes { tables.new.messages.takes ≡ tables.old.messages.takes }
 {
     let source = source_of_signal(system, actor, signal).ok_or(Fault)?;
     let flags = tables.source_flags(source);
@@ -140,8 +132,9 @@ pub fn reset(system: &System, tables: &mut Tables, actor: ActorId, signal: u32) 
     ensures answer { Answers (λ _. outcome.Done) (psa_reset_signal system.now (spm_of tables.old) actor.0 signal) tables.old result tables.new }
     ensures shape { shape_of tables.new ≡ shape_of tables.old }
     ensures names { (s : SystemSeen) → MadeFor tables.old s → KeepsNames s tables.old tables.new }
-    ensures fits { (s : SystemSeen) → ObjectsFit s (spm_of tables.old) → ObjectsFit s (spm_of tables.new) }
-    ensures within { (ranges : List (ℕ × ℕ)) → All (λ m. AreWithin ranges m.vectors) (spm_of tables.old).messages → All (λ m. AreWithin ranges m.vectors) (spm_of tables.new).messages }
+    ensures fits { KeepsFit tables.old tables.new }
+    ensures within { KeepsVectors tables.old tables.new }
+    ensures takes { tables.new.messages.takes ≡ tables.old.messages.takes }
 {
     let source = source_of_signal(system, actor, signal).ok_or(Fault)?;
     let flags = tables.source_flags(source);
@@ -169,8 +162,9 @@ pub fn enable(
     ensures answer { Answers (λ _. outcome.Done) (psa_irq_enable system.now (spm_of tables.old) actor.0 signal) tables.old result tables.new }
     ensures shape { shape_of tables.new ≡ shape_of tables.old }
     ensures names { (s : SystemSeen) → MadeFor tables.old s → KeepsNames s tables.old tables.new }
-    ensures fits { (s : SystemSeen) → ObjectsFit s (spm_of tables.old) → ObjectsFit s (spm_of tables.new) }
-    ensures within { (ranges : List (ℕ × ℕ)) → All (λ m. AreWithin ranges m.vectors) (spm_of tables.old).messages → All (λ m. AreWithin ranges m.vectors) (spm_of tables.new).messages }
+    ensures fits { KeepsFit tables.old tables.new }
+    ensures within { KeepsVectors tables.old tables.new }
+    ensures takes { tables.new.messages.takes ≡ tables.old.messages.takes }
 {
     let source = source_of_signal(system, actor, signal).ok_or(Fault)?;
     let enabled = SourceFlags {
@@ -194,8 +188,9 @@ pub fn disable(
     ensures answer { Answers (λ was. outcome.Number was) (psa_irq_disable system.now (spm_of tables.old) actor.0 signal) tables.old result tables.new }
     ensures shape { shape_of tables.new ≡ shape_of tables.old }
     ensures names { (s : SystemSeen) → MadeFor tables.old s → KeepsNames s tables.old tables.new }
-    ensures fits { (s : SystemSeen) → ObjectsFit s (spm_of tables.old) → ObjectsFit s (spm_of tables.new) }
-    ensures within { (ranges : List (ℕ × ℕ)) → All (λ m. AreWithin ranges m.vectors) (spm_of tables.old).messages → All (λ m. AreWithin ranges m.vectors) (spm_of tables.new).messages }
+    ensures fits { KeepsFit tables.old tables.new }
+    ensures within { KeepsVectors tables.old tables.new }
+    ensures takes { tables.new.messages.takes ≡ tables.old.messages.takes }
 {
     let source = source_of_signal(system, actor, signal).ok_or(Fault)?;
     let flags = tables.source_flags(source);

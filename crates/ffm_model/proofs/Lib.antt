@@ -14,3 +14,4 @@ pub mod RecordLemmas
 pub mod RuleLemmas
 pub mod ScriptLemmas
 pub mod HeldLemmas
+pub mod BytesLemmas

@@ -1,6 +1,8 @@
--- The serial numbers of connections rise, also where connections are added, changed or taken out.
-use Rattle.std.proofs.Common.{ℕ, ◌≡◌, ◌≤◌, ◌+◌, Bool, true, false, cond, List, [], ◌∷◌, ◌++◌, arith, sym, subst}
-use Rattle.std.specs.Prelude.{map, filter}
+-- The serial numbers of connections rise, also where connections are added, changed or taken out; so no two are the same.
+use Rattle.std.proofs.Common.{ℕ, ◌≡◌, ◌<◌, ◌≤◌, ◌+◌, ◌==◌, Bool, true, false, cond, List, [], ◌∷◌, ◌++◌, arith, refl, sym, subst}
+use Rattle.std.specs.Prelude.{count_by, map, filter}
+use Rattle.std.proofs.lemmas.Bool.{eqb-true}
+use Rattle.std.proofs.lemmas.List.Sums.{sum_by-cons}
 use Rattle.ffm_model.specs.declared.objects.OpenConnection.{OpenConnection}
 use Rattle.ffm_model.specs.State.{Rises}
 
@@ -28,3 +30,24 @@ rises-filter low made q (c ∷ cs) r =
     let go : (b : Bool) → Rises low (cond b (c ∷ filter q cs) (filter q cs)) made =
     elim [ true ↦ (r.0, rest) | false ↦ rises-weaker (c.serial + 1) low made (filter q cs) (omega (arith, r.0)) rest ] in
     go (q c)
+
+-- ---- no connection has a number below the first one, and no two have the same
+
+serials-cons : (n : ℕ) (c : OpenConnection) (cs : List OpenConnection) → count_by (λ d. d.serial == n) (c ∷ cs) ≡ cond (c.serial == n) 1 0 + count_by (λ d. d.serial == n) cs
+serials-cons n c cs = sum_by-cons (λ d. cond (d.serial == n) 1 0) c cs
+
+pub serial-before : (low made n : ℕ) (cs : List OpenConnection) → Rises low cs made → n < low → count_by (λ c. c.serial == n) cs ≡ 0
+serial-before low made n [] r below = refl
+serial-before low made n (c ∷ cs) r below =
+    let other : cond {A = ℕ} (c.serial == n) 1 0 ≡ 0 = grind (arith, r.0) in
+    omega (arith, serials-cons n c cs, other, serial-before (c.serial + 1) made n cs r.1 (omega (arith, r.0)))
+
+pub serial-once : (low made n : ℕ) (cs : List OpenConnection) → Rises low cs made → count_by (λ c. c.serial == n) cs ≤ 1
+serial-once low made n [] r = omega arith
+serial-once low made n (c ∷ cs) r =
+    let go : (b : Bool) → (c.serial == n) ≡ b → cond {A = ℕ} b 1 0 + count_by (λ d. d.serial == n) cs ≤ 1 =
+    elim [
+      | true ↦ λ e. omega (arith, serial-before (c.serial + 1) made n cs r.1 (omega (arith, eqb-true c.serial n e)))
+      | false ↦ λ e. omega (arith, serial-once (c.serial + 1) made n cs r.1)
+    ] in
+    omega (arith, serials-cons n c cs, go (c.serial == n) refl)

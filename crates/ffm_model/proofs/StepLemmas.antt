@@ -1,35 +1,33 @@
 -- Laws of steps and runs, for the crates above.
-use Rattle.std.proofs.Common.{ℕ, ◌≡◌, Bool, true, ◌&&◌, List, [], ◌∷◌, ◌++◌, refl, ap, sym, ◌∙◌, ℤ, eq-eqb}
-use Rattle.std.specs.Prelude.{Some, None, option_and_then, fold, if◌then◌else◌}
+use Rattle.std.proofs.Common.{ℕ, ◌≡◌, Bool, true, false, cond, ◌&&◌, List, [], ◌∷◌, ◌++◌, refl, ap, sym, ◌∙◌, ℤ, eq-eqb}
+use Rattle.std.specs.Prelude.{IfSome, Option, Some, None, option_and_then, if◌then◌else◌}
 use Rattle.std.specs.Ordering.{int_eq}
 use Rattle.std.specs.Str.{bytes_eq}
 use Rattle.std.proofs.lemmas.Bool.Decides.{Decides-int_eq}
 use Rattle.std.proofs.lemmas.Bool.{and_from}
 use Rattle.std.proofs.lemmas.Option.{cond_some}
+use Rattle.std.proofs.lemmas.List.Sums.{fold-append}
 use Rattle.ffm_model.specs.declared.system.System.{System}
 use Rattle.ffm_model.specs.declared.machine.Entry.{Entry}
+use Rattle.ffm_model.specs.declared.machine.Handle.{Handle}
 use Rattle.ffm_model.specs.declared.machine.Message.{Message}
 use Rattle.ffm_model.specs.declared.machine.Call.{Call}
 use Rattle.ffm_model.specs.declared.machine.Outcome.{Outcome}
 use Rattle.ffm_model.specs.declared.machine.Outcome.TheVariants.{Value, Number, Signals, Got, Blocked, Done, Panicked}
 use Rattle.ffm_model.specs.Memory.{ByteMap}
 use Rattle.ffm_model.specs.State.{State, opening}
-use Rattle.ffm_model.specs.ClientCalls.{effect}
-use Rattle.ffm_model.specs.Calls.{effect_of}
+use Rattle.ffm_model.specs.Actors.{kind_of}
+use Rattle.ffm_model.specs.ClientCalls.{Effect, effect}
+use Rattle.ffm_model.specs.Calls.{call_case, effect_of, effect_or_error, error_effect, has_call}
 use Rattle.ffm_model.specs.Step.{step, step_on, after, outcome_eq, message_eq, may_call, handle_allowed, handle_shown}
 use Rattle.ffm_model.specs.Names.{named_step, named_step_on, named_after, first_named}
 
--- a fold over one item more
-pub fold-push : {A B : Type 0} (f : B → A → B) (b : B) (xs : List A) (x : A) → fold f b (xs ++ x ∷ []) ≡ f (fold f b xs) x
-fold-push f b [] x = refl
-fold-push f b (y ∷ ys) x = fold-push f (f b y) ys x
-
 -- one entry more
 pub after-push : (s : System) (m : ByteMap) (es : List Entry) (e : Entry) → after s m (es ++ e ∷ []) ≡ option_and_then (λ x. step s x e) (after s m es)
-after-push s m es e = fold-push (step_on s) (Some (opening s m)) es e
+after-push s m es e = fold-append (step_on s) (Some (opening s m)) es (e ∷ [])
 
 pub named_after-push : (s : System) (m : ByteMap) (es : List Entry) (e : Entry) → named_after s m (es ++ e ∷ []) ≡ option_and_then (λ x. named_step s x e) (named_after s m es)
-named_after-push s m es e = fold-push (named_step_on s) (Some (first_named s m)) es e
+named_after-push s m es e = fold-append (named_step_on s) (Some (first_named s m)) es (e ∷ [])
 
 pub int_eq-self : (z : ℤ) → int_eq z z ≡ true
 int_eq-self z = (Decides-int_eq z z).1 refl
@@ -79,3 +77,10 @@ step-effect s st new a c o may allowed e =
 pub step-leaves : (s : System) (st new : State) (e : Entry) → step s st e ≡ Some new → (effect_of s st e.actor.0 e.call (handle_shown e.outcome)).state ≡ new
 unfolding step
 step-leaves s st new e h = (cond_some _ _ _ h).1
+
+-- what holds of a call's effect, and of the PROGRAMMER ERROR of its actor, holds of what the call does
+pub effect-has : (P : Effect → Type 0) (s : System) (st : State) (a : ℕ) (c : Call) (h : Handle) → P (error_effect (kind_of s a) s st a c) → IfSome (call_case s st a c h) P → P (effect_of s st a c h)
+effect-has P s st a c h error made =
+    let of_call : (o : Option Effect) → IfSome o P → P (effect_or_error o (kind_of s a) s st a c) = elim [ None ↦ λ m. error | Some e ↦ λ m. m ] in
+    let go : (b : Bool) → P (effect_or_error (cond {A = Option Effect} b (call_case s st a c h) None) (kind_of s a) s st a c) = elim [ true ↦ of_call (call_case s st a c h) made | false ↦ error ] in
+    go (has_call (kind_of s a) c)

@@ -33,11 +33,11 @@ pub data LineStep : Type 0 where
 
 -- ---- lines
 
-abbrev pub number_at : List ℕ → List Operand → ℕ → ℕ
-number_at registers operands i = value_of registers (get_or operands i (Number 0))
+abbrev pub number_operand : List ℕ → List Operand → ℕ → ℕ
+number_operand registers operands i = value_of registers (get_or operands i (Number 0))
 
-abbrev pub handle_at : List ℕ → List Operand → ℕ → Handle
-handle_at registers operands i = handle_of (number_at registers operands i)
+abbrev pub handle_operand : List ℕ → List Operand → ℕ → Handle
+handle_operand registers operands i = handle_of (number_operand registers operands i)
 
 -- a line that doesn't map does what it does in any script, but that a refused call is a PROGRAMMER ERROR
 abbrev pub other_line : Holding → Instruction → Option Point → LineStep
@@ -65,7 +65,7 @@ map_line p x UnmapOut h index len =
 
 abbrev pub line_step : Holder → Holding → Instruction → LineStep
 line_step p x (line.Map n operands) =
-    map_line p x n (handle_at x.at.registers operands 0) (number_at x.at.registers operands 1) (number_at x.at.registers operands 2)
+    map_line p x n (handle_operand x.at.registers operands 0) (number_operand x.at.registers operands 1) (number_operand x.at.registers operands 2)
 line_step p x i = other_line x i (line_effect x.at i)
 
 -- ---- up to the next call

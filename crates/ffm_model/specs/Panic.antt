@@ -52,12 +52,13 @@ without_service s p c = if is_service_of s p c.service then option_map (λ f. re
 abbrev pub without_client : ℕ → OpenConnection → Option OpenConnection
 without_client p c = if c.client.0 == p then (if is_dead c.phase then None else Some (record c { phase = Closing })) else Some c
 
--- the message that closes a connection of the partition's own, for which nobody waits
+-- the message that closes a connection, for which nobody waits
+abbrev pub disconnect_message : OpenConnection → PendingMessage
+disconnect_message c = record { service = c.service; client = c.client; connection = Some c.serial; kind = PSA_IPC_DISCONNECT; vectors = no_vectors; handle = None }
+
+-- that of one of the partition's own that isn't dead
 abbrev pub disconnection : ℕ → OpenConnection → Option PendingMessage
-disconnection p c =
-    if (c.client.0 == p) && not (is_dead c.phase)
-    then Some (record { service = c.service; client = c.client; connection = Some c.serial; kind = PSA_IPC_DISCONNECT; vectors = no_vectors; handle = None })
-    else None
+disconnection p c = if (c.client.0 == p) && not (is_dead c.phase) then Some (disconnect_message c) else None
 
 -- the partition is panicked and the clients of its services are answered; its services are gone, and then it is gone as a client
 abbrev pub panic_effect : System → SpmState → ℕ → SpmState

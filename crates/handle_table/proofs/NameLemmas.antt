@@ -4,16 +4,17 @@ use Rattle.std.specs.Prelude.{count_by, find, Option, Some, None, slice_set}
 use Rattle.std.specs.List.{list_any, range_with_len}
 use Rattle.std.specs.Option.{option_map, unwrap_or}
 use Rattle.std.proofs.lemmas.List.{get_or-set_same, get_or-set_other}
+use Rattle.std.proofs.lemmas.Bool.{eqb-true}
 use Rattle.ffm_model.specs.Names.{SlotName, has_index, next_slot}
 use Rattle.object_pools.specs.declared.slot.Slot.{Slot}
 use Rattle.object_pools.specs.declared.slot.Held.{Held}
 use Rattle.object_pools.specs.Pool.{Places, is_at, free_index, free_slot, taken, empty}
 use Rattle.list_laws.proofs.Counts.{count-push}
 use Rattle.list_laws.proofs.Tests.{find-same}
-use Rattle.object_pools.proofs.Orders.{same_number, other_number, same_bit, other_bit}
+use Rattle.list_laws.proofs.Lists.{get_or-replicate_same}
+use Rattle.object_pools.proofs.Orders.{other_number, same_bit, other_bit}
 use Rattle.object_pools.proofs.Pigeons.{index-below}
 use Rattle.handle_table.specs.Handles.{slot_name, live_names, IsPast, TakesNextName}
-use Rattle.object_pools.proofs.Updates.{zero_at}
 
 module _ {T : Type 0} where
   any-names : (i : ℕ) (held : List (Held T)) → list_any (has_index i) (map (λ (h : Held T). slot_name h.slot) held) ≡ list_any (is_at i) held
@@ -70,7 +71,7 @@ module _ {T : Type 0} where
       record {
         uses = λ j.
             let go : (b : Bool) → (s.index == j) ≡ b → count_by (has_index j) (past ++ slot_name s ∷ []) ≡ get_or (slice_set p.generations s.index s.generation) j 0 =
-            elim [ true ↦ λ e. at_index j (same_number s.index j e) | false ↦ λ e. else_where j (other_number s.index j e) ] in
+            elim [ true ↦ λ e. at_index j (eqb-true s.index j e) | false ↦ λ e. else_where j (other_number s.index j e) ] in
             go (s.index == j) refl;
       }
 
@@ -79,4 +80,4 @@ module _ {T : Type 0} where
 
   -- a new pool gave no slot
   pub past-new : (size : ℕ) → IsPast {T = T} (empty size) []
-  past-new size = record { uses = λ i. sym (zero_at size i) }
+  past-new size = record { uses = λ i. sym (get_or-replicate_same {X = ℕ} size i 0) }

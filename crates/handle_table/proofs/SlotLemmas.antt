@@ -1,22 +1,17 @@
 -- Slots of a pool: each is of one live item, and can be named by a handle.
-use Rattle.std.proofs.Common.{ℕ, zero, suc, ◌≡◌, ◌≤◌, ◌+◌, ◌==◌, Bool, true, false, cond, ◌&&◌, List, [], ◌∷◌, arith, ◌∙◌, ap, refl, subst}
+use Rattle.std.proofs.Common.{ℕ, zero, suc, ◌≡◌, ◌≤◌, ◌+◌, ◌==◌, Bool, true, false, cond, List, [], ◌∷◌, arith, ◌∙◌, ap, refl, subst}
 use Rattle.std.specs.Prelude.{count_by, find, Option, Some, None, All, slice_get, map}
 use Rattle.std.specs.Option.{option_map}
 use Rattle.std.proofs.lemmas.List.Elements.{All-head, All-tail, All-weaker, All-nil, All-cons}
+use Rattle.std.proofs.lemmas.Bool.{and_parts, eqb-true}
 use Rattle.list_laws.proofs.Counts.{both-le-left, count-le, count-nth, bit, count-cons}
 use Rattle.object_pools.specs.declared.slot.Slot.{Slot}
 use Rattle.object_pools.specs.declared.slot.Held.{Held}
 use Rattle.object_pools.specs.Pool.{Places, IsKept, IsNamed, has_slot, is_at, item_at, item_put}
+use Rattle.object_pools.proofs.Stores.{has_own}
 use Rattle.handle_table.specs.declared.handles.Family.{Family}
 use Rattle.handle_table.specs.Handles.{IsNameable, indices_of}
 use Rattle.list_laws.proofs.Tests.{find-passes, find-all}
-
-pub both : (a b : Bool) → (a && b) ≡ true → (a ≡ true) × (b ≡ true)
-both true b e = (refl, e)
-both false b e = cc
-
-pub has_own : (s : Slot) → ((s.index == s.index) && (s.generation == s.generation)) ≡ true
-has_own s = grind arith
 
 find-nth : {X : Type 0} (p : X → Bool) (xs : List X) (n : ℕ) (x : X) → slice_get xs n ≡ Some x → p x ≡ true → count_by p xs ≤ 1 → find p xs ≡ Some x
 find-nth p [] n x e passes one = cc
@@ -37,10 +32,8 @@ module _ {T : Type 0} where
 
   pub slot-is : (s : Slot) (h : Held T) → has_slot s h ≡ true → h.slot ≡ s
   slot-is s h e =
-      let parts = both (h.slot.index == s.index) (h.slot.generation == s.generation) e in
-      λ j. record { index = equal h.slot.index s.index parts.0 j; generation = equal h.slot.generation s.generation parts.1 j } where
-        equal : (k m : ℕ) → (k == m) ≡ true → k ≡ m
-        equal k m f = grind arith
+      let parts = and_parts (h.slot.index == s.index) (h.slot.generation == s.generation) e in
+      λ j. record { index = eqb-true h.slot.index s.index parts.0 j; generation = eqb-true h.slot.generation s.generation parts.1 j }
 
   -- the live item of a slot, with its slot
   pub held-of : (p : Places T) (s : Slot) (c : T) → item_at p s ≡ Some c → (h : Held T) × (find (has_slot s) p.held ≡ Some h) × (h.item ≡ c) × (h.slot ≡ s)

@@ -1,5 +1,5 @@
 -- What a table of connections keeps, and what its calls do to the state's list.
-use Rattle.std.proofs.Common.{ℕ, ◌≡◌, ◌<◌, ◌≤◌, ◌+◌, ◌==◌, Bool, true, false, cond, not, ◌&&◌, List, [], ◌∷◌, take, arith, ◌∙◌, ap, sym, refl, subst, eq-eqb}
+use Rattle.std.proofs.Common.{ℕ, ◌≡◌, ◌≤◌, ◌+◌, ◌==◌, Bool, true, false, cond, not, ◌&&◌, List, [], ◌∷◌, take, arith, ◌∙◌, ap, sym, refl, subst, eq-eqb}
 use Rattle.std.specs.Prelude.{ℤ, count_by, find, Option, Some, None, map, filter, if◌then◌else◌, All, IfSome, IsTrue, option_and_then, slice_get}
 use Rattle.std.specs.Option.{option_map}
 use Rattle.std.proofs.lemmas.Bool.Decides.{Decides-int_eq}
@@ -7,18 +7,19 @@ use Rattle.std.proofs.lemmas.List.Elements.{All-nil, All-cons, All-push, All-fil
 use Rattle.std.proofs.lemmas.List.Sums.{count_by_more_yes, count_by_more_no}
 use Rattle.std.proofs.lemmas.Option.{slice_get-map, slice_get_within, get_or_from_slice_get}
 use Rattle.std.proofs.lemmas.List.{map_push}
+use Rattle.std.proofs.lemmas.Bool.{and_parts}
 use Rattle.ffm_model.specs.declared.machine.Handle.{Handle}
 use Rattle.ffm_model.specs.declared.objects.OpenConnection.{OpenConnection}
 use Rattle.ffm_model.specs.State.{Rises, has_handle}
-use Rattle.ffm_model.proofs.SerialLemmas.{rises-filter, rises-map, rises-push}
+use Rattle.ffm_model.proofs.SerialLemmas.{rises-filter, rises-map, rises-push, serial-once}
 use Rattle.object_pools.specs.declared.slot.Slot.{Slot}
 use Rattle.object_pools.specs.declared.slot.Held.{Held}
 use Rattle.object_pools.specs.Pool.{Places, IsKept, has_slot, item_at, taken, with_item, without}
-use Rattle.list_laws.proofs.Counts.{bit, count-cons}
+use Rattle.object_pools.proofs.Stores.{has_own}
 use Rattle.handle_table.specs.declared.handles.Family.TheVariants.{Connection}
 use Rattle.handle_table.specs.Handles.{handle_at, IsNameable}
 use Rattle.handle_table.specs.Table.{connections, spm_of_connections, IsTable, with_started}
-use Rattle.handle_table.proofs.SlotLemmas.{both, has_own, one_slot, slot-is, held-of, nameable, All-put}
+use Rattle.handle_table.proofs.SlotLemmas.{one_slot, slot-is, held-of, nameable, All-put}
 use Rattle.handle_table.proofs.Twins.{count-map, twin-put, twin-out, twin-find, find-all_fail, find-first, find-more}
 use Rattle.list_laws.proofs.Tests.{find-all}
 
@@ -29,26 +30,6 @@ rises-above low made [] r = All-nil (λ c. low ≤ c.serial)
 rises-above low made (c ∷ cs) r =
     All-cons (λ d. low ≤ d.serial) c cs r.0
     (All-weaker (λ d. c.serial + 1 ≤ d.serial) (λ d. low ≤ d.serial) (λ d h. omega (arith, r.0)) cs (rises-above (c.serial + 1) made cs r.1))
-
-above_none : (n low made : ℕ) (cs : List OpenConnection) → n < low → Rises low cs made → count_by (λ c. c.serial == n) cs ≡ 0
-above_none n low made [] above r = refl
-above_none n low made (c ∷ cs) above r =
-    let rest : count_by (λ d. d.serial == n) cs ≡ 0 = above_none n (c.serial + 1) made cs (omega (arith, r.0)) r.1 in
-    omega (arith, count-cons (λ d. d.serial == n) c cs, later c.serial n (omega (arith, r.0))) where
-      later : (k m : ℕ) → m < k → bit (k == m) ≡ 0
-      later k m h = grind arith
-
-pub one_serial : (n low made : ℕ) (cs : List OpenConnection) → Rises low cs made → count_by (λ c. c.serial == n) cs ≤ 1
-one_serial n low made [] r = omega arith
-one_serial n low made (c ∷ cs) r =
-    let go : (b : Bool) → (c.serial == n) ≡ b → bit b + count_by (λ d. d.serial == n) cs ≤ 1 =
-    elim [
-      | true ↦ λ e. let same : c.serial ≡ n = equal c.serial n e in omega (arith, above_none n (c.serial + 1) made cs (omega arith) r.1)
-      | false ↦ λ e. omega (arith, one_serial n (c.serial + 1) made cs r.1)
-    ] in
-    omega (arith, count-cons (λ d. d.serial == n) c cs, go (c.serial == n) refl) where
-      equal : (k m : ℕ) → (k == m) ≡ true → k ≡ m
-      equal k m e = grind arith
 
 -- what is found from the front has the least serial number
 pub found-least : (r : OpenConnection → Bool) (low made : ℕ) (cs : List OpenConnection) (c : OpenConnection) → Rises low cs made → find r cs ≡ Some c → All (λ d. IsTrue (r d) → c.serial ≤ d.serial) cs
@@ -79,7 +60,7 @@ connections-put capacity p s c g k t live =
     let h : Held OpenConnection = it.0 in
     twin-put (λ (x : Held OpenConnection). x.item) (has_slot s) (λ d. d.serial == c.serial) (λ x. record x { item = g c }) g it.0
     (ap g (sym it.2)) (ap (λ (d : OpenConnection). d.serial == c.serial) it.2 ∙ eq-eqb c.serial c.serial refl) p.held it.1 (one_slot capacity p s k)
-    (omega (arith, one_serial c.serial 0 p.takes (connections p) t.rising, count-map (λ (x : Held OpenConnection). x.item) (λ d. d.serial == c.serial) p.held))
+    (omega (arith, serial-once 0 p.takes c.serial (connections p) t.rising, count-map (λ (x : Held OpenConnection). x.item) (λ d. d.serial == c.serial) p.held))
 
 pub spm-put : (capacity : ℕ) (p : Places OpenConnection) (s : Slot) (c : OpenConnection) (g : OpenConnection → OpenConnection) → IsKept capacity p → IsTable p → item_at p s ≡ Some c
     → spm_of_connections (with_item p s (g c)) ≡ record (spm_of_connections p) { connections = map (λ d. if d.serial == c.serial then g d else d) (connections p) }
@@ -123,7 +104,7 @@ connections-out capacity p s c k t live =
     let it = held-of p s c live in
     twin-out (λ (x : Held OpenConnection). x.item) (has_slot s) (λ d. d.serial == c.serial) it.0
     (ap (λ (d : OpenConnection). d.serial == c.serial) it.2 ∙ eq-eqb c.serial c.serial refl) p.held it.1 (one_slot capacity p s k)
-    (omega (arith, one_serial c.serial 0 p.takes (connections p) t.rising, count-map (λ (x : Held OpenConnection). x.item) (λ d. d.serial == c.serial) p.held))
+    (omega (arith, serial-once 0 p.takes c.serial (connections p) t.rising, count-map (λ (x : Held OpenConnection). x.item) (λ d. d.serial == c.serial) p.held))
 
 pub spm-out : (capacity : ℕ) (p : Places OpenConnection) (s : Slot) (c : OpenConnection) → IsKept capacity p → IsTable p → item_at p s ≡ Some c
     → spm_of_connections (without p s) ≡ record (spm_of_connections p) { connections = filter (λ d. not (d.serial == c.serial)) (connections p) }
@@ -145,7 +126,7 @@ handle-is (Some h) k e = let same : h.0 ≡ k.0 = (Decides-int_eq h.0 k.0).0 e i
 -- what shows a handle to its client has the slot that the handle names
 pub shows-slot : (h : Held OpenConnection) (owner : ℕ) (k : Handle) → IsTold h → ((h.item.client.0 == owner) && has_handle h.item.handle k) ≡ true → handle_at Connection h.slot ≡ k
 shows-slot h owner k told e =
-    let shown : h.item.handle ≡ Some k = handle-is h.item.handle k (both (h.item.client.0 == owner) (has_handle h.item.handle k) e).1 in
+    let shown : h.item.handle ≡ Some k = handle-is h.item.handle k (and_parts (h.item.client.0 == owner) (has_handle h.item.handle k) e).1 in
     sym (subst (λ (o : Option Handle). IfSome o (λ j. j ≡ handle_at Connection h.slot)) shown told)
 
 all-with : (Q : Held OpenConnection → Type 0) (held : List (Held OpenConnection)) → ((h : Held OpenConnection) → IsTold h → IsNameable Connection h.slot → Q h) → All IsTold held → All (λ h. IsNameable Connection h.slot) held → All Q held

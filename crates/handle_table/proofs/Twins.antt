@@ -1,5 +1,5 @@
 -- An update by slot is the update by serial number, since each names one item.
-use Rattle.std.proofs.Common.{ℕ, zero, suc, take, length, ◌≡◌, ◌≤◌, ◌+◌, Bool, true, false, cond, not, List, [], ◌∷◌, arith, ◌∙◌, ap, sym, refl}
+use Rattle.std.proofs.Common.{ℕ, zero, suc, take, ◌≡◌, ◌≤◌, ◌+◌, Bool, true, false, cond, not, List, [], ◌∷◌, arith, ◌∙◌, ap, sym, refl}
 use Rattle.std.specs.Prelude.{count_by, find, Some, None, map, filter, if◌then◌else◌, All, slice_get, option_and_then}
 use Rattle.std.proofs.lemmas.List.Elements.{All-head, All-tail}
 use Rattle.list_laws.proofs.Counts.{filter-none, map-none, bit, count-cons, count-found}
@@ -114,11 +114,3 @@ find-more r (x ∷ xs) (suc n) y none here fails =
     let go : (b : Bool) → cond b (Some x) (find r (take n xs)) ≡ None → cond b (Some x) (find r (take (n + 1) xs)) ≡ None =
     elim [ true ↦ λ e. cc | false ↦ λ e. find-more r xs n y e here fails ] in
     ap (λ m. find r (take m (x ∷ xs))) next ∙ go (r x) none
-
-pub find-all : {Y : Type 0} (r : Y → Bool) (ys : List Y) (n : ℕ) → find r (take n ys) ≡ None → length ys ≤ n → find r ys ≡ None
-find-all r [] n none past = refl
-find-all r (x ∷ xs) zero none past = absurd (omega arith)
-find-all r (x ∷ xs) (suc n) none past =
-    let go : (b : Bool) → cond b (Some x) (find r (take n xs)) ≡ None → cond b (Some x) (find r xs) ≡ None =
-    elim [ true ↦ λ e. cc | false ↦ λ e. find-all r xs n e (omega arith) ] in
-    go (r x) none

@@ -7,6 +7,7 @@ use Rattle.std.proofs.lemmas.Bool.{and_parts}
 use Rattle.std.proofs.lemmas.Bool.Decides.{nat_tests}
 use Rattle.list_laws.proofs.Tests.{fails, find-all}
 use Rattle.list_laws.proofs.Bools.{if_passes}
+use Rattle.list_laws.proofs.Options.{each_made, each_mapped}
 use Rattle.ffm_model.specs.declared.constants.TheConstants.{PSA_IPC_CALL}
 use Rattle.ffm_model.specs.declared.system.System.{System}
 use Rattle.ffm_model.specs.declared.system.ActorKind.{ActorKind}
@@ -28,13 +29,13 @@ use Rattle.ffm_model.specs.Calls.{call_case, error_effect, effect_of}
 use Rattle.ffm_model.specs.Step.{step}
 use Rattle.ffm_model.specs.Reach.{length_word_has, write_reach}
 use Rattle.byte_lanes.specs.Differences.{range_covers}
-use Rattle.memory_image.proofs.Effects.{each_made, each_mapped, effect-has}
 use Rattle.memory_image.proofs.Messages.{reply_is}
 use Rattle.memory_image.proofs.Outside.{copy_bytes-outside, store_number-outside, words_stored-outside}
 use Rattle.message_vectors.proofs.Reached.{lengths_written-outside, range-part}
 use Rattle.isolation_law.specs.Vectors.{AreFour, HaveFour}
 use Rattle.isolation_law.proofs.Reached.{buffer-written, range-written, rest-inside, output-written, length_word-written, request-held, request-kind}
-use Rattle.ffm_model.proofs.StepLemmas.{step-leaves}
+use Rattle.ffm_model.proofs.StepLemmas.{step-leaves, effect-has}
+use Rattle.ffm_model.specs.Actors.{kind_of}
 
 -- the byte is what it was
 abbrev Stays : State → ℕ → Effect → Type 0
@@ -142,7 +143,7 @@ errors s st a x c k = refl
 
 -- what an actor's call changes lies in the actor's reach
 pub effect-outside : (s : System) (st : State) → HaveFour st.spm → (a : ℕ) (c : Call) (h : Handle) (x : ℕ) → write_reach s st.spm a x ≡ false → (effect_of s st a c h).state.memory x ≡ st.memory x
-effect-outside s st four a c h x out = effect-has (Stays st x) s st a c h (errors s st a x c) (call-outside s st a c h x four out)
+effect-outside s st four a c h x out = effect-has (Stays st x) s st a c h (errors s st a x c (kind_of s a)) (call-outside s st a c h x four out)
 
 -- so does what a step changes
 pub step-outside : (s : System) (st : State) → HaveFour st.spm → (e : Entry) (new : State) → step s st e ≡ Some new → (x : ℕ) → write_reach s st.spm e.actor.0 x ≡ false → new.memory x ≡ st.memory x

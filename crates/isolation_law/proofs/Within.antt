@@ -8,7 +8,8 @@ use Rattle.std.proofs.lemmas.List.{length-append, length-set, length-take, set_p
 use Rattle.std.proofs.lemmas.List.Elements.{All-nil, All-cons, All-replicate, All-append, All-push, All-filter}
 use Rattle.std.proofs.lemmas.Bool.Decides.{nat_tests}
 use Rattle.std.proofs.lemmas.Bool.{and_parts, cases_lt}
-use Rattle.list_laws.proofs.Bools.{if_passes}
+use Rattle.list_laws.proofs.Bools.{if_passes, if_fails}
+use Rattle.list_laws.proofs.Options.{each_made, each_mapped}
 use Rattle.ffm_model.specs.declared.constants.TheConstants.{PSA_IPC_CALL, PSA_IPC_CONNECT, PSA_IPC_DISCONNECT, PSA_MAX_IOVEC, PSA_BLOCK, PSA_SUCCESS, PSA_NULL_HANDLE, PSA_ERROR_CONNECTION_REFUSED, PSA_ERROR_CONNECTION_BUSY, PSA_ERROR_COMMUNICATION_FAILURE, PSA_ERROR_PROGRAMMER_ERROR}
 use Rattle.ffm_model.specs.declared.system.System.{System}
 use Rattle.ffm_model.specs.declared.system.ActorKind.{ActorKind}
@@ -40,8 +41,8 @@ use Rattle.ffm_model.specs.SignalCalls.{source_of_signal, interrupted}
 use Rattle.ffm_model.specs.Calls.{call_case, error_effect, effect_of}
 use Rattle.ffm_model.specs.Step.{step, after}
 use Rattle.ffm_model.specs.Ranges.{ranges_of}
+use Rattle.ffm_model.proofs.StepLemmas.{effect-has}
 use Rattle.memory_image.specs.Pieces.{is_inside}
-use Rattle.memory_image.proofs.Effects.{each_made, each_mapped, effect-has, if_fails}
 use Rattle.memory_image.proofs.Messages.{delivered_has, put_has, request_has}
 use Rattle.message_vectors.specs.Vectors.{AreWithin}
 use Rattle.message_vectors.proofs.Moved.{read_within, input_within, output_within}
@@ -265,7 +266,7 @@ errors W s st a c none all k = all
 
 -- a rule that psa_call and moves keep, each call keeps
 pub effect-meets : (W : Vectors → Type 0) (s : System) (st : State) (a : ℕ) (c : Call) (h : Handle) → IsKept s W → AllMeet W st.spm → AllMeet W (effect_of s st a c h).state.spm
-effect-meets W s st a c h kept all = effect-has (λ (e : Effect). AllMeet W e.state.spm) s st a c h (errors W s st a c kept.none all) (call-meets W s st a c h kept all)
+effect-meets W s st a c h kept all = effect-has (λ (e : Effect). AllMeet W e.state.spm) s st a c h (errors W s st a c kept.none all (kind_of s a)) (call-meets W s st a c h kept all)
 
 -- and each step
 pub step-meets : (W : Vectors → Type 0) (s : System) (st new : State) (e : Entry) → IsKept s W → AllMeet W st.spm → step s st e ≡ Some new → AllMeet W new.spm

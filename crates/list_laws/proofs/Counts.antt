@@ -1,5 +1,5 @@
 -- Counts of what passes a test, through the updates of a list.
-use Rattle.std.proofs.Common.{ℕ, zero, suc, ◌≡◌, ◌≤◌, ◌+◌, Bool, true, false, cond, not, ◌||◌, ◌&&◌, List, [], ◌∷◌, ◌++◌, map, filter, arith, ◌∙◌, ap, sym, refl}
+use Rattle.std.proofs.Common.{ℕ, zero, suc, ◌≡◌, ◌<◌, ◌≤◌, ◌+◌, Bool, true, false, cond, not, ◌||◌, ◌&&◌, List, [], ◌∷◌, ◌++◌, map, filter, length, get_or, arith, ◌∙◌, ap, sym, refl}
 use Rattle.std.specs.Prelude.{count_by, find, Some, slice_get, if◌then◌else◌}
 use Rattle.std.specs.List.{list_any}
 use Rattle.std.proofs.lemmas.List.Sums.{sum_by-cons, sum_by_push}
@@ -36,7 +36,6 @@ none-count p (x ∷ xs) h =
     elim [ true ↦ λ e. cc | false ↦ λ e. let rest : count_by p xs ≡ 0 = none-count p xs e in omega arith ] in
     count-cons p x xs ∙ go (p x) h
 
--- one test where the two parts of a list are apart
 pub count-filter-le : {X : Type 0} (p q : X → Bool) (xs : List X) → count_by p (filter q xs) ≤ count_by p xs
 count-filter-le p q [] = omega arith
 count-filter-le p q (x ∷ xs) =
@@ -112,6 +111,11 @@ count-found p q (y ∷ ys) x h =
 pub count-le : {X : Type 0} (p q : X → Bool) → ((x : X) → bit (p x) ≤ bit (q x)) → (xs : List X) → count_by p xs ≤ count_by q xs
 count-le p q less [] = omega arith
 count-le p q less (x ∷ xs) = omega (arith, count-cons p x xs, count-cons q x xs, less x, count-le p q less xs)
+
+-- the same of the items of a list
+pub count-le-at : {X : Type 0} (p q : X → Bool) (xs : List X) → ((i : ℕ) (d : X) → i < length xs → bit (p (get_or xs i d)) ≤ bit (q (get_or xs i d))) → count_by p xs ≤ count_by q xs
+count-le-at p q [] h = omega arith
+count-le-at p q (x ∷ xs) h = omega (arith, count-cons p x xs, count-cons q x xs, h 0 x (omega arith), count-le-at p q xs (λ i d lt. h (suc i) d (omega arith)))
 
 pub find-narrow : {X : Type 0} (p q : X → Bool) → ((y : X) → p y ≡ true → q y ≡ true) → (xs : List X) (x : X) → count_by q xs ≤ 1 → find p xs ≡ Some x → find q xs ≡ Some x
 find-narrow p q wider [] x one h = cc

@@ -1,5 +1,5 @@
 -- Lists with one item more, lists that are empty, and what holds of each item.
-use Rattle.std.proofs.Common.{ℕ, zero, suc, ◌≡◌, ◌<◌, ◌+◌, List, [], ◌∷◌, ◌++◌, map, length, drop, get_or, arith, ◌∙◌, ap, sym, refl, subst, append-nil, drop-cons, add-one}
+use Rattle.std.proofs.Common.{ℕ, zero, suc, ◌≡◌, ◌<◌, ◌+◌, List, [], ◌∷◌, ◌++◌, map, length, drop, get_or, replicate, arith, ◌∙◌, ap, sym, refl, subst, append-nil, drop-cons, add-one}
 use Rattle.std.specs.Prelude.{Some, slice_get}
 use Rattle.std.specs.List.{AllByRecursion, range_with_len}
 
@@ -38,3 +38,18 @@ pub AllByRecursion-at : {X : Type 0} (P : X → Type 0) (xs : List X) (i : ℕ) 
 AllByRecursion-at P [] i x h e = absurd (cc)
 AllByRecursion-at P (y ∷ ys) zero x h e = let same : y ≡ x = cc in subst P same h.0
 AllByRecursion-at P (y ∷ ys) (suc i) x h e = AllByRecursion-at P ys i x h.1 e
+
+pub AllByRecursion-weaker : {X : Type 0} (P Q : X → Type 0) → ((x : X) → P x → Q x) → (xs : List X) → AllByRecursion P xs → AllByRecursion Q xs
+AllByRecursion-weaker P Q f [] h = tt
+AllByRecursion-weaker P Q f (x ∷ xs) h = (f x h.0, AllByRecursion-weaker P Q f xs h.1)
+
+-- what holds of everything holds of each item
+pub AllByRecursion-all : {X : Type 0} (P : X → Type 0) → ((x : X) → P x) → (xs : List X) → AllByRecursion P xs
+AllByRecursion-all P f [] = tt
+AllByRecursion-all P f (x ∷ xs) = (f x, AllByRecursion-all P f xs)
+
+-- what each place of a list has, and what is taken past its end, are the same
+pub get_or-replicate_same : {X : Type 0} (n i : ℕ) (x : X) → get_or (replicate n x) i x ≡ x
+get_or-replicate_same zero i x = refl
+get_or-replicate_same (suc n) zero x = refl
+get_or-replicate_same (suc n) (suc i) x = get_or-replicate_same n i x

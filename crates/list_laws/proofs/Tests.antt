@@ -1,6 +1,6 @@
--- What the tests of lists say: `list_any`, `list_all`, `find` and `position`; and the value of an option that is there.
+-- What the tests of lists say: `list_any`, `list_all`, `find` and `position`.
 use Rattle.std.proofs.Common.{ℕ, zero, suc, ◌≡◌, ◌+◌, ◌∙◌, Bool, true, false, cond, ◌||◌, List, [], ◌∷◌, ◌++◌, map, ap, refl, sym, subst, inl, inr}
-use Rattle.std.specs.Prelude.{Option, Some, None, IsSome, find, position, slice_get, All}
+use Rattle.std.specs.Prelude.{Option, Some, find, position, slice_get, All}
 use Rattle.std.specs.Option.{option_map}
 use Rattle.std.specs.List.{list_any, list_all, position_from}
 use Rattle.std.proofs.lemmas.Bool.{and_parts, or_cases, or_left, or_right}
@@ -32,9 +32,16 @@ list_all-at p (y ∷ ys) (suc i) x h e = list_all-at p ys i x (and_parts (p y) (
 pub list_any-left : {X : Type 0} (p : X → Bool) (xs ys : List X) → list_any p xs ≡ true → list_any p (xs ++ ys) ≡ true
 list_any-left p xs ys h = list_any-append p xs ys ∙ or_left (list_any p xs) (list_any p ys) h
 
+pub list_any-right : {X : Type 0} (p : X → Bool) (xs ys : List X) → list_any p ys ≡ true → list_any p (xs ++ ys) ≡ true
+list_any-right p xs ys h = list_any-append p xs ys ∙ or_right (list_any p xs) (list_any p ys) h
+
 pub list_any-map : {X Y : Type 0} (f : X → Y) (p : Y → Bool) (xs : List X) → list_any p (map f xs) ≡ list_any (λ x. p (f x)) xs
 list_any-map f p [] = refl
 list_any-map f p (x ∷ xs) = ap (λ b. p (f x) || b) (list_any-map f p xs)
+
+pub list_any-false : {X : Type 0} (xs : List X) → list_any (λ x. false) xs ≡ false
+list_any-false [] = refl
+list_any-false (x ∷ xs) = list_any-false xs
 
 pub find-map : {X Y : Type 0} (f : X → Y) (p : Y → Bool) (xs : List X) → find p (map f xs) ≡ option_map f (find (λ x. p (f x)) xs)
 find-map f p [] = refl
@@ -82,8 +89,3 @@ position_from-map f p i (x ∷ xs) = ap (λ r. cond (p (f x)) (Some i) r) (posit
 
 pub position-map : {X Y : Type 0} (f : X → Y) (p : Y → Bool) (xs : List X) → position p (map f xs) ≡ position (λ x. p (f x)) xs
 position-map f p xs = position_from-zero p (map f xs) ∙ position_from-map f p 0 xs ∙ sym (position_from-zero (λ x. p (f x)) xs)
-
--- the value that is there
-pub some-value : {X : Type 0} (o : Option X) → IsSome o → (x : X) × (o ≡ Some x)
-some-value None h = absurd cc
-some-value (Some x) h = (x, refl)

@@ -1,2 +1,2 @@
-//! Lemmas on lists, counts and tests that speak of no word of this repository. Proofs of the crates above cite them; no function stands here.
+//! Lemmas on lists, counts, tests and options that speak of no word of this repository. Proofs of the crates above cite them; no function stands here.
 #![tactic(auto)]

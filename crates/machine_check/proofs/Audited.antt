@@ -1,9 +1,10 @@
 -- A trace, one entry further audited.
 use Rattle.std.proofs.Common.{ℕ, ◌≡◌, ◌+◌, ◌-◌, Bool, true, false, List, [], ◌∷◌, ◌++◌, length, take, Option, Some, None, arith, ◌∙◌, ap, sym, refl, subst, append_assoc, append-nil, length-append}
-use Rattle.std.specs.Prelude.{Result, Ok, Err, IfOk, IsSomeAnd, if◌then◌else◌}
+use Rattle.std.specs.Prelude.{Result, Ok, Err, IfOk, if◌then◌else◌}
 use Rattle.std.specs.List.{cons_option}
 use Rattle.std.specs.Option.{option_map_or}
 use Rattle.std.proofs.Math.Seq.{take-append_seam}
+use Rattle.list_laws.proofs.Options.{some-and}
 use Rattle.ffm_model.specs.declared.system.System.{System}
 use Rattle.ffm_model.specs.declared.machine.Entry.{Entry}
 use Rattle.ffm_model.specs.declared.machine.Handle.{Handle}
@@ -75,9 +76,6 @@ one_change : (here : Option Change) (cs later : List Change) → cs ++ cons_opti
 one_change None cs later = ap (λ l. l ++ later) (sym (append-nil cs))
 one_change (Some c) cs later = sym (append_assoc cs (c ∷ []) later)
 
-some_and : (o : Option State) (P : State → Type 0) (x : State) → o ≡ Some x → P x → IsSomeAnd o P
-some_and o P x is p = subst (λ (y : Option State). IsSomeAnd y P) (sym is) p
-
 pub next_audited : (s : System) (m : ByteMap) (limit : ℕ) (es : List Entry) (v : Verdict) (a new : Auditor) (e : Entry) (left : List Entry) (k : AuditsTo s m limit es v a (e ∷ left))
     → IsAudited s limit a k.checks.all e new → AuditsTo s m limit es v new left
 unfolding next_entry
@@ -94,7 +92,7 @@ next_audited s m limit es v a new e left k it = record {
       let here : IsChangeOf s place e.actor.0 st.memory next.memory it.here = subst (λ n. IsChangeOf s n e.actor.0 st.memory next.memory it.here) it.accepted.count it.is_change in
       let rest : AreChanges s (place + 1) next more later = subst (λ n. AreChanges s (n + 1) next more later) it.accepted.count told in
       let with_it : AreChanges s place st (e ∷ more) (cons_option it.here later) =
-      (it.here, later, refl, some_and (step s st e) (λ (x : State). IsChangeOf s place e.actor.0 st.memory x.memory it.here × AreChanges s (place + 1) x more later) next it.accepted.is_step (here, rest)) in
+      (it.here, later, refl, some-and (step s st e) next (λ (x : State). IsChangeOf s place e.actor.0 st.memory x.memory it.here × AreChanges s (place + 1) x more later) it.accepted.is_step (here, rest)) in
       let all : AreChanges s 1 (opening s m) (k.front ++ e ∷ more) (a.changes.items ++ cons_option it.here later) = k.changes (e ∷ more) (cons_option it.here later) with_it in
       subst (λ (front : List Entry). AreChanges s 1 (opening s m) front (new.changes.items ++ later)) (sym (append_assoc k.front (e ∷ []) more))
       (subst (λ (cs : List Change). AreChanges s 1 (opening s m) (k.front ++ e ∷ more) cs) (one_change it.here a.changes.items later ∙ ap (λ cs. cs ++ later) (sym it.changes)) all);

@@ -1,9 +1,8 @@
 -- Differences in ranges, one range and one more, and bytes that are taken over.
-use Rattle.std.proofs.Common.{ℕ, zero, suc, ◌≡◌, ◌<◌, ◌≤◌, ◌+◌, ◌*◌, Bool, true, false, not, ◌&&◌, ◌||◌, List, [], ◌∷◌, Option, None, count_by, ◌-◌, get_or, add-one, arith, ◌∙◌, ap, sym, refl, subst, inl, inr, ◌⊎◌}
+use Rattle.std.proofs.Common.{ℕ, ◌≡◌, ◌<◌, ◌≤◌, ◌+◌, ◌*◌, Bool, true, false, not, ◌&&◌, ◌||◌, List, [], ◌∷◌, Option, None, count_by, ◌-◌, get_or, add-one, arith, ◌∙◌, ap, sym, refl, subst, inl, inr, ◌⊎◌}
 use Rattle.std.specs.Prelude.{nat_le, nat_lt, slice_index, if◌then◌else◌}
 use Rattle.std.specs.List.{range_with_len}
 use Rattle.std.proofs.Math.Path.{fun_ext}
-use Rattle.std.proofs.lemmas.Bool.Decides.{nat_tests}
 use Rattle.std.proofs.lemmas.List.Sums.{sum_by-cons}
 use Rattle.list_laws.proofs.Bools.{or_false}
 use Rattle.byte_lanes.specs.Differences.{any_covers, count_in, differs, lesser, range_covers, IsLeast}
@@ -13,7 +12,7 @@ use Rattle.ffm_model.specs.Memory.{ByteMap, bytes_at, write_bytes}
 use Rattle.ffm_model.specs.Ranges.{ranges_of}
 use Rattle.memory_image.specs.Pieces.{fit_an_image, is_inside}
 use Rattle.memory_image.proofs.Compared.{both}
-use Rattle.memory_image.proofs.Changed.{length-bytes_at}
+use Rattle.ffm_model.proofs.BytesLemmas.{byte-there, bytes-length}
 use Rattle.memory_image.proofs.Stored.{ends_below}
 use Rattle.machine_check.specs.declared.differences.Differences.{Differences}
 use Rattle.machine_check.specs.Auditing.{own_ram}
@@ -111,25 +110,13 @@ counts_fit w k here so_far (inr some) below bound small none words = let most : 
 
 -- ---- bytes taken over
 
-byte_of : (n : ByteMap) (a len i : ℕ) → i < len → get_or (bytes_at n a len) i 0 ≡ n (a + i)
-byte_of n a zero i below = absurd (omega arith)
-byte_of n a (suc len) zero below = let here : a ≡ a + 0 = omega arith in ap n here
-byte_of n a (suc len) (suc i) below = let next : (a + 1) + i ≡ a + suc i = omega arith in byte_of n (a + 1) len i (omega arith) ∙ ap n next
-
-byte_at_place : (n : ByteMap) (a len x : ℕ) → range_covers (a, len) x ≡ true → get_or (bytes_at n a len) (x - a) 0 ≡ n x
-byte_at_place n a len x inside =
-    let low : a ≤ x = grind (arith, nat_tests) in
-    let high : x < a + len = grind (arith, nat_tests) in
-    let back : a + (x - a) ≡ x = omega arith in
-    byte_of n a len (x - a) (omega arith) ∙ ap n back
-
 taken_at : (n m : ByteMap) (rs : List (ℕ × ℕ)) (a len x : ℕ) (b : Bool) → range_covers (a, len) x ≡ b
     → (if b then get_or (bytes_at n a len) (x - a) 0 else taken_from n rs m x) ≡ (if b || any_covers rs x then n x else m x)
-taken_at n m rs a len x true inside = byte_at_place n a len x inside
+taken_at n m rs a len x true inside = byte-there n a len x inside
 taken_at n m rs a len x false outside = refl
 
 pub taken-more : (n m : ByteMap) (rs : List (ℕ × ℕ)) (a len : ℕ) → write_bytes (taken_from n rs m) a (bytes_at n a len) ≡ taken_from n ((a, len) ∷ rs) m
-taken-more n m rs a len = fun_ext (λ x. ap (λ k. if nat_le a x && nat_lt x (a + k) then slice_index (bytes_at n a len) (x - a) else taken_from n rs m x) (length-bytes_at n a len) ∙ taken_at n m rs a len x (range_covers (a, len) x) refl)
+taken-more n m rs a len = fun_ext (λ x. ap (λ k. if nat_le a x && nat_lt x (a + k) then slice_index (bytes_at n a len) (x - a) else taken_from n rs m x) (bytes-length n a len) ∙ taken_at n m rs a len x (range_covers (a, len) x) refl)
 
 -- where the memories agree outside of the ranges, the whole is taken over
 pub taken-all : (n m : ByteMap) (rs : List (ℕ × ℕ)) → ((x : ℕ) → any_covers rs x ≡ false → n x ≡ m x) → taken_from n rs m ≡ n

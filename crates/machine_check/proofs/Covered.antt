@@ -9,6 +9,7 @@ use Rattle.std.proofs.lemmas.List.{length-append, length-take}
 use Rattle.std.proofs.lemmas.Slice.Eq.{bytes_eq-Decides}
 use Rattle.std.proofs.lemmas.Option.{cond_some}
 use Rattle.list_laws.proofs.Bools.{if_passes}
+use Rattle.list_laws.proofs.Options.{each_made, each_mapped}
 use Rattle.byte_lanes.specs.Differences.{any_covers, range_covers}
 use Rattle.ffm_model.specs.declared.constants.TheConstants.{PSA_ERROR_PROGRAMMER_ERROR, PSA_FRAMEWORK_VERSION, PSA_IPC_CALL}
 use Rattle.ffm_model.specs.declared.system.System.{System}
@@ -35,8 +36,9 @@ use Rattle.ffm_model.specs.State.{State, SpmState, phase_of, message_held, is_un
 use Rattle.ffm_model.specs.Step.{step, may_call, handle_allowed, handle_shown, message_eq, outcome_eq}
 use Rattle.machine_rules.specs.Vectors.{SpanFits, VectorsFit}
 use Rattle.ffm_model.specs.Ranges.{ranges_of}
+use Rattle.ffm_model.proofs.StepLemmas.{effect-has}
+use Rattle.ffm_model.specs.Actors.{kind_of}
 use Rattle.memory_image.specs.Pieces.{is_inside}
-use Rattle.memory_image.proofs.Effects.{each_made, each_mapped, effect-has}
 use Rattle.memory_image.proofs.Messages.{held_has, reply_is, request_has}
 use Rattle.memory_image.proofs.Outside.{copy_bytes-outside, store_number-outside, words_stored-outside}
 use Rattle.memory_image.proofs.Stored.{part_inside}
@@ -287,7 +289,7 @@ errors s st a c Client told eq four = refusals s st a c told eq four
 errors s st a c Device told eq four = told-value s st a c PSA_ERROR_PROGRAMMER_ERROR told eq
 
 effect-covered : (s : System) (st : State) (a : ℕ) (c : Call) (h : Handle) → AllFit s st.spm → TellsCovered s st a c (effect_of s st a c h)
-effect-covered s st a c h fit = effect-has (TellsCovered s st a c) s st a c h (errors s st a c) (call-covered s st a c h fit)
+effect-covered s st a c h fit = effect-has (TellsCovered s st a c) s st a c h (errors s st a c (kind_of s a)) (call-covered s st a c h fit)
 
 -- ---- the law
 

@@ -28,7 +28,7 @@ use Rattle.machine_check.specs.Performed.{gave_handle, given_after, is_left, pha
 use Rattle.machine_check.specs.Reaching.{IsDue}
 use Rattle.machine_check.proofs.Allowed.{allowed_gave, error_gives_none, get_cases}
 use Rattle.machine_check.proofs.Followed.{there}
-use Rattle.machine_check.proofs.Steps.{left_fresh, none_by_handle}
+use Rattle.machine_check.proofs.Steps.{left_fresh, none_by_handle, not_given}
 
 -- ---- the handle that an outcome shows
 
@@ -67,9 +67,6 @@ shows s st new a c h o e = (e, inl refl)
 
 -- ---- a step
 
-no_handle : (b f : Bool) → b ≡ false → (not b || f) ≡ true
-no_handle b f h = rw h refl
-
 fresh_handle : (b f : Bool) → (b ≡ true → f ≡ true) → (not b || f) ≡ true
 fresh_handle true f h = h refl
 fresh_handle false f h = refl
@@ -83,7 +80,7 @@ due_is_step s m n all a c h o may performs new =
     let it = shows s st left a c h o (performs all) in
     let allowed : handle_allowed s st a c (handle_shown o) ≡ (not (gave_handle (phase_of st.spm a) c o) || fresh st (handle_shown o)) = allowed_gave s st left a c (handle_shown o) o it.0 in
     let right : (not (gave_handle (phase_of st.spm a) c o) || fresh st (handle_shown o)) ≡ true =
-    ⊎_elim (λ (none : gave_handle (phase_of st.spm a) c o ≡ false). no_handle _ _ none)
+    ⊎_elim (λ (none : gave_handle (phase_of st.spm a) c o ≡ false). not_given _ _ none)
     (λ (same : handle_shown o ≡ h). fresh_handle _ _ (λ gave. ap (fresh st) same ∙ new gave)) it.1 in
     there _ left (step-effect s st left a c o may (allowed ∙ right) it.0)
 

@@ -5,7 +5,7 @@ use Rattle.std.specs.Option.{option_map_or}
 use Rattle.std.proofs.Math.Seq.{take-append_seam}
 use Rattle.std.proofs.lemmas.List.{length-take-le}
 use Rattle.std.proofs.lemmas.List.Sums.{fold-append}
-use Rattle.std.proofs.lemmas.Bool.{le-leb, lt-leb}
+use Rattle.std.proofs.lemmas.Bool.{le-leb, lt-leb, cond-true, cond-false}
 use Rattle.ffm_model.proofs.RunLemmas.{none-stays}
 use Rattle.ffm_model.specs.declared.system.System.{System}
 use Rattle.ffm_model.specs.declared.machine.Entry.{Entry}
@@ -15,12 +15,12 @@ use Rattle.ffm_model.specs.State.{State, opening}
 use Rattle.ffm_model.specs.Step.{step, step_on, after}
 use Rattle.ffm_model.specs.Verdicts.{IllegalAt, judged, judged_from}
 use Rattle.ffm_model.proofs.StepLemmas.{after-push}
+use Rattle.list_laws.proofs.Options.{some-value}
 use Rattle.machine_calls.specs.Machine.{state_of}
 use Rattle.machine_check.specs.declared.judging.Checker.{Checker}
 use Rattle.machine_check.specs.Checking.{Accepts, ChecksTo, IsAccepted, Starts, Stops}
 use Rattle.machine_check.specs.Reaching.{IsBehind, IsReached}
-use Rattle.machine_check.proofs.Judged.{either, first, second}
-use Rattle.list_laws.proofs.Tests.{some-value}
+use Rattle.machine_check.proofs.Judged.{either}
 
 -- ---- entry by entry
 
@@ -125,7 +125,7 @@ judged_behind s limit v n (e ∷ es) back st new is within =
       | None ↦ λ h. absurd (let none = none-stays s es in cc)
       | Some mid ↦ λ h. judged_behind s limit v (n + 1) es back mid new h (omega arith)
     ] in
-    second (nat_le limit n) _ _ (lt-leb limit n (omega arith)) ∙ go (step s st e) is ∙ ap (λ i. judged_from s limit v i back new) place
+    cond-false (nat_le limit n) _ _ (lt-leb limit n (omega arith)) ∙ go (step s st e) is ∙ ap (λ i. judged_from s limit v i back new) place
 
 -- all entries were followed: the verdict decides
 pub all_checked : (s : System) (m : ByteMap) (limit : ℕ) (es : List Entry) (v : Verdict) (c : Checker) → IsBehind s m es c → c.count ≤ limit → ChecksTo s limit v (judged s m limit es v) c []
@@ -148,7 +148,7 @@ part_checked s m limit es v n k =
     let left : judged s m limit es v ≡ judged_from s limit v n (k.entry ∷ k.rest) it.0 =
     ap (λ l. judged_from s limit v 0 l (opening s m)) k.parts ∙ judged_behind s limit v 0 k.front (k.entry ∷ k.rest) (opening s m) it.0 it.1 (omega (arith, k.count, k.within))
     ∙ ap (λ i. judged_from s limit v i (k.entry ∷ k.rest) it.0) (omega (arith, k.count)) in
-    left ∙ ⊎_elim (λ (full : n ≡ limit). first (nat_le limit n) _ _ (le-leb limit n (omega arith)))
+    left ∙ ⊎_elim (λ (full : n ≡ limit). cond-true (nat_le limit n) _ _ (le-leb limit n (omega arith)))
     (λ (none : after s m (k.front ++ k.entry ∷ []) ≡ None).
     let stop : step s it.0 k.entry ≡ None = ap (option_and_then (λ x. step s x k.entry)) (sym it.1) ∙ sym (after-push s m k.front k.entry) ∙ none in
     either (nat_le limit n) _ _ (ap (λ o. option_map_or (λ st. judged_from s limit v (n + 1) k.rest st) o (IllegalAt (n + 1))) stop)) k.next

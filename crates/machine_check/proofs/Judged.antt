@@ -4,7 +4,7 @@ use Rattle.std.specs.Prelude.{nat_le, None, Ok, if◌then◌else◌}
 use Rattle.std.specs.Option.{option_map_or}
 use Rattle.std.specs.BTreeSet.{BTreeSet}
 use Rattle.std.specs.Prelude.{ℤ}
-use Rattle.std.proofs.lemmas.Bool.{le-leb, lt-leb}
+use Rattle.std.proofs.lemmas.Bool.{le-leb, lt-leb, cond-true, cond-false}
 use Rattle.ffm_model.specs.declared.system.System.{System}
 use Rattle.ffm_model.specs.declared.machine.Entry.{Entry}
 use Rattle.ffm_model.specs.declared.machine.Handle.{Handle}
@@ -39,13 +39,8 @@ accepted s limit c new all e true below steps is kept made count = record {
 
 -- ---- the judgement
 
-pub second : (b : Bool) (x y : Judgement) → b ≡ false → (if b then x else y) ≡ y
-second b x y h = rw h refl
-
-pub first : (b : Bool) (x y : Judgement) → b ≡ true → (if b then x else y) ≡ x
-first b x y h = rw h refl
-
-pub either : (b : Bool) (x y : Judgement) → y ≡ x → (if b then x else y) ≡ x
+-- either way
+pub either : {X : Type 0} (b : Bool) (x y : X) → y ≡ x → (if b then x else y) ≡ x
 either true x y h = refl
 either false x y h = h
 
@@ -65,7 +60,7 @@ pub no_entry : (s : System) (limit : ℕ) (v : Verdict) (j : Judgement) (c new :
 no_entry s limit v j c new e es true k accepts is = absurd (cc)
 no_entry s limit v j c new e es false k accepts is = (k.judged ∙ illegal accepts.0, accepts.1) where
   illegal : (limit ≤ c.count) ⊎ (step s (state_of c.machine k.all) e ≡ None) → judged_from s limit v c.count (e ∷ es) (state_of c.machine k.all) ≡ IllegalAt (c.count + 1)
-  illegal (inl over) = first (nat_le limit c.count) _ _ (le-leb limit c.count over)
+  illegal (inl over) = cond-true (nat_le limit c.count) _ _ (le-leb limit c.count over)
   illegal (inr none) = either (nat_le limit c.count) _ _ (ap (λ o. option_map_or (λ st. judged_from s limit v (c.count + 1) es st) o (IllegalAt (c.count + 1))) none)
 
 -- it was, and the others decide
@@ -77,7 +72,7 @@ next_entry s limit v j c new e es k it = record {
   kept = it.kept;
   made = it.made;
   judged =
-      k.judged ∙ second (nat_le limit c.count) _ _ (lt-leb limit c.count it.below)
+      k.judged ∙ cond-false (nat_le limit c.count) _ _ (lt-leb limit c.count it.below)
       ∙ ap (λ o. option_map_or (λ st. judged_from s limit v (c.count + 1) es st) o (IllegalAt (c.count + 1))) it.is_step
       ∙ ap (λ n. judged_from s limit v n es (state_of new.machine it.given)) (sym it.count);
 }

@@ -65,7 +65,7 @@ pub none_by_due : (s : System) (m n : Machine) (all : List Handle) (e : Entry) (
     → outcome_eq due e.outcome ≡ false → step s (state_of m all) e ≡ None
 none_by_due s m n all e due is h = none_by_outcome s (state_of m all) e (told _ e.outcome due _ false (is all) h)
 
-not_given : (b f : Bool) → b ≡ false → (not b || f) ≡ true
+pub not_given : (b f : Bool) → b ≡ false → (not b || f) ≡ true
 not_given b f h = rw h refl
 
 given_one : (b f : Bool) → b ≡ true → (not b || f) ≡ f

@@ -10,6 +10,7 @@ use Rattle.std.specs.Str.{bytes_eq}
 use Rattle.std.specs.declared.cmp.Ordering.{Ordering}
 use Rattle.std.specs.declared.cmp.Ordering.TheVariants.{Less, Equal, Greater}
 use Rattle.std.proofs.lemmas.Map.Text.{is_eq-slice_cmp}
+use Rattle.std.proofs.lemmas.List.Sums.{fold_more}
 use Rattle.std.specs.BTreeMap.{BTreeMap}
 use Rattle.std.specs.BTreeSet.{BTreeSet}
 use Rattle.std.specs.List.{list_any}
@@ -17,7 +18,6 @@ use Rattle.ffm_model.specs.declared.system.Budget.{Budget}
 use Rattle.ffm_model.specs.PartsItems.{PartsRecord, ConnectionRecord}
 use Rattle.ffm_model.specs.Permissions.{Permitted, permitted, is_for, count_for, budgets_of}
 use Rattle.manifest_compile.specs.Budgets.{names_cmp, named_pair, has_pair, HasPairs, TellsCounts, budget_by}
-use Rattle.manifest_compile.proofs.OwnerLemmas.{fold_more}
 
 -- ---- keys of two names
 

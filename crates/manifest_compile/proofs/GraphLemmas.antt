@@ -9,12 +9,12 @@ use Rattle.std.specs.Str.{bytes_eq}
 use Rattle.std.proofs.lemmas.Bool.{or_cases, and_parts, and_right}
 use Rattle.std.proofs.lemmas.List.Folds.{list_any_more}
 use denote.Ref.{Bor}
+use Rattle.list_laws.proofs.Lists.{AllByRecursion-weaker, get_or-replicate_same}
 use Rattle.ffm_model.specs.Layout.{Located, located_from}
 use Rattle.ffm_model.specs.ManifestItems.{ManifestRecord}
 use Rattle.ffm_model.specs.PartsItems.{PartsRecord}
 use Rattle.ffm_model.specs.Permissions.{services_in}
 use Rattle.ffm_model.specs.Rules.{dependencies_in, has_service, depends}
-use Rattle.admitted_systems.proofs.Lists.{each_weaker}
 use Rattle.admitted_systems.proofs.Located.{items_below}
 use Rattle.manifest_compile.specs.Owners.{Owns, owner_of, is_owner, is_marked}
 
@@ -42,13 +42,8 @@ each_at P (x ∷ xs) (suc i) d h below = each_at P xs i d h.1 (omega arith)
 pub written : {A : Type 0} (new rest : List A) (n : ℕ) → length new ≡ n → take n (new ++ rest) ≡ new
 written new rest n e = let P : ℕ → Type 0 = λ m. take m (new ++ rest) ≡ new in subst P e (take-append_seam new rest)
 
-get_or-replicate_same : (n i : ℕ) → get_or (replicate n false) i false ≡ false
-get_or-replicate_same zero i = refl
-get_or-replicate_same (suc n) zero = refl
-get_or-replicate_same (suc n) (suc i) = get_or-replicate_same n i
-
 pub unmarked : (marks : List Bool) (n k j : ℕ) → marks ≡ replicate n false → is_marked marks k j ≡ false
-unmarked marks n k j e = ap (λ ms. is_marked ms k j) e ∙ and_right (nat_lt k 256 && nat_lt j 256) _ (get_or-replicate_same n (k * 256 + j))
+unmarked marks n k j e = ap (λ ms. is_marked ms k j) e ∙ and_right (nat_lt k 256 && nat_lt j 256) _ (get_or-replicate_same n (k * 256 + j) false)
 
 -- ---- places of manifests
 
@@ -56,7 +51,7 @@ pub few_manifests : (p q : PartsRecord) → p ≡ q → length p.manifests ≤ 2
 few_manifests p q e few = let P : PartsRecord → Type 0 = λ r. length r.manifests ≤ 256 in subst P e few
 
 pub all_below : {A : Type 0} (items : ManifestRecord → List A) (ms : List ManifestRecord) → length ms ≤ 256 → Each (λ x. x.manifest < 256) (located_from items 0 ms)
-all_below items ms few = each_weaker (λ x. x.manifest < 0 + length ms) (λ x. x.manifest < 256) (λ x l. omega arith) (located_from items 0 ms) (items_below items 0 ms)
+all_below items ms few = AllByRecursion-weaker (λ x. x.manifest < 0 + length ms) (λ x. x.manifest < 256) (λ x l. omega arith) (located_from items 0 ms) (items_below items 0 ms)
 
 -- some item passes, so what holds of each holds of one that passes
 some_passes : {A : Type 0} (P : A → Type 0) (t : A → Bool) (Q : Type 0) → ((x : A) → P x → t x ≡ true → Q) → (xs : List A) → Each P xs → list_any t xs ≡ true → Q

@@ -4,13 +4,12 @@ use Rattle.std.specs.List.{list_any, range_with_len}
 use Rattle.std.specs.Option.{option_map_or}
 use Rattle.std.proofs.lemmas.List.Folds.{list_any-append}
 use Rattle.std.proofs.lemmas.List.Sums.{count_by_more_yes, count_by_more_no}
+use Rattle.list_laws.proofs.Tests.{list_any-false}
 use Rattle.ffm_model.specs.declared.system.Service.{Service}
 use Rattle.ffm_model.specs.ManifestItems.{ServiceRecord}
 use Rattle.ffm_model.specs.Layout.{Located}
 use Rattle.ffm_model.specs.Compiled.{free_index, index_for, service_of, services_from}
-
-abbrev pub is_taken : List ℕ → ℕ → Bool
-is_taken taken i = list_any (λ t. t == i) taken
+use Rattle.admitted_systems.proofs.Stateless.{is_taken}
 
 -- ---- the least free index
 
@@ -96,17 +95,13 @@ states_again ys x n e some old =
     ap (λ b. list_any (λ (y : Located ServiceRecord). not b && (y.value.stateless_handle == x.value.stateless_handle)) ys) zero
     ∙ ap (λ m. list_any (λ (y : Located ServiceRecord). y.value.stateless_handle == m) ys) (sym e) ∙ old
 
-none_of : (ys : List (Located ServiceRecord)) → list_any (λ y. false) ys ≡ false
-none_of [] = refl
-none_of (y ∷ ys) = none_of ys
-
 pub states_none : (ys : List (Located ServiceRecord)) (x : Located ServiceRecord) (n : ℕ) → n ≡ x.value.stateless_handle → n ≡ 0 → list_any (λ y. same_index y x) ys ≡ false
 states_none ys x n e none =
     let zero : (x.value.stateless_handle == 0) ≡ true = eq-eqb _ _ (sym e ∙ none) in
-    ap (λ b. list_any (λ (y : Located ServiceRecord). not b && (y.value.stateless_handle == x.value.stateless_handle)) ys) zero ∙ none_of ys
+    ap (λ b. list_any (λ (y : Located ServiceRecord). not b && (y.value.stateless_handle == x.value.stateless_handle)) ys) zero ∙ list_any-false ys
 
 none_where : (b : Bool) (n : ℕ) (ys : List (Located ServiceRecord)) → list_any (λ y. y.value.stateless_handle == n) ys ≡ false → list_any (λ y. not b && (y.value.stateless_handle == n)) ys ≡ false
-none_where true n ys h = none_of ys
+none_where true n ys h = list_any-false ys
 none_where false n ys h = h
 
 pub states_first : (ys : List (Located ServiceRecord)) (x : Located ServiceRecord) (n : ℕ) → n ≡ x.value.stateless_handle → list_any (λ y. y.value.stateless_handle == n) ys ≡ false → list_any (λ y. same_index y x) ys ≡ false

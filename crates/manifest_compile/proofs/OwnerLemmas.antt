@@ -1,22 +1,22 @@
 -- The last service with a name, where no two have one name, is the one that has it.
-use Rattle.std.proofs.Common.{ℕ, ◌≡◌, ◌<◌, ◌+◌, ◌&&◌, ◌||◌, List, [], ◌∷◌, ◌++◌, length, take, get_or, Option, Some, None, Bool, true, false, cond, fold, refl, ap, sym, ◌∙◌}
+use Rattle.std.proofs.Common.{ℕ, ◌≡◌, ◌<◌, ◌+◌, ◌&&◌, ◌||◌, List, [], ◌∷◌, length, take, get_or, Option, Some, None, Bool, true, false, cond, fold, refl, ap, sym, ◌∙◌}
 use Rattle.std.specs.Prelude.{◌==◌, is_some}
 use Rattle.std.specs.List.{list_any, AllByRecursion as Each}
 use Rattle.std.specs.Option.{option_map_or}
 use Rattle.std.specs.Str.{bytes_eq}
-use Rattle.std.proofs.lemmas.List.{take_more}
 use Rattle.ffm_model.specs.Layout.{Located}
 use Rattle.ffm_model.specs.ManifestItems.{ServiceRecord}
 use Rattle.std.specs.BTreeMap.{BTreeMap}
 use Rattle.std.proofs.lemmas.Bool.{or_from, and_right}
 use Rattle.std.proofs.lemmas.Bool.Decides.{same_from_decides, Decides-like}
 use Rattle.std.proofs.lemmas.Slice.Eq.{bytes_eq-Decides}
-use Rattle.list_laws.proofs.Lists.{map_nil}
+use Rattle.std.proofs.lemmas.List.Sums.{fold_more}
+use Rattle.list_laws.proofs.Lists.{map_nil, AllByRecursion-weaker}
 use denote.Ref.{Bor}
 use Rattle.ffm_model.specs.PartsItems.{PartsRecord}
 use Rattle.ffm_model.specs.Permissions.{services_in}
 use Rattle.ffm_model.specs.Rules.{duplicate_services}
-use Rattle.admitted_systems.proofs.Lists.{Pairs, each_weaker, repeated_nil}
+use Rattle.admitted_systems.proofs.Lists.{Pairs, repeated_nil}
 use Rattle.manifest_compile.specs.Owners.{Owns, owner_of}
 
 -- the service has the name
@@ -29,14 +29,6 @@ newer name owner v = cond (is_named name v) (Some v.manifest) owner
 -- the partition of the last service with the name
 abbrev pub last_owner : List ℕ → List (Located ServiceRecord) → Option ℕ
 last_owner name services = fold (newer name) None services
-
-fold-append : {A B : Type 0} (f : B → A → B) (b : B) (xs ys : List A) → fold f b (xs ++ ys) ≡ fold f (fold f b xs) ys
-fold-append f b [] ys = refl
-fold-append f b (x ∷ xs) ys = fold-append f (f b x) xs ys
-
--- one item more
-pub fold_more : {A B : Type 0} (f : B → A → B) (b : B) (xs : List A) (i : ℕ) (d : A) → i < length xs → fold f b (take (i + 1) xs) ≡ f (fold f b (take i xs)) (get_or xs i d)
-fold_more f b xs i d below = ap (fold f b) (take_more xs i d below) ∙ fold-append f b (take i xs) (get_or xs i d ∷ [])
 
 known_by : (b : Bool) (m : ℕ) (o : Option ℕ) (rest : Bool) → (is_some (cond b (Some m) o) || rest) ≡ (is_some o || (b || rest))
 known_by true m None rest = refl
@@ -74,7 +66,7 @@ others : (name : List ℕ) (x : Located ServiceRecord) (xs : List (Located Servi
     → Each (λ y. bytes_eq x.value.name y.value.name ≡ false) xs → Each (λ v. is_named name v ≡ false) xs
 others name x xs e h =
     let same : x.value.name ≡ name = (bytes_eq-Decides x.value.name name).0 e in
-    each_weaker (λ y. bytes_eq x.value.name y.value.name ≡ false) (λ v. is_named name v ≡ false)
+    AllByRecursion-weaker (λ y. bytes_eq x.value.name y.value.name ≡ false) (λ v. is_named name v ≡ false)
     (λ v differ. bytes_eq-flip v.value.name name ∙ ap (λ n. bytes_eq n v.value.name) (sym same) ∙ differ) xs h
 
 alone : (a r : Bool) → r ≡ false → ((a && true) || r) ≡ a

@@ -1,9 +1,9 @@
 -- Where the services of manifests stand.
 use Rattle.std.proofs.Common.{ℕ, ◌≡◌, ◌<◌, ◌+◌, List, [], ◌∷◌, ◌++◌, length, get_or, length-append, append_assoc, refl, subst, sym, arith}
 use Rattle.std.specs.List.{AllByRecursion as Each}
+use Rattle.list_laws.proofs.Lists.{AllByRecursion-weaker, AllByRecursion-append}
 use Rattle.ffm_model.specs.Layout.{Located, located_in, located_from}
 use Rattle.ffm_model.specs.ManifestItems.{ManifestRecord, ServiceRecord}
-use Rattle.admitted_systems.proofs.Lists.{each_weaker, each_append}
 use Rattle.manifest_compile.proofs.GraphLemmas.{each_at}
 
 -- a service of one of these manifests, at a place of its list
@@ -18,7 +18,7 @@ items_in : (k i : ℕ) (xs : List ServiceRecord) → Each (λ x. (x.manifest ≡
 items_in k i [] = tt
 items_in k i (x ∷ xs) = (
   (refl, omega arith),
-  each_weaker (λ y. (y.manifest ≡ k) × (y.item < i + 1 + length xs)) (λ y. (y.manifest ≡ k) × (y.item < i + length (x ∷ xs))) (λ y h. (h.0, let l : y.item < i + 1 + length xs = h.1 in omega arith)) (located_in k (i + 1) xs) (items_in k (i + 1) xs),
+  AllByRecursion-weaker (λ y. (y.manifest ≡ k) × (y.item < i + 1 + length xs)) (λ y. (y.manifest ≡ k) × (y.item < i + length (x ∷ xs))) (λ y h. (h.0, let l : y.item < i + 1 + length xs = h.1 in omega arith)) (located_in k (i + 1) xs) (items_in k (i + 1) xs),
 )
 
 here : (front : List ManifestRecord) (m : ManifestRecord) (ms : List ManifestRecord) (k : ℕ) (x : Located ServiceRecord) → length front ≡ k → x.manifest ≡ k → x.item < 0 + length m.services → HasPlace (front ++ m ∷ ms) x
@@ -30,8 +30,8 @@ here front m ms k x e is below = (
 places_from : (front : List ManifestRecord) (k : ℕ) (ms : List ManifestRecord) → length front ≡ k → Each (HasPlace (front ++ ms)) (located_from (λ m. m.services) k ms)
 places_from front k [] e = tt
 places_from front k (m ∷ ms) e =
-    each_append (HasPlace (front ++ m ∷ ms)) (located_in k 0 m.services) (located_from (λ m. m.services) (k + 1) ms)
-    (each_weaker (λ x. (x.manifest ≡ k) × (x.item < 0 + length m.services)) (HasPlace (front ++ m ∷ ms)) (λ x h. here front m ms k x e h.0 h.1) (located_in k 0 m.services) (items_in k 0 m.services))
+    AllByRecursion-append (HasPlace (front ++ m ∷ ms)) (located_in k 0 m.services) (located_from (λ m. m.services) (k + 1) ms)
+    (AllByRecursion-weaker (λ x. (x.manifest ≡ k) × (x.item < 0 + length m.services)) (HasPlace (front ++ m ∷ ms)) (λ x h. here front m ms k x e h.0 h.1) (located_in k 0 m.services) (items_in k 0 m.services))
     (subst (λ all. Each (HasPlace all) (located_from (λ m. m.services) (k + 1) ms)) (append_assoc front (m ∷ []) ms)
     (places_from (front ++ m ∷ []) (k + 1) ms (let l = length-append front (m ∷ []) in omega arith)))
 

@@ -1,10 +1,11 @@
 -- The kinds of change that an event makes of the messages of a state; so what each kind keeps, each step keeps.
-use Rattle.std.proofs.Common.{ℕ, zero, suc, ◌≡◌, ◌≤◌, ◌+◌, arith, Bool, true, false, cond, not, ◌&&◌, ◌||◌, List, [], ◌∷◌, ◌++◌, refl, sym, ◌∙◌, subst}
+use Rattle.std.proofs.Common.{ℕ, zero, suc, ◌≡◌, ◌≤◌, ◌+◌, arith, Bool, true, false, cond, not, ◌&&◌, ◌||◌, List, [], ◌∷◌, ◌++◌, refl, sym, ◌∙◌, subst, ap}
 use Rattle.std.specs.Prelude.{ℤ, pos, int_lt, int_le, bit_and, nat_lt, nat_le, min, find, get_or, take, replicate, Option, Some, None, IfSome, option_and_then, is_none, if◌then◌else◌, ◌==◌}
 use Rattle.std.specs.List.{AllByRecursion}
 use Rattle.std.specs.Option.{option_map, option_map_or, unwrap_or}
 use Rattle.std.specs.Ordering.{int_eq}
 use Rattle.list_laws.proofs.Bools.{if_passes}
+use Rattle.list_laws.proofs.Lists.{AllByRecursion-append, get_or-replicate_same}
 use Rattle.ffm_model.specs.declared.constants.TheConstants.{PSA_BLOCK, PSA_MAX_IOVEC, PSA_IPC_CALL, PSA_IPC_CONNECT, PSA_IPC_DISCONNECT, PSA_NULL_HANDLE, PSA_ERROR_CONNECTION_REFUSED, PSA_ERROR_CONNECTION_BUSY, PSA_ERROR_COMMUNICATION_FAILURE}
 use Rattle.ffm_model.specs.declared.system.System.{System}
 use Rattle.ffm_model.specs.declared.system.ActorKind.{ActorKind}
@@ -33,6 +34,7 @@ use Rattle.ffm_model.specs.ServiceCalls.{psa_wait, psa_get, psa_set_rhandle, psa
 use Rattle.ffm_model.specs.SignalCalls.{source_of_signal, interrupted}
 use Rattle.ffm_model.specs.Calls.{has_call, call_case, error_effect, effect_or_error, effect_of}
 use Rattle.ffm_model.specs.Step.{may_call}
+use Rattle.ffm_model.proofs.StepLemmas.{effect-has}
 use Rattle.counting_law.proofs.Reply.{settled}
 use Rattle.counting_law.proofs.Owed.{replied-settled, owed-settled, owed-request}
 use Rattle.counting_law.proofs.Events.{caller-running}
@@ -49,9 +51,7 @@ pub record AreNew (v : Vectors) : Type 0 where
   pub given : (i : ℕ) → v.out_len ≤ i → (get_or v.output i no_span).len ≡ 0
 
 empty-at : (n i : ℕ) → (get_or (replicate n no_span) i no_span).len ≡ 0
-empty-at zero i = refl
-empty-at (suc n) zero = refl
-empty-at (suc n) (suc i) = empty-at n i
+empty-at n i = ap (λ (v : Span). v.len) (get_or-replicate_same n i no_span)
 
 pub none-new : AreNew no_vectors
 none-new = record { input = (refl, (refl, (refl, (refl, tt)))); output = (refl, (refl, (refl, (refl, tt)))); given = λ i past. empty-at 4 i }
@@ -60,17 +60,13 @@ spans-new : (m : ByteMap) (n a : ℕ) → Unmoved (spans_at m a n)
 spans-new m zero a = tt
 spans-new m (suc n) a = (refl, spans-new m n (a + 8))
 
-append-new : (xs ys : List Span) → Unmoved xs → Unmoved ys → Unmoved (xs ++ ys)
-append-new [] ys h k = k
-append-new (x ∷ xs) ys h k = (h.0, append-new xs ys h.1 k)
-
 take-new : (n : ℕ) (xs : List Span) → Unmoved xs → Unmoved (take n xs)
 take-new zero xs h = tt
 take-new (suc n) [] h = tt
 take-new (suc n) (x ∷ xs) h = (h.0, take-new n xs h.1)
 
 read-new : (m : ByteMap) (a n : ℕ) → Unmoved (vectors_read m a n)
-read-new m a n = take-new 4 (spans_at m a (min n 4) ++ replicate 4 no_span) (append-new (spans_at m a (min n 4)) (replicate 4 no_span) (spans-new m (min n 4) a) (refl, (refl, (refl, (refl, tt)))))
+read-new m a n = take-new 4 (spans_at m a (min n 4) ++ replicate 4 no_span) (AllByRecursion-append (λ (v : Span). v.moved ≡ 0) (spans_at m a (min n 4)) (replicate 4 no_span) (spans-new m (min n 4) a) (refl, (refl, (refl, (refl, tt)))))
 
 spans-given : (m : ByteMap) (n a i : ℕ) → n ≤ i → (get_or (spans_at m a n ++ replicate 4 no_span) i no_span).len ≡ 0
 spans-given m zero a i past = empty-at 4 i
@@ -117,8 +113,7 @@ pub record EachChange (s : System) (b : SpmState) (a : ℕ) (d : Call) (P : SpmS
 -- ---- options
 
 passes : {X : Type 0} (P : X → Type 0) (b : Bool) (x : X) → P x → IfSome (cond b (Some x) None) P
-passes P true x h = h
-passes P false x h = tt
+passes P b x h = if_passes P b x (λ passing. h)
 
 abbrev IfMoved : (SpmState → Type 0) → Option Move → Type 0
 IfMoved P o = IfSome o (λ m. P m.spm)
@@ -347,13 +342,6 @@ call-changes s st a call.Resume h P k = returned-changes s st a (phase_of st.spm
 call-changes s st a _ h P k = moved P st _ (passes (λ (m : Move). P m.spm) _ _ (k.same _ refl))
 
 -- ---- each event
-
--- a call that is no return, and each PROGRAMMER ERROR of it
-pub effect-has : (Q : Effect → Type 0) (s : System) (st : State) (a : ℕ) (c : Call) (h : Handle) → Q (error_effect (kind_of s a) s st a c) → IfSome (call_case s st a c h) Q → Q (effect_of s st a c h)
-effect-has Q s st a c h error made =
-    let of_call : (o : Option Effect) → IfSome o Q → Q (effect_or_error o (kind_of s a) s st a c) = elim [ None ↦ λ m. error | Some e ↦ λ m. m ] in
-    let go : (b : Bool) → Q (effect_or_error (cond {A = Option Effect} b (call_case s st a c h) None) (kind_of s a) s st a c) = elim [ true ↦ of_call (call_case s st a c h) made | false ↦ error ] in
-    go (has_call (kind_of s a) c)
 
 errors : (s : System) (st : State) (a : ℕ) (c : Call) (P : SpmState → Type 0) → EachChange s st.spm a c P → phase_of st.spm a ≡ Running → (k : ActorKind) → P (error_effect k s st a c).state.spm
 errors s st a c P k running Partition = k.panics running

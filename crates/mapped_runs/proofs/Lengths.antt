@@ -2,6 +2,7 @@
 use Rattle.std.proofs.Common.{ℕ, zero, suc, ◌+◌, ◌-◌, ◌*◌, ◌<◌, ◌≤◌, ◌≡◌, Bool, true, false, List, [], ◌∷◌, length, get_or, take, refl, ap, ap₂, sym, ◌∙◌, subst, arith}
 use Rattle.std.specs.Prelude.{ℤ, pos, negsuc, Some, if◌then◌else◌, ◌&&◌, int_le, int_lt, nat_le, nat_lt, slice_index}
 use Rattle.std.proofs.lemmas.Bool.Decides.{nat_tests}
+use Rattle.std.proofs.lemmas.List.{get_or-take}
 use Rattle.ffm_model.specs.declared.constants.TheConstants.{PSA_IPC_CALL}
 use Rattle.ffm_model.specs.declared.system.System.{System}
 use Rattle.ffm_model.specs.declared.system.ActorKind.TheVariants.{Partition}
@@ -20,6 +21,7 @@ use Rattle.ffm_model.specs.ServiceCalls.{output_at, outputs_given}
 use Rattle.ffm_model.specs.Step.{handle_shown, outcome_eq}
 use Rattle.ffm_model.specs.Held.{VectorState, is_mapped, is_or_was_mapped, vector_at}
 use Rattle.ffm_model.specs.Held.VectorState.{unmapped}
+use Rattle.ffm_model.proofs.BytesLemmas.{bytes-same}
 use Rattle.counting_law.proofs.Reply.{not_negative}
 use Rattle.mapped_runs.specs.Windows.{LengthsAreTold, WasUnmapped, length_word}
 use Rattle.mapped_runs.proofs.Changes.{reply-made}
@@ -28,7 +30,7 @@ use Rattle.mapped_runs.proofs.Fits.{Match, mapped-unwritten}
 use Rattle.mapped_runs.proofs.Kept.{unmapped_in}
 use Rattle.mapped_runs.proofs.Once.{unmapped-once}
 use Rattle.mapped_runs.proofs.Own.{own-has}
-use Rattle.mapped_runs.proofs.Ranges.{bytes-same, written-at}
+use Rattle.mapped_runs.proofs.Ranges.{written-at}
 use Rattle.mapped_runs.proofs.Tables.{is_unmapped, large-there}
 use Rattle.counting_law.proofs.OwnSteps.{Own}
 
@@ -59,18 +61,12 @@ length-at : (m : ByteMap) (at : ℕ) (vs : List Span) (i : ℕ) → i < length v
 length-at m at [] i lt = absurd (omega (arith, lt))
 length-at m at (v ∷ vs) zero lt =
     let stored : ByteMap = store_number m (at + 4) 4 v.moved in
-    bytes-same (lengths_written stored (at + 8) vs) stored 4 (at + 8 * 0 + 4) (at + 4)
+    bytes-same (lengths_written stored (at + 8) vs) stored (at + 8 * 0 + 4) (at + 4) 4
     (λ j few. lengths-before stored (at + 8) vs (at + 8 * 0 + 4 + j) (omega arith) ∙ ap stored (omega arith)) ∙ written m (low_bytes 4 v.moved) (at + 4)
 length-at m at (v ∷ vs) (suc i) lt =
     let stored : ByteMap = store_number m (at + 4) 4 v.moved in
     let place : at + 8 * suc i + 4 ≡ at + 8 + 8 * i + 4 = omega arith in
     ap (λ (x : ℕ). bytes_at (lengths_written stored (at + 8) vs) x 4) place ∙ length-at stored (at + 8) vs i (omega (arith, lt))
-
-take-at : (n : ℕ) (vs : List Span) (i : ℕ) → i < n → get_or (take n vs) i no_span ≡ get_or vs i no_span
-take-at zero vs i lt = absurd (omega arith)
-take-at (suc n) [] i lt = refl
-take-at (suc n) (v ∷ vs) zero lt = refl
-take-at (suc n) (v ∷ vs) (suc i) lt = take-at n vs i (omega arith)
 
 take-there : (n : ℕ) (vs : List Span) (i : ℕ) → i < n → i < length vs → i < length (take n vs)
 take-there zero vs i lt there = absurd (omega (arith, lt))
@@ -130,7 +126,7 @@ lengths-are-told s m a script es e old new h status x index event is done there 
       len = (output_at message index).moved;
       word = ap (λ (f : ByteMap). bytes_at f (length_word message index) 4) memory
           ∙ (length-at old.memory message.vectors.out_vec (outputs_given message) index (take-there message.vectors.out_len message.vectors.output index given there_is)
-          ∙ ap (λ (v : Span). low_bytes 4 v.moved) (take-at message.vectors.out_len message.vectors.output index given));
+          ∙ ap (λ (v : Span). low_bytes 4 v.moved) (get_or-take message.vectors.out_len message.vectors.output index no_span given));
       still = λ on. it.fits.unwritten index (mapped-unwritten (vector_at x.output index).state on);
       unmapped = unmaps;
       only = λ n was. once.one n (output_at message index).moved was (unmaps (once.gone n x was there));

@@ -18,7 +18,7 @@ use Rattle.ffm_model.specs.Records.{ends_blocked, outcomes_of}
 use Rattle.ffm_model.specs.ScriptRuns.{most_lines, line_call}
 use Rattle.ffm_model.specs.Held.{Holder, HeldMessage, can_map_in, can_map_out, can_unmap_in, can_unmap_out, changed_at, input_size, input_window, is_refused, output_window, table_behind, table_touched, touched, with_input, with_output}
 use Rattle.ffm_model.specs.Held.VectorState.{mapped, unmapped}
-use Rattle.ffm_model.specs.HeldPlans.{Holding, call_made, handle_at, held_arrived, held_behind, held_call, held_step, held_steps, led_to, line_step, map_line, next_line, number_at, table_noted}
+use Rattle.ffm_model.specs.HeldPlans.{Holding, call_made, handle_operand, held_arrived, held_behind, held_call, held_step, held_steps, led_to, line_step, map_line, next_line, number_operand, table_noted}
 use Rattle.ffm_model.specs.HeldPlans.LineStep.{leads, makes}
 use Rattle.mapped_runs.proofs.Changes.{is_vector_call}
 
@@ -132,14 +132,14 @@ write-by p x (Some (line.Make n operands)) h index buffer len o P is other unmap
     other (made-write x.table (line_call x.at.registers (line.Make n operands)) h index buffer len (is_refused x.table (line_call x.at.registers (line.Make n operands))) refl is)
 write-by p x (Some (line.Map UnmapOut operands)) h index buffer len o P is other unmaps =
     let registers : List ℕ = x.at.registers in
-    unmaps operands refl (unmapped-by p x.table (handle_at registers operands 0) h (number_at registers operands 1) index (number_at registers operands 2) buffer len
-    (chosen-panic (can_unmap_out x.table (handle_at registers operands 0) (number_at registers operands 1) (number_at registers operands 2)) _ (call.Write h index buffer len) is (λ z. cc))).0
+    unmaps operands refl (unmapped-by p x.table (handle_operand registers operands 0) h (number_operand registers operands 1) index (number_operand registers operands 2) buffer len
+    (chosen-panic (can_unmap_out x.table (handle_operand registers operands 0) (number_operand registers operands 1) (number_operand registers operands 2)) _ (call.Write h index buffer len) is (λ z. cc))).0
 write-by p x (Some (line.Map MapIn operands)) h index buffer len o P is other unmaps =
     let registers : List ℕ = x.at.registers in
-    let bad = chosen-panic (can_map_in p x.table (handle_at registers operands 0) (number_at registers operands 1)) _ (call.Write h index buffer len) is (λ z. cc) in
+    let bad = chosen-panic (can_map_in p x.table (handle_operand registers operands 0) (number_operand registers operands 1)) _ (call.Write h index buffer len) is (λ z. cc) in
     let no = bad.1 in cc
-write-by p x (Some (line.Map MapOut operands)) h index buffer len o P is other unmaps = absurd (never-writes (can_map_out p x.table (handle_at x.at.registers operands 0) (number_at x.at.registers operands 1)) _ h index buffer len is)
-write-by p x (Some (line.Map UnmapIn operands)) h index buffer len o P is other unmaps = absurd (never-writes (can_unmap_in x.table (handle_at x.at.registers operands 0) (number_at x.at.registers operands 1)) _ h index buffer len is)
+write-by p x (Some (line.Map MapOut operands)) h index buffer len o P is other unmaps = absurd (never-writes (can_map_out p x.table (handle_operand x.at.registers operands 0) (number_operand x.at.registers operands 1)) _ h index buffer len is)
+write-by p x (Some (line.Map UnmapIn operands)) h index buffer len o P is other unmaps = absurd (never-writes (can_unmap_in x.table (handle_operand x.at.registers operands 0) (number_operand x.at.registers operands 1)) _ h index buffer len is)
 write-by p x _ h index buffer len o P is other unmaps = cc
 
 pub write-noted : (p : Holder) (script : List Instruction) (x : Holding) (h : Handle) (index buffer len : ℕ) (o : Outcome) (P : List HeldMessage → Type 0) → held_call p script x ≡ call.Write h index buffer len
@@ -174,8 +174,8 @@ unfolding held_call
 map_in-call p script x operands h index buffer len at is =
     let registers : List ℕ = x.at.registers in
     let made = sym (ap (λ (o : Option Instruction). option_map_or (λ i. call_made (line_step p x i)) o (call.Stop false)) at) ∙ is in
-    maps-by p x.table (handle_at registers operands 0) h (number_at registers operands 1) index buffer len
-    (chosen-panic (can_map_in p x.table (handle_at registers operands 0) (number_at registers operands 1)) _ (call.Read h index buffer len) made (λ z. cc))
+    maps-by p x.table (handle_operand registers operands 0) h (number_operand registers operands 1) index buffer len
+    (chosen-panic (can_map_in p x.table (handle_operand registers operands 0) (number_operand registers operands 1)) _ (call.Read h index buffer len) made (λ z. cc))
 
 pub unmap_out-call : (p : Holder) (script : List Instruction) (x : Holding) (operands : List Operand) (h : Handle) (index buffer len : ℕ) → slice_get script x.at.place ≡ Some (line.Map UnmapOut operands)
     → held_call p script x ≡ call.Write h index buffer len → (can_unmap_out x.table h index len ≡ true) × (buffer ≡ output_window p index)
@@ -183,8 +183,8 @@ unfolding held_call
 unmap_out-call p script x operands h index buffer len at is =
     let registers : List ℕ = x.at.registers in
     let made = sym (ap (λ (o : Option Instruction). option_map_or (λ i. call_made (line_step p x i)) o (call.Stop false)) at) ∙ is in
-    unmapped-by p x.table (handle_at registers operands 0) h (number_at registers operands 1) index (number_at registers operands 2) buffer len
-    (chosen-panic (can_unmap_out x.table (handle_at registers operands 0) (number_at registers operands 1) (number_at registers operands 2)) _ (call.Write h index buffer len) made (λ z. cc))
+    unmapped-by p x.table (handle_operand registers operands 0) h (number_operand registers operands 1) index (number_operand registers operands 2) buffer len
+    (chosen-panic (can_unmap_out x.table (handle_operand registers operands 0) (number_operand registers operands 1) (number_operand registers operands 2)) _ (call.Write h index buffer len) made (λ z. cc))
 
 -- ---- runs of a plan
 

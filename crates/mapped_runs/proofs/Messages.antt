@@ -7,6 +7,7 @@ use Rattle.std.proofs.lemmas.Bool.{and_parts, and_from, false_from_ne_true, and_
 use Rattle.std.proofs.lemmas.List.Folds.{find-append}
 use Rattle.list_laws.proofs.Counts.{bit, count-cons, find-narrow}
 use Rattle.list_laws.proofs.Tests.{find-map, find-passes, find-same}
+use Rattle.list_laws.proofs.Lists.{AllByRecursion-append}
 use Rattle.ffm_model.specs.declared.system.System.{System}
 use Rattle.ffm_model.specs.declared.system.Service.{Service}
 use Rattle.ffm_model.specs.declared.machine.Handle.{Handle}
@@ -224,12 +225,11 @@ own-kept s limit b a d balanced off = record {
 
 -- ---- nothing was moved of the messages that wait for psa_get
 
-abbrev pub AreWaiting : List PendingMessage → Type 0
-AreWaiting ms = AllByRecursion (λ m. is_none m.handle ≡ true → AreNew m.vectors) ms
+abbrev pub WaitsNew : PendingMessage → Type 0
+WaitsNew m = is_none m.handle ≡ true → AreNew m.vectors
 
-append-waiting : (xs ys : List PendingMessage) → AreWaiting xs → AreWaiting ys → AreWaiting (xs ++ ys)
-append-waiting [] ys h k = k
-append-waiting (x ∷ xs) ys h k = (h.0, append-waiting xs ys h.1 k)
+abbrev pub AreWaiting : List PendingMessage → Type 0
+AreWaiting ms = AllByRecursion WaitsNew ms
 
 filter-waiting-by : (b : Bool) (m : PendingMessage) (ms : List PendingMessage) → (is_none m.handle ≡ true → AreNew m.vectors) → AreWaiting ms → AreWaiting (if b then m ∷ ms else ms)
 filter-waiting-by true m ms h k = (h, k)
@@ -270,7 +270,7 @@ lost-waiting s p [] = tt
 lost-waiting s p (c ∷ cs) = lost-waiting-by p (without_service s p c) (filter_map (λ c. option_and_then (disconnection p) (without_service s p c)) cs) (lost-waiting s p cs)
 
 panic-waiting : (s : System) (b : SpmState) (p : ℕ) → AreWaiting b.messages → AreWaiting (panic_effect s b p).messages
-panic-waiting s b p k = append-waiting (filter (λ m. not (is_service_of s p m.service)) b.messages) _ (filter-waiting (λ m. not (is_service_of s p m.service)) b.messages k) (lost-waiting s p b.connections)
+panic-waiting s b p k = AllByRecursion-append WaitsNew (filter (λ m. not (is_service_of s p m.service)) b.messages) _ (filter-waiting (λ m. not (is_service_of s p m.service)) b.messages k) (lost-waiting s p b.connections)
 
 pub waiting-kept : (s : System) (limit : Handle → ℕ) (b : SpmState) (x : ℕ) (d : Call) → Balanced s limit b → AreWaiting b.messages → EachChange s b x d (λ new. AreWaiting new.messages)
 waiting-kept s limit b x d balanced k =
@@ -278,7 +278,7 @@ waiting-kept s limit b x d balanced k =
     λ h status m there. subst AreWaiting (sym (settled-messages b h status m)) (filter-waiting (λ m. not (has_handle m.handle h)) b.messages k) in
     record {
       same = λ new e. subst AreWaiting (sym e) k;
-      pushes = λ new m none fresh e. subst AreWaiting (sym e) (append-waiting b.messages (m ∷ []) k ((λ z. fresh), tt));
+      pushes = λ new m none fresh e. subst AreWaiting (sym e) (AllByRecursion-append WaitsNew b.messages (m ∷ []) k ((λ z. fresh), tt));
       gets = λ v h signal is found. deliver-waiting v h b.messages k;
       moves = λ h v n is there. put-waiting h v b.messages k;
       replies = λ h status n is there. gone h status n there;

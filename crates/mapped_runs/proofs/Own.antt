@@ -34,11 +34,12 @@ use Rattle.ffm_model.specs.Calls.{call_case, error_effect, effect_of}
 use Rattle.ffm_model.specs.Step.{handle_allowed, handle_shown, outcome_eq, message_eq}
 use Rattle.ffm_model.specs.Records.{is_blocked_outcome}
 use Rattle.ffm_model.specs.Held.{Holder, HolderService, HeldMessage, HeldVector, changed_at, fresh_vector, held, holder_of, is_held_as, most_held, table_behind, vector_at, with_message_of, without}
+use Rattle.ffm_model.proofs.StepLemmas.{effect-has}
 use Rattle.counting_law.proofs.Balance.{Balanced}
 use Rattle.counting_law.proofs.Events.{caller-running}
 use Rattle.counting_law.proofs.Resume.{fresh-new, int_same, times}
 use Rattle.counting_law.proofs.Walk.{handle-same, handle-self}
-use Rattle.mapped_runs.proofs.Changes.{AreNew, Unmoved, effect-has, get-made, read-made, reply-leaves, reply-made, request-is, skip-made, write-made}
+use Rattle.mapped_runs.proofs.Changes.{AreNew, Unmoved, get-made, read-made, reply-leaves, reply-made, request-is, skip-made, write-made}
 use Rattle.mapped_runs.proofs.Fits.{AreHeld, Fits, InputUse, Match, OutputUse, input-fits, moved-held, output-fits}
 use Rattle.mapped_runs.proofs.Messages.{AreWaiting, first-new, get-found, get-still, owed-still, self-dead, settled-still}
 use Rattle.mapped_runs.proofs.Tables.{changed-count, handle-flip, is_unmapped, new-kept, new-size, new-unmapped, new-unused, none-held, same_handle, without-count, without-other, without-same}

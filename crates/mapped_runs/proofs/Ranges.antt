@@ -15,6 +15,7 @@ use Rattle.ffm_model.specs.Held.{holder_of, window, window_size}
 use Rattle.ffm_model.specs.Memory.{ByteMap, bytes_at, copy_bytes, domain_of, is_ram_of, lies_in, valid_buffer, write_bytes}
 use Rattle.ffm_model.specs.PartitionRam.{heap_of, ram_base, ram_size_of}
 use Rattle.ffm_model.specs.WellFormed.{is_ram_in, ram_size}
+use Rattle.ffm_model.proofs.BytesLemmas.{bytes-index, bytes-length, bytes-same}
 use Rattle.ffm_model.proofs.WellFormedLemmas.{models_hold, partitions_hold}
 use Rattle.counting_law.proofs.Owners.{own-ram}
 
@@ -68,22 +69,6 @@ window-valid s a i len partition inside few short =
 
 -- ---- copies
 
-pub bytes-same : (f g : ByteMap) (n x y : ℕ) → ((i : ℕ) → i < n → f (x + i) ≡ g (y + i)) → bytes_at f x n ≡ bytes_at g y n
-bytes-same f g zero x y h = refl
-bytes-same f g (suc n) x y h =
-    let first : f x ≡ g y = ap f (omega arith) ∙ (h 0 (omega arith) ∙ ap g (omega arith)) in
-    ap₂ (λ (b : ℕ) (bs : List ℕ). b ∷ bs) first
-    (bytes-same f g n (x + 1) (y + 1) (λ i lt. ap f (omega arith) ∙ (h (suc i) (omega arith) ∙ ap g (omega arith))))
-
-bytes-length : (m : ByteMap) (n x : ℕ) → length (bytes_at m x n) ≡ n
-bytes-length m zero x = refl
-bytes-length m (suc n) x = omega (arith, bytes-length m n (x + 1))
-
-bytes-index : (m : ByteMap) (n x i : ℕ) → i < n → get_or (bytes_at m x n) i 0 ≡ m (x + i)
-bytes-index m zero x i lt = absurd (omega arith)
-bytes-index m (suc n) x zero lt = ap m (omega arith)
-bytes-index m (suc n) x (suc i) lt = bytes-index m n (x + 1) i (omega arith) ∙ ap m (omega arith)
-
 pub written-at : (m : ByteMap) (bs : List ℕ) (x i : ℕ) → i < length bs → write_bytes m x bs (x + i) ≡ get_or bs i 0
 written-at m bs x i lt =
     let one : nat_le x (x + i) ≡ true = grind (arith, nat_tests) in
@@ -94,5 +79,5 @@ written-at m bs x i lt =
 -- what was read stands where it was written, wherever that is
 pub copied : (m : ByteMap) (from to n : ℕ) → bytes_at (copy_bytes m from to n) to n ≡ bytes_at m from n
 copied m from to n =
-    bytes-same (copy_bytes m from to n) m n to from
-    (λ i lt. written-at m (bytes_at m from n) to i (omega (arith, bytes-length m n from)) ∙ bytes-index m n from i lt)
+    bytes-same (copy_bytes m from to n) m to from n
+    (λ i lt. written-at m (bytes_at m from n) to i (omega (arith, bytes-length m from n)) ∙ bytes-index m from n i lt)

@@ -10,17 +10,14 @@ use Rattle.byte_lanes.specs.Unequal.{are_unequal}
 use Rattle.byte_lanes.specs.Differences.{differs, range_covers, IsLeast}
 use Rattle.byte_lanes.proofs.Blocks.{told}
 use Rattle.ffm_model.specs.Memory.{ByteMap, bytes_at}
-
-pub length-bytes_at : (m : ByteMap) (a n : ℕ) → length (bytes_at m a n) ≡ n
-length-bytes_at m a zero = refl
-length-bytes_at m a (suc n) = let rest = length-bytes_at m (a + 1) n in omega (arith, rest)
+use Rattle.ffm_model.proofs.BytesLemmas.{bytes-length}
 
 abbrev pairs : ByteMap → ByteMap → ℕ → ℕ → List (ℕ × ℕ)
 pairs m k a n = zip (bytes_at m a n) (bytes_at k a n)
 
 -- slices that hold a range are of one length
 pub same_length : (m k : ByteMap) (a n : ℕ) (xs ys : List ℕ) → xs ≡ bytes_at m a n → ys ≡ bytes_at k a n → length xs ≡ length ys
-same_length m k a n xs ys one other = ap length one ∙ length-bytes_at m a n ∙ sym (ap length other ∙ length-bytes_at k a n)
+same_length m k a n xs ys one other = ap length one ∙ bytes-length m a n ∙ sym (ap length other ∙ bytes-length k a n)
 
 pub counted_at : (m k : ByteMap) (a n : ℕ) → count_by are_unequal (pairs m k a n) ≡ count_by (differs m k) (range_with_len a n)
 counted_at m k a zero = refl
@@ -64,7 +61,7 @@ run_at m k a zero = record { within = omega arith; before = λ x low high. absur
 run_at m k a (suc n) = run_step (differs m k a) m k a n _ refl (run_at m k (a + 1) n)
 
 length_of_pairs : (m k : ByteMap) (a n : ℕ) → length (pairs m k a n) ≡ n
-length_of_pairs m k a n = grind (arith, length-zip (bytes_at m a n) (bytes_at k a n), length-bytes_at m a n, length-bytes_at k a n)
+length_of_pairs m k a n = grind (arith, length-zip (bytes_at m a n) (bytes_at k a n), bytes-length m a n, bytes-length k a n)
 
 told_none : (b : Bool) (d : ℕ) → None ≡ cond b (Some d) None → b ≡ false
 told_none true d e = absurd (grind (arith, e))

@@ -10,5 +10,4 @@ pub mod Changed
 pub mod Compared
 pub mod Outside
 pub mod Vectors
-pub mod Effects
 pub mod Messages

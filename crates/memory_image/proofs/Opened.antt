@@ -1,9 +1,10 @@
 -- The memory that an image begins with.
-use Rattle.std.proofs.Common.{ℕ, zero, suc, ◌≡◌, ◌<◌, ◌-◌, Bool, true, false, ◌||◌, List, [], ◌∷◌, length, get_or, ◌∙◌, ap, refl}
-use Rattle.std.specs.Prelude.{slice_index, ◌==◌, map, replicate, if◌then◌else◌}
+use Rattle.std.proofs.Common.{ℕ, ◌≡◌, ◌<◌, ◌-◌, Bool, true, false, ◌||◌, List, [], ◌∷◌, length, get_or, ◌∙◌, ap, refl}
+use Rattle.std.specs.Prelude.{◌==◌, map, if◌then◌else◌}
 use Rattle.std.specs.List.{list_any}
 use Rattle.std.proofs.lemmas.List.{length-replicate}
 use Rattle.std.proofs.Math.Path.{fun_ext}
+use Rattle.list_laws.proofs.Lists.{get_or-replicate_same}
 use Rattle.ffm_model.specs.declared.scenario.Bytes.{Bytes}
 use Rattle.ffm_model.specs.declared.system.Region.{Region}
 use Rattle.ffm_model.specs.Memory.{opening_memory, lies_in}
@@ -16,18 +17,13 @@ pub regions_of-zero : (rs : List Region) → regions_of (map zero_piece rs) ≡ 
 regions_of-zero [] = refl
 regions_of-zero (r ∷ rs) = let zero_byte : ℕ = 0 in rw (length-replicate r.size zero_byte) (ap (λ es. (r.base, r.size) ∷ es) (regions_of-zero rs))
 
-zeros : (n k : ℕ) → slice_index (replicate n 0) k ≡ 0
-zeros zero k = refl
-zeros (suc n) zero = refl
-zeros (suc n) (suc k) = zeros n k
-
 same_either : (b : Bool) (m n k : ℕ) → m ≡ k → n ≡ k → if b then m else n ≡ k
 same_either true m n k first second = first
 same_either false m n k first second = second
 
 pub byte_at-zero : (rs : List Region) (x : ℕ) → byte_at (map zero_piece rs) x ≡ 0
 byte_at-zero [] x = refl
-byte_at-zero (r ∷ rs) x = same_either (range_covers (range_of (zero_piece r)) x) _ _ 0 (zeros r.size (x - r.base)) (byte_at-zero rs x)
+byte_at-zero (r ∷ rs) x = same_either (range_covers (range_of (zero_piece r)) x) _ _ 0 (get_or-replicate_same {X = ℕ} r.size (x - r.base) 0) (byte_at-zero rs x)
 
 inside_later : (b c d e : Bool) → ((b || c) || d) ≡ true → (d ≡ true → (b || e) ≡ true) → (b || (c || e)) ≡ true
 inside_later true c d e h rest = refl

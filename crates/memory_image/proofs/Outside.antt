@@ -3,7 +3,7 @@ use Rattle.std.proofs.Common.{ℕ, zero, suc, ◌≡◌, ◌+◌, ◌*◌, ◌/�
 use Rattle.std.proofs.lemmas.Bool.Decides.{nat_tests}
 use Rattle.byte_lanes.specs.Differences.{range_covers}
 use Rattle.ffm_model.specs.Memory.{ByteMap, bytes_at, copy_bytes, low_bytes, store_number, words_stored, write_bytes}
-use Rattle.memory_image.proofs.Changed.{length-bytes_at}
+use Rattle.ffm_model.proofs.BytesLemmas.{bytes-length}
 
 length-low_bytes : (n v : ℕ) → length (low_bytes n v) ≡ n
 length-low_bytes zero v = refl
@@ -25,4 +25,4 @@ words_stored-outside m at x (w ∷ ws) out =
 
 -- a copy changes its target alone
 pub copy_bytes-outside : (m : ByteMap) (from to len x : ℕ) → range_covers (to, len) x ≡ false → copy_bytes m from to len x ≡ m x
-copy_bytes-outside m from to len x out = write_bytes-outside m to (bytes_at m from len) len x (length-bytes_at m from len) out
+copy_bytes-outside m from to len x out = write_bytes-outside m to (bytes_at m from len) len x (bytes-length m from len) out

@@ -11,6 +11,7 @@ use Rattle.ffm_model.specs.declared.objects.Span.{Span}
 use Rattle.ffm_model.specs.declared.objects.Vectors.{Vectors}
 use Rattle.ffm_model.specs.Memory.{ByteMap, write_bytes, store_number, low_bytes, copy_bytes, bytes_at, span_at, spans_at, vectors_read, vectors_of, valid_buffer, is_ram_of, lengths_written, no_span, number_of, load_number}
 use Rattle.ffm_model.specs.Reach.{span_has, length_word_has}
+use Rattle.ffm_model.proofs.BytesLemmas.{bytes-same}
 use Rattle.ffm_model.specs.ServiceCalls.{rest_of}
 use Rattle.byte_lanes.specs.Differences.{range_covers}
 use Rattle.message_vectors.specs.Bytes.{ram_has, AgreeWhere, TellsNothingAt}
@@ -24,11 +25,7 @@ write_bytes-tells one other a bs x = by_test (range_covers (a, length bs) x) ref
 
 -- bytes of memories that agree there
 pub bytes_at-same : (one other : ByteMap) (a len : ℕ) → AgreeWhere (λ x. range_covers (a, len) x) one other → bytes_at one a len ≡ bytes_at other a len
-bytes_at-same one other a zero same = refl
-bytes_at-same one other a (suc len) same =
-    let here : one a ≡ other a = same a (grind (arith, nat_tests)) in
-    let rest : bytes_at one (a + 1) len ≡ bytes_at other (a + 1) len = bytes_at-same one other (a + 1) len (λ x h. same x (grind (arith, nat_tests))) in
-    rw (here, rest) refl
+bytes_at-same one other a len same = bytes-same one other a a len (λ i lt. same (a + i) (grind (arith, nat_tests)))
 
 -- a number is read from its own bytes alone
 pub load_number-same : (one other : ByteMap) (at size : ℕ) → AgreeWhere (λ x. range_covers (at, size) x) one other → load_number one at size ≡ load_number other at size

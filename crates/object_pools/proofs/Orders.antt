@@ -4,6 +4,7 @@ use Rattle.std.specs.Prelude.{count_by, find, Option, Some, None, is_some, slice
 use Rattle.std.specs.List.{filter_map, cons_option}
 use Rattle.std.proofs.lemmas.Option.{same_Some}
 use Rattle.std.proofs.lemmas.List.Elements.{All-nil, All-cons}
+use Rattle.std.proofs.lemmas.Bool.{eqb-true}
 use Rattle.object_pools.specs.declared.slot.Held.{Held}
 use Rattle.object_pools.specs.Pool.{is_at}
 use Rattle.list_laws.proofs.Counts.{bit, count-cons}
@@ -14,9 +15,6 @@ times i ks = count_by (λ k. k == i) ks
 
 pub same_bit : (k : ℕ) → bit (k == k) ≡ 1
 same_bit k = grind arith
-
-pub same_number : (k i : ℕ) → (k == i) ≡ true → k ≡ i
-same_number k i e = grind arith
 
 pub other_number : (k i : ℕ) → (k == i) ≡ false → k ≢ i
 other_number k i e = λ same. grind arith
@@ -144,7 +142,7 @@ module _ {T : Type 0} where
       λ same. rest ∙ ap (λ b. cond (not b) (h ∷ right) right) (sym passes) ∙ ap (λ x. filter (λ y. not (p y)) (cons_option x (filter_map f ks))) (sym (ap f same ∙ here)) in
       let go : (b : Bool) → (k == i) ≡ b → filter_map g (cond (not b) (k ∷ filter (λ j. not (j == i)) ks) (filter (λ j. not (j == i)) ks)) ≡ filter (λ y. not (p y)) (cons_option (f k) (filter_map f ks)) =
       elim [
-        | true ↦ λ e. gone (same_number k i e)
+        | true ↦ λ e. gone (eqb-true k i e)
         | false ↦ λ e. let apart : k ≢ i = other_number k i e in ap (λ x. cons_option x left) (others k apart) ∙ kept (f k) refl apart
       ] in
       go (k == i) refl
@@ -172,7 +170,7 @@ module _ {T : Type 0} where
       ∙ ap (λ x. map (λ y. if p y then u y else y) (cons_option x (filter_map f ks))) (sym (ap f same ∙ here)) in
       let go : (b : Bool) → (k == i) ≡ b → cons_option (g k) (filter_map g ks) ≡ map (λ y. if p y then u y else y) (cons_option (f k) (filter_map f ks)) =
       elim [
-        | true ↦ λ e. put (same_number k i e)
+        | true ↦ λ e. put (eqb-true k i e)
         | false ↦ λ e. let apart : k ≢ i = other_number k i e in ap (λ x. cons_option x (filter_map g ks)) (others k apart) ∙ kept (f k) refl apart
       ] in
       go (k == i) refl

@@ -6,7 +6,7 @@ use Rattle.std.specs.Option.{option_map}
 use Rattle.std.proofs.Math.ListN.{length-set}
 use Rattle.std.proofs.lemmas.List.{get_or-set_same, length-map}
 use Rattle.std.proofs.lemmas.Option.{same_Some, slice_get_read}
-use Rattle.std.proofs.lemmas.Bool.{and_parts, eq-eqb}
+use Rattle.std.proofs.lemmas.Bool.{and_parts, eq-eqb, eqb-true}
 use Rattle.object_pools.specs.declared.slot.Slot.{Slot}
 use Rattle.object_pools.specs.declared.slot.Held.{Held}
 use Rattle.object_pools.specs.declared.cells.Cell.{Cell}
@@ -14,7 +14,7 @@ use Rattle.object_pools.specs.Pool.{is_at, has_slot, item_at, free_index}
 use Rattle.object_pools.specs.Cells.{under_slot, held_in, held_at, item_in, generations_of, places_of, Stored}
 use Rattle.list_laws.proofs.Counts.{bit, any-count, none-count}
 use Rattle.list_laws.proofs.Tests.{find-same}
-use Rattle.object_pools.proofs.Orders.{times, Owns, Narrow, Filled, count-held, find-here, find-none, length-held, nth-held, same_number}
+use Rattle.object_pools.proofs.Orders.{times, Owns, Narrow, Filled, count-held, find-here, find-none, length-held, nth-held}
 
 -- ---- a list with one element written
 
@@ -31,6 +31,9 @@ get-set_other (y ∷ ys) (suc i) (suc k) x apart = get-set_other ys i k x (λ sa
 
 -- ---- items at an index
 
+pub has_own : (s : Slot) → ((s.index == s.index) && (s.generation == s.generation)) ≡ true
+has_own s = grind arith
+
 module _ {T : Type 0} where
   pub slot_of : (i g : ℕ) (o : Option T) (h : Held T) → option_map (under_slot (record { index = i; generation = g })) o ≡ Some h → h.slot ≡ record { index = i; generation = g }
   slot_of i g None h e = cc
@@ -44,10 +47,10 @@ module _ {T : Type 0} where
   Owns-held cells = record { own = λ k h e. slot_at k (slice_get cells k) h e }
 
   pub Narrow-at : (i : ℕ) → Narrow {T = T} (is_at i) i
-  Narrow-at i = record { index = λ h e. same_number h.slot.index i e }
+  Narrow-at i = record { index = λ h e. eqb-true h.slot.index i e }
 
   pub Narrow-slot : (s : Slot) → Narrow {T = T} (has_slot s) s.index
-  Narrow-slot s = record { index = λ h e. same_number h.slot.index s.index (and_parts (h.slot.index == s.index) (h.slot.generation == s.generation) e).0 }
+  Narrow-slot s = record { index = λ h e. eqb-true h.slot.index s.index (and_parts (h.slot.index == s.index) (h.slot.generation == s.generation) e).0 }
 
   pub Filled-order : (capacity : ℕ) (cells : List (Cell T)) (order : List ℕ) (takes : ℕ) → Stored capacity cells order takes → Filled (held_at cells) order
   Filled-order capacity cells order takes st = record {
@@ -159,7 +162,7 @@ module _ {T : Type 0} where
         | Some c ↦
             let test : (b : Bool) → (c.generation == s.generation) ≡ b → cond b c.item None ≡ Some x → Some c ≡ Some (record { generation = s.generation; item = Some x }) =
             elim [
-              | true ↦ λ same e. let g : c.generation ≡ s.generation = same_number c.generation s.generation same in λ j. Some (record { generation = g j; item = e j })
+              | true ↦ λ same e. let g : c.generation ≡ s.generation = eqb-true c.generation s.generation same in λ j. Some (record { generation = g j; item = e j })
               | false ↦ λ other e. cc
             ] in
             test (c.generation == s.generation) refl

@@ -1,5 +1,5 @@
 -- What a pool's cells and order keep through a take, a change and a putting back, and what the pool is then.
-use Rattle.std.proofs.Common.{ℕ, zero, suc, ◌≡◌, ◌≢◌, ◌<◌, ◌≤◌, ◌+◌, ◌^◌, ◌==◌, Bool, true, false, cond, not, ◌&&◌, List, [], ◌∷◌, ◌++◌, length, map, filter, get_or, set, replicate, arith, ◌∙◌, ap, sym, refl, subst}
+use Rattle.std.proofs.Common.{ℕ, zero, suc, ◌≡◌, ◌≢◌, ◌<◌, ◌≤◌, ◌+◌, ◌^◌, ◌==◌, Bool, true, false, cond, not, List, [], ◌∷◌, ◌++◌, length, map, filter, get_or, set, replicate, arith, ◌∙◌, ap, sym, refl, subst}
 use Rattle.std.specs.Prelude.{find, Option, Some, None, is_some, is_none, slice_get, option_and_then, IsSome}
 use Rattle.std.specs.List.{filter_map, cons_option, range_with_len}
 use Rattle.std.specs.Option.{option_map}
@@ -8,22 +8,24 @@ use Rattle.std.proofs.Math.Seq.{map-set_same}
 use Rattle.std.proofs.lemmas.List.{map-set, get_or-set_same, get_or-set_other, length-map}
 use Rattle.std.proofs.lemmas.List.Elements.{filter_map-append}
 use Rattle.std.proofs.lemmas.Option.{slice_get_within, slice_get-get_or, slice_get-map, get_or_from_slice_get}
+use Rattle.std.proofs.lemmas.Bool.{eqb-true}
 use Rattle.object_pools.specs.declared.slot.Slot.{Slot}
 use Rattle.object_pools.specs.declared.slot.Held.{Held}
 use Rattle.object_pools.specs.declared.cells.Cell.{Cell}
 use Rattle.object_pools.specs.Pool.{most_takes, has_slot, item_put, item_at, free_slot, taken, without, with_item, IsNamed, IsKept}
 use Rattle.object_pools.specs.Cells.{under_slot, held_in, held_at, item_in, generations_of, generation_at, places_of, Stored}
 use Rattle.list_laws.proofs.Counts.{bit, bit-le, count-cons, count-push}
-use Rattle.object_pools.proofs.Orders.{times, same-else, filter-out, map-put, all-held, same_number, other_number, same_bit, other_bit}
+use Rattle.object_pools.proofs.Orders.{times, same-else, filter-out, map-put, all-held, other_number, same_bit, other_bit}
 use Rattle.object_pools.proofs.Pigeons.{Once, Below, fits, has_room, is_full, index-below}
-use Rattle.object_pools.proofs.Stores.{Owns-held, Narrow-slot, Filled-order, live-length, count-at, free-is, held-set_same, held-set_other, live-cell, slot_of, at-slot, at-place}
+use Rattle.object_pools.proofs.Stores.{Owns-held, Narrow-slot, Filled-order, live-length, count-at, free-is, held-set_same, held-set_other, live-cell, slot_of, at-slot, at-place, has_own}
 use Rattle.list_laws.proofs.Tests.{find-passes}
+use Rattle.list_laws.proofs.Lists.{get_or-replicate_same}
 
 -- one index, and all others
 pub at_each : (P : ℕ → Type 0) (i : ℕ) → P i → ((j : ℕ) → j ≢ i → P j) → (j : ℕ) → P j
 at_each P i here others j =
     let go : (b : Bool) → (j == i) ≡ b → P j =
-    elim [ true ↦ λ e. subst P (sym (same_number j i e)) here | false ↦ λ e. others j (other_number j i e) ] in
+    elim [ true ↦ λ e. subst P (sym (eqb-true j i e)) here | false ↦ λ e. others j (other_number j i e) ] in
     go (j == i) refl
 
 turned : (a b : ℕ) → a ≢ b → b ≢ a
@@ -46,16 +48,11 @@ times-out_other i j (k ∷ ks) apart =
     let go : (b : Bool) → (k == i) ≡ b → times j (cond (not b) (k ∷ filter (λ x. not (x == i)) ks) (filter (λ x. not (x == i)) ks)) ≡ bit (k == j) + times j ks =
     elim [
       | true ↦ λ e.
-          let same : k ≡ i = same_number k i e in
+          let same : k ≡ i = eqb-true k i e in
           omega (arith, times-out_other i j ks apart, other_bit k j (λ at_j. apart (sym at_j ∙ same)))
       | false ↦ λ e. omega (arith, count-cons (λ x. x == j) k (filter (λ x. not (x == i)) ks), times-out_other i j ks apart)
     ] in
     go (k == i) refl ∙ sym (count-cons (λ x. x == j) k ks)
-
-pub zero_at : (n i : ℕ) → get_or {A = ℕ} (replicate n 0) i 0 ≡ 0
-zero_at zero i = refl
-zero_at (suc n) zero = refl
-zero_at (suc n) (suc i) = zero_at n i
 
 module _ {T : Type 0} where
   pub generation-is : (cells : List (Cell T)) (i : ℕ) (c : Cell T) → slice_get cells i ≡ Some c → generation_at cells i ≡ c.generation
@@ -166,7 +163,7 @@ module _ {T : Type 0} where
   Stored-new capacity n cells e size le few =
       let none : (i : ℕ) → held_at cells i ≡ None = λ i. ap (λ (cs : List (Cell T)). held_at cs i) e ∙ no_item n i in
       let at_zero : (i : ℕ) → generation_at cells i ≡ 0 =
-      λ i. ap (λ gs. get_or gs i 0) (generations-new n cells e) ∙ zero_at n i in
+      λ i. ap (λ gs. get_or gs i 0) (generations-new n cells e) ∙ get_or-replicate_same {X = ℕ} n i 0 in
       record {
         size = omega arith;
         few = omega arith;
@@ -322,11 +319,9 @@ module _ {T : Type 0} where
       let inside : s.index < length cells = live-within cells s x live in
       let held : filter_map (held_at (rewritten cells s (Some y))) order ≡ map (item_put s y) (filter_map (held_at cells) order) =
       map-put (held_at cells) (held_at (rewritten cells s (Some y))) (has_slot s) (λ h. record h { item = y }) s.index (under_slot s x) order (Owns-held cells) (Narrow-slot s)
-      (held-live cells s x live) (own_slot s) (held-set_same cells s.index (record { generation = s.generation; item = Some y }) inside)
+      (held-live cells s x live) (has_own s) (held-set_same cells s.index (record { generation = s.generation; item = Some y }) inside)
       (λ i apart. held-set_other cells s.index (record { generation = s.generation; item = Some y }) i apart) in
-      λ j. record { generations = generations-rewritten cells s x (Some y) live j; held = held j; takes = takes } where
-        own_slot : (t : Slot) → ((t.index == t.index) && (t.generation == t.generation)) ≡ true
-        own_slot t = grind arith
+      λ j. record { generations = generations-rewritten cells s x (Some y) live j; held = held j; takes = takes }
 
   -- ---- a putting back
 
@@ -358,8 +353,6 @@ module _ {T : Type 0} where
   places-out capacity cells order takes s x st live =
       let held : filter_map (held_at (rewritten cells s None)) (filter (λ k. not (k == s.index)) order) ≡ filter (λ h. not (has_slot s h)) (filter_map (held_at cells) order) =
       filter-out (held_at cells) (held_at (rewritten cells s None)) (has_slot s) s.index (under_slot s x) order (Owns-held cells) (Narrow-slot s)
-      (held-live cells s x live) (own_slot s)
+      (held-live cells s x live) (has_own s)
       (λ i apart. held-set_other cells s.index (record { generation = s.generation; item = None }) i apart) in
-      λ j. record { generations = generations-rewritten cells s x None live j; held = held j; takes = takes } where
-        own_slot : (t : Slot) → ((t.index == t.index) && (t.generation == t.generation)) ≡ true
-        own_slot t = grind arith
+      λ j. record { generations = generations-rewritten cells s x None live j; held = held j; takes = takes }

@@ -11,10 +11,9 @@ use Rattle.ffm_model.specs.declared.objects.ConnPhase.{ConnPhase}
 use Rattle.ffm_model.specs.declared.objects.ConnPhase.TheVariants.{Opening, Idle, Busy, Error, Closing, Dead}
 use Rattle.ffm_model.specs.Actors.{is_service_of}
 use Rattle.ffm_model.specs.State.{Rises}
-use Rattle.ffm_model.specs.Panic.{is_dead, lost, without_service, without_client, disconnection}
+use Rattle.ffm_model.specs.Panic.{is_dead, lost, without_service, without_client, disconnection, disconnect_message}
 use Rattle.ffm_model.proofs.SerialLemmas.{rises-weaker}
 use Rattle.counting_law.specs.Objects.{Mark, called_by, connection_marked, is_awaited, is_opening}
-use Rattle.counting_law.proofs.Losses.{disconnect_message}
 use Rattle.counting_law.proofs.Parts.{off_right}
 use Rattle.counting_law.proofs.Panic.{kept_mark}
 

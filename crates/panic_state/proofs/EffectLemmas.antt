@@ -32,7 +32,7 @@ use Rattle.spm_tables.specs.TablesView.{TablesView, Shape, MadeFor, spm_of, shap
 use Rattle.slot_names.specs.Named.{KeepsGiven, KeepsNames}
 use Rattle.slot_names.specs.Changes.{PairsOff, KeepsConnectionNames, TakesOn, names_of}
 use Rattle.slot_names.proofs.Given.{All-left, given-filter, given-on, given-some}
-use Rattle.slot_names.proofs.Moves.{relinks-some}
+use Rattle.slot_names.proofs.Moves.{connection-names-some}
 use Rattle.slot_names.proofs.Panics.{follows-panicked, takes-first}
 use Rattle.slot_names.proofs.Removals.{fitting-pairs-off}
 use Rattle.panic_state.specs.Losses.{left_by, in_slot, held_without_service, held_without_client, as_client, disconnect_messages}
@@ -41,9 +41,6 @@ use Rattle.panic_state.proofs.ServiceLemmas.{services-known}
 use Rattle.panic_state.proofs.Walks.{items}
 use Rattle.counting_law.proofs.Owed.{set-twice}
 use Rattle.counting_law.proofs.Rooms.{panic-fits}
-use Rattle.ffm_model.specs.declared.objects.ActorPhase.{ActorPhase}
-use Rattle.ffm_model.specs.declared.objects.ActorPhase.TheVariants.{Panicked}
-use Rattle.ffm_model.specs.Panic.{callers_answered, clients_answered}
 
 seen-left : (h : Held OpenConnection) (o : Option OpenConnection) → option_map (λ (x : Held OpenConnection). x.item) (in_slot h o) ≡ o
 seen-left h None = refl
@@ -68,10 +65,10 @@ messages-kept s p d = map-kept held_message (λ m. not (is_service_of s p m.serv
 
 pub effect-is : (s : System) (p : ℕ) (d mid new : TablesView) → mid ≡ as_client s p d → new.connections ≡ left_by (held_without_client p) mid.connections
     → map held_message new.messages.held ≡ map held_message mid.messages.held ++ disconnect_messages p mid.connections → new ≡ record mid { connections = new.connections; messages = new.messages } → spm_of new ≡ panic_effect s (spm_of d) p
-effect-is s p d mid new before linked messages rest =
+effect-is s p d mid new before of_connections messages rest =
     let at : record mid { connections = new.connections; messages = new.messages } ≡ record (as_client s p d) { connections = new.connections; messages = new.messages } = ap (λ (x : TablesView). record x { connections = new.connections; messages = new.messages }) before in
     let is : new ≡ record (as_client s p d) { connections = new.connections; messages = new.messages } = rest ∙ at in
-    let made : new.connections ≡ left_by (held_without_client p) (as_client s p d).connections = linked ∙ ap (λ (x : TablesView). left_by (held_without_client p) x.connections) before in
+    let made : new.connections ≡ left_by (held_without_client p) (as_client s p d).connections = of_connections ∙ ap (λ (x : TablesView). left_by (held_without_client p) x.connections) before in
     let cs = ap connections made ∙ connections-are s p d in
     let count = ap (λ (x : Places OpenConnection). x.takes) made in
     let ms = messages ∙ ap (λ (x : TablesView). map held_message x.messages.held ++ disconnect_messages p x.connections) before
@@ -149,9 +146,9 @@ callers-length s p (m ∷ ms) phases =
 
 pub shape-is : (s : System) (p : ℕ) (d mid new : TablesView) → mid ≡ as_client s p d → new.connections ≡ left_by (held_without_client p) mid.connections
     → length new.messages.generations ≡ length mid.messages.generations → new ≡ record mid { connections = new.connections; messages = new.messages } → shape_of new ≡ shape_of d
-shape-is s p d mid new before linked size rest =
+shape-is s p d mid new before of_connections size rest =
     let is : new ≡ record (as_client s p d) { connections = new.connections; messages = new.messages } = rest ∙ ap (λ (x : TablesView). record x { connections = new.connections; messages = new.messages }) before in
-    let made = ap (λ (x : Places OpenConnection). length x.generations) (linked ∙ ap (λ (x : TablesView). left_by (held_without_client p) x.connections) before) in
+    let made = ap (λ (x : Places OpenConnection). length x.generations) (of_connections ∙ ap (λ (x : TablesView). left_by (held_without_client p) x.connections) before) in
     let room = size ∙ ap (λ (x : TablesView). length x.messages.generations) before in
     let phases =
     callers-length s p (map held_message d.messages.held) (clients_answered s p (connections d.connections) (slice_set d.phases p Panicked))
@@ -184,9 +181,9 @@ names-are s p d mid new made fit before effect more given =
     let pairs : PairsOff (spm_of d) = record { paired = off.paired; calls = off.calls; rising = off.rising } in
     let kept : List SlotName = names_of (λ h. not (is_service_of s p h.item.service)) d.messages in
     let size : length mid.messages.generations ≡ message_capacity s = ap (λ (x : TablesView). length x.messages.generations) before ∙ ap (λ (x : Shape). x.messages) made in
-    let linked : KeepsConnectionNames d.connections (as_client s p d).connections =
-    relinks-some d.connections (held_without_service s p) (λ h g e. let it = stays-same h g (is_service_of s p h.item.service) (lost h.item.phase) e in (it.0, it.1)) in
-    let gone : TakesOn (message_capacity s) d kept 0 (as_client s p d) = takes-first (message_capacity s) d (as_client s p d) (λ h. not (is_service_of s p h.item.service)) linked refl in
+    let of_connections : KeepsConnectionNames d.connections (as_client s p d).connections =
+    connection-names-some d.connections (held_without_service s p) (λ h g e. let it = stays-same h g (is_service_of s p h.item.service) (lost h.item.phase) e in (it.0, it.1)) in
+    let gone : TakesOn (message_capacity s) d kept 0 (as_client s p d) = takes-first (message_capacity s) d (as_client s p d) (λ h. not (is_service_of s p h.item.service)) of_connections refl in
     let there : TakesOn (length mid.messages.generations) d kept 0 mid = subst (λ (n : ℕ). TakesOn n d kept 0 mid) (sym size) (subst (λ (x : TablesView). TakesOn (message_capacity s) d kept 0 x) (sym before) gone) in
     let all : TakesOn (message_capacity s) d kept (length (disconnect_messages p mid.connections)) new = subst (λ (n : ℕ). TakesOn n d kept (length (disconnect_messages p mid.connections)) new) size (more d kept there) in
     let fresh : KeepsGiven d (as_client s p d) = record {

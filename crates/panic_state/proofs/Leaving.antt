@@ -1,5 +1,5 @@
 -- The tables while a partition that panicked leaves the services of others: its connections before a place are done.
-use Rattle.std.proofs.Common.{ℕ, ◌≡◌, ◌<◌, ◌≤◌, ◌+◌, ◌==◌, Bool, true, false, not, ◌&&◌, List, [], ◌∷◌, ◌++◌, length, length-append, append_assoc, map, drop, arith, ◌∙◌, ap, sym, refl, subst}
+use Rattle.std.proofs.Common.{ℕ, ◌≡◌, ◌<◌, ◌≤◌, ◌+◌, ◌==◌, Bool, true, false, not, ◌&&◌, List, [], ◌∷◌, ◌++◌, length, length-append, append_assoc, map, drop, arith, ◌∙◌, ap, sym, refl, subst, append-nil}
 use Rattle.std.specs.Prelude.{Option, Some, None, if◌then◌else◌, slice_get, All, IfSome}
 use Rattle.std.specs.List.{filter_map, cons_option}
 use Rattle.std.proofs.Math.ListN.{length-set}
@@ -9,7 +9,7 @@ use Rattle.ffm_model.specs.declared.objects.OpenConnection.{OpenConnection}
 use Rattle.ffm_model.specs.declared.objects.ConnPhase.TheVariants.{Closing}
 use Rattle.ffm_model.specs.declared.objects.PendingMessage.{PendingMessage}
 use Rattle.ffm_model.specs.Names.{SlotName}
-use Rattle.ffm_model.specs.Panic.{is_dead, disconnection}
+use Rattle.ffm_model.specs.Panic.{is_dead, disconnection, disconnect_message}
 use Rattle.object_pools.specs.declared.slot.Slot.{Slot}
 use Rattle.object_pools.specs.declared.slot.Held.{Held}
 use Rattle.object_pools.specs.Pool.{most_takes, Places, IsKept, free_slot, item_at, item_put, with_item, without, taken}
@@ -18,9 +18,9 @@ use Rattle.spm_tables.specs.TablesView.{TablesView, held_message}
 use Rattle.slot_names.specs.Changes.{TakesOn}
 use Rattle.slot_names.specs.Named.{KeepsGiven}
 use Rattle.slot_names.proofs.Given.{given-freed, given-on, given-put, given-same, given-taken}
-use Rattle.slot_names.proofs.Moves.{relinks-item, relinks-without}
+use Rattle.slot_names.proofs.Moves.{connection-names-item, connection-names-without}
 use Rattle.slot_names.proofs.Panics.{takes-more, takes-connections}
-use Rattle.panic_state.specs.Losses.{in_slot, left_by, held_without_client, disconnect_message, disconnect_messages}
+use Rattle.panic_state.specs.Losses.{in_slot, left_by, held_without_client, disconnect_messages}
 use Rattle.panic_state.proofs.Lists.{left_from, left_from-same, left_from-set, left_from-out, left_from-all, length-out, drop-nth, drop-set, drop-out, drop-all}
 use Rattle.panic_state.proofs.PlaceLemmas.{with_item-at, without-at}
 use Rattle.panic_state.proofs.Walks.{items}
@@ -55,16 +55,12 @@ pub record Leaves (p : ℕ) (old : TablesView) (n : ℕ) (d : TablesView) : Type
 disconnects-all : (p n : ℕ) (d : TablesView) → length d.connections.held ≤ n → disconnect_messages_from p n d ≡ []
 disconnects-all p n d past = ap (λ (hs : List (Held OpenConnection)). filter_map (disconnection p) (items hs)) (drop-all d.connections.held n past)
 
-append-none : (ms : List PendingMessage) → ms ++ [] ≡ ms
-append-none [] = refl
-append-none (m ∷ ms) = ap (λ (ns : List PendingMessage). m ∷ ns) (append-none ms)
-
 -- at the end
 pub left-connections : (p n : ℕ) (old d : TablesView) → Leaves p old n d → length d.connections.held ≤ n → d.connections ≡ left_by (held_without_client p) old.connections
 left-connections p n old d l past = sym (λ j. record d.connections { held = left_from-all (held_without_client p) d.connections.held n past j }) ∙ l.connections
 
 pub left-messages : (p n : ℕ) (old d : TablesView) → Leaves p old n d → length d.connections.held ≤ n → messages_of d ≡ messages_of old ++ disconnect_messages p old.connections
-left-messages p n old d l past = sym (append-none (messages_of d)) ∙ ap (λ (ms : List PendingMessage). messages_of d ++ ms) (sym (disconnects-all p n d past)) ∙ l.messages
+left-messages p n old d l past = sym (append-nil (messages_of d)) ∙ ap (λ (ms : List PendingMessage). messages_of d ++ ms) (sym (disconnects-all p n d past)) ∙ l.messages
 
 pub left-takes : (p n : ℕ) (old d : TablesView) → Leaves p old n d → length d.connections.held ≤ n → d.messages.takes ≡ old.messages.takes + length (disconnect_messages p old.connections)
 left-takes p n old d l past = omega (arith, l.takes, l.counted, ap (λ (ms : List PendingMessage). length ms) (disconnects-all p n d past))
@@ -129,7 +125,7 @@ leaves-dead p n old d new h l k here own dead after =
       counted = omega (arith, l.counted, ap (λ (ms : List PendingMessage). length ms) byes);
       takes = l.takes;
       names = λ first kept so_far.
-          takes-connections (length old.messages.generations) first d (record d { connections = without d.connections h.slot }) kept l.sent (l.names first kept so_far) (relinks-without d.connections h.slot) refl;
+          takes-connections (length old.messages.generations) first d (record d { connections = without d.connections h.slot }) kept l.sent (l.names first kept so_far) (connection-names-without d.connections h.slot) refl;
       given = given-on old d (record d { connections = without d.connections h.slot }) l.given
           (record { connections = given-freed d.connections (without d.connections h.slot) h.slot refl; messages = given-same _ _ d.messages });
       services = subst (λ (hs : List (Held OpenConnection)). All (IsServed old) hs) (sym tail) (served-next n old d h here l.services).1;
@@ -203,7 +199,7 @@ leaves-closing p n old d new h place m l k here live free own alive sent after =
       takes = omega (arith, l.takes);
       names = λ first kept so_far.
           takes-more (length old.messages.generations) first d (record d { connections = with_item d.connections h.slot (record h.item { phase = Closing }); messages = taken d.messages place m })
-          kept l.sent place m (l.names first kept so_far) l.size free (relinks-item 256 d.connections h.slot h.item (record h.item { phase = Closing }) k live refl) refl;
+          kept l.sent place m (l.names first kept so_far) l.size free (connection-names-item 256 d.connections h.slot h.item (record h.item { phase = Closing }) k live refl) refl;
       given = given-on old d (record d { connections = with_item d.connections h.slot (record h.item { phase = Closing }); messages = taken d.messages place m }) l.given
           (record { connections = given-put _ _ d.connections h.slot h.item (record h.item { phase = Closing }) live (λ e. e); messages = given-taken _ _ d.messages place m free });
       services = subst (λ (hs : List (Held OpenConnection)). All (IsServed old) hs) (sym tail) (served-next n old d h here l.services).1;

@@ -3,7 +3,8 @@ use Rattle.std.proofs.Common.{ℕ, ◌≡◌, set}
 use Rattle.std.specs.Prelude.{Some, slice_get}
 use Rattle.object_pools.specs.declared.slot.Held.{Held}
 use Rattle.object_pools.specs.Pool.{Places, IsKept, has_slot, with_item, without}
-use Rattle.handle_table.proofs.SlotLemmas.{has_own, one_slot}
+use Rattle.object_pools.proofs.Stores.{has_own}
+use Rattle.handle_table.proofs.SlotLemmas.{one_slot}
 use Rattle.panic_state.proofs.Lists.{out_at, map-at, filter-at}
 
 module _ {T : Type 0} where

@@ -4,7 +4,7 @@ use Rattle.std.specs.Prelude.{Option, Some, None, find, slice_get, All, nat_lt}
 use Rattle.std.specs.List.{list_all}
 use Rattle.std.specs.Option.{option_map, option_map_or, unwrap_or}
 use Rattle.std.proofs.lemmas.Option.{slice_get_within}
-use Rattle.std.proofs.lemmas.Bool.{eqb-true}
+use Rattle.std.proofs.lemmas.Bool.{eqb-true, and_parts}
 use Rattle.list_laws.proofs.Counts.{bit}
 use Rattle.ffm_model.specs.declared.system.System.{System}
 use Rattle.ffm_model.specs.declared.system.Service.{Service}
@@ -12,7 +12,6 @@ use Rattle.ffm_model.specs.declared.system.Budget.{Budget}
 use Rattle.ffm_model.specs.declared.objects.OpenConnection.{OpenConnection}
 use Rattle.ffm_model.proofs.WellFormedLemmas.{is_between_actors, budgets_between_actors}
 use Rattle.ffm_model.specs.State.{SpmState, in_use}
-use Rattle.handle_table.proofs.SlotLemmas.{both}
 use Rattle.counting_law.specs.Objects.{allowed}
 use Rattle.counting_law.proofs.Pairs.{member-counts}
 
@@ -26,13 +25,13 @@ budget-service : (s : System) (a v : ℕ) (bs : List Budget) → list_all (is_be
     → 1 ≤ unwrap_or (option_map (λ b. b.count) (find (λ b. (b.client.0 == a) && (b.service == v)) bs)) 0 → v < length s.services
 budget-service s a v [] fit some = absurd (omega arith)
 budget-service s a v (b ∷ bs) fit some =
-    let parts = both (is_between_actors s b) (list_all (is_between_actors s) bs) fit in
+    let parts = and_parts (is_between_actors s b) (list_all (is_between_actors s) bs) fit in
     let go : (t : Bool) → ((b.client.0 == a) && (b.service == v)) ≡ t
     → 1 ≤ unwrap_or (option_map (λ (x : Budget). x.count) (cond t (Some b) (find (λ x. (x.client.0 == a) && (x.service == v)) bs))) 0 → v < length s.services =
     elim [
       | true ↦ λ e k.
-          let same : b.service ≡ v = eqb-true b.service v (both (b.client.0 == a) (b.service == v) e).1 in
-          omega (arith, found-service s.services b.service b.client.0 (both (nat_lt b.client.0 (length s.partitions + length s.clients)) _ parts.0).1)
+          let same : b.service ≡ v = eqb-true b.service v (and_parts (b.client.0 == a) (b.service == v) e).1 in
+          omega (arith, found-service s.services b.service b.client.0 (and_parts (nat_lt b.client.0 (length s.partitions + length s.clients)) _ parts.0).1)
       | false ↦ λ e k. budget-service s a v bs parts.1 k
     ] in
     go ((b.client.0 == a) && (b.service == v)) refl some

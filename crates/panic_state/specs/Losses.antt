@@ -3,7 +3,7 @@
 use Rattle.std.specs.Prelude.{ℕ, not, List, Option, Some, None, filter, is_none, map, slice_set, if◌then◌else◌}
 use Rattle.std.specs.List.{filter_map}
 use Rattle.std.specs.Option.{option_map}
-use Rattle.ffm_model.specs.declared.constants.TheConstants.{PSA_IPC_DISCONNECT, PSA_ERROR_COMMUNICATION_FAILURE}
+use Rattle.ffm_model.specs.declared.constants.TheConstants.{PSA_ERROR_COMMUNICATION_FAILURE}
 use Rattle.ffm_model.specs.declared.system.System.{System}
 use Rattle.ffm_model.specs.declared.objects.OpenConnection.{OpenConnection}
 use Rattle.ffm_model.specs.declared.objects.ActorPhase.{ActorPhase}
@@ -11,7 +11,6 @@ use Rattle.ffm_model.specs.declared.objects.ActorPhase.TheVariants.{Panicked, Re
 use Rattle.ffm_model.specs.declared.machine.Outcome.TheVariants.{Value}
 use Rattle.ffm_model.specs.declared.objects.ConnPhase.{ConnPhase}
 use Rattle.ffm_model.specs.declared.objects.PendingMessage.{PendingMessage}
-use Rattle.ffm_model.specs.Memory.{no_vectors}
 use Rattle.ffm_model.specs.Actors.{is_service_of}
 use Rattle.ffm_model.specs.Panic.{lost, client_answered, clients_answered, callers_answered, without_service, without_client, disconnection}
 use Rattle.object_pools.specs.declared.slot.Slot.{Slot}
@@ -71,10 +70,6 @@ without_messages s p d = record d {
 abbrev pub as_client : System → ℕ → TablesView → TablesView
 as_client s p d = without_messages s p (without_services s p (record d { phases = slice_set d.phases p Panicked }))
 
--- the message that closes a connection, for which nobody waits
-abbrev pub disconnect_message : OpenConnection → PendingMessage
-disconnect_message c = record { service = c.service; client = c.client; connection = Some c.serial; kind = PSA_IPC_DISCONNECT; vectors = no_vectors; handle = None }
-
--- those of the partition's own connections that aren't dead
+-- the messages that close the partition's own connections that aren't dead
 abbrev pub disconnect_messages : ℕ → Places OpenConnection → List PendingMessage
 disconnect_messages p pool = filter_map (disconnection p) (connections pool)

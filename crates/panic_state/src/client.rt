@@ -1,13 +1,13 @@
 //! A partition that panicked, as a client.
 
 ghost use Rattle.std.specs.Prelude.{◌≡◌, ◌<◌, ◌≤◌, ◌+◌, ◌++◌, List, length, false, All, Some};
-ghost use Rattle.ffm_model.specs.Panic.{is_dead};
+ghost use Rattle.ffm_model.specs.Panic.{disconnect_message, is_dead};
 ghost use Rattle.ffm_model.specs.Names.{SlotName};
 ghost use Rattle.object_pools.specs.Pool.{most_takes};
 ghost use Rattle.spm_tables.specs.TablesView.{TablesView, spm_of, fresh_message, queued_as};
 ghost use Rattle.slot_names.specs.Changes.{TakesOn};
 ghost use Rattle.slot_names.specs.Named.{KeepsGiven};
-ghost use Rattle.panic_state.specs.Losses.{left_by, held_without_client, disconnect_message, disconnect_messages};
+ghost use Rattle.panic_state.specs.Losses.{left_by, held_without_client, disconnect_messages};
 
 use crate::places::connection_at;
 use ffm_model::{ActorId, ConnPhase, OpenConnection, PSA_IPC_DISCONNECT, Span, Vectors};

@@ -1,14 +1,13 @@
 //! The panic of a partition.
 
-ghost use Rattle.std.specs.Prelude.{◌≡◌, ◌<◌, ◌≤◌, ◌+◌, ℕ, All, List, length};
+ghost use Rattle.std.specs.Prelude.{◌≡◌, ◌<◌, ◌≤◌, ◌+◌, length};
 ghost use Rattle.ffm_model.specs.declared.objects.ActorPhase.TheVariants as phase;
 ghost use Rattle.ffm_model.specs.State.{with_phase};
 ghost use Rattle.ffm_model.specs.Panic.{panic_effect};
 ghost use Rattle.counting_law.specs.Objects.{ObjectsFit};
-ghost use Rattle.message_vectors.specs.Vectors.{AreWithin};
 ghost use Rattle.spm_tables.specs.TablesView.{spm_of, shape_of, MadeFor};
 ghost use Rattle.slot_names.specs.Named.{KeepsNames};
-ghost use Rattle.slot_names.specs.Premises.{AreLeft};
+ghost use Rattle.slot_names.specs.Premises.{AreLeft, KeepsVectors};
 ghost use Rattle.panic_state.specs.Losses.{as_client};
 
 use crate::client::leave_services;
@@ -42,7 +41,7 @@ pub fn panic(system: &System, tables: &mut Tables, partition: ActorId)
     ensures state { spm_of tables.new ≡ panic_effect system.now (spm_of tables.old) partition.0 }
     ensures names { KeepsNames system.now tables.old tables.new }
     ensures fits { ObjectsFit system.now (spm_of tables.new) }
-    ensures within { (ranges : List (ℕ × ℕ)) → All (λ m. AreWithin ranges m.vectors) (spm_of tables.old).messages → All (λ m. AreWithin ranges m.vectors) (spm_of tables.new).messages }
+    ensures within { KeepsVectors tables.old tables.new }
     ensures shape { shape_of tables.new ≡ shape_of tables.old }
     ensures message_takes { tables.new.messages.takes ≤ tables.old.messages.takes + 256 }
     ensures connection_takes { tables.new.connections.takes ≡ tables.old.connections.takes }

@@ -4,6 +4,7 @@ use Rattle.std.specs.Prelude.{Option, if◌then◌else◌, slice_set, map, repli
 use Rattle.std.specs.Option.{option_map_or, unwrap_or}
 use Rattle.std.specs.List.{list_any}
 use Rattle.std.proofs.lemmas.List.{length-set, length-map}
+use Rattle.list_laws.proofs.Lists.{get_or-replicate_same}
 use Rattle.ffm_model.proofs.RecordLemmas.{ends_blocked-push, engine_after-push}
 use Rattle.ffm_model.specs.declared.machine.Call.{Call}
 use Rattle.ffm_model.specs.declared.machine.Call.TheVariants as call
@@ -45,11 +46,6 @@ points-long scripts os = after-long scripts os (opening_contexts scripts) ∙ le
 
 -- ---- a new runner
 
-first-get : (n k : ℕ) → get_or (replicate n first_context) k first_context ≡ first_context
-first-get zero k = refl
-first-get (suc n) zero = refl
-first-get (suc n) (suc k) = first-get n k
-
 first-reaches : (script : List Instruction) → Reaches script start first_context
 unfolding arrived
 first-reaches script = record { way = refl }
@@ -61,7 +57,7 @@ opened scripts n r w d c = record {
   waits = w;
   desk_is = d;
   each = λ k low.
-      let at : get_or r.contexts k first_context ≡ first_context = ap (λ (cs : List Context). get_or cs k first_context) c ∙ first-get n k in
+      let at : get_or r.contexts k first_context ≡ first_context = ap (λ (cs : List Context). get_or cs k first_context) c ∙ get_or-replicate_same n k first_context in
       subst (λ (p : Point). Reaches (script_of scripts k) p (get_or r.contexts k first_context)) (sym (starts-get scripts k))
       (subst (λ (x : Context). Reaches (script_of scripts k) start x) (sym at) (first-reaches (script_of scripts k)));
 }

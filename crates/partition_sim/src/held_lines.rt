@@ -2,7 +2,7 @@
 ghost use Rattle.std.specs.Prelude.{◌≡◌, ◌<◌, ℕ, IfNone, IfSome, None, Some, if◌then◌else◌, true};
 ghost use Rattle.ffm_model.specs.declared.script.Instruction.TheVariants as instruction;
 ghost use Rattle.ffm_model.specs.Held.{Holder, is_refused};
-ghost use Rattle.ffm_model.specs.HeldPlans.{Holding, call_made, handle_at, led_to, line_step, number_at, registers_noted};
+ghost use Rattle.ffm_model.specs.HeldPlans.{Holding, call_made, handle_operand, led_to, line_step, number_operand, registers_noted};
 ghost use Rattle.ffm_model.specs.Scripts.{FitsIn};
 ghost use Rattle.mm_iovec.specs.Lines.{can_do, engine_line, maps_in, table_of};
 ghost use Rattle.partition_sim.specs.Partitions.{holding, with_window};
@@ -12,26 +12,26 @@ use crate::lines::line_effect;
 use ffm_model::{Call, Handle, Instruction, MapName, Operand, Outcome};
 use mm_iovec::{Held, MmLine, MmStep};
 
-fn number_at(registers: &[u32; 16], operands: &[Operand; 3], i: usize) -> u32
+fn number_operand(registers: &[u32; 16], operands: &[Operand; 3], i: usize) -> u32
     requires { i < 3 }
-    ensures { result ≡ number_at registers.now operands.now i }
+    ensures { result ≡ number_operand registers.now operands.now i }
 {
     value_of(registers, operands[i])
 }
 
-fn handle_at(registers: &[u32; 16], operands: &[Operand; 3], i: usize) -> Handle
+fn handle_operand(registers: &[u32; 16], operands: &[Operand; 3], i: usize) -> Handle
     requires { i < 3 }
-    ensures { result ≡ handle_at registers.now operands.now i }
+    ensures { result ≡ handle_operand registers.now operands.now i }
 {
-    Handle(number_at(registers, operands, i).cast_signed())
+    Handle(number_operand(registers, operands, i).cast_signed())
 }
 
 // A line that maps or unmaps, at the values of its operands.
 fn mm_line(name: MapName, registers: &[u32; 16], operands: &[Operand; 3]) -> MmLine
     ensures { (p : Holder) (x : Holding) → x.at.registers ≡ registers.now → engine_line p x result ≡ line_step p x (instruction.Map name operands.now) }
 {
-    let handle = handle_at(registers, operands, 0);
-    let index = number_at(registers, operands, 1);
+    let handle = handle_operand(registers, operands, 0);
+    let index = number_operand(registers, operands, 1);
     match name {
         MapName::MapIn => MmLine::MapIn { handle, index },
         MapName::UnmapIn => MmLine::UnmapIn { handle, index },
@@ -39,7 +39,7 @@ fn mm_line(name: MapName, registers: &[u32; 16], operands: &[Operand; 3]) -> MmL
         MapName::UnmapOut => MmLine::UnmapOut {
             handle,
             index,
-            len: number_at(registers, operands, 2),
+            len: number_operand(registers, operands, 2),
         },
     }
 }

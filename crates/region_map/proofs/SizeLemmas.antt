@@ -7,6 +7,7 @@ use Rattle.std.proofs.lemmas.List.Elements.{filter_map-append}
 use Rattle.std.proofs.lemmas.List.Folds.{find-append}
 use Rattle.std.proofs.lemmas.List.Sums.{sum_by-cons, sum_by-append}
 use Rattle.std.proofs.lemmas.Bool.{le-leb, lt-leb}
+use Rattle.std.proofs.lemmas.Option.{IfSome_then}
 use Rattle.ffm_model.specs.declared.constants.TheConstants.{MAX_IMAGE_BYTES, RAM_BASE}
 use Rattle.ffm_model.specs.declared.system.Region.{Region}
 use Rattle.ffm_model.specs.declared.system.Class.TheVariants.{Ram, Mmio}
@@ -44,10 +45,6 @@ map_or f (Some x) b = refl
 either_some : {A : Type 0} (P : A → Type 0) (a b : Option A) → IfSome a P → IfSome b P → IfSome (option_or a b) P
 either_some P None b p q = q
 either_some P (Some x) b p q = p
-
-weaken : {A : Type 0} (P Q : A → Type 0) → ((x : A) → P x → Q x) → (a : Option A) → IfSome a P → IfSome a Q
-weaken P Q f None p = tt
-weaken P Q f (Some x) p = f x p
 
 first_append : {A : Type 0} (xs ys : List A) → first (xs ++ ys) ≡ option_or (first xs) (first ys)
 first_append [] ys = refl
@@ -92,8 +89,8 @@ split regions xs ys =
 place_from : (regions : List RegionRecord) (k : ℕ) (ms : List ManifestRecord) → IfSome (large_place regions (located_from mmio k ms)) (λ e. k ≤ e.0)
 place_from regions k [] = tt
 place_from regions k (m ∷ ms) =
-    let here = weaken (λ (e : ℕ × ℕ). e.0 ≡ k) (λ e. k ≤ e.0) (λ e h. omega arith) (large_place regions (located_in k 0 m.mmio)) (place_in regions k 0 m.mmio) in
-    let later = weaken (λ (e : ℕ × ℕ). k + 1 ≤ e.0) (λ e. k ≤ e.0) (λ e h. omega arith) (large_place regions (located_from mmio (k + 1) ms)) (place_from regions (k + 1) ms) in
+    let here : IfSome (large_place regions (located_in k 0 m.mmio)) (λ e. k ≤ e.0) = IfSome_then (large_place regions (located_in k 0 m.mmio)) (place_in regions k 0 m.mmio) (λ e h. omega arith) in
+    let later : IfSome (large_place regions (located_from mmio (k + 1) ms)) (λ e. k ≤ e.0) = IfSome_then (large_place regions (located_from mmio (k + 1) ms)) (place_from regions (k + 1) ms) (λ e h. omega arith) in
     rw (split regions (located_in k 0 m.mmio) (located_from mmio (k + 1) ms))
     (either_some (λ e. k ≤ e.0) (large_place regions (located_in k 0 m.mmio)) (large_place regions (located_from mmio (k + 1) ms)) here later)
 
@@ -102,7 +99,7 @@ place_from regions k (m ∷ ms) =
 ram_from : (k : ℕ) (ms : List ManifestRecord) → IfSome (position_from has_large_ram k ms) (λ a. k ≤ a)
 ram_from k [] = tt
 ram_from k (m ∷ ms) =
-    let later = weaken (λ (a : ℕ). k + 1 ≤ a) (λ a. k ≤ a) (λ a h. omega arith) (position_from has_large_ram (k + 1) ms) (ram_from (k + 1) ms) in
+    let later : IfSome (position_from has_large_ram (k + 1) ms) (λ a. k ≤ a) = IfSome_then (position_from has_large_ram (k + 1) ms) (ram_from (k + 1) ms) (λ a h. omega arith) in
     let here : k ≤ k = omega arith in
     elim (has_large_ram m) as (λ b. IfSome (cond b (Some k) (position_from has_large_ram (k + 1) ms)) (λ a. k ≤ a)) [ true ↦ here | false ↦ later ]
 

@@ -45,7 +45,7 @@ const PANICS: [&str; 26] = [
 ];
 
 // Calls of the same partition that are no programmer errors.
-const NO_PANICS: [&str; 6] = [
+const NO_PANICS: [&str; 7] = [
     // The doorbell is assigned to each partition.
     "p1 wait 0x00000008 0x00000000 -> panicked\n",
     // A vector that wasn't given is empty, and an empty buffer may lie anywhere.
@@ -53,6 +53,8 @@ const NO_PANICS: [&str; 6] = [
     "p1 write 2560 0 0x20000020 0 -> panicked\n",
     // A skip past the vector's end takes what is left.
     "p1 skip 2560 0 4294967295 -> panicked\n",
+    // To close the null handle does nothing.
+    "p1 close 0 -> panicked\n",
     // Each actor may ask these.
     "p1 version 0x00000040 -> panicked\n",
     "p1 framework_version -> panicked\n",

@@ -1,10 +1,11 @@
 -- Which partitions a manager shows as panicked.
-use Rattle.std.proofs.Common.{ℕ, ◌≡◌, ◌<◌, Bool, true, false, List, [], ◌∷◌, length, get_or, refl, ap, sym, ◌∙◌, arith}
+use Rattle.std.proofs.Common.{ℕ, ◌≡◌, ◌<◌, Bool, true, false, List, length, get_or, refl, ap, sym, ◌∙◌, arith}
 use Rattle.std.specs.Prelude.{Option, Some, None}
 use Rattle.std.specs.List.{list_any, range_with_len}
 use Rattle.std.specs.Option.{option_map, option_map_or}
 use Rattle.std.proofs.lemmas.List.Folds.{list_any_at, list_any_none}
 use Rattle.std.proofs.lemmas.List.FromFn.{length-range_with_len, get_or-range_with_len}
+use Rattle.list_laws.proofs.Tests.{list_any-false}
 use Rattle.ffm_model.specs.declared.machine.Entry.{Entry}
 use Rattle.ffm_model.specs.declared.machine.Phase.{Phase}
 use Rattle.ffm_model.specs.declared.machine.Phase.TheVariants as shown
@@ -55,16 +56,12 @@ panicked_as_shown s m es a p =
     ] in
     go (named_after s m es) (named-run s m es)
 
-none_of : (ps : List ℕ) → list_any (λ p. false) ps ≡ false
-none_of [] = refl
-none_of (p ∷ ps) = none_of ps
-
 -- whether an actor is panicked in a state, if there is one
 abbrev pub panicked_in : Option State → ℕ → Bool
 panicked_in o p = option_map_or (λ st. is_panicked (phase_of st.spm p)) o false
 
 some_as_each : (o : Option State) (ps : List ℕ) → list_any (panicked_in o) ps ≡ option_map_or (λ st. list_any (λ p. is_panicked (phase_of st.spm p)) ps) o false
-some_as_each None ps = none_of ps
+some_as_each None ps = list_any-false ps
 some_as_each (Some st) ps = refl
 
 -- a partition is panicked, so some partition is

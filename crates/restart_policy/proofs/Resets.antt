@@ -1,15 +1,14 @@
 -- Memory of which the MMIO regions are as another one's, region by region.
-use Rattle.std.proofs.Common.{ℕ, zero, suc, ◌≡◌, ◌<◌, ◌≤◌, ◌+◌, ◌-◌, Bool, true, false, List, [], ◌∷◌, ◌++◌, length, get_or, refl, ap, sym, ◌∙◌, arith}
-use Rattle.std.specs.Prelude.{nat_le, nat_lt, ◌&&◌, ◌||◌, slice_index, if◌then◌else◌, Option, Some, None}
+use Rattle.std.proofs.Common.{ℕ, zero, suc, ◌≡◌, ◌<◌, ◌+◌, ◌-◌, Bool, true, false, List, [], ◌∷◌, ◌++◌, length, get_or, refl, sym, arith}
+use Rattle.std.specs.Prelude.{◌&&◌, ◌||◌, slice_index, if◌then◌else◌, Option, Some, None}
 use Rattle.std.specs.Option.{option_map, option_map_or}
 use Rattle.std.specs.List.{list_any}
-use Rattle.std.proofs.lemmas.Bool.Decides.{nat_tests}
 use Rattle.std.proofs.lemmas.List.Folds.{list_any-append}
 use Rattle.std.proofs.Math.Path.{fun_ext}
 use Rattle.std.proofs.lemmas.Bool.{or_right}
 use Rattle.list_laws.proofs.Bools.{or_false}
 use Rattle.memory_image.proofs.Compared.{has_itself}
-use Rattle.memory_image.proofs.Changed.{length-bytes_at}
+use Rattle.ffm_model.proofs.BytesLemmas.{byte-there, bytes-length}
 use Rattle.ffm_model.specs.declared.system.Region.{Region}
 use Rattle.ffm_model.specs.Memory.{ByteMap, bytes_at, write_bytes}
 use Rattle.ffm_model.specs.Reach.{covers}
@@ -22,13 +21,6 @@ use Rattle.memory_image.specs.Pieces.{is_inside}
 abbrev pub reset_in : List Region → ByteMap → ByteMap → ByteMap
 reset_in rs first last x = if list_any (λ r. is_mmio r.class && covers r x) rs then last x else first x
 
--- ---- the bytes of a range
-
-index-bytes_at : (m : ByteMap) (a n k : ℕ) → k < n → slice_index (bytes_at m a n) k ≡ m (a + k)
-index-bytes_at m a zero k lt = absurd (omega arith)
-index-bytes_at m a (suc n) zero lt = ap m (omega arith)
-index-bytes_at m a (suc n) (suc k) lt = index-bytes_at m (a + 1) n k (omega arith) ∙ ap m (omega arith)
-
 -- ---- one region more
 
 put_or_kept : (a b : Bool) (u l f : ℕ) → (b ≡ true → u ≡ l) → (if b then u else (if a then l else f)) ≡ (if a || (b || false) then l else f)
@@ -37,18 +29,12 @@ put_or_kept true false u l f put = refl
 put_or_kept false true u l f put = put refl
 put_or_kept false false u l f put = refl
 
-byte_there : (last : ByteMap) (base size x : ℕ) → (nat_le base x && nat_lt x (base + size)) ≡ true → slice_index (bytes_at last base size) (x - base) ≡ last x
-byte_there last base size x h =
-    let from : base ≤ x = grind (arith, nat_tests) in
-    let below : x < base + size = grind (arith, nat_tests) in
-    index-bytes_at last base size (x - base) (omega arith) ∙ ap last (omega arith)
-
 -- an MMIO region's bytes are put
 pub mmio_more : (rs : List Region) (r : Region) (first last : ByteMap) → is_mmio r.class ≡ true → write_bytes (reset_in rs first last) r.base (bytes_at last r.base r.size) ≡ reset_in (rs ++ r ∷ []) first last
 mmio_more rs r first last mmio = fun_ext (λ x.
     let p : Region → Bool = λ q. is_mmio q.class && covers q x in
-    rw (length-bytes_at last r.base r.size, list_any-append p rs (r ∷ []), mmio)
-    (put_or_kept (list_any p rs) (covers r x) (slice_index (bytes_at last r.base r.size) (x - r.base)) (last x) (first x) (byte_there last r.base r.size x)))
+    rw (bytes-length last r.base r.size, list_any-append p rs (r ∷ []), mmio)
+    (put_or_kept (list_any p rs) (covers r x) (slice_index (bytes_at last r.base r.size) (x - r.base)) (last x) (first x) (byte-there last r.base r.size x)))
 
 -- any other region is as it was first
 pub other_more : (rs : List Region) (r : Region) (first last : ByteMap) → is_mmio r.class ≡ false → reset_in rs first last ≡ reset_in (rs ++ r ∷ []) first last

@@ -1,10 +1,9 @@
 -- Crews of workers, before and after they are driven.
 use Rattle.std.proofs.Common.{ℕ, zero, suc, ◌+◌, ◌≡◌, ◌<◌, ◌≤◌, add-zero, false, List, [], ◌∷◌, ◌++◌, append_assoc, append-nil, length, length-append, get_or, Some, refl, sym, ap, ◌∙◌, subst, arith}
 use Rattle.std.specs.Prelude.{slice_get}
-use Rattle.std.proofs.lemmas.List.{length-map}
-use Rattle.std.proofs.lemmas.List.Elements.{All-append}
+use Rattle.std.proofs.lemmas.List.Elements.{All-append, All-nil, All-cons, All-head, All-tail}
 use Rattle.std.proofs.Math.Seq.{get_or-append_seam}
-use Rattle.std.specs.List.{All, AllByRecursion}
+use Rattle.std.specs.List.{AllByRecursion}
 use Rattle.ffm_model.specs.Plans.{PlanRun}
 use Rattle.ffm_model.specs.declared.system.System.{System}
 use Rattle.partition_sim.specs.declared.runner.Runner.{Runner}
@@ -19,20 +18,9 @@ use Rattle.scenario_runs.specs.declared.threads.Progress.{Progress}
 use Rattle.scenario_runs.specs.declared.threads.Progress.TheVariants as progress
 use Rattle.scenario_runs.specs.declared.threads.Seat.{Seat}
 use Rattle.scenario_runs.specs.declared.threads.Start.{Start}
-use Rattle.scenario_runs.specs.Threads.{Crew, IsStart, StartsFrom, actors_in, AllFresh, AllFinished, AreNewCrews, AreUnused, CrewedBy, SameWorkers, IsDoneBy, AreDoneBy, IsSeat, AreSeats, crews_in, left_of, waiting}
+use Rattle.scenario_runs.specs.Threads.{Crew, IsStart, StartsFrom, actors_in, AllFresh, AllFinished, AreNewCrews, AreUnused, CrewedBy, SameWorkers, IsDoneBy, AreDoneBy, IsSeat, crews_in, left_of, waiting}
 use Rattle.actor_programs.specs.Programs.{Parts}
 use Rattle.list_laws.proofs.Lists.{append_none}
-
--- all of one
-all_one : {X : Type 0} (P : X → Type 0) (x : X) → P x → All P (x ∷ [])
-all_one P x h zero d lt = h
-all_one P x h (suc k) d lt = absurd (omega (arith, lt))
-
-first_of : {X : Type 0} (P : X → Type 0) (x : X) (xs : List X) → All P (x ∷ xs) → P x
-first_of P x xs h = h 0 x (omega arith)
-
-rest_of : {X : Type 0} (P : X → Type 0) (x : X) (xs : List X) → All P (x ∷ xs) → All P xs
-rest_of P x xs h = λ k d lt. h (suc k) d (omega (arith, lt))
 
 -- ---- new crews
 
@@ -91,7 +79,7 @@ new_crew s crew w p x e pass_is script_is runner_is unfinished first own empty s
       ap actors_in e ∙ ap (λ (q : PassView). q.actor ∷ []) pass_is,
       ap scripts_of e ∙ ap (λ (y : Parts). y ∷ []) script_is,
       ap roles_of e ∙ ap (λ (r : Runner). role_of r ∷ []) runner_is,
-      (ap length e, subst (AllFresh s) (sym e) (all_one (IsFresh IsOwn record_of s) w fresh)),
+      (ap length e, subst (AllFresh s) (sym e) (All-cons (IsFresh IsOwn record_of s) w [] fresh (All-nil (IsFresh IsOwn record_of s)))),
       tt,
     )
 
@@ -235,7 +223,7 @@ at_each n (p ∷ ps) (suc a) long lt = at_each (length ps) ps a refl (omega (ari
 -- the pass of a crew's one worker that is finished
 pub done_by : (s : SharedView) (before after : Crew) (w : Worker PassView) → SameWorkers before after → AllFinished s after → after ≡ w ∷ [] → IsDoneBy s before w.pass
 done_by s before after w same finished e =
-    let f : IsFinished IsOwn record_of IsDone s w = first_of (IsFinished IsOwn record_of IsDone s) w [] (subst (AllFinished s) e finished) in
+    let f : IsFinished IsOwn record_of IsDone s w = All-head (IsFinished IsOwn record_of IsDone s) w [] (subst (AllFinished s) e finished) in
     record {
       own = f.own_is;
       actor_is = sym same.actors ∙ ap actors_in e;
@@ -252,14 +240,7 @@ done_more s [] [] crew p h more = (more, tt)
 done_more s (c ∷ crews) (q ∷ ps) crew p h more = (h.0, done_more s crews ps crew p h.1 more)
 done_more s _ _ crew p h more = absurd h
 
-pub same_length : (before after : Crew) → SameWorkers before after → length after ≡ length before
-same_length before after same = let e = ap length same.actors in sym (length-map after (λ w. w.pass.actor)) ∙ (e ∙ length-map before (λ w. w.pass.actor))
-
 -- ---- those that wait
-
-pub seats_more : (s : SharedView) (seats : List Seat) (x : Seat) → AreSeats s seats → IsSeat s x → AreSeats s (seats ++ x ∷ [])
-seats_more s [] x h more = (more, tt)
-seats_more s (y ∷ seats) x h more = (h.0, seats_more s seats x h.1 more)
 
 pub waiting_more : (seats : List Seat) (x : Seat) → waiting (seats ++ x ∷ []) ≡ waiting seats ++ left_of x.crew.value x.progress
 waiting_more [] x = append-nil (left_of x.crew.value x.progress)
@@ -278,7 +259,7 @@ head_is x y xs ys e = cc
 pub next_done : (s : SharedView) (crew rest workers later : Crew) (w : Worker PassView) → length crew ≡ 1 → SameWorkers (crew ++ rest) workers → AllFinished s workers → workers ≡ w ∷ later → IsDoneBy s crew w.pass
 next_done s [] rest workers later w one same finished e = absurd (omega (arith, one))
 next_done s (x ∷ []) rest workers later w one same finished e =
-    let f : IsFinished IsOwn record_of IsDone s w = first_of (IsFinished IsOwn record_of IsDone s) w later (subst (AllFinished s) e finished) in
+    let f : IsFinished IsOwn record_of IsDone s w = All-head (IsFinished IsOwn record_of IsDone s) w later (subst (AllFinished s) e finished) in
     let actors : w.pass.actor ∷ actors_in later ≡ x.pass.actor ∷ actors_in rest = sym (ap actors_in e) ∙ same.actors in
     let scripts : w.script ∷ scripts_of later ≡ x.script ∷ scripts_of rest = sym (ap scripts_of e) ∙ same.scripts in
     let roles : role_of w.runner ∷ roles_of later ≡ role_of x.runner ∷ roles_of rest = sym (ap roles_of e) ∙ same.roles in
@@ -305,18 +286,15 @@ next_left (x ∷ []) rest workers later w one same e = record {
 next_left (x ∷ y ∷ crew) rest workers later w one same e = absurd (omega (arith, one))
 
 pub next_finished : (s : SharedView) (workers later : Crew) (w : Worker PassView) → AllFinished s workers → workers ≡ w ∷ later → AllFinished s later
-next_finished s workers later w finished e = rest_of (IsFinished IsOwn record_of IsDone s) w later (subst (AllFinished s) e finished)
+next_finished s workers later w finished e = All-tail (IsFinished IsOwn record_of IsDone s) w later (subst (AllFinished s) e finished)
 
 pub crews_more : (seats : List Seat) (x : Seat) → crews_in (seats ++ x ∷ []) ≡ crews_in seats ++ x.crew.value ∷ []
 crews_more [] x = refl
 crews_more (y ∷ seats) x = ap (λ (cs : List Crew). y.crew.value ∷ cs) (crews_more seats x)
 
-all_none : {X : Type 0} (P : X → Type 0) → All P []
-all_none P = λ n d lt. absurd (omega (arith, lt))
-
 left_fresh : (s : SharedView) (crew : Crew) (p : Progress) → AllFresh s crew → AllFresh s (left_of crew p)
-left_fresh s crew (progress.Started handle) fresh = all_none (IsFresh IsOwn record_of s)
-left_fresh s crew (progress.Driven pass) fresh = all_none (IsFresh IsOwn record_of s)
+left_fresh s crew (progress.Started handle) fresh = All-nil (IsFresh IsOwn record_of s)
+left_fresh s crew (progress.Driven pass) fresh = All-nil (IsFresh IsOwn record_of s)
 left_fresh s crew progress.Waiting fresh = fresh
 
 pub fresh_more : (s : SharedView) (ws : Crew) (x : Seat) → AllFresh s ws → IsSeat s x → AllFresh s (ws ++ left_of x.crew.value x.progress)

@@ -1,6 +1,6 @@
 -- Runs of scripts as runs of the programs that they stand for.
 use Rattle.std.proofs.Common.{ℕ, zero, suc, ◌≡◌, ◌≢◌, ◌<◌, ◌≤◌, Bool, true, false, true≢false, List, [], ◌∷◌, length, map, get_or, refl, ap, sym, ◌∙◌, subst, arith}
-use Rattle.std.specs.Prelude.{Result, Ok, Err, IfOk, Some, if◌then◌else◌, nat_lt, slice_get}
+use Rattle.std.specs.Prelude.{Result, Ok, Err, IfOk, Some, nat_lt, slice_get}
 use Rattle.std.specs.Option.{option_map_or}
 use Rattle.ffm_model.specs.declared.machine.Entry.{Entry}
 use Rattle.ffm_model.specs.declared.machine.Verdict.{Verdict}
@@ -10,7 +10,7 @@ use Rattle.ffm_model.specs.declared.script.Instruction.{Instruction}
 use Rattle.ffm_model.specs.declared.system.ActorKind.{ActorKind}
 use Rattle.ffm_model.specs.declared.system.ActorKind.TheVariants as kind
 use Rattle.ffm_model.specs.declared.system.System.{System}
-use Rattle.ffm_model.specs.Actors.{actor_count, is_client, kind_of}
+use Rattle.ffm_model.specs.Actors.{actor_count, kind_of}
 use Rattle.ffm_model.specs.Held.{holder_of}
 use Rattle.ffm_model.specs.HeldPlans.{held_plan}
 use Rattle.ffm_model.specs.Memory.{ByteMap}
@@ -29,6 +29,7 @@ use Rattle.mapped_runs.proofs.Events.{runs-keep-windows}
 use Rattle.actor_programs.specs.declared.program.Program.{Program}
 use Rattle.actor_programs.specs.declared.program.Program.TheVariants.{Plain, Functions}
 use Rattle.actor_programs.specs.Programs.{Parts, ArePrograms, AreScriptsOf, IsProgramOf, script_of}
+use Rattle.actor_programs.proofs.ActorLemmas.{most_of}
 use Rattle.sfn_calls.specs.Loop.{expanded}
 use Rattle.sfn_calls.specs.Partitions.{is_sfn}
 use Rattle.partition_sim.specs.ActorPlans.{Role, plan_at, plan_of_role, role_at}
@@ -131,9 +132,6 @@ all_ran s m c programs scripts threads (Ok ran) unmapped long fit are h = ran_pr
 all_ran s m c programs scripts threads (Err e) unmapped long fit are h = tt
 
 -- an actor that is no client has one script
-abbrev most_of : ActorKind → ℕ
-most_of k = if is_client k then 8 else 1
-
 most-of : (k : ActorKind) → k ≢ kind.Client → most_of k ≡ 1
 most-of kind.Partition other = refl
 most-of kind.Client other = absurd (other refl)

@@ -1,6 +1,6 @@
 -- Runs, one after the other: one more in front, other words for each of them, and whose events they have.
 use Rattle.std.proofs.Common.{ℕ, suc, ◌≡◌, ◌≤◌, ◌-◌, ◌&&◌, Bool, true, false, List, [], ◌∷◌, ◌++◌, length, map, append_assoc, refl, ap, sym, subst, ◌∙◌, arith}
-use Rattle.std.specs.Prelude.{Option, Some, IfSome, Result, Ok, Err, IfOk, nat_lt, slice_get}
+use Rattle.std.specs.Prelude.{Option, Some, Result, Ok, Err, IfOk, nat_lt, slice_get}
 use Rattle.std.specs.List.{list_all}
 use Rattle.std.specs.Option.{option_map_or}
 use Rattle.std.proofs.lemmas.List.{map-append}
@@ -69,9 +69,6 @@ pub leads_to : (s : System) (c : Scenario) (scripts : List Parts) (first m : Byt
     → (nat_lt 0 left && ends_panicked s m (finished t)) ≡ false → RunsFrom s (RunOf s c scripts) first first c.restarts (map finished (so_far ++ t ∷ []))
 leads_to s c scripts first m left so_far t leads ran last =
     subst (λ (xs : List FinishedRun). RunsFrom s (RunOf s c scripts) first first c.restarts xs) (sym (map-append finished so_far (t ∷ []))) (leads (finished t ∷ []) (ran, last))
-
-pub if_some : {X : Type 0} (o : Option X) (x : X) (P : X → Type 0) → o ≡ Some x → IfSome o P → P x
-if_some o x P is h = subst (λ p. IfSome p P) is h
 
 -- when a manager's run is followed by another
 pub again_is : (y : Managed) (o : Opening) (v : Verdict) → y.opening ≡ o → verdict_of o.system (byte_at o.memory) o.limit y.history ≡ Some v

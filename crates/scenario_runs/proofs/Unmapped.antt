@@ -1,7 +1,8 @@
 -- The loop of an SFN partition maps no vector.
-use Rattle.std.proofs.Common.{ℕ, ◌+◌, ◌≡◌, false, List, [], ◌∷◌, ◌++◌, refl}
+use Rattle.std.proofs.Common.{ℕ, ◌+◌, ◌≡◌, false, List, [], ◌∷◌, refl}
 use Rattle.std.specs.Prelude.{◌↔◌, length}
 use Rattle.std.specs.List.{AllByRecursion}
+use Rattle.list_laws.proofs.Lists.{AllByRecursion-append}
 use Rattle.ffm_model.specs.declared.machine.Entry.{Entry}
 use Rattle.ffm_model.specs.declared.script.Instruction.{Instruction}
 use Rattle.ffm_model.specs.declared.script.Instruction.TheVariants as line
@@ -24,10 +25,6 @@ use Rattle.sfn_calls.proofs.CodeLemmas.{partition-fine}
 abbrev pub UnmappedRuns : Type 0
 UnmappedRuns = (p : Holder) (script : List Instruction) (entries : List Entry) → MapsNothing script → PlanRun (held_plan p script) entries ↔ ScriptRun script entries
 
-none-append : (xs ys : List Instruction) → MapsNothing xs → MapsNothing ys → MapsNothing (xs ++ ys)
-none-append [] ys h k = k
-none-append (x ∷ xs) ys h k = (h.0, none-append xs ys h.1 k)
-
 line-none : (to : ℕ → ℕ) (count : ℕ) (i : Instruction) → FitsFunction count i → maps (moved to i) ≡ false
 line-none to count (line.Change o r v) h = refl
 line-none to count (line.Jump t) h = refl
@@ -48,7 +45,7 @@ service-none base at v h = (refl, (refl, (refl, (refl, (refl, lines-none _ (leng
 services-none : (base at : ℕ) (vs : List SfnService) → AllByRecursion (λ v. IsFunction v.lines) vs → MapsNothing (services_code base at vs)
 unfolding services_code
 services-none base at [] h = tt
-services-none base at (v ∷ vs) h = none-append (service_code base at v) _ (service-none base at v h.0) (services-none base (at + service_size v.lines) vs h.1)
+services-none base at (v ∷ vs) h = AllByRecursion-append (λ (i : Instruction). maps i ≡ false) (service_code base at v) _ (service-none base at v h.0) (services-none base (at + service_size v.lines) vs h.1)
 
 pub expanded-maps-nothing : (s : System) (a : ℕ) (functions : List SfnFunction) → IsSfnScript functions → MapsNothing (expanded (sfn_partition s a functions))
 unfolding expanded

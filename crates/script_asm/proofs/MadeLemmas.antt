@@ -9,6 +9,7 @@ use Rattle.std.proofs.lemmas.List.Sums.{sum_by-append}
 use Rattle.std.specs.List.{AllByRecursion}
 use Rattle.script_asm.specs.Made.{listed}
 use Rattle.std.proofs.lemmas.Grind.{common_steps}
+use Rattle.std.proofs.lemmas.Option.{same_Some}
 use Rattle.script_asm.specs.Lines.{Line, passed, label, order, width, instruction_of, place_of, made_of, made_from, line_then}
 use Rattle.script_asm.specs.declared.lines.Line as code
 use Rattle.script_asm.specs.Views.{line_view, lines_view}
@@ -76,20 +77,17 @@ each-push P [] None h k = tt
 each-push P [] (Some x) h k = (k, tt)
 each-push P (y ∷ ys) made h k = (h.0, each-push P ys made h.1 k)
 
-some-eq : {A : Type 0} {x y : A} → Some x ≡ Some y → x ≡ y
-some-eq e = cc
-
 -- no line makes another number than its width
 pub label-width : {A : Type 0} (b : Bool) (made : Option A) → Some (listed made) ≡ (if b then None else Some []) → length (listed made) ≡ 0
 label-width true made e = cc
-label-width false made e = ap length (some-eq e)
+label-width false made e = ap length (same_Some _ _ e)
 
 pub order-width : {A : Type 0} (o : Option A) (made : Option A) → Some (listed made) ≡ option_map (λ x. x ∷ []) o → length (listed made) ≡ 1
 order-width None made e = cc
-order-width (Some x) made e = ap length (some-eq e)
+order-width (Some x) made e = ap length (same_Some _ _ e)
 
 pub passed-width : {A : Type 0} (made : Option A) → Some (listed made) ≡ Some [] → length (listed made) ≡ 0
-passed-width made e = ap length (some-eq e)
+passed-width made e = ap length (same_Some _ _ e)
 
 pub listed-width : (k : ActorKind) (all : List Line) (i : ℕ) (l : Line) (made : Option Instruction) → Some (listed made) ≡ made_of k all i l → length (listed made) ≡ width l
 unfolding made_of

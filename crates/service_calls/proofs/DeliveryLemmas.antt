@@ -2,6 +2,7 @@
 use Rattle.std.proofs.Common.{ℕ, ◌≡◌, Bool, true, cond, List, [], ◌∷◌, ◌++◌, ◌∙◌, ap, sym, refl, subst, ◌==◌, map, false}
 use Rattle.std.specs.Prelude.{find, is_none, All, if◌then◌else◌, Option, Some, None, IsSome, IfSome, option_and_then}
 use Rattle.std.specs.Option.{option_map}
+use Rattle.std.proofs.lemmas.Bool.{and_parts}
 use Rattle.list_laws.proofs.Tests.{find-passes, find-map}
 use Rattle.ffm_model.specs.declared.machine.Handle.{Handle}
 use Rattle.ffm_model.specs.declared.machine.Message.{Message as ShownMessage}
@@ -22,7 +23,7 @@ use Rattle.object_pools.specs.Pool.{IsKept, has_slot, item_at, item_put, with_it
 use Rattle.message_vectors.specs.Vectors.{AreWithin}
 use Rattle.handle_table.specs.declared.handles.Family.TheVariants.{Message}
 use Rattle.handle_table.specs.Handles.{handle_at}
-use Rattle.handle_table.proofs.SlotLemmas.{both, slot-is}
+use Rattle.handle_table.proofs.SlotLemmas.{slot-is}
 use Rattle.slot_names.specs.Named.{KeepsNames, NamesAre}
 use Rattle.slot_names.proofs.Changes.{names-message}
 use Rattle.slot_names.proofs.Due.{due-at-get}
@@ -100,7 +101,7 @@ delivered-slot v t n (x ∷ xs) h f e =
     let rest : List PendingMessage = map held_message xs in
     let here : is_undelivered v (held_message x) ≡ true → held_message (item_put t n x) ≡ record (held_message x) { handle = Some k } → has_slot t x ≡ true =
     λ waits same.
-    let none : is_none (held_message x).handle ≡ true = (both (is_none (held_message x).handle) ((held_message x).service == v) waits).0 in
+    let none : is_none (held_message x).handle ≡ true = (and_parts (is_none (held_message x).handle) ((held_message x).service == v) waits).0 in
     let in_slot : (c : Bool) → held_message (cond {A = Held QueuedMessage} c (record x { item = n }) x) ≡ record (held_message x) { handle = Some k } → c ≡ true =
     elim [
       | true ↦ λ g. refl
@@ -147,6 +148,6 @@ delivered-within regions d new service t n it all =
 pub was-undelivered : (d new : TablesView) (service : ℕ) (t : Slot) (n : QueuedMessage) → (it : IsDelivered d new service t n) → it.item.delivered ≡ false
 was-undelivered d new service t n it =
     let waits : is_undelivered service (message_of t it.item) ≡ true = find-passes (is_undelivered service) (spm_of d).messages (message_of t it.item) it.first in
-    let none : is_none (shown_handle it.item.delivered t) ≡ true = (both (is_none (shown_handle it.item.delivered t)) (it.item.service == service) waits).0 in
+    let none : is_none (shown_handle it.item.delivered t) ≡ true = (and_parts (is_none (shown_handle it.item.delivered t)) (it.item.service == service) waits).0 in
     let go : (b : Bool) → is_none (shown_handle b t) ≡ true → b ≡ false = elim [ true ↦ λ e. cc | false ↦ λ e. refl ] in
     go it.item.delivered none

@@ -65,14 +65,14 @@ connections-without t generations (x ∷ xs) small size named told =
 
 pub objects-without : (d : TablesView) (t : Slot) (m : QueuedMessage) → IsKept 304 d.messages → IsKept 256 d.connections → IsTable d.connections → item_at d.messages t ≡ Some m → m.delivered ≡ false
     → objects_with (spm_of d) (handle_at Message t) ≡ 0
-objects-without d t m waiting linked table live waits =
+objects-without d t m of_messages of_connections table live waits =
     let it = held-of d.messages t m live in
     let g : Held QueuedMessage = it.0 in
     let own : g.item.delivered ≡ false = ap (λ (x : QueuedMessage). x.delivered) it.2 ∙ waits in
-    let name : IsNamed d.messages.generations t = named-at d.messages t m 304 waiting live in
-    let small : t.index < 304 = omega (arith, name.below, waiting.size) in
+    let name : IsNamed d.messages.generations t = named-at d.messages t m 304 of_messages live in
+    let small : t.index < 304 = omega (arith, name.below, of_messages.size) in
     omega (
       arith,
-      messages-without t g d.messages.generations d.messages.held small waiting.size own waiting.named (only-here d.messages t g waiting it.1),
-      connections-without t d.connections.generations d.connections.held small linked.size linked.named table.told,
+      messages-without t g d.messages.generations d.messages.held small of_messages.size own of_messages.named (only-here d.messages t g of_messages it.1),
+      connections-without t d.connections.generations d.connections.held small of_connections.size of_connections.named table.told,
     )

@@ -4,6 +4,7 @@ use Rattle.std.specs.Prelude.{ℤ, int_le, nat_lt, find, Option, Some, None, map
 use Rattle.std.specs.Option.{option_map}
 use Rattle.std.proofs.lemmas.Bool.Decides.{Decides-int_eq}
 use Rattle.std.proofs.lemmas.List.Elements.{All-head, All-tail, All-nil, All-cons}
+use Rattle.std.proofs.lemmas.Bool.{and_parts}
 use Rattle.ffm_model.specs.declared.constants.TheConstants.{PSA_IPC_CALL, PSA_MAX_IOVEC}
 use Rattle.ffm_model.specs.declared.machine.Handle.{Handle}
 use Rattle.ffm_model.specs.declared.system.System.{System}
@@ -16,7 +17,7 @@ use Rattle.object_pools.specs.declared.slot.Held.{Held}
 use Rattle.object_pools.specs.Pool.{has_slot, item_at}
 use Rattle.handle_table.specs.declared.handles.Family.TheVariants.{Message}
 use Rattle.handle_table.specs.Handles.{handle_at}
-use Rattle.handle_table.proofs.SlotLemmas.{both, held-of}
+use Rattle.handle_table.proofs.SlotLemmas.{held-of}
 use Rattle.list_laws.proofs.Tests.{find-passes, find-all}
 use Rattle.spm_tables.specs.declared.item.QueuedMessage.{QueuedMessage}
 use Rattle.spm_tables.specs.TablesView.{TablesView, spm_of, message_of, message_at, held_message, shown_handle}
@@ -52,7 +53,7 @@ told-by t m k e =
 
 pub held-told : (s : System) (b : SpmState) (a : ℕ) (k : Handle) (t : Slot) (m : QueuedMessage) → message_held s b a k ≡ Some (message_of t m) → IsTold t m k
 held-told s b a k t m held =
-    told-by t m k (both (is_service_of s a m.service) (has_handle (shown_handle m.delivered t) k) (find-passes (λ n. is_service_of s a n.service && has_handle n.handle k) b.messages (message_of t m) held)).1
+    told-by t m k (and_parts (is_service_of s a m.service) (has_handle (shown_handle m.delivered t) k) (find-passes (λ n. is_service_of s a n.service && has_handle n.handle k) b.messages (message_of t m) held)).1
 
 -- ---- requests
 

@@ -91,13 +91,13 @@ pub reply-names : (s : System) (d mid new : TablesView) (t : Slot) (link : Optio
     → new.messages ≡ mid.messages → KeepsNames s d new
 reply-names s d mid new t link fit kept dropped changes same =
     let one : OneMessageEach (spm_of d) = fitting-messages s (spm_of d) fit in
-    let waiting : new.messages ≡ without d.messages t = same ∙ ap (λ (e : TablesView). e.messages) dropped in
+    let of_messages : new.messages ≡ without d.messages t = same ∙ ap (λ (e : TablesView). e.messages) dropped in
     let at : (u : Slot) → ChangesAt u d.connections new.connections → KeepsNames s d new =
     λ u. elim [
-      | inl x ↦ names-answered s d new t u x.0 x.1 one kept x.2 x.3 (λ e. ap is_some (sym x.4) ∙ e) x.5 waiting
-      | inr gone ↦ names-ended s d new t u one gone waiting
+      | inl x ↦ names-answered s d new t u x.0 x.1 one kept x.2 x.3 (λ e. ap is_some (sym x.4) ∙ e) x.5 of_messages
+      | inr gone ↦ names-ended s d new t u one gone of_messages
     ] in
-    let go : (o : Option Slot) → ChangesWhere o d.connections new.connections → KeepsNames s d new = elim [ None ↦ λ e. names-replied s d new t one e waiting | Some u ↦ at u ] in
+    let go : (o : Option Slot) → ChangesWhere o d.connections new.connections → KeepsNames s d new = elim [ None ↦ λ e. names-replied s d new t one e of_messages | Some u ↦ at u ] in
     go link (subst (λ (e : TablesView). ChangesWhere link e.connections new.connections) dropped changes)
 
 -- ---- the rhandle of a connection changes

@@ -1,6 +1,6 @@
 //! The delivery of messages.
 
-ghost use Rattle.std.specs.Prelude.{◌≡◌, true, ◌<◌, ◌==◌, ◌&&◌, ◌++◌, ℕ, length, List, All, IfOk, IfSome, IsSome, Some, map, option_and_then, position, if◌then◌else◌};
+ghost use Rattle.std.specs.Prelude.{◌≡◌, true, ◌<◌, ◌==◌, ◌&&◌, ◌++◌, length, List, IfOk, IfSome, IsSome, Some, option_and_then, position, if◌then◌else◌};
 ghost use Rattle.std.specs.Option.{option_map_or};
 ghost use Rattle.std.specs.Ordering.{int_eq};
 ghost use Rattle.counting_law.specs.Objects.{ObjectsFit};
@@ -13,11 +13,10 @@ ghost use Rattle.ffm_model.specs.State.{State as StateSeen, connection_by_serial
 ghost use Rattle.handle_table.specs.declared.handles.Family.TheVariants as family;
 ghost use Rattle.handle_table.specs.Handles.{handle_at};
 ghost use Rattle.memory_image.specs.Pieces.{byte_at, regions_of};
-ghost use Rattle.message_vectors.specs.Vectors.{AreWithin};
 ghost use Rattle.object_pools.specs.Pool.{item_at};
 ghost use Rattle.service_calls.specs.Answers.{IsGot};
 ghost use Rattle.slot_names.specs.Named.{KeepsNames, NamesAre};
-ghost use Rattle.slot_names.specs.Premises.{PremisesWithImage};
+ghost use Rattle.slot_names.specs.Premises.{PremisesWithImage, KeepsVectors};
 ghost use Rattle.slot_names.specs.Stands.{Stands};
 ghost use Rattle.spm_tables.specs.Answers.{state_with};
 ghost use Rattle.spm_tables.specs.TablesView.{message_of, shape_of, spm_of};
@@ -135,7 +134,7 @@ pub fn get(
     ensures fresh { IfOk result (λ m. (st : StateSeen) → Stands tables.old image.old st → fresh st m.handle ≡ true) }
     ensures name { IfOk result (λ m. (k : NamesSoFar) → NamesAre tables.old k → (given : List HandleSeen) → name_due system.now (state_with tables.old given (byte_at image.old)) actor.0 (Get signal msg) k ≡ Some m.handle) }
     ensures fits { ObjectsFit system.now (spm_of tables.new) }
-    ensures within { (ranges : List (ℕ × ℕ)) → All (λ m. AreWithin ranges m.vectors) (spm_of tables.old).messages → All (λ m. AreWithin ranges m.vectors) (spm_of tables.new).messages }
+    ensures within { KeepsVectors tables.old tables.new }
     ensures shape { shape_of tables.new ≡ shape_of tables.old }
     ensures regions { regions_of image.new ≡ regions_of image.old }
     ensures takes { tables.new.messages.takes ≡ tables.old.messages.takes }

@@ -1,6 +1,6 @@
 //! Replies to messages, and the rhandles of their connections.
 
-ghost use Rattle.std.specs.Prelude.{◌≡◌, ℕ, ◌<◌, ◌&&◌, length, All, IsSome, IfSome, IfOk, List, Some, None, option_and_then, if◌then◌else◌, int_lt, take};
+ghost use Rattle.std.specs.Prelude.{◌≡◌, ◌<◌, ◌&&◌, length, IsSome, IfSome, IfOk, List, Some, None, option_and_then, if◌then◌else◌, int_lt, take};
 ghost use Rattle.std.specs.Option.{option_map, option_map_or};
 ghost use Rattle.std.specs.Ordering.{int_eq};
 ghost use Rattle.counting_law.specs.Objects.{ObjectsFit};
@@ -19,7 +19,7 @@ ghost use Rattle.object_pools.specs.Pool.{item_at};
 ghost use Rattle.service_calls.specs.Answers.{LeavesReply, once_panicked};
 ghost use Rattle.service_calls.specs.Connections.{ChangesAt, ChangesWhere, IsConnectionOf, IsLinkOf};
 ghost use Rattle.slot_names.specs.Named.{KeepsNames};
-ghost use Rattle.slot_names.specs.Premises.{Premises, PremisesWithMemory};
+ghost use Rattle.slot_names.specs.Premises.{Premises, PremisesWithMemory, KeepsVectors, KeepsFit, VectorsLie};
 ghost use Rattle.spm_tables.specs.Answers.{Answers, state_with};
 ghost use Rattle.spm_tables.specs.declared.item.QueuedMessage.{QueuedMessage as QueuedSeen};
 ghost use Rattle.spm_tables.specs.TablesView.{MadeFor, fresh_message, message_at, shape_of, spm_of};
@@ -47,8 +47,8 @@ pub fn set_rhandle(
     ensures shape { shape_of tables.new ≡ shape_of tables.old }
     ensures takes { tables.new.messages.takes ≡ tables.old.messages.takes }
     ensures names { (s : SystemSeen) → MadeFor tables.old s → KeepsNames s tables.old tables.new }
-    ensures fits { (s : SystemSeen) → ObjectsFit s (spm_of tables.old) → ObjectsFit s (spm_of tables.new) }
-    ensures within { (ranges : List (ℕ × ℕ)) → All (λ m. AreWithin ranges m.vectors) (spm_of tables.old).messages → All (λ m. AreWithin ranges m.vectors) (spm_of tables.new).messages }
+    ensures fits { KeepsFit tables.old tables.new }
+    ensures within { KeepsVectors tables.old tables.new }
 {
     tables.law();
     let Some(slot) = tables.find_message(actor, handle) else {
@@ -228,7 +228,7 @@ pub fn reply(
     ensures partition { IfOk result (λ owing. IfSome owing (λ p. p.0 < length system.now.partitions)) }
     ensures shape { shape_of tables.new ≡ shape_of tables.old }
     ensures regions { regions_of image.new ≡ regions_of image.old }
-    ensures vectors { All (λ m. AreWithin (regions_of image.new) m.vectors) (spm_of tables.new).messages }
+    ensures vectors { VectorsLie tables.new image.new }
     ensures takes { tables.new.messages.takes ≡ tables.old.messages.takes }
     ensures names { KeepsNames system.now tables.old tables.new }
 {

@@ -14,7 +14,7 @@ ghost use Rattle.message_vectors.specs.Vectors.{AreMovedWithin, AreWithin};
 ghost use Rattle.object_pools.specs.Pool.{item_at};
 ghost use Rattle.service_calls.specs.Answers.{AnswersOver};
 ghost use Rattle.slot_names.specs.Named.{KeepsNames};
-ghost use Rattle.slot_names.specs.Premises.{TransferPremises};
+ghost use Rattle.slot_names.specs.Premises.{TransferPremises, KeepsVectors, VectorsLie};
 ghost use Rattle.spm_tables.specs.Answers.{Answers, state_with};
 ghost use Rattle.spm_tables.specs.TablesView.{MadeFor, message_at, shape_of, spm_of};
 
@@ -65,7 +65,7 @@ pub fn skip(
     requires moved { All (λ m. AreMovedWithin m.vectors) (spm_of tables.old).messages }
     ensures answer { (s : SystemSeen) → MadeFor tables.old s → Answers Number (psa_skip s (spm_of tables.old) actor.0 handle index len) tables.old result tables.new }
     ensures moved { All (λ m. AreMovedWithin m.vectors) (spm_of tables.new).messages }
-    ensures within { (regions : List (ℕ × ℕ)) → All (λ m. AreWithin regions m.vectors) (spm_of tables.old).messages → All (λ m. AreWithin regions m.vectors) (spm_of tables.new).messages }
+    ensures within { KeepsVectors tables.old tables.new }
     ensures shape { shape_of tables.new ≡ shape_of tables.old }
     ensures takes { tables.new.messages.takes ≡ tables.old.messages.takes }
     ensures names { (s : SystemSeen) → MadeFor tables.old s → KeepsNames s tables.old tables.new }
@@ -97,7 +97,7 @@ pub fn read(
     ensures answer { (given : List HandleSeen) → AnswersOver Number (psa_read system.now (state_with tables.old given (byte_at image.old)) actor.0 handle index buffer len) given tables.old image.old result tables.new image.new }
     ensures shape { shape_of tables.new ≡ shape_of tables.old }
     ensures regions { regions_of image.new ≡ regions_of image.old }
-    ensures vectors { All (λ m. AreWithin (regions_of image.new) m.vectors) (spm_of tables.new).messages }
+    ensures vectors { VectorsLie tables.new image.new }
     ensures takes { tables.new.messages.takes ≡ tables.old.messages.takes }
     ensures names { KeepsNames system.now tables.old tables.new }
     ensures fits { ObjectsFit system.now (spm_of tables.old) → ObjectsFit system.now (spm_of tables.new) }
@@ -131,7 +131,7 @@ pub fn write(
     ensures answer { (given : List HandleSeen) → AnswersOver (λ u. Done) (psa_write system.now (state_with tables.old given (byte_at image.old)) actor.0 handle index buffer len) given tables.old image.old result tables.new image.new }
     ensures shape { shape_of tables.new ≡ shape_of tables.old }
     ensures regions { regions_of image.new ≡ regions_of image.old }
-    ensures vectors { All (λ m. AreWithin (regions_of image.new) m.vectors) (spm_of tables.new).messages }
+    ensures vectors { VectorsLie tables.new image.new }
     ensures takes { tables.new.messages.takes ≡ tables.old.messages.takes }
     ensures names { KeepsNames system.now tables.old tables.new }
     ensures fits { ObjectsFit system.now (spm_of tables.old) → ObjectsFit system.now (spm_of tables.new) }

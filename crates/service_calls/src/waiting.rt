@@ -1,12 +1,12 @@
 //! Waiting for signals.
 
-ghost use Rattle.std.specs.Prelude.{◌≡◌, ℕ, All, List, map, filter, ◌==◌};
+ghost use Rattle.std.specs.Prelude.{◌≡◌, map, filter, ◌==◌};
 ghost use Rattle.ffm_model.specs.ServiceCalls.{psa_wait};
 ghost use Rattle.ffm_model.specs.Signals.{assigned_to, union_of};
 ghost use Rattle.counting_law.specs.Objects.{ObjectsFit};
 ghost use Rattle.ffm_model.specs.State.{phase_of};
-ghost use Rattle.message_vectors.specs.Vectors.{AreWithin};
 ghost use Rattle.slot_names.specs.Named.{KeepsNames};
+ghost use Rattle.slot_names.specs.Premises.{KeepsVectors};
 ghost use Rattle.spm_tables.specs.Answers.{Answers};
 ghost use Rattle.spm_tables.specs.TablesView.{MadeFor, shape_of, spm_of};
 
@@ -60,7 +60,8 @@ pub fn wait(
     ensures shape { shape_of tables.new ≡ shape_of tables.old }
     ensures names { KeepsNames system.now tables.old tables.new }
     ensures fits { phase_of (spm_of tables.old) actor.0 ≡ ActorPhase.Running → ObjectsFit system.now (spm_of tables.old) → ObjectsFit system.now (spm_of tables.new) }
-    ensures within { (ranges : List (ℕ × ℕ)) → All (λ m. AreWithin ranges m.vectors) (spm_of tables.old).messages → All (λ m. AreWithin ranges m.vectors) (spm_of tables.new).messages }
+    ensures within { KeepsVectors tables.old tables.new }
+    ensures takes { tables.new.messages.takes ≡ tables.old.messages.takes }
 {
     if assigned_to(system, actor) & mask == 0 {
         return Err(Fault);

@@ -1,5 +1,5 @@
 -- What the code of the loop is made of, piece by piece.
-use Rattle.std.proofs.Common.{ℕ, zero, suc, ◌+◌, ◌-◌, ◌*◌, ◌<◌, ◌≤◌, ◌≡◌, ◌==◌, ◌^◌, List, [], ◌∷◌, ◌++◌, length, get_or, drop, refl, ap, ap₂, sym, ◌∙◌, subst, arith, Bool, true, false, append_assoc, length-append}
+use Rattle.std.proofs.Common.{ℕ, zero, suc, ◌+◌, ◌-◌, ◌*◌, ◌<◌, ◌≤◌, ◌≡◌, ◌==◌, ◌^◌, List, [], ◌∷◌, ◌++◌, length, get_or, drop, refl, ap, ap₂, sym, ◌∙◌, subst, arith, Bool, true, false, append_assoc, length-append, append-nil}
 use Rattle.std.specs.Prelude.{Result, Ok, Err, OnOk, IfOk, Option, Some, None, find, map, fold, bit_or, if◌then◌else◌}
 use Rattle.std.specs.Option.{option_map, option_map_or, option_to_list}
 use Rattle.std.specs.List.{AllByRecursion}
@@ -101,13 +101,9 @@ services_code-push base (x ∷ xs) ys at =
     ∙ (ap (λ (n : ℕ). service_code base at x ++ (services_code base next xs ++ services_code base n ys)) long
     ∙ sym (append_assoc (service_code base at x) (services_code base next xs) (services_code base (at + length (service_code base at x ++ services_code base next xs)) ys)))
 
-no-more : (xs : List SfnService) → xs ++ [] ≡ xs
-no-more [] = refl
-no-more (x ∷ xs) = ap (λ (l : List SfnService). x ∷ l) (no-more xs)
-
 pub services-push : (s : System) (a : ℕ) (fs : List SfnFunction) (n b : ℕ) → sfn_services_from s a fs b (n + 1) ≡ sfn_services_from s a fs b n ++ option_to_list (sfn_service_at s a fs (b + n))
 unfolding sfn_services_from
-services-push s a fs zero b = let e : b + 0 ≡ b = omega arith in rw e (no-more (option_to_list (sfn_service_at s a fs b)))
+services-push s a fs zero b = let e : b + 0 ≡ b = omega arith in rw e (append-nil (option_to_list (sfn_service_at s a fs b)))
 services-push s a fs (suc n) b =
     let e : b + 1 + n ≡ b + suc n = omega arith in
     let one : suc n + 1 ≡ suc (n + 1) = omega arith in
@@ -212,13 +208,9 @@ signals-more s a fs bit signals low e =
     e ∙ sym (ap (λ (n : ℕ). signals_in (sfn_services_from s a fs 4 n)) one
     ∙ (ap signals_in (services-push s a fs (bit - 4) 4) ∙ ap (λ (k : ℕ). signals_in (sfn_services_from s a fs 4 (bit - 4) ++ option_to_list (sfn_service_at s a fs k))) here))
 
-no-more-code : (xs : List Instruction) → xs ++ [] ≡ xs
-no-more-code [] = refl
-no-more-code (x ∷ xs) = ap (λ (l : List Instruction). x ∷ l) (no-more-code xs)
-
 service_code-alone : (base at : ℕ) (v : SfnService) → services_code base at (v ∷ []) ≡ service_code base at v
 unfolding services_code
-service_code-alone base at v = no-more-code (service_code base at v)
+service_code-alone base at v = append-nil (service_code base at v)
 
 -- the code of the service
 pub service_code-added : (s : System) (a : ℕ) (fs : List SfnFunction) (base bit x v : ℕ) (old new : List Instruction) → Some v ≡ service_of_signal s a x → x ≡ 2 ^ bit
@@ -232,7 +224,7 @@ pub service_code-none : (s : System) (a : ℕ) (fs : List SfnFunction) (base bit
     → old ≡ old ++ services_code base (length old) (option_to_list (sfn_service_at s a fs bit))
 unfolding services_code
 service_code-none s a fs base bit x old found e =
-    sym (ap (λ (o : Option SfnService). old ++ services_code base (length old) (option_to_list o)) (no-service s a fs bit x found e) ∙ no-more-code old)
+    sym (ap (λ (o : Option SfnService). old ++ services_code base (length old) (option_to_list o)) (no-service s a fs bit x found e) ∙ append-nil old)
 
 pub service_code-short : (base : ℕ) (v : SfnService) (old new : List Instruction) → length v.lines ≤ 4096 → new ≡ old ++ service_code base (length old) v → length new ≤ length old + 8199
 unfolding service_size

@@ -23,7 +23,7 @@ use Rattle.sfn_calls.specs.Answers.{IsHandle, IsBlockedWait, IsReturn, AreAnswer
 use Rattle.sfn_calls.proofs.Rounds.{answered, due, RunAt, run-to, run-from}
 use Rattle.sfn_calls.proofs.Stages.{AtWait, wait-call, wait-line, AfterWait, after-signals, to-get, get-call, AtWork, work-call, to-work, stays-open, goes-on, goes-back, return-call}
 use Rattle.ffm_model.proofs.ScriptLemmas.{local_step-at, steps-none}
-use Rattle.list_laws.proofs.Tests.{some-value}
+use Rattle.list_laws.proofs.Options.{some-value}
 
 -- ---- the machine's answers, of fewer entries
 
@@ -44,11 +44,11 @@ is_open (signalled rs signals) = false
 is_open (working w) = w.pending
 
 -- where the loop stands
-abbrev pub Stands : SfnPartition → Stage → Point → Type 0
-Stands p (idle rs) q = AtWait (expanded p) rs q
-Stands p (waiting rs) q = AtWait (expanded p) rs q
-Stands p (signalled rs signals) q = AfterWait rs signals q
-Stands p (working w) q = AtWork (expanded p) w q
+abbrev pub LoopStands : SfnPartition → Stage → Point → Type 0
+LoopStands p (idle rs) q = AtWait (expanded p) rs q
+LoopStands p (waiting rs) q = AtWait (expanded p) rs q
+LoopStands p (signalled rs signals) q = AfterWait rs signals q
+LoopStands p (working w) q = AtWork (expanded p) w q
 
 -- what the machine answers from here on
 abbrev pub Facts : SfnPartition → Stage → List Entry → Type 0
@@ -83,13 +83,13 @@ work-due p w q b e a = ap (λ (c : Call). if w.pending then call.Resume else c) 
 
 -- after a call of the function, whatever is answered
 pub record Behind (p : SfnPartition) (w : Work) (q : Point) (o : Outcome) : Type 0 where
-  pub stands : Stands p (stage_behind w o) (answered (expanded p) o q)
+  pub stands : LoopStands p (stage_behind w o) (answered (expanded p) o q)
   pub opens : is_open (stage_behind w o) ≡ is_blocked_outcome o
 
 -- by whether the function returned, and whether the call is blocked
 behind-by : (p : SfnPartition) (w : Work) (q : Point) (o : Outcome) (r b : Bool) → returns_at w.lines (reached w) ≡ r → is_blocked_outcome o ≡ b → AtWork (expanded p) w q
     → (r ≡ true → (b ≡ false) × (noted o (arrived (expanded p) q).registers ≡ (arrived (expanded p) q).registers))
-    → Stands p (if r then idle (reached w).registers else working (if b then record w { pending = true } else record w { budget = most_lines; at = point (noted o (reached w).registers) ((reached w).place + 1); pending = false }))
+    → LoopStands p (if r then idle (reached w).registers else working (if b then record w { pending = true } else record w { budget = most_lines; at = point (noted o (reached w).registers) ((reached w).place + 1); pending = false }))
     (if b then q else behind (expanded p) o (arrived (expanded p) q))
     × (is_open (if r then idle (reached w).registers else working (if b then record w { pending = true } else record w { budget = most_lines; at = point (noted o (reached w).registers) ((reached w).place + 1); pending = false })) ≡ b)
 behind-by p w q o true true er eb a quiet = let no = (quiet refl).0 in cc
@@ -140,7 +140,7 @@ same_message : (a b : Message) → ◌≡◌ {A = Outcome} (outcome.Got a) (outc
 same_message a b e = cc
 
 -- from any stage on, the entries are the loop's run exactly where they are the rest of rounds
-pub same-from : (p : SfnPartition) → IsSfnPartition p → (es : List Entry) (stage : Stage) (q : Point) → Stands p stage q → Facts p stage es
+pub same-from : (p : SfnPartition) → IsSfnPartition p → (es : List Entry) (stage : Stage) (q : Point) → LoopStands p stage q → Facts p stage es
     → RunAt (expanded p) (is_open stage) q es ↔ SfnRunFrom p stage es
 same-from p fine [] stage q stands facts = ((λ _. tt), (λ _. tt))
 same-from p fine (e ∷ es) (idle rs) q at facts =

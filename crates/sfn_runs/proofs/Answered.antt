@@ -16,6 +16,7 @@ use Rattle.ffm_model.specs.SfnRuns.{sfn_partition}
 use Rattle.ffm_model.specs.Signals.{signals_of}
 use Rattle.ffm_model.specs.State.{State}
 use Rattle.ffm_model.specs.Step.{after, step}
+use Rattle.list_laws.proofs.Options.{some-value}
 use Rattle.counting_law.proofs.Parts.{flipped, is_itself, same_or_not}
 use Rattle.counting_law.proofs.Runs.{run-has}
 use Rattle.sfn_calls.specs.Answers.{AreAnswered}
@@ -29,7 +30,6 @@ use Rattle.sfn_runs.proofs.Recent.{Recent, front-push, front_of, last-push, last
 use Rattle.sfn_runs.proofs.Services.{base-is, lowest-is, partition-fits, wait-meets}
 use Rattle.counting_law.proofs.Entries.{never-nil, push-split}
 use Rattle.counting_law.proofs.OwnSteps.{own-step}
-use Rattle.list_laws.proofs.Tests.{some-value}
 
 -- ---- an entry of the partition, in the whole run
 

@@ -32,16 +32,16 @@ use Rattle.slot_names.proofs.Kept.{message_list, name_list}
 
 -- tables that took nothing yet have no names
 pub names-begin : (s : System) (d : TablesView) → IsKept 256 d.connections → IsKept 304 d.messages → spm_of d ≡ opening_spm s → d.messages.takes ≡ 0 → NamesAre d no_names
-names-begin s d linked waiting opens untaken =
+names-begin s d of_connections of_messages opens untaken =
     let made : d.connections.takes ≡ 0 = ap (λ (b : SpmState). b.connections_made) opens in
     let no_connection : d.connections.held ≡ [] = map_nil (λ (h : Held OpenConnection). h.item) d.connections.held (ap (λ (b : SpmState). b.connections) opens) in
     let no_message : d.messages.held ≡ [] = map_nil _ d.messages.held (ap (λ (b : SpmState). b.messages) opens) in
     record {
       made = sym made;
       connections = subst (λ (hs : List (Held OpenConnection)). All (IsNamedBy []) hs) (sym no_connection) (All-nil (IsNamedBy []));
-      past_connections = record { uses = λ i. omega (arith, linked.given i, made) };
+      past_connections = record { uses = λ i. omega (arith, of_connections.given i, made) };
       messages = ap name_list (sym no_message);
-      past_messages = record { uses = λ i. omega (arith, waiting.given i, untaken) };
+      past_messages = record { uses = λ i. omega (arith, of_messages.given i, untaken) };
       sent = sym untaken;
     }
 

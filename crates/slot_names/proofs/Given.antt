@@ -73,11 +73,11 @@ module _ {T : Type 0} (f : Family) (told : T → Bool) where
 
 -- a connection changes in its slot
 pub given-connection : (old new : Places OpenConnection) (slot : Slot) (c changed : OpenConnection) → item_at old slot ≡ Some c → (is_some changed.handle ≡ false → is_some c.handle ≡ false) → new ≡ with_item old slot changed → KeepsFreshConnections old new
-given-connection old new slot c changed live told linked = given-to _ _ old new (with_item old slot changed) linked (given-put _ _ old slot c changed live told)
+given-connection old new slot c changed live told of_connections = given-to _ _ old new (with_item old slot changed) of_connections (given-put _ _ old slot c changed live told)
 
 -- or goes
 pub given-freed : (old new : Places OpenConnection) (slot : Slot) → new ≡ without old slot → KeepsFreshConnections old new
-given-freed old new slot linked = given-to _ _ old new (without old slot) linked (given-filter _ _ old (λ h. not (has_slot slot h)))
+given-freed old new slot of_connections = given-to _ _ old new (without old slot) of_connections (given-filter _ _ old (λ h. not (has_slot slot h)))
 
 -- some connections go, and others change in their slots
 pub given-some : (p : Places OpenConnection) (f : Held OpenConnection → Option (Held OpenConnection)) → ((h g : Held OpenConnection) → f h ≡ Some g → (g.slot ≡ h.slot) × (g.item.handle ≡ h.item.handle))
@@ -90,18 +90,18 @@ given-some p f same =
 
 -- a message is taken in
 pub given-message : (old new : Places QueuedMessage) (slot : Slot) (x : QueuedMessage) → free_slot old ≡ Some slot → new ≡ taken old slot x → KeepsFreshMessages old new
-given-message old new slot x free waiting = given-to _ _ old new (taken old slot x) waiting (given-taken _ _ old slot x free)
+given-message old new slot x free of_messages = given-to _ _ old new (taken old slot x) of_messages (given-taken _ _ old slot x free)
 
 -- or some go
 pub given-dropped : (old new : Places QueuedMessage) (q : Held QueuedMessage → Bool) → new ≡ record old { held = filter q old.held } → KeepsFreshMessages old new
-given-dropped old new q waiting = given-to _ _ old new (record old { held = filter q old.held }) waiting (given-filter _ _ old q)
+given-dropped old new q of_messages = given-to _ _ old new (record old { held = filter q old.held }) of_messages (given-filter _ _ old q)
 
 pub given-still : {T : Type 0} (f : Family) (told : T → Bool) (old new : Places T) → new ≡ old → KeepsFresh f told old new
 given-still f told old new same = given-to f told old new old same (given-same f told old)
 
 -- nothing changes
 pub given-untouched : (old new : TablesView) → new.connections ≡ old.connections → new.messages ≡ old.messages → KeepsGiven old new
-given-untouched old new linked waiting = record { connections = given-still _ _ old.connections new.connections linked; messages = given-still _ _ old.messages new.messages waiting }
+given-untouched old new of_connections of_messages = record { connections = given-still _ _ old.connections new.connections of_connections; messages = given-still _ _ old.messages new.messages of_messages }
 
 -- one change after another
 pub given-on : (a b c : TablesView) → KeepsGiven a b → KeepsGiven b c → KeepsGiven a c

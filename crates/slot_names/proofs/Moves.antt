@@ -30,11 +30,11 @@ use Rattle.counting_law.proofs.Pairs.{member-counts}
 -- ---- pools that change without a take
 
 -- by another name of the new one
-pub relinks-to : (old new changed : Places OpenConnection) → new ≡ changed → KeepsConnectionNames old changed → KeepsConnectionNames old new
-relinks-to old new changed same it = subst (KeepsConnectionNames old) (sym same) it
+pub connection-names-to : (old new changed : Places OpenConnection) → new ≡ changed → KeepsConnectionNames old changed → KeepsConnectionNames old new
+connection-names-to old new changed same it = subst (KeepsConnectionNames old) (sym same) it
 
-pub relinks-same : (old new : Places OpenConnection) → new ≡ old → KeepsConnectionNames old new
-relinks-same old new same = relinks-to old new old same (record { generations = refl; takes = refl; held = λ ts named. named })
+pub connection-names-same : (old new : Places OpenConnection) → new ≡ old → KeepsConnectionNames old new
+connection-names-same old new same = connection-names-to old new old same (record { generations = refl; takes = refl; held = λ ts named. named })
 
 -- ---- an item changes in its slot
 
@@ -75,8 +75,8 @@ put-named ts s c h same named =
     elim [ true ↦ λ e. ap (λ n. get_or ts n no_slot) (sym (same e)) ∙ named | false ↦ λ e. named ] in
     go (has_slot s h) refl
 
-pub relinks-item : (capacity : ℕ) (p : Places OpenConnection) (s : Slot) (c changed : OpenConnection) → IsKept capacity p → item_at p s ≡ Some c → changed.serial ≡ c.serial → KeepsConnectionNames p (with_item p s changed)
-relinks-item capacity p s c changed kept live serial = record {
+pub connection-names-item : (capacity : ℕ) (p : Places OpenConnection) (s : Slot) (c changed : OpenConnection) → IsKept capacity p → item_at p s ≡ Some c → changed.serial ≡ c.serial → KeepsConnectionNames p (with_item p s changed)
+connection-names-item capacity p s c changed kept live serial = record {
   generations = refl;
   takes = refl;
   held = λ ts named.
@@ -84,28 +84,28 @@ relinks-item capacity p s c changed kept live serial = record {
       (λ k d lt. put-named ts s changed (get_or p.held k d) (λ e. ap (λ (x : OpenConnection). x.serial) (only-item capacity p s c kept live k d lt e) ∙ sym serial) (named k d lt));
 }
 
-pub relinks-without : (p : Places OpenConnection) (s : Slot) → KeepsConnectionNames p (without p s)
-relinks-without p s = record {
+pub connection-names-without : (p : Places OpenConnection) (s : Slot) → KeepsConnectionNames p (without p s)
+connection-names-without p s = record {
   generations = refl;
   takes = refl;
   held = λ ts named. All-filter (λ h. not (has_slot s h)) (IsNamedBy ts) p.held named;
 }
 
 -- some connections go, and others change in their slots
-pub relinks-some : (p : Places OpenConnection) (f : Held OpenConnection → Option (Held OpenConnection))
+pub connection-names-some : (p : Places OpenConnection) (f : Held OpenConnection → Option (Held OpenConnection))
     → ((h g : Held OpenConnection) → f h ≡ Some g → (g.slot ≡ h.slot) × (g.item.serial ≡ h.item.serial))
     → KeepsConnectionNames p (record p { held = filter_map f p.held })
-relinks-some p f same = record {
+connection-names-some p f same = record {
   generations = refl;
   takes = refl;
   held = λ ts named. All-left (IsNamedBy ts) f (λ h g e is. let it = same h g e in ap (λ n. get_or ts n no_slot) it.1 ∙ is ∙ ap slot_name (sym it.0)) p.held named;
 }
 
-pub rewaits-to : (old new changed : Places QueuedMessage) → new ≡ changed → KeepsMessageNames old changed → KeepsMessageNames old new
-rewaits-to old new changed same it = subst (KeepsMessageNames old) (sym same) it
+pub message-names-to : (old new changed : Places QueuedMessage) → new ≡ changed → KeepsMessageNames old changed → KeepsMessageNames old new
+message-names-to old new changed same it = subst (KeepsMessageNames old) (sym same) it
 
-pub rewaits-same : (old new : Places QueuedMessage) → new ≡ old → KeepsMessageNames old new
-rewaits-same old new same = rewaits-to old new old same (record { generations = refl; takes = refl; names = refl; alike = λ h. refl })
+pub message-names-same : (old new : Places QueuedMessage) → new ≡ old → KeepsMessageNames old new
+message-names-same old new same = message-names-to old new old same (record { generations = refl; takes = refl; names = refl; alike = λ h. refl })
 
 names-put : (s : Slot) (m : QueuedMessage) (hs : List (Held QueuedMessage)) → name_list (map (item_put s m) hs) ≡ name_list hs
 names-put s m [] = refl
@@ -143,9 +143,9 @@ likes-put s m x (h ∷ hs) same =
     let P : Held QueuedMessage → Type 0 = λ y. has_slot s y ≡ true → IsSameItem y.item m in
     ap (λ b. b || list_any (is_like x) (map (item_put s m) hs)) (like-put s m x h (All-head P h hs same)) ∙ ap (λ b. is_like x h || b) (likes-put s m x hs (All-tail P h hs same))
 
-pub rewaits-item : (capacity : ℕ) (p : Places QueuedMessage) (s : Slot) (m changed : QueuedMessage) → IsKept capacity p → item_at p s ≡ Some m → changed.serial ≡ m.serial → (changed.serial ≡ None → changed.client ≡ m.client) → changed.kind ≡ m.kind
+pub message-names-item : (capacity : ℕ) (p : Places QueuedMessage) (s : Slot) (m changed : QueuedMessage) → IsKept capacity p → item_at p s ≡ Some m → changed.serial ≡ m.serial → (changed.serial ≡ None → changed.client ≡ m.client) → changed.kind ≡ m.kind
     → KeepsMessageNames p (with_item p s changed)
-rewaits-item capacity p s m changed kept live serial client kind = record {
+message-names-item capacity p s m changed kept live serial client kind = record {
   generations = refl;
   takes = refl;
   names = names-put s changed p.held;
@@ -165,10 +165,10 @@ rewaits-item capacity p s m changed kept live serial client kind = record {
 -- some slots were put back at most
 pub names-with : (old new : TablesView) (k : NamesSoFar) (ts : List SlotName) → NamesAre old k → KeepsConnectionNames old.connections new.connections → new.messages.generations ≡ old.messages.generations → new.messages.takes ≡ old.messages.takes → ts ≡ live_names new.messages
     → NamesAre new (record k { messages = ts })
-names-with old new k ts was linked generations takes names = record {
-  made = was.made ∙ sym linked.takes;
-  connections = linked.held k.connections was.connections;
-  past_connections = record { uses = λ i. was.past_connections.uses i ∙ ap (λ gs. get_or gs i 0) (sym linked.generations) };
+names-with old new k ts was of_connections generations takes names = record {
+  made = was.made ∙ sym of_connections.takes;
+  connections = of_connections.held k.connections was.connections;
+  past_connections = record { uses = λ i. was.past_connections.uses i ∙ ap (λ gs. get_or gs i 0) (sym of_connections.generations) };
   messages = names;
   past_messages = record { uses = λ i. was.past_messages.uses i ∙ ap (λ gs. get_or gs i 0) (sym generations) };
   sent = was.sent ∙ sym takes;
@@ -176,7 +176,7 @@ names-with old new k ts was linked generations takes names = record {
 
 -- no message comes or goes
 pub names-stay : (old new : TablesView) (k : NamesSoFar) → NamesAre old k → KeepsConnectionNames old.connections new.connections → KeepsMessageNames old.messages new.messages → NamesAre new k
-names-stay old new k was linked waiting = names-with old new k k.messages was linked waiting.generations waiting.takes (was.messages ∙ sym waiting.names)
+names-stay old new k was of_connections of_messages = names-with old new k k.messages was of_connections of_messages.generations of_messages.takes (was.messages ∙ sym of_messages.names)
 
 -- the serial numbers are below the number of connections made
 below-made : (low made : ℕ) (cs : List OpenConnection) → Rises low cs made → All (λ c. c.serial < made) cs
@@ -195,7 +195,7 @@ named-later ts t (h ∷ hs) below named =
 -- a connection is made in its slot
 pub names-started : (old new : TablesView) (k : NamesSoFar) (slot : Slot) (c : OpenConnection) → NamesAre old k → IsTable old.connections → free_slot old.connections ≡ Some slot → c.serial ≡ old.connections.takes
     → new.connections ≡ taken old.connections slot c → new.messages ≡ old.messages → NamesAre new (record k { connections = k.connections ++ slot_name slot ∷ [] })
-names-started old new k slot c was table free serial linked waiting =
+names-started old new k slot c was table free serial of_connections of_messages =
     let ts : List SlotName = k.connections in
     let t : SlotName = slot_name slot in
     let below : All (λ d. d.serial < length ts) (connections old.connections) =
@@ -209,7 +209,7 @@ names-started old new k slot c was table free serial linked waiting =
       past_messages = was.past_messages;
       sent = was.sent;
     } in
-    names-stay (record old { connections = taken old.connections slot c }) new (record k { connections = ts ++ t ∷ [] }) it (relinks-same (taken old.connections slot c) new.connections linked) (rewaits-same old.messages new.messages waiting)
+    names-stay (record old { connections = taken old.connections slot c }) new (record k { connections = ts ++ t ∷ [] }) it (connection-names-same (taken old.connections slot c) new.connections of_connections) (message-names-same old.messages new.messages of_messages)
 
 -- a message more, with the next slot
 abbrev pub one_more : ℕ → NamesSoFar → NamesSoFar
@@ -220,7 +220,7 @@ one_more size k =
 -- a message is taken in
 pub names-enqueued : (old new : TablesView) (k : NamesSoFar) (slot : Slot) (x : QueuedMessage) (size : ℕ) → NamesAre old k → length old.messages.generations ≡ size → free_slot old.messages ≡ Some slot
     → new.connections ≡ old.connections → new.messages ≡ taken old.messages slot x → NamesAre new (one_more size k)
-names-enqueued old new k slot x size was wide free linked waiting =
+names-enqueued old new k slot x size was wide free of_connections of_messages =
     let t : SlotName = slot_name slot in
     let next : t ≡ next_slot size k.messages k.past_messages =
     next-name old.messages k.past_messages slot was.past_messages free ∙ ap (λ n. next_slot n (live_names old.messages) k.past_messages) wide ∙ ap (λ (ts : List SlotName). next_slot size ts k.past_messages) (sym was.messages) in
@@ -234,7 +234,7 @@ names-enqueued old new k slot x size was wide free linked waiting =
       sent = omega (arith, length-append k.past_messages (t ∷ []), was.sent);
     } in
     subst (λ u. NamesAre new (more u)) next
-    (names-stay (record old { messages = taken old.messages slot x }) new (more t) it (relinks-same old.connections new.connections linked) (rewaits-same (taken old.messages slot x) new.messages waiting))
+    (names-stay (record old { messages = taken old.messages slot x }) new (more t) it (connection-names-same old.connections new.connections of_connections) (message-names-same (taken old.messages slot x) new.messages of_messages))
 
 -- n messages and one more
 pub messages-more : (size n : ℕ) (k : NamesSoFar) → with_messages size (suc n) k ≡ one_more size (with_messages size n k)

@@ -29,13 +29,13 @@ use Rattle.ffm_model.specs.declared.objects.ConnPhase.{ConnPhase}
 use Rattle.ffm_model.specs.declared.objects.ConnPhase.TheVariants.{Error, Idle}
 use Rattle.ffm_model.specs.declared.objects.ActorPhase.{ActorPhase}
 use Rattle.ffm_model.specs.Actors.{is_partition, is_service_of, kind_of}
-use Rattle.ffm_model.specs.Panic.{is_dead, panic_effect}
+use Rattle.ffm_model.specs.Panic.{is_dead, panic_effect, disconnect_message}
 use Rattle.ffm_model.specs.ServiceCalls.{answered, close_answered, connect_answered, is_connect_status, owes_panic, replied, with_request_phase}
 use Rattle.slot_names.specs.Replies.{Answered, reply_on}
 use Rattle.ffm_model.specs.Signals.{is_blocked}
 use Rattle.ffm_model.specs.State.{SpmState, has_handle, message_held, phase_of, with_connection_phase, with_phase, without_connection, without_message}
 use Rattle.counting_law.specs.Objects.{ObjectsFit}
-use Rattle.counting_law.proofs.Losses.{after_panic, after_panic-is, disconnect_message, disconnect_as, disconnect_messages}
+use Rattle.counting_law.proofs.Losses.{after_panic, after_panic-is, disconnect_as, all_disconnects}
 use Rattle.counting_law.proofs.Owed.{owed-request}
 use Rattle.counting_law.proofs.Pairs.{count-split, member-counts}
 use Rattle.slot_names.proofs.Removals.{fitting-messages}
@@ -153,7 +153,7 @@ reply-parts s b after a p h status e =
       same_made x y g = cc
 
 -- a request is like no disconnection
-no-disconnect : (s : System) (p : ℕ) (n : PendingMessage) (cs : List OpenConnection) → int_eq PSA_IPC_DISCONNECT n.kind ≡ false → stays (disconnect_messages s p cs) n ≡ false
+no-disconnect : (s : System) (p : ℕ) (n : PendingMessage) (cs : List OpenConnection) → int_eq PSA_IPC_DISCONNECT n.kind ≡ false → stays (all_disconnects s p cs) n ≡ false
 no-disconnect s p n [] off = refl
 no-disconnect s p n (c ∷ cs) off =
     let here : (o k : Bool) (ph : ConnPhase) → stays (disconnect_as o k ph c) n ≡ false =
@@ -166,8 +166,8 @@ no-disconnect s p n (c ∷ cs) off =
         | false ↦ λ ph. refl
       ]
     ] in
-    list_any-append (same_message n) (disconnect_as (is_service_of s p c.service) (c.client.0 == p) c.phase c) (disconnect_messages s p cs)
-    ∙ ap (λ b. b || stays (disconnect_messages s p cs) n) (here (is_service_of s p c.service) (c.client.0 == p) c.phase) ∙ no-disconnect s p n cs off
+    list_any-append (same_message n) (disconnect_as (is_service_of s p c.service) (c.client.0 == p) c.phase c) (all_disconnects s p cs)
+    ∙ ap (λ b. b || stays (all_disconnects s p cs) n) (here (is_service_of s p c.service) (c.client.0 == p) c.phase) ∙ no-disconnect s p n cs off
 
 off-filter : (n : PendingMessage) (r : PendingMessage → Bool) (ms : List PendingMessage) → stays ms n ≡ false → stays (filter r ms) n ≡ false
 off-filter n r ms off =
@@ -214,7 +214,7 @@ follows-owed s old mid new a p h status fits reply effect one two =
     ap (λ (x : SpmState). x.connections_made) (sym it.is_after) ∙ answered-keeps (λ x. x.connections_made) s (without_message b h) it.m status (λ n ph. refl) (λ n. refl) (λ c i ph. refl) in
     let is_new : spm_of new ≡ after_panic s (spm_of mid) p = effect ∙ after_panic-is s (spm_of mid) p in
     let svc : PendingMessage → Bool = λ x. not (is_service_of s p x.service) in
-    let last : (spm_of new).messages ≡ filter svc (spm_of mid).messages ++ disconnect_messages s p (spm_of mid).connections = ap (λ (x : SpmState). x.messages) is_new in
+    let last : (spm_of new).messages ≡ filter svc (spm_of mid).messages ++ all_disconnects s p (spm_of mid).connections = ap (λ (x : SpmState). x.messages) is_new in
     let request : int_eq PSA_IPC_DISCONNECT it.m.kind ≡ false = owed-request s it.m status (int_eq PSA_IPC_DISCONNECT it.m.kind ≡ false) it.owes (λ n e. request_kind it.m.kind n e) in
     follows-joined s old mid new r one two messages made (ap (λ (x : SpmState). x.connections_made) is_new)
     (λ i d lt off.
@@ -225,8 +225,8 @@ follows-owed s old mid new a p h status fits reply effect one two =
     ∙ like-kept same_message same-self r ms [] (fitting-messages s b fits) (λ j e k g. refl) i d lt ∙ off in (
       left,
       ap (λ (xs : List PendingMessage). stays xs n) last
-          ∙ list_any-append (same_message n) (filter svc (spm_of mid).messages) (disconnect_messages s p (spm_of mid).connections)
-          ∙ ap (λ x. x || stays (disconnect_messages s p (spm_of mid).connections) n) (off-filter n svc (spm_of mid).messages left)
+          ∙ list_any-append (same_message n) (filter svc (spm_of mid).messages) (all_disconnects s p (spm_of mid).connections)
+          ∙ ap (λ x. x || stays (all_disconnects s p (spm_of mid).connections) n) (off-filter n svc (spm_of mid).messages left)
           ∙ no-disconnect s p n (spm_of mid).connections (held-request s b a h it.m i d fits it.found request lt shown),
     )) where
       not_off : (x : Bool) → not x ≡ false → x ≡ true

@@ -13,15 +13,16 @@ use Rattle.ffm_model.specs.declared.objects.PendingMessage.{PendingMessage}
 use Rattle.ffm_model.specs.declared.objects.ConnPhase.{ConnPhase}
 use Rattle.ffm_model.specs.Actors.{is_service_of}
 use Rattle.ffm_model.specs.State.{SpmState}
-use Rattle.ffm_model.specs.Panic.{is_dead, panic_effect}
+use Rattle.ffm_model.specs.Panic.{is_dead, panic_effect, disconnect_message}
 use Rattle.ffm_model.specs.Names.{NamesSoFar, SlotName, is_same_connection, message_capacity, next_slot, stays, with_messages}
+use Rattle.ffm_model.proofs.SerialLemmas.{serial-once}
 use Rattle.object_pools.specs.declared.slot.Slot.{Slot}
 use Rattle.object_pools.specs.declared.slot.Held.{Held}
 use Rattle.object_pools.specs.Pool.{Places, free_slot, taken}
 use Rattle.handle_table.specs.Handles.{live_names}
 use Rattle.counting_law.specs.Objects.{Mark, connection_marked, is_awaited, message_marked}
-use Rattle.counting_law.proofs.Parts.{is_itself, unique}
-use Rattle.counting_law.proofs.Losses.{after_panic-is, disconnect_message, disconnect_as, disconnect_messages}
+use Rattle.counting_law.proofs.Parts.{is_itself}
+use Rattle.counting_law.proofs.Losses.{after_panic-is, disconnect_as, all_disconnects}
 use Rattle.counting_law.proofs.Panic.{count-append}
 use Rattle.counting_law.proofs.Pairs.{count-split, member-counts, none-counts}
 use Rattle.counting_law.proofs.Reply.{marked_as}
@@ -32,7 +33,7 @@ use Rattle.spm_tables.specs.TablesView.{TablesView, held_message, spm_of}
 use Rattle.slot_names.specs.Named.{FollowsNames, NamesAre}
 use Rattle.slot_names.specs.Changes.{OneMessageEach, PairsOff, KeepsConnectionNames, KeepsMessageNames, TakesOn, names_of}
 use Rattle.slot_names.proofs.Kept.{kept-where, message_list}
-use Rattle.slot_names.proofs.Moves.{messages-more, names-enqueued, names-stay, names-with, one_more, rewaits-same}
+use Rattle.slot_names.proofs.Moves.{messages-more, names-enqueued, names-stay, names-with, one_more, message-names-same}
 use Rattle.slot_names.proofs.Changes.{after-is, kept_names, names-length}
 use Rattle.slot_names.proofs.Partings.{like-kept}
 use Rattle.slot_names.proofs.Removals.{one-message}
@@ -42,25 +43,25 @@ use Rattle.slot_names.proofs.Removals.{one-message}
 -- all at once, before the first take
 pub takes-first : (size : ℕ) (old new : TablesView) (q : Held QueuedMessage → Bool) → KeepsConnectionNames old.connections new.connections → new.messages ≡ record old.messages { held = filter q old.messages.held }
     → TakesOn size old (names_of q old.messages) 0 new
-takes-first size old new q linked waiting = λ k was.
-    names-with old new k (names_of q old.messages) was linked (ap (λ (p : Places QueuedMessage). p.generations) waiting) (ap (λ (p : Places QueuedMessage). p.takes) waiting)
-    (ap live_names (sym waiting))
+takes-first size old new q of_connections of_messages = λ k was.
+    names-with old new k (names_of q old.messages) was of_connections (ap (λ (p : Places QueuedMessage). p.generations) of_messages) (ap (λ (p : Places QueuedMessage). p.takes) of_messages)
+    (ap live_names (sym of_messages))
 
 -- connections go or change in their slots, and messages change in theirs
 pub takes-stay : (size : ℕ) (old d new : TablesView) (kept : List SlotName) (n : ℕ) → TakesOn size old kept n d → KeepsConnectionNames d.connections new.connections → KeepsMessageNames d.messages new.messages → TakesOn size old kept n new
-takes-stay size old d new kept n so_far linked waiting = λ k was. names-stay d new (with_messages size n (record k { messages = kept })) (so_far k was) linked waiting
+takes-stay size old d new kept n so_far of_connections of_messages = λ k was. names-stay d new (with_messages size n (record k { messages = kept })) (so_far k was) of_connections of_messages
 
 pub takes-connections : (size : ℕ) (old d new : TablesView) (kept : List SlotName) (n : ℕ) → TakesOn size old kept n d → KeepsConnectionNames d.connections new.connections → new.messages ≡ d.messages → TakesOn size old kept n new
-takes-connections size old d new kept n so_far linked waiting = takes-stay size old d new kept n so_far linked (rewaits-same d.messages new.messages waiting)
+takes-connections size old d new kept n so_far of_connections of_messages = takes-stay size old d new kept n so_far of_connections (message-names-same d.messages new.messages of_messages)
 
 -- a message is taken in
 pub takes-more : (size : ℕ) (old d new : TablesView) (kept : List SlotName) (n : ℕ) (slot : Slot) (x : QueuedMessage) → TakesOn size old kept n d → length d.messages.generations ≡ size → free_slot d.messages ≡ Some slot
     → KeepsConnectionNames d.connections new.connections → new.messages ≡ taken d.messages slot x → TakesOn size old kept (n + 1) new
-takes-more size old d new kept n slot x so_far wide free linked waiting = λ k was.
+takes-more size old d new kept n slot x so_far wide free of_connections of_messages = λ k was.
     let k' : NamesSoFar = record k { messages = kept } in
     let mid : TablesView = record d { connections = new.connections } in
-    let between : NamesAre mid (with_messages size n k') = names-stay d mid (with_messages size n k') (so_far k was) linked (rewaits-same d.messages d.messages refl) in
-    subst (NamesAre new) (sym (messages-more size n k') ∙ ap (λ m. with_messages size m k') (sym (add-one n))) (names-enqueued mid new (with_messages size n k') slot x size between wide free refl waiting)
+    let between : NamesAre mid (with_messages size n k') = names-stay d mid (with_messages size n k') (so_far k was) of_connections (message-names-same d.messages d.messages refl) in
+    subst (NamesAre new) (sym (messages-more size n k') ∙ ap (λ m. with_messages size m k') (sym (add-one n))) (names-enqueued mid new (with_messages size n k') slot x size between wide free refl of_messages)
 
 -- ---- the event as a whole
 
@@ -108,19 +109,19 @@ disconnect-le m c false true ph =
     go (is_dead ph)
 disconnect-le m c false false ph = omega arith
 
-disconnects-le : (s : System) (p : ℕ) (m : PendingMessage) (cs : List OpenConnection) → count_by (same_message m) (disconnect_messages s p cs) ≤ count_by (λ c. not (is_service_of s p c.service) && is_number m.connection c.serial) cs
+disconnects-le : (s : System) (p : ℕ) (m : PendingMessage) (cs : List OpenConnection) → count_by (same_message m) (all_disconnects s p cs) ≤ count_by (λ c. not (is_service_of s p c.service) && is_number m.connection c.serial) cs
 disconnects-le s p m [] = omega arith
 disconnects-le s p m (c ∷ cs) =
     omega (
       arith,
-      count-append (same_message m) (disconnect_as (is_service_of s p c.service) (c.client.0 == p) c.phase c) (disconnect_messages s p cs),
+      count-append (same_message m) (disconnect_as (is_service_of s p c.service) (c.client.0 == p) c.phase c) (all_disconnects s p cs),
       disconnect-le m c (is_service_of s p c.service) (c.client.0 == p) c.phase,
       disconnects-le s p m cs,
       count-cons (λ d. not (is_service_of s p d.service) && is_number m.connection d.serial) c cs,
     )
 
 -- the disconnections that a panic sends are of other connections than the messages that it takes from its services
-pub disconnects-apart : (s : System) (b : SpmState) (p : ℕ) → PairsOff b → All (λ m. not (is_service_of s p m.service) ≡ false → stays (disconnect_messages s p b.connections) m ≡ false) b.messages
+pub disconnects-apart : (s : System) (b : SpmState) (p : ℕ) → PairsOff b → All (λ m. not (is_service_of s p m.service) ≡ false → stays (all_disconnects s p b.connections) m ≡ false) b.messages
 disconnects-apart s b p h = λ i d lt off.
     let m : PendingMessage = get_or b.messages i d in
     let flip : (x n : ℕ) → (x == n) ≡ (n == x) = λ x n. grind arith in
@@ -135,16 +136,16 @@ disconnects-apart s b p h = λ i d lt off.
       h.paired t,
       count-le (connection_marked t) (λ c. is_service_of s p c.service && (c.serial == n)) (λ c. both-le-right (is_awaited c.phase) (is_service_of s p c.service && (c.serial == n))) b.connections,
       count-split (λ c. is_service_of s p c.service) (λ c. c.serial == n) b.connections,
-      unique 0 b.connections_made n b.connections h.rising,
+      serial-once 0 b.connections_made n b.connections h.rising,
     ) in
     let nobody : (o : Option ℕ) → m.connection ≡ o → count_by (λ c. not (is_service_of s p c.service) && is_number o c.serial) b.connections ≡ 0 =
     elim [
       | None ↦ λ e. none-counts (λ c. not (is_service_of s p c.service) && false) (λ c. and_false (not (is_service_of s p c.service))) b.connections
       | Some n ↦ λ e. numbered n e
     ] in
-    let none : count_by (same_message m) (disconnect_messages s p b.connections) ≡ 0 = omega (arith, disconnects-le s p m b.connections, nobody m.connection refl) in
-    let go : (x : Bool) → stays (disconnect_messages s p b.connections) m ≡ x → x ≡ false = elim [ true ↦ λ e. absurd (omega (arith, any-count (same_message m) (disconnect_messages s p b.connections) e, none)) | false ↦ λ e. refl ] in
-    go (stays (disconnect_messages s p b.connections) m) refl where
+    let none : count_by (same_message m) (all_disconnects s p b.connections) ≡ 0 = omega (arith, disconnects-le s p m b.connections, nobody m.connection refl) in
+    let go : (x : Bool) → stays (all_disconnects s p b.connections) m ≡ x → x ≡ false = elim [ true ↦ λ e. absurd (omega (arith, any-count (same_message m) (all_disconnects s p b.connections) e, none)) | false ↦ λ e. refl ] in
+    go (stays (all_disconnects s p b.connections) m) refl where
       not_off : (x : Bool) → not x ≡ false → x ≡ true
       not_off true e = refl
       not_off false e = cc
@@ -157,5 +158,5 @@ pub follows-panicked : (s : System) (old new : TablesView) (p : ℕ) (kept : Lis
     → kept ≡ names_of (λ h. not (is_service_of s p h.item.service)) old.messages → TakesOn (message_capacity s) old kept n new → FollowsNames s old new
 follows-panicked s old new p kept n pairs effect names so_far =
     let is_after = effect ∙ after_panic-is s (spm_of old) p in
-    follows-closed s old new (λ m. not (is_service_of s p m.service)) (disconnect_messages s p (spm_of old).connections) kept n so_far names
+    follows-closed s old new (λ m. not (is_service_of s p m.service)) (all_disconnects s p (spm_of old).connections) kept n so_far names
     (ap (λ (b : SpmState). b.connections_made) is_after) (ap (λ (b : SpmState). b.messages) is_after) (one-message (spm_of old) pairs) (disconnects-apart s (spm_of old) p pairs)

@@ -10,6 +10,7 @@ use Rattle.ffm_model.specs.declared.system.System.{System}
 use Rattle.ffm_model.specs.declared.objects.OpenConnection.{OpenConnection}
 use Rattle.ffm_model.specs.State.{SpmState}
 use Rattle.ffm_model.specs.Names.{is_same_connection, is_same_message, stays}
+use Rattle.ffm_model.proofs.SerialLemmas.{serial-once}
 use Rattle.object_pools.specs.declared.slot.Slot.{Slot}
 use Rattle.object_pools.specs.declared.slot.Held.{Held}
 use Rattle.object_pools.specs.Pool.{Places, IsKept, has_slot, item_at, with_item, without}
@@ -17,14 +18,13 @@ use Rattle.handle_table.specs.Handles.{slot_name}
 use Rattle.handle_table.proofs.Twins.{count-map}
 use Rattle.counting_law.specs.Objects.{ObjectsFit, Mark, called_by, is_awaited, connection_marked, message_marked}
 use Rattle.counting_law.proofs.Slots.{one-call}
-use Rattle.counting_law.proofs.Parts.{unique}
 use Rattle.spm_tables.specs.declared.item.QueuedMessage.{QueuedMessage}
 use Rattle.spm_tables.specs.TablesView.{TablesView, held_message, spm_of}
 use Rattle.slot_names.specs.Named.{FollowsNames, KeepsFreshConnections, KeepsGiven, KeepsNames, NamesAre}
 use Rattle.slot_names.specs.Changes.{OneMessageEach, PairsOff, KeepsConnectionNames, is_like}
 use Rattle.slot_names.proofs.Given.{given-connection, given-dropped, given-freed, given-still}
 use Rattle.slot_names.proofs.Kept.{kept-where, like_itself, message_list, name_list, stays-is}
-use Rattle.slot_names.proofs.Moves.{names-with, relinks-item, relinks-same, relinks-to, relinks-without}
+use Rattle.slot_names.proofs.Moves.{names-with, connection-names-item, connection-names-same, connection-names-to, connection-names-without}
 use Rattle.slot_names.proofs.Changes.{after-is, kept_names}
 use Rattle.slot_names.proofs.Partings.{like-kept}
 
@@ -54,7 +54,7 @@ one-message b h = λ n.
             count-le (is_same_message n) (message_marked (t i)) (λ m. numbered n.connection m.connection ((is_some n.connection || (m.client.0 == n.client.0)) && int_eq m.kind n.kind) i e) b.messages,
             h.paired (t i),
             count-le (connection_marked (t i)) (λ c. c.serial == i) (λ c. both-le-right (is_awaited c.phase) (c.serial == i)) b.connections,
-            unique 0 b.connections_made i b.connections h.rising,
+            serial-once 0 b.connections_made i b.connections h.rising,
           )
     ] in
     go n.connection refl
@@ -69,10 +69,10 @@ one-item d one h = omega (arith, one (held_message h), count-map held_message (i
 -- the messages that pass the test stay, and the others go
 follows-removed : (s : System) (old new : TablesView) (q : Held QueuedMessage → Bool) → OneMessageEach (spm_of old) → KeepsConnectionNames old.connections new.connections
     → new.messages ≡ record old.messages { held = filter q old.messages.held } → FollowsNames s old new
-follows-removed s old new q one linked waiting = λ k was.
+follows-removed s old new q one of_connections of_messages = λ k was.
     let hs : List (Held QueuedMessage) = old.messages.held in
     let ts = name_list (filter q hs) in
-    let held : new.messages.held ≡ filter q hs = ap (λ (p : Places QueuedMessage). p.held) waiting in
+    let held : new.messages.held ≡ filter q hs = ap (λ (p : Places QueuedMessage). p.held) of_messages in
     let apart : All (λ h. list_any (is_like h) (filter q hs ++ []) ≡ q h) hs =
     like-kept is_like like_itself q hs [] (one-item old one) (λ i d lt e. refl) in
     let stay : All (λ h. stays (message_list new.messages.held) (held_message h) ≡ q h) hs =
@@ -82,48 +82,48 @@ follows-removed s old new q one linked waiting = λ k was.
     let kept : kept_names old new k.messages ≡ ts = ap (kept_names old new) was.messages ∙ kept-where (stays (message_list new.messages.held)) q hs stay in
     let longer : length new.messages.held ≡ length ts + 0 =
     ap (λ (ns : List (Held QueuedMessage)). length ns) held ∙ omega (arith, length-map (filter q hs) (λ (h : Held QueuedMessage). slot_name h.slot)) in
-    subst (NamesAre new) (sym (after-is s old new k ts 0 kept longer linked.takes))
-    (names-with old new k ts was linked (ap (λ (p : Places QueuedMessage). p.generations) waiting) (ap (λ (p : Places QueuedMessage). p.takes) waiting) (ap name_list (sym held)))
+    subst (NamesAre new) (sym (after-is s old new k ts 0 kept longer of_connections.takes))
+    (names-with old new k ts was of_connections (ap (λ (p : Places QueuedMessage). p.generations) of_messages) (ap (λ (p : Places QueuedMessage). p.takes) of_messages) (ap name_list (sym held)))
 
 -- ---- a reply
 
 -- the message of a slot goes
 follows-dropped : (s : System) (old new : TablesView) (place : Slot) → OneMessageEach (spm_of old) → KeepsConnectionNames old.connections new.connections → new.messages ≡ without old.messages place → FollowsNames s old new
-follows-dropped s old new place one linked waiting = follows-removed s old new (λ h. not (has_slot place h)) one linked waiting
+follows-dropped s old new place one of_connections of_messages = follows-removed s old new (λ h. not (has_slot place h)) one of_connections of_messages
 
 given-gone : (old new : TablesView) (place : Slot) → KeepsFreshConnections old.connections new.connections → new.messages ≡ without old.messages place → KeepsGiven old new
-given-gone old new place fresh waiting = record { connections = fresh; messages = given-dropped old.messages new.messages (λ h. not (has_slot place h)) waiting }
+given-gone old new place fresh of_messages = record { connections = fresh; messages = given-dropped old.messages new.messages (λ h. not (has_slot place h)) of_messages }
 
 -- and its connection stays as it is
 pub follows-replied : (s : System) (old new : TablesView) (place : Slot) → OneMessageEach (spm_of old) → new.connections ≡ old.connections → new.messages ≡ without old.messages place → FollowsNames s old new
-follows-replied s old new place one linked waiting = follows-dropped s old new place one (relinks-same old.connections new.connections linked) waiting
+follows-replied s old new place one of_connections of_messages = follows-dropped s old new place one (connection-names-same old.connections new.connections of_connections) of_messages
 
 pub names-replied : (s : System) (old new : TablesView) (place : Slot) → OneMessageEach (spm_of old) → new.connections ≡ old.connections → new.messages ≡ without old.messages place → KeepsNames s old new
-names-replied s old new place one linked waiting = record {
-  names = follows-replied s old new place one linked waiting;
-  given = given-gone old new place (given-still _ _ old.connections new.connections linked) waiting;
+names-replied s old new place one of_connections of_messages = record {
+  names = follows-replied s old new place one of_connections of_messages;
+  given = given-gone old new place (given-still _ _ old.connections new.connections of_connections) of_messages;
 }
 
 -- or changes in its slot
 pub follows-answered : (s : System) (old new : TablesView) (place slot : Slot) (c changed : OpenConnection) → OneMessageEach (spm_of old) → IsKept 256 old.connections → item_at old.connections slot ≡ Some c → changed.serial ≡ c.serial
     → new.connections ≡ with_item old.connections slot changed → new.messages ≡ without old.messages place → FollowsNames s old new
-follows-answered s old new place slot c changed one kept live serial linked waiting =
-    follows-dropped s old new place one (relinks-to old.connections new.connections (with_item old.connections slot changed) linked (relinks-item 256 old.connections slot c changed kept live serial)) waiting
+follows-answered s old new place slot c changed one kept live serial of_connections of_messages =
+    follows-dropped s old new place one (connection-names-to old.connections new.connections (with_item old.connections slot changed) of_connections (connection-names-item 256 old.connections slot c changed kept live serial)) of_messages
 
 pub names-answered : (s : System) (old new : TablesView) (place slot : Slot) (c changed : OpenConnection) → OneMessageEach (spm_of old) → IsKept 256 old.connections → item_at old.connections slot ≡ Some c → changed.serial ≡ c.serial
     → (is_some changed.handle ≡ false → is_some c.handle ≡ false) → new.connections ≡ with_item old.connections slot changed → new.messages ≡ without old.messages place → KeepsNames s old new
-names-answered s old new place slot c changed one kept live serial told linked waiting = record {
-  names = follows-answered s old new place slot c changed one kept live serial linked waiting;
-  given = given-gone old new place (given-connection old.connections new.connections slot c changed live told linked) waiting;
+names-answered s old new place slot c changed one kept live serial told of_connections of_messages = record {
+  names = follows-answered s old new place slot c changed one kept live serial of_connections of_messages;
+  given = given-gone old new place (given-connection old.connections new.connections slot c changed live told of_connections) of_messages;
 }
 
 -- or goes too
 pub follows-ended : (s : System) (old new : TablesView) (place slot : Slot) → OneMessageEach (spm_of old) → new.connections ≡ without old.connections slot → new.messages ≡ without old.messages place → FollowsNames s old new
-follows-ended s old new place slot one linked waiting =
-    follows-dropped s old new place one (relinks-to old.connections new.connections (without old.connections slot) linked (relinks-without old.connections slot)) waiting
+follows-ended s old new place slot one of_connections of_messages =
+    follows-dropped s old new place one (connection-names-to old.connections new.connections (without old.connections slot) of_connections (connection-names-without old.connections slot)) of_messages
 
 pub names-ended : (s : System) (old new : TablesView) (place slot : Slot) → OneMessageEach (spm_of old) → new.connections ≡ without old.connections slot → new.messages ≡ without old.messages place → KeepsNames s old new
-names-ended s old new place slot one linked waiting = record {
-  names = follows-ended s old new place slot one linked waiting;
-  given = given-gone old new place (given-freed old.connections new.connections slot linked) waiting;
+names-ended s old new place slot one of_connections of_messages = record {
+  names = follows-ended s old new place slot one of_connections of_messages;
+  given = given-gone old new place (given-freed old.connections new.connections slot of_connections) of_messages;
 }

@@ -1,4 +1,4 @@
--- What a call of an actor rests on: each asks its own part, and the manager knows all of it of its tables and its image after each event of a run.
+-- What a call of an actor rests on, and what calls keep of it: each asks its own part, and the manager knows all of it of its tables and its image after each event of a run.
 -- Source: this manager's; that handles have generations up to 0xfffff is this profile's, and FF-M 1.0 leaves open how many objects a manager can make.
 use Rattle.std.specs.Prelude.{◌≡◌, ℕ, ◌+◌, ◌≤◌, List, All}
 use Rattle.ffm_model.specs.declared.scenario.Bytes.{Bytes}
@@ -41,6 +41,16 @@ pub record PremisesWithMemory (s : System) (d : TablesView) (bytes : List Bytes)
   pub tables : Premises s d
   pub regions : HasRegions s bytes
   pub vectors : VectorsLie d bytes
+
+-- ---- what calls keep of it
+
+-- connections and messages that fit a system still do
+abbrev pub KeepsFit : TablesView → TablesView → Type 0
+KeepsFit old new = (s : System) → ObjectsFit s (spm_of old) → ObjectsFit s (spm_of new)
+
+-- vectors of messages that lie in ranges still do, whichever the ranges are
+abbrev pub KeepsVectors : TablesView → TablesView → Type 0
+KeepsVectors old new = (ranges : List (ℕ × ℕ)) → All (λ m. AreWithin ranges m.vectors) (spm_of old).messages → All (λ m. AreWithin ranges m.vectors) (spm_of new).messages
 
 -- ---- calls that make connections or messages
 

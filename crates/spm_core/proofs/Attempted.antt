@@ -1,8 +1,9 @@
 -- What the calls of the crates below are as calls of the machine.
 use Rattle.std.proofs.Common.{ℕ, ◌≡◌, Bool, true, false, List, [], refl, ap, sym, subst, ◌∙◌}
-use Rattle.std.specs.Prelude.{Option, Some, None, Result, Ok, Err, IsSomeAnd, IfOk, IsErr, is_none, if◌then◌else◌}
+use Rattle.std.specs.Prelude.{Option, Some, None, Result, Ok, Err, IsSomeAnd, IfOk, IsErr, if◌then◌else◌}
 use Rattle.std.specs.Option.{option_map}
 use Rattle.std.proofs.lemmas.Bool.{or_right}
+use Rattle.list_laws.proofs.Options.{some-and}
 use Rattle.ffm_model.specs.declared.system.System.{System}
 use Rattle.ffm_model.specs.declared.system.ActorKind.{ActorKind}
 use Rattle.ffm_model.specs.declared.scenario.Bytes.{Bytes}
@@ -15,10 +16,10 @@ use Rattle.ffm_model.specs.declared.machine.Handle.{Handle}
 use Rattle.ffm_model.specs.declared.machine.Outcome.{Outcome}
 use Rattle.ffm_model.specs.Actors.{kind_of}
 use Rattle.ffm_model.specs.Memory.{ByteMap}
-use Rattle.ffm_model.specs.State.{State, phase_of, handle_eq}
+use Rattle.ffm_model.specs.State.{State, handle_eq}
 use Rattle.ffm_model.specs.ClientCalls.{Move, Effect, move, effect, in_state}
 use Rattle.ffm_model.specs.Calls.{call_case, case_of, effect_or_error, has_call, programmer_error}
-use Rattle.ffm_model.specs.Names.{NamesSoFar, name_due, name_at_return}
+use Rattle.ffm_model.specs.Names.{NamesSoFar, name_due}
 use Rattle.ffm_model.specs.Step.{handle_shown}
 use Rattle.memory_image.specs.Pieces.{byte_at}
 use Rattle.slot_names.specs.Named.{NamesAre}
@@ -26,16 +27,13 @@ use Rattle.spm_tables.specs.Answers.{Answers, state_with}
 use Rattle.spm_tables.specs.TablesView.{TablesView, spm_of}
 use Rattle.spm_core.specs.Performed.{Attempts, Does, IsEffect, IsRefusedCall, IsReturned, ShowsName}
 
-pub some-and : {X : Type 0} (P : X → Type 0) (o : Option X) (x : X) → o ≡ Some x → P x → IsSomeAnd o P
-some-and P o x is p = subst (λ y. IsSomeAnd y P) (sym is) p
-
 -- a call that leaves the memory, by what it answers of the tables
 pub attempts-move : {R : Type 0} (s : System) (a : ℕ) (c : Call) (old new : TablesView) (bytes : List Bytes) (shown : R → Outcome) (due : List Handle → Option Move) (r : R)
     → ((given : List Handle) (h : Handle) → call_case s (state_with old given (byte_at bytes)) a c h ≡ option_map (in_state (state_with old given (byte_at bytes))) (due given))
     → ((given : List Handle) → due given ≡ Some (move (shown r) (spm_of new))) → Attempts s a c old bytes (Ok (shown r)) new bytes
 attempts-move s a c old new bytes shown due r case is given =
     let st : State = state_with old given (byte_at bytes) in
-    some-and (λ e. IsEffect e (shown r) new (byte_at bytes)) _ (effect (shown r) (record st { spm = spm_of new }))
+    some-and _ (effect (shown r) (record st { spm = spm_of new })) (λ e. IsEffect e (shown r) new (byte_at bytes))
     (case given (handle_shown (shown r)) ∙ ap (option_map (in_state st)) (is given)) (record { outcome = refl; spm = refl; memory = refl })
 
 pub attempts-fault : (s : System) (a : ℕ) (c : Call) (old new : TablesView) (bytes after : List Bytes) (fault : Fault) (due : List Handle → Option Effect)
@@ -57,7 +55,7 @@ pub attempts-effect : (s : System) (a : ℕ) (c : Call) (old new : TablesView) (
     → ((given : List Handle) → call_case s (state_with old given (byte_at bytes)) a c (handle_shown o) ≡ Some (effect o (st given)))
     → ((given : List Handle) → (st given).spm ≡ spm_of new) → ((given : List Handle) → (st given).memory ≡ byte_at after) → Attempts s a c old bytes (Ok o) new after
 attempts-effect s a c old new bytes after o st is spm memory given =
-    some-and (λ e. IsEffect e o new (byte_at after)) _ (effect o (st given)) (is given) (record { outcome = refl; spm = spm given; memory = memory given })
+    some-and _ (effect o (st given)) (λ e. IsEffect e o new (byte_at after)) (is given) (record { outcome = refl; spm = spm given; memory = memory given })
 
 -- an error, whatever error it is
 pub attempts-err : (s : System) (a : ℕ) (c : Call) (old new : TablesView) (bytes after : List Bytes) (r : Result Outcome Fault) → IsErr r

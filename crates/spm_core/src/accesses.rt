@@ -1,12 +1,10 @@
 //! Loads and stores of an actor.
-ghost use Rattle.std.specs.Prelude.{◌≡◌, List, true};
-ghost use Rattle.ffm_model.specs.declared.machine.Handle.{Handle as HandleSeen};
+ghost use Rattle.std.specs.Prelude.{◌≡◌};
 ghost use Rattle.ffm_model.specs.declared.machine.Outcome.TheVariants as outcome;
 ghost use Rattle.ffm_model.specs.Accesses.{is_access_size, load, store};
-ghost use Rattle.ffm_model.specs.ClientCalls.{effect};
-ghost use Rattle.ffm_model.specs.Ranges.{ranges_of};
-ghost use Rattle.memory_image.specs.Pieces.{byte_at, regions_of};
+ghost use Rattle.memory_image.specs.Pieces.{regions_of};
 ghost use Rattle.spm_core.specs.Performed.{Loads, Stores};
+ghost use Rattle.slot_names.specs.Premises.{HasRegions};
 
 use ffm_model::{ActorId, Fault, System};
 use memory_image::{Image, may_read, may_write};
@@ -25,7 +23,7 @@ pub(crate) fn load(
     address: u32,
     size: u32,
 ) -> Result<u32, Fault>
-    requires { regions_of image.now ≡ ranges_of system.now.regions }
+    requires { HasRegions system.now image.now }
     ensures { Loads system.now actor.0 address size image.now result }
 {
     if !is_access_size(size) || !may_read(system, actor, address, size) {
@@ -43,7 +41,7 @@ pub(crate) fn store(
     size: u32,
     value: u32,
 ) -> Result<(), Fault>
-    requires { regions_of image.old ≡ ranges_of system.now.regions }
+    requires { HasRegions system.now image.old }
     ensures stores { Stores system.now actor.0 address size value image.old result image.new }
     ensures regions { regions_of image.new ≡ regions_of image.old }
 {

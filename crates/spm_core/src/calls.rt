@@ -6,10 +6,9 @@ ghost use Rattle.ffm_model.specs.declared.machine.Call.TheVariants as call;
 ghost use Rattle.ffm_model.specs.declared.objects.ActorPhase.{ActorPhase as PhaseSeen};
 ghost use Rattle.ffm_model.specs.Groups.{group_of};
 ghost use Rattle.ffm_model.specs.State.{phase_of};
-ghost use Rattle.ffm_model.specs.Ranges.{ranges_of};
 ghost use Rattle.memory_image.specs.Pieces.{byte_at, regions_of};
 ghost use Rattle.slot_names.specs.Named.{KeepsNames};
-ghost use Rattle.slot_names.specs.Premises.{AreLeft, LeavesTakes, PremisesWithImage, PremisesWithMemory, TransferPremises};
+ghost use Rattle.slot_names.specs.Premises.{AreLeft, LeavesTakes, PremisesWithImage, PremisesWithMemory, TransferPremises, HasRegions};
 ghost use Rattle.spm_tables.specs.TablesView.{TablesView, spm_of, shape_of, MadeFor};
 ghost use Rattle.spm_core.specs.Performed.{Attempts, ShowsName};
 
@@ -194,7 +193,7 @@ pub(crate) fn memory_call(
     call: Call,
 ) -> Result<Outcome, Fault>
     requires group { group_of call ≡ group.Memory }
-    requires regions { regions_of image.old ≡ ranges_of system.now.regions }
+    requires regions { HasRegions system.now image.old }
     ensures attempts { (d : TablesView) → Attempts system.now actor.0 call d image.old result d image.new }
     ensures regions { regions_of image.new ≡ regions_of image.old }
 {

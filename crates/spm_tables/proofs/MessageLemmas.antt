@@ -1,10 +1,11 @@
 -- The messages of a pool, as the machine's state has them.
-use Rattle.std.proofs.Common.{ℕ, ◌≡◌, ◌≤◌, ◌<◌, ◌+◌, ◌*◌, ◌==◌, nat_lt, length, Bool, true, false, cond, ◌&&◌, List, [], ◌∷◌, arith, ◌∙◌, ap, sym, refl, subst, eq-eqb}
+use Rattle.std.proofs.Common.{ℕ, ◌≡◌, ◌≤◌, ◌<◌, ◌+◌, ◌*◌, ◌==◌, nat_lt, length, Bool, true, false, cond, ◌&&◌, List, [], ◌∷◌, arith, ◌∙◌, ap, sym, refl, subst, eq-eqb, get_or}
 use Rattle.std.specs.Prelude.{pos, count_by, find, Option, Some, None, map, All, IfSome, option_and_then, slice_get}
 use Rattle.std.specs.Option.{option_map, option_map_or}
 use Rattle.std.proofs.lemmas.Bool.Decides.{nat_tests}
-use Rattle.std.proofs.lemmas.List.Elements.{All-nil, All-cons, All-head, All-tail, All-weaker, All-map}
+use Rattle.std.proofs.lemmas.List.Elements.{All-nil, All-cons, All-weaker, All-map}
 use Rattle.std.proofs.lemmas.Option.{slice_get-map}
+use Rattle.std.proofs.lemmas.Bool.{and_parts, eqb-true}
 use Rattle.ffm_model.specs.declared.machine.Handle.{Handle}
 use Rattle.ffm_model.specs.declared.system.System.{System}
 use Rattle.ffm_model.specs.declared.system.Service.{Service}
@@ -15,11 +16,12 @@ use Rattle.ffm_model.specs.State.{has_handle, handle_eq, is_undelivered, deliver
 use Rattle.object_pools.specs.declared.slot.Slot.{Slot}
 use Rattle.object_pools.specs.declared.slot.Held.{Held}
 use Rattle.object_pools.specs.Pool.{Places, IsKept, IsNamed, is_at, has_slot, item_at, item_put, with_item, without}
-use Rattle.list_laws.proofs.Counts.{bit, count-cons, count-found, map-none}
+use Rattle.object_pools.proofs.Stores.{has_own}
+use Rattle.list_laws.proofs.Counts.{bit, count-cons, count-found, map-none, count-le-at}
 use Rattle.list_laws.proofs.Tests.{find-passes, find-same, find-map}
 use Rattle.handle_table.specs.declared.handles.Family.TheVariants.{Message}
 use Rattle.handle_table.specs.Handles.{handle_at, IsNameable}
-use Rattle.handle_table.proofs.SlotLemmas.{both, has_own, one_slot, slot-is, held-of, nameable, nameable-at}
+use Rattle.handle_table.proofs.SlotLemmas.{one_slot, slot-is, held-of, nameable, nameable-at}
 use Rattle.handle_table.proofs.Twins.{twin-put, twin-out, twin-find, find-all_fail}
 use Rattle.spm_tables.proofs.PoolLemmas.{item-put}
 use Rattle.spm_tables.specs.declared.item.QueuedMessage.{QueuedMessage}
@@ -49,12 +51,10 @@ found-too q p (x ∷ xs) h passes one f =
     go (q x) f
 
 count-narrow : {X : Type 0} (q p : X → Bool) (xs : List X) → All (λ x. q x ≡ true → p x ≡ true) xs → count_by q xs ≤ count_by p xs
-count-narrow q p [] narrow = omega arith
-count-narrow q p (x ∷ xs) narrow =
-    let rest : count_by q xs ≤ count_by p xs = count-narrow q p xs (All-tail (λ y. q y ≡ true → p y ≡ true) x xs narrow) in
-    let go : (b : Bool) → q x ≡ b → bit b ≤ bit (p x) =
-    elim [ true ↦ λ e. omega (arith, ap bit (All-head (λ y. q y ≡ true → p y ≡ true) x xs narrow e)) | false ↦ λ e. omega arith ] in
-    omega (arith, count-cons q x xs, count-cons p x xs, go (q x) refl)
+count-narrow q p xs narrow = count-le-at q p xs (λ i d lt. at (q (get_or xs i d)) (p (get_or xs i d)) (narrow i d lt)) where
+  at : (a b : Bool) → (a ≡ true → b ≡ true) → bit a ≤ bit b
+  at true b h = omega (arith, ap bit (h refl))
+  at false b h = omega arith
 
 -- ---- handles and slots
 
@@ -229,7 +229,7 @@ none-by p q k kept names =
     find-all_fail (held_by q k) (map held_message p.held)
     (All-map (λ m. held_by q k m ≡ true → ⊥) held_message p.held
     (All-weaker (λ h. IsNameable Message h.slot) (λ h. held_by q k (held_message h) ≡ true → ⊥)
-    (λ h n e. no_slot h.slot (names h.slot n (shown-is h k (both (q h.item.service) (has_handle (shown_handle h.item.delivered h.slot) k) e).1))) p.held (nameable Message p kept))) where
+    (λ h n e. no_slot h.slot (names h.slot n (shown-is h k (and_parts (q h.item.service) (has_handle (shown_handle h.item.delivered h.slot) k) e).1))) p.held (nameable Message p kept))) where
       no_slot : (s : Slot) → None ≡ Some s → ⊥
       no_slot s e = cc
 
@@ -238,7 +238,7 @@ pub found-by : (p : Places QueuedMessage) (q : ℕ → Bool) (k : Handle) (s : S
 found-by p q k s kept names gives =
     twin-find held_message (has_slot s) (held_by q k) p.held
     (All-weaker (λ h. IsNameable Message h.slot) (λ h. held_by q k (held_message h) ≡ true → has_slot s h ≡ true)
-    (λ h n e. has_same s h (same_slot h.slot (names h.slot n (shown-is h k (both (q h.item.service) (has_handle (shown_handle h.item.delivered h.slot) k) e).1)))) p.held (nameable Message p kept))
+    (λ h n e. has_same s h (same_slot h.slot (names h.slot n (shown-is h k (and_parts (q h.item.service) (has_handle (shown_handle h.item.delivered h.slot) k) e).1)))) p.held (nameable Message p kept))
     (one_slot 304 p s kept)
     ∙ seen (find (has_slot s) p.held) refl where
       same_slot : (t : Slot) → Some s ≡ Some t → t ≡ s
@@ -328,6 +328,4 @@ found-live p i h kept f =
     ap (option_map (λ (x : Held QueuedMessage). x.item)) (found-too (is_at i) (has_slot h.slot) p.held h (has_own h.slot) (one_slot 304 p h.slot kept) f)
 
 pub found-index : (p : Places QueuedMessage) (i : ℕ) (h : Held QueuedMessage) → find (is_at i) p.held ≡ Some h → h.slot.index ≡ i
-found-index p i h f = equal h.slot.index i (find-passes (is_at i) p.held h f) where
-  equal : (k m : ℕ) → (k == m) ≡ true → k ≡ m
-  equal k m e = grind arith
+found-index p i h f = eqb-true h.slot.index i (find-passes (is_at i) p.held h f)

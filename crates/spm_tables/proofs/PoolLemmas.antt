@@ -6,7 +6,8 @@ use Rattle.std.specs.Option.{option_map}
 use Rattle.object_pools.specs.declared.slot.Slot.{Slot}
 use Rattle.object_pools.specs.declared.slot.Held.{Held}
 use Rattle.object_pools.specs.Pool.{Places, free_index, free_slot, has_slot, is_at, item_at, item_put, taken, with_item}
-use Rattle.handle_table.proofs.SlotLemmas.{has_own, held-of}
+use Rattle.object_pools.proofs.Stores.{has_own}
+use Rattle.handle_table.proofs.SlotLemmas.{held-of}
 use Rattle.list_laws.proofs.Tests.{find-passes}
 
 module _ {T : Type 0} where

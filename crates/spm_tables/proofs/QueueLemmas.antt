@@ -1,8 +1,10 @@
 -- A threaded queue after an index is put at its end or taken out.
 use Rattle.std.proofs.Common.{ℕ, ◌≡◌, ◌≤◌, ◌+◌, ◌==◌, Bool, true, false, cond, not, List, [], ◌∷◌, ◌++◌, arith, ◌∙◌, ap, sym, refl, subst, inl, inr}
 use Rattle.std.specs.Prelude.{Option, Some, None, filter, ◌⊎◌}
+use Rattle.std.proofs.lemmas.Bool.{eqb-true}
+use Rattle.std.proofs.lemmas.Option.{same_Some, none-some}
 use Rattle.list_laws.proofs.Counts.{bit, count-cons}
-use Rattle.object_pools.proofs.Orders.{times, same_bit, same_number}
+use Rattle.object_pools.proofs.Orders.{times, same_bit}
 use Rattle.spm_tables.specs.Queues.{first_of, last_of, Threaded}
 
 -- no index stands in the queue twice
@@ -11,12 +13,6 @@ pub record Once (q : List ℕ) : Type 0 where
 
 abbrev pub out : ℕ → List ℕ → List ℕ
 out i q = filter (λ k. not (k == i)) q
-
-pub some_is : (x y : ℕ) → Some x ≡ Some y → x ≡ y
-some_is x y e = cc
-
-pub some_not : (x : ℕ) → None ≡ Some x → ⊥
-some_not x e = cc
 
 Once-rest : (x : ℕ) (q : List ℕ) → Once (x ∷ q) → Once q
 Once-rest x q o = record { once = λ i. omega (arith, o.once i, count-cons (λ k. k == i) x q) }
@@ -52,7 +48,7 @@ module _ (A B C D : ℕ → Option ℕ) where
   )
 
 pub last-in : (x k : ℕ) (q : List ℕ) → last_of (Some x) q ≡ Some k → 1 ≤ times k (x ∷ q)
-last-in x k [] e = here-in x k [] (some_is x k e)
+last-in x k [] e = here-in x k [] (same_Some x k e)
 last-in x k (y ∷ q) e = rest-in x k (y ∷ q) (last-in y k q e)
 
 -- ---- an index is put at the end
@@ -92,25 +88,25 @@ module _ (A B : ℕ → Option ℕ) (i : ℕ) where
   next-in p (x ∷ q) k t h e =
       let go : (b : Bool) → (x == i) ≡ b → 1 ≤ times k (x ∷ q) =
       elim [
-        | true ↦ λ f. first-in q (sym t.0 ∙ ap A (same_number x i f) ∙ e)
+        | true ↦ λ f. first-in q (sym t.0 ∙ ap A (eqb-true x i f) ∙ e)
         | false ↦ λ f. rest-in x k q (next-in (Some x) q k t.2 (in-rest x i q f h) e)
       ] in
       go (x == i) refl where
         first-in : (r : List ℕ) → first_of r ≡ Some k → 1 ≤ times k (x ∷ r)
-        first-in [] f = absurd (some_not k f)
-        first-in (y ∷ r) f = rest-in x k (y ∷ r) (here-in y k r (some_is y k f))
+        first-in [] f = absurd (none-some k f)
+        first-in (y ∷ r) f = rest-in x k (y ∷ r) (here-in y k r (same_Some y k f))
 
   pub prior-in : (p : Option ℕ) (q : List ℕ) (k : ℕ) → Threaded A B p q → 1 ≤ times i q → B i ≡ Some k → (p ≡ Some k) ⊎ (1 ≤ times k q)
   prior-in p [] k t h e = absurd (omega arith)
   prior-in p (x ∷ q) k t h e =
       let go : (b : Bool) → (x == i) ≡ b → (p ≡ Some k) ⊎ (1 ≤ times k (x ∷ q)) =
       elim [
-        | true ↦ λ f. inl (sym t.1 ∙ ap B (same_number x i f) ∙ e)
+        | true ↦ λ f. inl (sym t.1 ∙ ap B (eqb-true x i f) ∙ e)
         | false ↦ λ f. later (prior-in (Some x) q k t.2 (in-rest x i q f h) e)
       ] in
       go (x == i) refl where
         later : (Some x ≡ Some k) ⊎ (1 ≤ times k q) → (p ≡ Some k) ⊎ (1 ≤ times k (x ∷ q))
-        later (inl f) = inr (here-in x k q (some_is x k f))
+        later (inl f) = inr (here-in x k q (same_Some x k f))
         later (inr f) = inr (rest-in x k q f)
 
   prior-some : (y : ℕ) (q : List ℕ) → Threaded A B (Some y) q → 1 ≤ times i q → B i ≡ None → ⊥
@@ -118,14 +114,14 @@ module _ (A B : ℕ → Option ℕ) (i : ℕ) where
   prior-some y (x ∷ q) t h e =
       let go : (b : Bool) → (x == i) ≡ b → ⊥ =
       elim [
-        | true ↦ λ f. some_not y (sym e ∙ ap B (sym (same_number x i f)) ∙ t.1)
+        | true ↦ λ f. none-some y (sym e ∙ ap B (sym (eqb-true x i f)) ∙ t.1)
         | false ↦ λ f. prior-some x q t.2 (in-rest x i q f h) e
       ] in
       go (x == i) refl
 
   out-here : (x : ℕ) (q : List ℕ) → Once (x ∷ q) → (x == i) ≡ true → out i (x ∷ q) ≡ q
   out-here x q o f =
-      let same : x ≡ i = same_number x i f in
+      let same : x ≡ i = eqb-true x i f in
       ap (λ (b : Bool). cond (not b) (x ∷ out i q) (out i q)) f ∙ out-none i q (omega (arith, Once-first x q o, ap (λ n. times n q) same))
 
   out-else : (x : ℕ) (q : List ℕ) → (x == i) ≡ false → out i (x ∷ q) ≡ x ∷ out i q
@@ -136,25 +132,25 @@ module _ (A B : ℕ → Option ℕ) (i : ℕ) where
   last-end p (x ∷ q) o t h e =
       let go : (b : Bool) → (x == i) ≡ b → last_of p (out i (x ∷ q)) ≡ B i =
       elim [
-        | true ↦ λ f. ap (last_of p) (out-here x q o f) ∙ alone q (sym t.0 ∙ ap A (same_number x i f) ∙ e) ∙ sym t.1 ∙ ap B (same_number x i f)
+        | true ↦ λ f. ap (last_of p) (out-here x q o f) ∙ alone q (sym t.0 ∙ ap A (eqb-true x i f) ∙ e) ∙ sym t.1 ∙ ap B (eqb-true x i f)
         | false ↦ λ f. ap (last_of p) (out-else x q f) ∙ last-end (Some x) q (Once-rest x q o) t.2 (in-rest x i q f h) e
       ] in
       go (x == i) refl where
         alone : (r : List ℕ) → first_of r ≡ None → last_of p r ≡ p
         alone [] f = refl
-        alone (y ∷ r) f = absurd (some_not y (sym f))
+        alone (y ∷ r) f = absurd (none-some y (sym f))
 
   pub last-else : (p : Option ℕ) (q : List ℕ) (k : ℕ) → Once q → Threaded A B p q → 1 ≤ times i q → A i ≡ Some k → last_of p (out i q) ≡ last_of p q
   last-else p [] k o t h e = absurd (omega arith)
   last-else p (x ∷ q) k o t h e =
       let go : (b : Bool) → (x == i) ≡ b → last_of p (out i (x ∷ q)) ≡ last_of p (x ∷ q) =
       elim [
-        | true ↦ λ f. ap (last_of p) (out-here x q o f) ∙ more q (sym t.0 ∙ ap A (same_number x i f) ∙ e)
+        | true ↦ λ f. ap (last_of p) (out-here x q o f) ∙ more q (sym t.0 ∙ ap A (eqb-true x i f) ∙ e)
         | false ↦ λ f. ap (last_of p) (out-else x q f) ∙ last-else (Some x) q k (Once-rest x q o) t.2 (in-rest x i q f h) e
       ] in
       go (x == i) refl where
         more : (r : List ℕ) → first_of r ≡ Some k → last_of p r ≡ last_of (Some x) r
-        more [] f = absurd (some_not k f)
+        more [] f = absurd (none-some k f)
         more (y ∷ r) f = refl
 
   pub first-start : (q : List ℕ) → Once q → Threaded A B None q → 1 ≤ times i q → B i ≡ None → first_of (out i q) ≡ A i
@@ -162,7 +158,7 @@ module _ (A B : ℕ → Option ℕ) (i : ℕ) where
   first-start (x ∷ q) o t h e =
       let go : (b : Bool) → (x == i) ≡ b → first_of (out i (x ∷ q)) ≡ A i =
       elim [
-        | true ↦ λ f. ap first_of (out-here x q o f) ∙ sym t.0 ∙ ap A (same_number x i f)
+        | true ↦ λ f. ap first_of (out-here x q o f) ∙ sym t.0 ∙ ap A (eqb-true x i f)
         | false ↦ λ f. absurd (prior-some x q t.2 (in-rest x i q f h) e)
       ] in
       go (x == i) refl
@@ -172,7 +168,7 @@ module _ (A B : ℕ → Option ℕ) (i : ℕ) where
   first-else (x ∷ q) k o t h e =
       let go : (b : Bool) → (x == i) ≡ b → first_of (out i (x ∷ q)) ≡ first_of (x ∷ q) =
       elim [
-        | true ↦ λ f. absurd (some_not k (sym t.1 ∙ ap B (same_number x i f) ∙ e))
+        | true ↦ λ f. absurd (none-some k (sym t.1 ∙ ap B (eqb-true x i f) ∙ e))
         | false ↦ λ f. ap first_of (out-else x q f)
       ] in
       go (x == i) refl
@@ -191,7 +187,7 @@ module _ (A B : ℕ → Option ℕ) (i : ℕ) where
       w.next y a ∙ b,
       frame A B C D (Some y) q
           (λ k h. w.after k (λ e. omega (arith, apart k (sym b ∙ e), rest-in y k q h)))
-          (λ k h. w.before k (λ e. omega (arith, Once-first y q o, ap (λ n. times n q) (some_is y k (sym a ∙ e))))) t.2,
+          (λ k h. w.before k (λ e. omega (arith, Once-first y q o, ap (λ n. times n q) (same_Some y k (sym a ∙ e))))) t.2,
     )
 
     pub remove : (p : Option ℕ) (q : List ℕ) → Unlinks → Once q → ((k : ℕ) → p ≡ Some k → times k q ≡ 0) → 1 ≤ times i q → Threaded A B p q → Threaded C D p (out i q)
@@ -200,7 +196,7 @@ module _ (A B : ℕ → Option ℕ) (i : ℕ) where
         let go : (b : Bool) → (x == i) ≡ b → Threaded C D p (out i (x ∷ q)) =
         elim [
           | true ↦ λ f.
-              let same : x ≡ i = same_number x i f in
+              let same : x ≡ i = eqb-true x i f in
               subst (Threaded C D p) (sym (out-here x q o f))
               (skip p q w (Once-rest x q o) (λ k e. omega (arith, apart k e, count-cons (λ n. n == k) x q)) (ap A (sym same) ∙ t.0) (ap B (sym same) ∙ t.1)
               (subst (λ n. Threaded A B (Some n) q) same t.2))
@@ -209,7 +205,7 @@ module _ (A B : ℕ → Option ℕ) (i : ℕ) where
               subst (Threaded C D p) (sym (out-else x q f)) (
                 next q (Once-rest x q o) (Once-first x q o) inside t.0 t.2,
                 w.before x (λ e. omega (arith, next-in (Some x) q x t.2 inside e, Once-first x q o)) ∙ t.1,
-                remove (Some x) q w (Once-rest x q o) (λ k e. ap (λ n. times n q) (sym (some_is x k e)) ∙ Once-first x q o) inside t.2,
+                remove (Some x) q w (Once-rest x q o) (λ k e. ap (λ n. times n q) (sym (same_Some x k e)) ∙ Once-first x q o) inside t.2,
               )
         ] in
         go (x == i) refl where
@@ -219,12 +215,12 @@ module _ (A B : ℕ → Option ℕ) (i : ℕ) where
               let go : (b : Bool) → (y == i) ≡ b → C x ≡ first_of (out i (y ∷ r)) =
               elim [
                 | true ↦ λ f.
-                    let same : y ≡ i = same_number y i f in
+                    let same : y ≡ i = eqb-true y i f in
                     w.prior x (ap B (sym same) ∙ u.1) ∙ ap A (sym same) ∙ u.0 ∙ ap first_of (sym (out-here y r s f))
                 | false ↦ λ f.
                     w.after x (λ e. far (prior-in (Some y) r x u.2 (in-rest y i r f inside) e)) ∙ a ∙ ap first_of (sym (out-else y r f))
               ] in
               go (y == i) refl where
                 far : (Some y ≡ Some x) ⊎ (1 ≤ times x r) → ⊥
-                far (inl e) = omega (arith, none, here-in y x r (some_is y x e))
+                far (inl e) = omega (arith, none, here-in y x r (same_Some y x e))
                 far (inr e) = omega (arith, none, rest-in y x r e)

@@ -7,14 +7,15 @@ use Rattle.std.proofs.lemmas.List.{get_or_past, get_or-set_other}
 use Rattle.std.specs.List.{range_with_len, list_any}
 use Rattle.std.proofs.Math.ListN.{length-set}
 use Rattle.std.proofs.lemmas.List.Elements.{All-head, All-tail, All-weaker, All-push, All-filter}
+use Rattle.std.proofs.lemmas.Bool.{and_parts, eqb-true}
 use Rattle.ffm_model.specs.declared.objects.Vectors.{Vectors}
 use Rattle.object_pools.specs.declared.slot.Slot.{Slot}
 use Rattle.object_pools.specs.declared.slot.Held.{Held}
 use Rattle.object_pools.specs.Pool.{Places, IsKept, IsNamed, is_at, has_slot, item_at, item_put, with_item, without, taken, free_slot}
 use Rattle.list_laws.proofs.Counts.{bit, both-le-right, count-cons, none-count}
-use Rattle.object_pools.proofs.Orders.{times, same_number, same_bit}
+use Rattle.object_pools.proofs.Orders.{times, same_bit}
 use Rattle.object_pools.proofs.Pigeons.{index-below}
-use Rattle.handle_table.proofs.SlotLemmas.{both, held-of, named-at, All-put}
+use Rattle.handle_table.proofs.SlotLemmas.{held-of, named-at, All-put}
 use Rattle.handle_table.proofs.NameLemmas.{free-parts}
 use Rattle.list_laws.proofs.Tests.{find-passes, find-all}
 use Rattle.spm_tables.specs.declared.item.QueuedMessage.{QueuedMessage}
@@ -78,7 +79,7 @@ place-in t p (x ∷ xs) h f passes =
     omega (arith, places-cons t x xs h.slot.index, go (p x) f)
 
 waits-service : (v : ℕ) (h : Held QueuedMessage) → waits_for v h ≡ true → h.item.service ≡ v
-waits-service v h e = same_number h.item.service v (both (is_none (shown_handle h.item.delivered h.slot)) (h.item.service == v) e).1
+waits-service v h e = eqb-true h.item.service v (and_parts (is_none (shown_handle h.item.delivered h.slot)) (h.item.service == v) e).1
 
 same-held : (o : Option (Held QueuedMessage)) (g h : Held QueuedMessage) → o ≡ Some g → o ≡ Some h → g ≡ h
 same-held o g h e f = cc
@@ -122,10 +123,10 @@ Only s h xs = All (λ x. is_at s.index x ≡ true → x ≡ h) xs
 
 pub only-here : (p : Places QueuedMessage) (s : Slot) (h : Held QueuedMessage) → IsKept 304 p → find (has_slot s) p.held ≡ Some h → Only s h p.held
 only-here p s h kept f =
-    let at : is_at s.index h ≡ true = (both (h.slot.index == s.index) (h.slot.generation == s.generation) (find-passes (has_slot s) p.held h f)).0 in
+    let at : is_at s.index h ≡ true = (and_parts (h.slot.index == s.index) (h.slot.generation == s.generation) (find-passes (has_slot s) p.held h f)).0 in
     let here : find (is_at s.index) p.held ≡ Some h = found-too (has_slot s) (is_at s.index) p.held h at (kept.once s.index) f in
     All-weaker (λ x. find (is_at x.slot.index) p.held ≡ Some x) (λ x. is_at s.index x ≡ true → x ≡ h)
-    (λ x g e. same-held (find (is_at s.index) p.held) x h (ap (λ n. find (is_at n) p.held) (sym (same_number x.slot.index s.index e)) ∙ g) here) p.held (all-found p.held kept.once)
+    (λ x g e. same-held (find (is_at s.index) p.held) x h (ap (λ n. find (is_at n) p.held) (sym (eqb-true x.slot.index s.index e)) ∙ g) here) p.held (all-found p.held kept.once)
 
 without-out : (t : Held QueuedMessage → Bool) (s : Slot) (h : Held QueuedMessage) (xs : List (Held QueuedMessage)) → Only s h xs → has_slot s h ≡ true
     → places t (filter (λ x. not (has_slot s x)) xs) ≡ out s.index (places t xs)
@@ -134,7 +135,7 @@ without-out t s h (x ∷ xs) only own =
     let rest : places t (filter (λ y. not (has_slot s y)) xs) ≡ out s.index (places t xs) = without-out t s h xs (All-tail (λ y. is_at s.index y ≡ true → y ≡ h) x xs only) own in
     let gone : has_slot s x ≡ true → places t (filter (λ y. not (has_slot s y)) xs) ≡ out s.index (places t (x ∷ xs)) =
     λ e.
-    let at : (x.slot.index == s.index) ≡ true = (both (x.slot.index == s.index) (x.slot.generation == s.generation) e).0 in
+    let at : (x.slot.index == s.index) ≡ true = (and_parts (x.slot.index == s.index) (x.slot.generation == s.generation) e).0 in
     let go : (c : Bool) → places t (filter (λ y. not (has_slot s y)) xs) ≡ out s.index (map (λ (y : Held QueuedMessage). y.slot.index) (cond c (x ∷ filter t xs) (filter t xs))) =
     elim [
       | true ↦ rest ∙ ap (λ (b : Bool). cond (not b) (x.slot.index ∷ out s.index (places t xs)) (out s.index (places t xs))) (sym at)
@@ -187,7 +188,7 @@ put-same t s n h (x ∷ xs) same only =
     let go : (b : Bool) → has_slot s x ≡ b → places t (cond b (record x { item = n }) x ∷ map (item_put s n) xs) ≡ places t (x ∷ xs) =
     elim [
       | true ↦ λ e.
-          let it : x ≡ h = All-head (λ y. is_at s.index y ≡ true → y ≡ h) x xs only (both (x.slot.index == s.index) (x.slot.generation == s.generation) e).0 in
+          let it : x ≡ h = All-head (λ y. is_at s.index y ≡ true → y ≡ h) x xs only (and_parts (x.slot.index == s.index) (x.slot.generation == s.generation) e).0 in
           stays (record x { item = n }) (ap (λ (y : Held QueuedMessage). t (record y { item = n })) it ∙ same ∙ ap t (sym it)) refl
       | false ↦ λ e. stays x refl refl
     ] in
@@ -289,10 +290,10 @@ module _ (p : Places QueuedMessage) (ls : List Link) (es : List Ends) where
         off h item v = ap (λ (i : QueuedMessage). is_none (shown_handle i.delivered h.slot) && (i.service == v)) item ∙ ap (λ (b : Bool). is_none (shown_handle b h.slot) && (m.service == v)) on
 
         absent : (h : Held QueuedMessage) → find (has_slot s) p.held ≡ Some h → h.item ≡ m → (v : ℕ) → (b : Bool) → (times s.index (queue_in p v) == 0) ≡ b → times s.index (queue_in p v) ≡ 0
-        absent h f item v true e = same_number (times s.index (queue_in p v)) 0 e
+        absent h f item v true e = eqb-true (times s.index (queue_in p v)) 0 e
         absent h f item v false e =
             let g = at-place (waits_for v) p.held s.index (kept.once s.index) (some_times (times s.index (queue_in p v)) e) in
-            let at : is_at s.index h ≡ true = (both (h.slot.index == s.index) (h.slot.generation == s.generation) (own-slot s h f)).0 in
+            let at : is_at s.index h ≡ true = (and_parts (h.slot.index == s.index) (h.slot.generation == s.generation) (own-slot s h f)).0 in
             let it : g.0 ≡ h = same-held (find (is_at s.index) p.held) g.0 h g.1 (found-too (has_slot s) (is_at s.index) p.held h at (kept.once s.index) f) in
             absurd (on_off (waits_for v h) (ap (waits_for v) (sym it) ∙ g.2) (off h item v)) where
               on_off : (b : Bool) → b ≡ true → b ≡ false → ⊥
@@ -314,7 +315,7 @@ module _ (p : Places QueuedMessage) (ls : List Link) (es : List Ends) where
   keeps-oldest v s m kept k o live =
       let was : (o.held).item ≡ m = oldest-is p v s m o live in
       let waited : waits_for v o.held ≡ true = find-passes (waits_for v) p.held o.held o.first in
-      let off : is_none (shown_handle (o.held).item.delivered (o.held).slot) ≡ true = (both (is_none (shown_handle (o.held).item.delivered (o.held).slot)) ((o.held).item.service == v) waited).0 in
+      let off : is_none (shown_handle (o.held).item.delivered (o.held).slot) ≡ true = (and_parts (is_none (shown_handle (o.held).item.delivered (o.held).slot)) ((o.held).item.service == v) waited).0 in
       let fresh : m.delivered ≡ false = sym (ap (λ (i : QueuedMessage). i.delivered) was) ∙ shows_none (o.held).item.delivered off in
       let service : m.service ≡ v = sym (ap (λ (i : QueuedMessage). i.service) was) ∙ waits-service v o.held waited in
       subst (λ (w : ℕ). KeepsQueues (with_item p s (record m { delivered = true })) (unlinked ls (link_at ls s.index)) (set es w (unlinked_ends (ends_at es w) (link_at ls s.index))))

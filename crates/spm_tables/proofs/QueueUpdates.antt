@@ -4,11 +4,13 @@ use Rattle.std.specs.Prelude.{Option, Some, None, is_none, ◌⊎◌}
 use Rattle.std.proofs.Common.{inl, inr}
 use Rattle.std.proofs.Math.ListN.{length-set}
 use Rattle.std.proofs.lemmas.List.{get_or-set_same, get_or-set_other}
-use Rattle.object_pools.proofs.Orders.{times, same_number}
+use Rattle.std.proofs.lemmas.Bool.{eqb-true}
+use Rattle.std.proofs.lemmas.Option.{same_Some, none-some}
+use Rattle.object_pools.proofs.Orders.{times}
 use Rattle.spm_tables.specs.declared.links.Link.{Link}
 use Rattle.spm_tables.specs.declared.links.Ends.{Ends}
 use Rattle.spm_tables.specs.Queues.{first_of, last_of, Threaded, no_link, no_ends, link_at, ends_at, AreQueues, with_after, with_before, joined, unlinked, joined_ends, unlinked_ends}
-use Rattle.spm_tables.proofs.QueueLemmas.{out, out-none, some_is, some_not, frame, last-in, push, remove, next-in, prior-in, last-end, last-else, first-start, first-else}
+use Rattle.spm_tables.proofs.QueueLemmas.{out, out-none, frame, last-in, push, remove, next-in, prior-in, last-end, last-else, first-start, first-else}
 use Rattle.object_pools.proofs.Updates.{at_each}
 
 -- an index stands once in one queue, and has a link
@@ -46,15 +48,15 @@ before-else None b ls k apart = refl
 before-else (Some m) b ls k apart = ap (λ (l : Link). l.before) (get_or-set_other ls m k (record (link_at ls m) { before = b }) no_link (λ e. apart (ap (λ (n : ℕ). Some n) (sym e))))
 
 after-here : (o a : Option ℕ) (ls : List Link) (k : ℕ) → o ≡ Some k → k < length ls → (link_at (with_after o a ls) k).after ≡ a
-after-here None a ls k e inside = absurd (some_not k e)
+after-here None a ls k e inside = absurd (none-some k e)
 after-here (Some m) a ls k e inside =
-    let same : m ≡ k = some_is m k e in
+    let same : m ≡ k = same_Some m k e in
     subst (λ n. (link_at (with_after (Some n) a ls) k).after ≡ a) (sym same) (ap (λ (l : Link). l.after) (get_or-set_same ls k (record (link_at ls k) { after = a }) no_link inside))
 
 before-here : (o b : Option ℕ) (ls : List Link) (k : ℕ) → o ≡ Some k → k < length ls → (link_at (with_before o b ls) k).before ≡ b
-before-here None b ls k e inside = absurd (some_not k e)
+before-here None b ls k e inside = absurd (none-some k e)
 before-here (Some m) b ls k e inside =
-    let same : m ≡ k = some_is m k e in
+    let same : m ≡ k = same_Some m k e in
     subst (λ n. (link_at (with_before (Some n) b ls) k).before ≡ b) (sym same) (ap (λ (l : Link). l.before) (get_or-set_same ls k (record (link_at ls k) { before = b }) no_link inside))
 
 length-after : (o a : Option ℕ) (ls : List Link) → length (with_after o a ls) ≡ length ls
@@ -72,7 +74,7 @@ pub length-unlinked : (ls : List Link) (link : Link) → length (unlinked ls lin
 length-unlinked ls link = length-before link.after link.before (with_after link.before link.after ls) ∙ length-after link.before link.after ls
 
 in_last : (q : List ℕ) (k : ℕ) → last_of None q ≡ Some k → 1 ≤ times k q
-in_last [] k e = absurd (some_not k e)
+in_last [] k e = absurd (none-some k e)
 in_last (x ∷ q) k e = last-in x k q e
 
 last-push : (p : Option ℕ) (q : List ℕ) (j : ℕ) → last_of p (q ++ j ∷ []) ≡ Some j
@@ -158,7 +160,7 @@ queues-unlink ls es q r s j a apart inside member left =
                 (omega (arith, apart.below s k (next_of k e), length-after (link_at ls j).before (link_at ls j).after ls));
             before = befores;
           })
-          (record { once = apart.once s }) (λ k e. absurd (some_not k e)) member t))
+          (record { once = apart.once s }) (λ k e. absurd (none-some k e)) member t))
           (λ v ne h. subst (Threaded (λ k. (link_at (unlinked ls (link_at ls j)) k).after) (λ k. (link_at (unlinked ls (link_at ls j)) k).before) None) (sym (others v ne))
           (frame (λ i. (link_at ls i).after) (λ i. (link_at ls i).before) (λ k. (link_at (unlinked ls (link_at ls j)) k).after) (λ k. (link_at (unlinked ls (link_at ls j)) k).before) None (q v)
           (λ k i. afters k (λ e. ne (apart.one v s k i (prior_of k e))))
@@ -168,13 +170,13 @@ queues-unlink ls es q r s j a apart inside member left =
       absent : (v : ℕ) → v ≢ s → times j (q v) ≡ 0
       absent v ne =
           let go : (b : Bool) → (times j (q v) == 0) ≡ b → times j (q v) ≡ 0 =
-          elim [ true ↦ λ e. same_number (times j (q v)) 0 e | false ↦ λ e. absurd (ne (apart.one v s j (some_times (times j (q v)) e) member)) ] in
+          elim [ true ↦ λ e. eqb-true (times j (q v)) 0 e | false ↦ λ e. absurd (ne (apart.one v s j (some_times (times j (q v)) e) member)) ] in
           go (times j (q v) == 0) refl where
             some_times : (n : ℕ) → (n == 0) ≡ false → 1 ≤ n
             some_times n e = grind arith
 
       not_first : (k : ℕ) → (None ≡ Some k) ⊎ (1 ≤ times k (q s)) → 1 ≤ times k (q s)
-      not_first k (inl e) = absurd (some_not k e)
+      not_first k (inl e) = absurd (none-some k e)
       not_first k (inr h) = h
 
       new_first : (o : Option ℕ) → (link_at ls j).before ≡ o → cond (is_none (link_at ls j).before) (link_at ls j).after (ends_at es s).first ≡ first_of (out j (q s))

@@ -3,14 +3,16 @@ use Rattle.std.proofs.Common.{ℕ, ◌≡◌, ◌<◌, ◌≤◌, ◌+◌, ◌==
 use Rattle.std.specs.Prelude.{find, Option, Some, None, map, All, IsSome, IfSome}
 use Rattle.std.specs.Option.{option_map}
 use Rattle.std.proofs.lemmas.List.Elements.{All-nil, All-cons, All-push, All-filter, All-weaker, All-map}
+use Rattle.std.proofs.lemmas.Bool.{eqb-true}
 use Rattle.ffm_model.specs.declared.objects.OpenConnection.{OpenConnection}
 use Rattle.ffm_model.specs.State.{Rises}
 use Rattle.ffm_model.proofs.SerialLemmas.{rises-bounds}
 use Rattle.object_pools.specs.declared.slot.Slot.{Slot}
 use Rattle.object_pools.specs.declared.slot.Held.{Held}
 use Rattle.object_pools.specs.Pool.{Places, IsKept, has_slot, item_at, item_put, taken, with_item, without}
+use Rattle.object_pools.proofs.Stores.{has_own}
 use Rattle.handle_table.specs.Table.{connections, IsTable}
-use Rattle.handle_table.proofs.SlotLemmas.{has_own, one_slot, slot-is, held-of}
+use Rattle.handle_table.proofs.SlotLemmas.{one_slot, slot-is, held-of}
 use Rattle.list_laws.proofs.Tests.{find-passes, find-all, find-map}
 use Rattle.spm_tables.specs.declared.item.MessageItem.{MessageItem}
 use Rattle.spm_tables.specs.declared.item.QueuedMessage.{QueuedMessage}
@@ -176,9 +178,7 @@ slot-of-serial p m n c kept b numbered f =
       | None ↦ λ e g. cc
       | Some h ↦ λ e g.
           let here : find (has_slot h.slot) p.held ≡ Some h = found-too (λ x. x.item.serial == n) (has_slot h.slot) p.held h (has_own h.slot) (one_slot 256 p h.slot kept) e in
-          let serial : h.item.serial ≡ n = equal h.item.serial n (find-passes (λ x. x.item.serial == n) p.held h e) in
+          let serial : h.item.serial ≡ n = eqb-true h.item.serial n (find-passes (λ x. x.item.serial == n) p.held h e) in
           (h.slot, find-all (Slotted m) (λ x. x.item.serial == n) p.held h e b.slot (numbered ∙ ap (λ (k : ℕ). Some k) (sym serial)), ap (option_map (λ (x : Held OpenConnection). x.item)) here ∙ g)
     ] in
-    go (find (λ h. h.item.serial == n) p.held) refl (sym (find-map (λ (h : Held OpenConnection). h.item) (λ d. d.serial == n) p.held) ∙ f) where
-      equal : (k n : ℕ) → (k == n) ≡ true → k ≡ n
-      equal k n e = grind arith
+    go (find (λ h. h.item.serial == n) p.held) refl (sym (find-map (λ (h : Held OpenConnection). h.item) (λ d. d.serial == n) p.held) ∙ f)

@@ -5,8 +5,9 @@ use Rattle.std.specs.List.{filter_map, enumerate_from, cons_option, list_all}
 use Rattle.std.proofs.Math.ListN.{length-set}
 use Rattle.std.proofs.lemmas.List.{get_or-set_same, get_or-set_other, get_or_past, get_or-replicate, length-replicate}
 use Rattle.std.proofs.lemmas.Bool.Decides.{nat_tests}
-use Rattle.object_pools.proofs.Orders.{same_number, other_number}
-use Rattle.handle_table.proofs.SlotLemmas.{both}
+use Rattle.std.proofs.lemmas.Bool.{and_parts, eqb-true}
+use Rattle.std.proofs.lemmas.Option.{same_Some}
+use Rattle.object_pools.proofs.Orders.{other_number}
 use Rattle.ffm_model.specs.declared.constants.TheConstants.{PSA_DOORBELL}
 use Rattle.ffm_model.specs.declared.objects.SourceFlags.{SourceFlags}
 use Rattle.ffm_model.specs.declared.system.System.{System}
@@ -20,7 +21,6 @@ use Rattle.spm_tables.specs.declared.signals.OwnedSignal.{OwnedSignal}
 use Rattle.spm_tables.specs.TablesView.{TablesView, Shape, MadeFor, spm_of, asserted}
 use Rattle.spm_tables.specs.Queues.{QueuesView, has_waiting, AllWaitAsBefore, OthersWaitAsBefore}
 use Rattle.spm_tables.specs.Words.{InputsView, first_flags, opening_inputs, word_of, owner_at, KeepsWords, with_word, ShowsQueues}
-use Rattle.spm_tables.proofs.QueueLemmas.{some_is}
 use Rattle.spm_tables.proofs.SignalLemmas.{word-of}
 
 -- ---- the signals that pass a test
@@ -37,7 +37,7 @@ same-from t u owner (x ∷ xs) n agree =
     let rest : filter_map (λ e. if (e.1.owner == owner) && t e.0 then Some e.1.signal else None) (enumerate_from (n + 1) xs)
     ≡ filter_map (λ e. if (e.1.owner == owner) && u e.0 then Some e.1.signal else None) (enumerate_from (n + 1) xs) = same-from t u owner xs (n + 1) next in
     let here : (b : Bool) → (x.owner == owner) ≡ b → (b && t n) ≡ (b && u n) = elim [
-      | true ↦ λ e. subst (λ k. t k ≡ u k) (omega arith) (agree 0 (ap (λ k. Some k) (same_number x.owner owner e)))
+      | true ↦ λ e. subst (λ k. t k ≡ u k) (omega arith) (agree 0 (ap (λ k. Some k) (eqb-true x.owner owner e)))
       | false ↦ λ e. refl
     ] in
     ap (λ (ys : List ℕ). cons_option (if (x.owner == owner) && t n then Some x.signal else None) ys) rest
@@ -67,10 +67,10 @@ remade : (w u : ℕ → ℕ) (o : Option ℕ) (words : List ℕ) → ((p : ℕ) 
 remade w u None words old same p inside = old p inside ∙ same p (λ e. cc e)
 remade w u (Some o) words old same p inside =
     let go : (b : Bool) → (p == o) ≡ b → get_or (set words o (u o)) p 0 ≡ u p = elim [
-      | true ↦ λ e. let at : p ≡ o = same_number p o e in
+      | true ↦ λ e. let at : p ≡ o = eqb-true p o e in
           subst (λ k. get_or (set words k (u k)) p 0 ≡ u p) at (get_or-set_same words p (u p) 0 inside)
       | false ↦ λ e. let apart : p ≢ o = other_number p o e in
-          get_or-set_other words o p (u o) 0 apart ∙ old p inside ∙ same p (λ at. apart (sym (some_is o p at)))
+          get_or-set_other words o p (u o) 0 apart ∙ old p inside ∙ same p (λ at. apart (sym (same_Some o p at)))
     ] in
     go (p == o) refl
 
@@ -139,7 +139,7 @@ shows-changed b q r v waits k same others is known = record {
 
   at : (w : ℕ) (x : Bool) → (w == v) ≡ x → get_or (set b.waiting v waits) w false ≡ has_waiting r.messages w
   at w true e =
-      subst (λ (n : ℕ). get_or (set b.waiting v waits) n false ≡ has_waiting r.messages n) (sym (same_number w v e)) (here (nat_lt v (length b.waiting)) refl ∙ is)
+      subst (λ (n : ℕ). get_or (set b.waiting v waits) n false ≡ has_waiting r.messages n) (sym (eqb-true w v e)) (here (nat_lt v (length b.waiting)) refl ∙ is)
   at w false e =
       let apart : w ≢ v = other_number w v e in
       get_or-set_other b.waiting v w waits false apart ∙ k.right w ∙ sym (others w apart)
@@ -184,8 +184,8 @@ none-beyond : (X : Type 0) (owner signal : X → ℕ) (n p : ℕ) → n ≤ p �
     → filter_map (λ e. if (owner e.1 == p) && t e.0 then Some (signal e.1) else None) (enumerate_from i xs) ≡ []
 none-beyond X owner signal n p past t [] i fits = refl
 none-beyond X owner signal n p past t (x ∷ xs) i fits =
-    let split = both (signal_fits n (owner x) (signal x)) (list_all (λ y. signal_fits n (owner y) (signal y)) xs) fits in
-    let low : nat_lt (owner x) n ≡ true = (both (nat_lt (owner x) n) (is_signal_bit (signal x)) split.0).0 in
+    let split = and_parts (signal_fits n (owner x) (signal x)) (list_all (λ y. signal_fits n (owner y) (signal y)) xs) fits in
+    let low : nat_lt (owner x) n ≡ true = (and_parts (nat_lt (owner x) n) (is_signal_bit (signal x)) split.0).0 in
     let other : (owner x == p) ≡ false = grind (arith, nat_tests) in
     let rest : filter_map (λ e. if (owner e.1 == p) && t e.0 then Some (signal e.1) else None) (enumerate_from (i + 1) xs) ≡ [] = none-beyond X owner signal n p past t xs (i + 1) split.1 in
     ap (λ (b : Bool). cons_option (if b && t i then Some (signal x) else None) (filter_map (λ e. if (owner e.1 == p) && t e.0 then Some (signal e.1) else None) (enumerate_from (i + 1) xs))) other

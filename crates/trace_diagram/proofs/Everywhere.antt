@@ -13,10 +13,6 @@ pub each-map : {X Y : Type 0} (P : X → Type 0) (Q : Y → Type 0) (f : X → Y
 each-map P Q f keeps [] h = tt
 each-map P Q f keeps (x ∷ xs) h = (keeps x h.0, each-map P Q f keeps xs h.1)
 
-pub each-weaken : {X : Type 0} (P Q : X → Type 0) → ((x : X) → P x → Q x) → (xs : List X) → AllByRecursion P xs → AllByRecursion Q xs
-each-weaken P Q keeps [] h = tt
-each-weaken P Q keeps (x ∷ xs) h = (keeps x h.0, each-weaken P Q keeps xs h.1)
-
 pub each-found : {X : Type 0} (P : X → Type 0) (q : X → Bool) (xs : List X) (x : X) → AllByRecursion P xs → find q xs ≡ Some x → P x
 each-found P q [] x h e = cc
 each-found {X} P q (y ∷ ys) x h e =
@@ -30,8 +26,3 @@ each-option Q (Some y) ys here h = (here y refl, h)
 pub each-filter_map : {X Y : Type 0} (P : X → Type 0) (Q : Y → Type 0) (f : X → Option Y) → ((x : X) (y : Y) → P x → f x ≡ Some y → Q y) → (xs : List X) → AllByRecursion P xs → AllByRecursion Q (filter_map f xs)
 each-filter_map P Q f keeps [] h = tt
 each-filter_map P Q f keeps (x ∷ xs) h = each-option Q (f x) (filter_map f xs) (λ y e. keeps x y h.0 e) (each-filter_map P Q f keeps xs h.1)
-
--- what holds of all elements holds of each
-pub each-of : {X : Type 0} (P : X → Type 0) → ((x : X) → P x) → (xs : List X) → AllByRecursion P xs
-each-of P all [] = tt
-each-of P all (x ∷ xs) = (all x, each-of P all xs)

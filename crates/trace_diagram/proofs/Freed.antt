@@ -6,6 +6,7 @@ use Rattle.std.specs.Option.{option_and_then, option_map_or}
 use Rattle.std.proofs.lemmas.Bool.{and_from, and_parts, eqb-true}
 use Rattle.std.proofs.lemmas.List.Elements.{Contains-append_right, Contains-get_or}
 use Rattle.list_laws.proofs.Counts.{bit, count-cons, count-ext, count-filter-le}
+use Rattle.list_laws.proofs.Lists.{AllByRecursion-weaker}
 use Rattle.ffm_model.specs.declared.system.System.{System}
 use Rattle.ffm_model.specs.declared.machine.Handle.{Handle}
 use Rattle.ffm_model.specs.declared.machine.Status.{Status}
@@ -33,7 +34,6 @@ use Rattle.trace_diagram.specs.declared.arrows.Arrow.{Arrow}
 use Rattle.trace_diagram.specs.declared.arrows.Meaning.TheVariants as meaning
 use Rattle.trace_diagram.specs.Arrows.{arrow, arrow_of, panic_arrows, panicking, panicking_by, release_arrow}
 use Rattle.trace_diagram.specs.Pairs.{EachFreedHasArrow, IsWaiting}
-use Rattle.trace_diagram.proofs.Everywhere.{each-weaken}
 use Rattle.trace_diagram.proofs.Replies.{IsReplied, step-replies}
 use Rattle.trace_diagram.proofs.Waiting.{Kept, run-kept}
 use Rattle.trace_diagram.proofs.Panics.{is_lost, own-panic}
@@ -172,7 +172,7 @@ each-freed-has-arrow s m es st new e p x run is panics apart blocked freed =
     let W : ℕ → ℤ → Type 0 = λ service kind. IsWaiting s m es (get_or places x 0) x service kind in
     let some : 1 ≤ count_by (is_lost s p x) b.messages = step-frees s st new e p x kept.balanced (kept.sound e.actor.0) is panics apart blocked freed in
     let all : AllByRecursion (λ (y : PendingMessage). y.client.0 ≡ x → W y.service y.kind) b.messages =
-    each-weaken (λ (y : PendingMessage). phase_of b y.client.0 ≡ Blocked → IsWaiting s m es (get_or places y.client.0 0) y.client.0 y.service y.kind) (λ (y : PendingMessage). y.client.0 ≡ x → W y.service y.kind)
+    AllByRecursion-weaker (λ (y : PendingMessage). phase_of b y.client.0 ≡ Blocked → IsWaiting s m es (get_or places y.client.0 0) y.client.0 y.service y.kind) (λ (y : PendingMessage). y.client.0 ≡ x → W y.service y.kind)
     (λ y waits own. subst (λ (c : ℕ). IsWaiting s m es (get_or places c 0) c y.service y.kind) own (waits (ap (phase_of b) own ∙ blocked))) b.messages kept.waiting in
     let found : Frees W (filter_map (release_arrow s b p) b.messages) p x = frees s b p x W blocked b.messages all some in
     let shown : Frees W (panic_arrows s b p) p x = frees-later W (Some (arrow p p meaning.Panic)) (filter_map (release_arrow s b p) b.messages) p x found in

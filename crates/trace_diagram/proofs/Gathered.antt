@@ -1,7 +1,7 @@
 -- The arrows of a trace, one entry further.
-use Rattle.std.proofs.Common.{ℕ, ◌≡◌, ◌≤◌, ◌+◌, Bool, true, false, List, [], ◌∷◌, ◌++◌, replicate, refl, ap, sym, ◌∙◌, inl, inr, ◌⊎◌, append_assoc, append-nil, arith}
-use Rattle.std.proofs.lemmas.Bool.{le-leb, lt-leb}
-use Rattle.std.specs.Prelude.{slice_set, nat_le, Ok, Option, None, if◌then◌else◌}
+use Rattle.std.proofs.Common.{ℕ, ◌≡◌, ◌≤◌, ◌+◌, Bool, true, false, List, [], ◌∷◌, ◌++◌, replicate, ap, sym, ◌∙◌, inl, inr, ◌⊎◌, append_assoc, append-nil, arith}
+use Rattle.std.proofs.lemmas.Bool.{le-leb, lt-leb, cond-true, cond-false}
+use Rattle.std.specs.Prelude.{slice_set, nat_le, Ok, Option, None}
 use Rattle.std.specs.Option.{option_map_or}
 use Rattle.ffm_model.specs.declared.system.System.{System}
 use Rattle.ffm_model.specs.declared.machine.Entry.{Entry}
@@ -14,6 +14,7 @@ use Rattle.machine_calls.specs.Machine.{IsMachineOf, spm_of_objects, state_of}
 use Rattle.machine_check.specs.declared.judging.Checker.{Checker}
 use Rattle.machine_check.specs.Checking.{Accepts, IsAccepted, Starts}
 use Rattle.machine_check.specs.Performed.{Knows}
+use Rattle.machine_check.proofs.Judged.{either}
 use Rattle.trace_diagram.specs.declared.gathering.Part.{Part}
 use Rattle.trace_diagram.specs.declared.gathering.PlacedArrow.{PlacedArrow}
 use Rattle.trace_diagram.specs.Gathering.{arrows_at, arrows_from, arrows_in}
@@ -43,16 +44,6 @@ gather_begins s m limit part es c last so_far start none empty = record {
 
 -- ---- one entry
 
-then_of : (b : Bool) (x y : List PlacedArrow) → b ≡ true → (if b then x else y) ≡ x
-then_of b x y h = rw h refl
-
-else_of : (b : Bool) (x y : List PlacedArrow) → b ≡ false → (if b then x else y) ≡ y
-else_of b x y h = rw h refl
-
-either : (b : Bool) (x y : List PlacedArrow) → y ≡ x → (if b then x else y) ≡ x
-either true x y h = refl
-either false x y h = h
-
 -- an entry was accepted, its arrows were added and its place was noted
 pub next_gathered : (s : System) (m : ByteMap) (limit : ℕ) (part : Part) (es : List Entry) (c new : Checker) (last noted : List ℕ) (so_far found more : List PlacedArrow) (e : Entry) (left : List Entry)
     (k : GathersTo s m limit part es c last so_far (e ∷ left)) → IsAccepted s limit c k.all e new → more ≡ so_far ++ found → found ≡ arrows_at s part (c.count + 1) (spm_of_objects c.machine.objects) last e → noted ≡ slice_set last e.actor.0 new.count
@@ -69,7 +60,7 @@ next_gathered s m limit part es c new last noted so_far found more e left k it a
       let later = arrows_from s limit part new.count noted left (state_of new.machine it.given) in
       k.arrows
       ∙ ap (λ l. so_far ++ l)
-      (else_of (nat_le limit c.count) [] _ (lt-leb limit c.count it.below)
+      (cond-false (nat_le limit c.count) [] _ (lt-leb limit c.count it.below)
       ∙ ap (λ (o : Option State). option_map_or rest o []) it.is_step
       ∙ ap (λ n. here ++ arrows_from s limit part n (put n) left (state_of new.machine it.given)) (sym it.count)
       ∙ ap (λ l. here ++ arrows_from s limit part new.count l left (state_of new.machine it.given)) (sym placed))
@@ -80,7 +71,7 @@ next_gathered s m limit part es c new last noted so_far found more e left k it a
 
 -- an entry was not accepted, so no arrow is left
 none_behind : (s : System) (limit : ℕ) (part : Part) (c : Checker) (last : List ℕ) (e : Entry) (left : List Entry) (st : State) → (limit ≤ c.count) ⊎ (step s st e ≡ None) → arrows_from s limit part c.count last (e ∷ left) st ≡ []
-none_behind s limit part c last e left st (inl over) = then_of (nat_le limit c.count) [] _ (le-leb limit c.count over)
+none_behind s limit part c last e left st (inl over) = cond-true (nat_le limit c.count) [] _ (le-leb limit c.count over)
 none_behind s limit part c last e left st (inr none) =
     either (nat_le limit c.count) [] _ (ap (λ (o : Option State). option_map_or (λ x. arrows_at s part (c.count + 1) st.spm last e ++ arrows_from s limit part (c.count + 1) (slice_set last e.actor.0 (c.count + 1)) left x) o []) none)
 

@@ -5,6 +5,7 @@ use Rattle.std.specs.Option.{option_map_or}
 use Rattle.std.proofs.lemmas.Bool.{and_from, and_parts, eqb-true}
 use Rattle.list_laws.proofs.Counts.{bit, count-cons, count-le, some-found}
 use Rattle.list_laws.proofs.Tests.{find-passes}
+use Rattle.list_laws.proofs.Lists.{AllByRecursion-all, get_or-replicate_same}
 use Rattle.ffm_model.specs.declared.system.System.{System}
 use Rattle.ffm_model.specs.declared.machine.Entry.{Entry}
 use Rattle.ffm_model.specs.declared.objects.ActorPhase.TheVariants.{Blocked}
@@ -23,7 +24,6 @@ use Rattle.trace_diagram.specs.declared.gathering.PlacedArrow.{PlacedArrow}
 use Rattle.trace_diagram.specs.Arrows.{arrows_of}
 use Rattle.trace_diagram.specs.Gathering.{arrows_at, arrows_from, is_answer, is_in_part, placed}
 use Rattle.trace_diagram.specs.Pairs.{EachIsAnsweredOnce, answers_call_at}
-use Rattle.trace_diagram.proofs.Everywhere.{each-of}
 use Rattle.trace_diagram.proofs.Once.{Event, Once, entry-once, frees, none-counted}
 use Rattle.trace_diagram.proofs.Pairs.{blocked-phase, length-push}
 use Rattle.trace_diagram.proofs.Waiting.{Kept, is-inside, opening-kept, set-other, set-own, step-kept, was-blocked}
@@ -35,13 +35,8 @@ record Noted (last : List ℕ) (n : ℕ) : Type 0 where
   pub apart : (x y : ℕ) → get_or last x 0 ≡ get_or last y 0 → 1 ≤ get_or last x 0 → x ≡ y
   pub within : (x : ℕ) → get_or last x 0 ≤ n
 
-zeros : (k x : ℕ) → ◌≡◌ {A = ℕ} (get_or (replicate k 0) x 0) 0
-zeros zero x = refl
-zeros (suc k) zero = refl
-zeros (suc k) (suc x) = zeros k x
-
 opening-noted : (k : ℕ) → Noted (replicate k 0) 0
-opening-noted k = record { apart = λ x y e some. absurd (omega (arith, zeros k x, some)); within = λ x. omega (arith, zeros k x) }
+opening-noted k = record { apart = λ x y e some. absurd (omega (arith, get_or-replicate_same {X = ℕ} k x 0, some)); within = λ x. omega (arith, get_or-replicate_same {X = ℕ} k x 0) }
 
 next-noted : (last : List ℕ) (n a : ℕ) → a < length last → Noted last n → Noted (slice_set last a (n + 1)) (n + 1)
 next-noted last n a inside k = record {
@@ -110,7 +105,7 @@ NoneAt place last st = (x : ℕ) → get_or last x 0 ≡ place → phase_of st.s
 none-named : (place k : ℕ) (st : State) (last : List ℕ) (xs : List Arrow) → NoneAt place last st → count_by (names place k st.spm last) xs ≡ 0
 none-named place k st last xs none =
     none-counted (names place k st.spm last) xs
-    (each-of (λ (y : Arrow). names place k st.spm last y ≡ false)
+    (AllByRecursion-all (λ (y : Arrow). names place k st.spm last y ≡ false)
     (λ y. let go : (x : Bool) → names place k st.spm last y ≡ x → names place k st.spm last y ≡ false = elim [ true ↦ λ e. let it : Named place st.spm last y = named place k st.spm last y e in absurd (none y.to.0 it.at it.blocked) | false ↦ λ e. e ] in
     go (names place k st.spm last y) refl)
     xs)

@@ -26,7 +26,7 @@ use Rattle.ffm_model.specs.Actors.{actor_count, is_service_of}
 use Rattle.ffm_model.specs.Memory.{ByteMap, no_vectors}
 use Rattle.ffm_model.specs.Records.{is_blocked_outcome}
 use Rattle.ffm_model.specs.State.{SpmState, State, delivered, has_handle, is_undelivered, opening, phase_of, vectors_put, with_connection_phase, with_message, with_phase, with_request, without_connection}
-use Rattle.ffm_model.specs.Panic.{disconnection, is_dead, panic_effect, without_service}
+use Rattle.ffm_model.specs.Panic.{disconnection, is_dead, panic_effect, without_service, disconnect_message}
 use Rattle.ffm_model.specs.ClientCalls.{is_service_panicked, move}
 use Rattle.ffm_model.specs.Step.{after, may_call, outcome_eq, step}
 use Rattle.ffm_model.proofs.RecordLemmas.{entries_of-other}
@@ -43,9 +43,9 @@ use Rattle.counting_law.proofs.Runs.{opening-balanced, run-has, step-keeps}
 use Rattle.counting_law.proofs.Steps.{Stepped, step-is, step-kind}
 use Rattle.counting_law.proofs.Turns.{Turned, Turns, goes_with, is_sound, kinds-turn, owed-panicked}
 use Rattle.trace_diagram.specs.Pairs.{Asks, IsWaiting}
-use Rattle.trace_diagram.proofs.Everywhere.{each-filter, each-of, each-option, each-weaken}
+use Rattle.trace_diagram.proofs.Everywhere.{each-filter, each-option}
 use Rattle.trace_diagram.proofs.Issues.{IsIssued, step-issues}
-use Rattle.list_laws.proofs.Lists.{AllByRecursion-append}
+use Rattle.list_laws.proofs.Lists.{AllByRecursion-append, AllByRecursion-all, AllByRecursion-weaker}
 use Rattle.counting_law.proofs.Owners.{held-client}
 
 -- ---- messages of other actors
@@ -62,7 +62,7 @@ abbrev pub Others : (ℕ → ℕ → ℤ → Type 0) → ℕ → SpmState → Ty
 Others R a new = AllByRecursion (OtherHas R a new.phases) new.messages
 
 stay : (R : ℕ → ℕ → ℤ → Type 0) (a : ℕ) (phases : List ActorPhase) (ms : List PendingMessage) → Each R ms → AllByRecursion (OtherHas R a phases) ms
-stay R a phases ms h = each-weaken (λ (m : PendingMessage). R m.client.0 m.service m.kind) (OtherHas R a phases) (λ m r apart phase. r) ms h
+stay R a phases ms h = AllByRecursion-weaker (λ (m : PendingMessage). R m.client.0 m.service m.kind) (OtherHas R a phases) (λ m r apart phase. r) ms h
 
 -- the actor's own goes last
 own-last : (R : ℕ → ℕ → ℤ → Type 0) (a : ℕ) (phases : List ActorPhase) (ms : List PendingMessage) (m : PendingMessage) → m.client.0 ≡ a → Each R ms → AllByRecursion (OtherHas R a phases) (ms ++ m ∷ [])
@@ -92,7 +92,7 @@ each-settled R b h status m all = subst (Each R) (sym (settled-messages b h stat
 -- ---- a panic adds disconnections of the partition that panics
 
 sent-by : (p : ℕ) (c : OpenConnection) (m : PendingMessage) (x : Bool) → ((c.client.0 == p) && not (is_dead c.phase)) ≡ x
-    → (if x then Some (record { service = c.service; client = c.client; connection = Some c.serial; kind = PSA_IPC_DISCONNECT; vectors = no_vectors; handle = None }) else None) ≡ Some m → m.client.0 ≡ p
+    → (if x then Some (disconnect_message c) else None) ≡ Some m → m.client.0 ≡ p
 sent-by p c m true own e =
     let same : c.client.0 ≡ m.client.0 = cc in
     sym same ∙ eqb-true c.client.0 p (and_parts (c.client.0 == p) (not (is_dead c.phase)) own).0
@@ -270,11 +270,11 @@ own-issued R s st new e balanced is i asked =
     let none : AllByRecursion (λ (m : PendingMessage). (m.client.0 == a) ≡ false) st.spm.messages = none-passes (λ (m : PendingMessage). m.client.0 == a) st.spm.messages (running-none s (times st.handles_given) st.spm a balanced running) in
     subst (AllByRecursion (OwnHas R a new.spm)) (sym i.added)
     (AllByRecursion-append (OwnHas R a new.spm) st.spm.messages (i.message ∷ [])
-    (each-weaken (λ (m : PendingMessage). (m.client.0 == a) ≡ false) (OwnHas R a new.spm) (λ m apart own phase. let bad : false ≡ true = sym apart ∙ own in cc) st.spm.messages none)
+    (AllByRecursion-weaker (λ (m : PendingMessage). (m.client.0 == a) ≡ false) (OwnHas R a new.spm) (λ m apart own phase. let bad : false ≡ true = sym apart ∙ own in cc) st.spm.messages none)
     (λ own phase. asked i.message i.client i.asks, tt))
 
 own-none : (R : ℕ → ℕ → ℤ → Type 0) (a : ℕ) (new : SpmState) (ms : List PendingMessage) → (phase_of new a ≡ Blocked → ⊥) → AllByRecursion (OwnHas R a new) ms
-own-none R a new ms free = each-of (OwnHas R a new) (λ m own phase. absurd (free phase)) ms
+own-none R a new ms free = AllByRecursion-all (OwnHas R a new) (λ m own phase. absurd (free phase)) ms
 
 pub step-kept : (s : System) (m : ByteMap) (past : List Entry) (last : List ℕ) (st new : State) (e : Entry) → Kept s m past last st → step s st e ≡ Some new → Kept s m (past ++ e ∷ []) (slice_set last e.actor.0 (length past + 1)) new
 step-kept s m past last st new e k is =

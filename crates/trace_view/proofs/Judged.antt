@@ -1,6 +1,6 @@
 -- How a trace is judged, out of what was reached.
 use Rattle.std.proofs.Common.{arith, ℕ, ◌≡◌, ◌<◌, ◌≤◌, ◌+◌, true, false, List, [], ◌∷◌, ◌++◌, length, take, drop, get_or, refl, ap, sym, subst, ◌∙◌, inl, inr}
-use Rattle.std.proofs.lemmas.Bool.{le-leb}
+use Rattle.std.proofs.lemmas.Bool.{le-leb, cond-true, cond-false}
 use Rattle.std.proofs.lemmas.List.{drop_all, drop_more, length-take-le, take-append-drop, take_all, take_more}
 use Rattle.std.proofs.lemmas.Option.{slice_get-get_or}
 use Rattle.std.specs.Prelude.{nat_le, Some, Option, if◌then◌else◌, option_and_then, IsSomeAnd}
@@ -17,7 +17,7 @@ use Rattle.machine_calls.specs.Machine.{spm_of_objects, state_of}
 use Rattle.machine_check.specs.declared.judging.Checker.{Checker}
 use Rattle.machine_check.specs.Reaching.{IsLast, IsReached}
 use Rattle.machine_check.proofs.Followed.{judged_behind}
-use Rattle.machine_check.proofs.Judged.{either, first, second}
+use Rattle.machine_check.proofs.Judged.{either}
 use Rattle.trace_view.specs.Why.{BreaksRule, IsFinding, IsIllegal, IsRule, TellsOfCall}
 use Rattle.trace_view.specs.declared.reasons.Finding.TheVariants as finding
 use Rattle.trace_view.specs.declared.reasons.IllegalEntry.{IllegalEntry}
@@ -46,7 +46,7 @@ next_is_illegal s m limit es r e it below more = which it.last where
 
 -- an illegal entry decides
 illegal_decides : (s : System) (limit : ℕ) (v : Verdict) (n : ℕ) (e : Entry) (es : List Entry) (st : State) → IsIllegal s limit n st e → judged_from s limit v n (e ∷ es) st ≡ IllegalAt (n + 1)
-illegal_decides s limit v n e es st (inl full) = first (nat_le limit n) _ _ (le-leb limit n full)
+illegal_decides s limit v n e es st (inl full) = cond-true (nat_le limit n) _ _ (le-leb limit n full)
 illegal_decides s limit v n e es st (inr none) = either (nat_le limit n) _ _ (ap (λ o. option_map_or (λ z. judged_from s limit v (n + 1) es z) o (IllegalAt (n + 1))) none)
 
 -- the parts of a list at a place
@@ -78,7 +78,7 @@ none_left s m limit es v r it all = left_over s m limit es v r it ∙ all_gone s
 
 pub is_legal : (s : System) (m : ByteMap) (limit : ℕ) (es : List Entry) (v : Verdict) (r : Checker) → IsReached s m limit es r → length es ≤ r.count
     → option_map_or (verdict_eq v) (verdict_at s limit r.count (spm_of_objects r.machine.objects)) false ≡ true → IsFinding s m limit es v (finding.Legal r.count)
-is_legal s m limit es v r it all due = (none_left s m limit es v r it all ∙ first _ _ _ due, omega (arith, all, it.few))
+is_legal s m limit es v r it all due = (none_left s m limit es v r it all ∙ cond-true _ _ _ due, omega (arith, all, it.few))
 
 verdict_due : (s : System) (m : ByteMap) (limit : ℕ) (es : List Entry) (r : Checker) → IsReached s m limit es r → length es ≤ r.count → verdict_at s limit r.count (spm_of_objects r.machine.objects) ≡ verdict_of s m limit es
 verdict_due s m limit es r it all =
@@ -89,4 +89,4 @@ verdict_due s m limit es r it all =
 pub wrong_verdict : (s : System) (m : ByteMap) (limit : ℕ) (es : List Entry) (v : Verdict) (r : Checker) (d : Option Verdict) → IsReached s m limit es r → length es ≤ r.count → d ≡ verdict_at s limit r.count (spm_of_objects r.machine.objects)
     → option_map_or (verdict_eq v) d false ≡ false → IsFinding s m limit es v (finding.Verdict (r.count + 1) v d)
 wrong_verdict s m limit es v r d it all is due =
-    (none_left s m limit es v r it all ∙ second _ _ _ (ap (λ x. option_map_or (verdict_eq v) x false) (sym is) ∙ due), (omega (arith, all, it.few), (refl, is ∙ verdict_due s m limit es r it all)))
+    (none_left s m limit es v r it all ∙ cond-false _ _ _ (ap (λ x. option_map_or (verdict_eq v) x false) (sym is) ∙ due), (omega (arith, all, it.few), (refl, is ∙ verdict_due s m limit es r it all)))

@@ -2,18 +2,11 @@
 use Rattle.std.proofs.Common.{arith, ℕ, zero, suc, ◌≡◌, ◌<◌, ◌+◌, ◌-◌, List, [], ◌∷◌, ◌++◌, length, drop, take, get_or, refl, ap, sym, subst, ◌∙◌, ⊎_elim}
 use Rattle.std.proofs.lemmas.Bool.{cases_eq}
 use Rattle.std.proofs.lemmas.List.{drop-append-le, drop_all, get_or-set_other, get_or-set_same, length-append, length-set, length-take-le, take_more}
-use Rattle.std.proofs.lemmas.List.Elements.{All-append}
+use Rattle.std.proofs.lemmas.List.Elements.{All-append, All-cons, All-nil}
 use Rattle.std.specs.Prelude.{All, Some, IsSomeAnd, slice_get, slice_set}
 use Rattle.ffm_model.specs.declared.system.System.{System}
 use Rattle.ffm_model.specs.declared.machine.Entry.{Entry}
 use Rattle.trace_view.specs.Showing.{AreLastPlaces, IsLastPlace}
-
-all_none : (P : Entry → Type 0) → All P []
-all_none P k d below = absurd (omega (arith, below))
-
-all_one : (P : Entry → Type 0) (e : Entry) → P e → All P (e ∷ [])
-all_one P e h zero d below = h
-all_one P e h (suc k) d below = absurd (omega (arith, below))
 
 last_item : (es : List Entry) (e : Entry) → slice_get (es ++ e ∷ []) (length es) ≡ Some e
 last_item [] e = refl
@@ -31,7 +24,7 @@ own_place es e =
     record {
       within = omega (arith, long);
       own = λ some. subst (λ k. IsSomeAnd (slice_get (es ++ e ∷ []) k) (λ x. x.actor.0 ≡ e.actor.0)) (omega arith) (subst (λ o. IsSomeAnd o (λ x. x.actor.0 ≡ e.actor.0)) (sym (last_item es e)) refl);
-      none_later = subst (λ xs. All (λ x. x.actor.0 ≡ e.actor.0 → ⊥) xs) (sym (drop_all (length es + 1) (es ++ e ∷ []) (omega (arith, long)))) (all_none (λ x. x.actor.0 ≡ e.actor.0 → ⊥));
+      none_later = subst (λ xs. All (λ x. x.actor.0 ≡ e.actor.0 → ⊥) xs) (sym (drop_all (length es + 1) (es ++ e ∷ []) (omega (arith, long)))) (All-nil (λ (x : Entry). x.actor.0 ≡ e.actor.0 → ⊥));
     }
 
 -- it is another's
@@ -41,7 +34,7 @@ other_place es e a n other it =
     record {
       within = omega (arith, long, it.within);
       own = λ some. subst (λ o. IsSomeAnd o (λ x. x.actor.0 ≡ a)) (sym (earlier_item es e (n - 1) (omega (arith, it.within, some)))) (it.own some);
-      none_later = subst (λ xs. All (λ x. x.actor.0 ≡ a → ⊥) xs) (sym (drop-append-le n es (e ∷ []) it.within)) (All-append (λ x. x.actor.0 ≡ a → ⊥) (drop n es) (e ∷ []) it.none_later (all_one (λ x. x.actor.0 ≡ a → ⊥) e other));
+      none_later = subst (λ xs. All (λ x. x.actor.0 ≡ a → ⊥) xs) (sym (drop-append-le n es (e ∷ []) it.within)) (All-append (λ x. x.actor.0 ≡ a → ⊥) (drop n es) (e ∷ []) it.none_later (All-cons (λ (x : Entry). x.actor.0 ≡ a → ⊥) e [] other (All-nil (λ (x : Entry). x.actor.0 ≡ a → ⊥))));
     }
 
 -- one entry more

@@ -18,7 +18,8 @@ use Rattle.ffm_model.specs.Memory.{vectors_of}
 use Rattle.ffm_model.specs.Panic.{is_dead}
 use Rattle.ffm_model.specs.State.{SpmState, State, connection_held}
 use Rattle.ffm_model.specs.Step.{handle_shown}
-use Rattle.memory_image.proofs.Effects.{each_made, if_fails}
+use Rattle.list_laws.proofs.Options.{each_made}
+use Rattle.list_laws.proofs.Bools.{if_fails}
 use Rattle.trace_view.specs.Why.{IsRule, is_refusal, refusal_shown}
 use Rattle.trace_view.specs.declared.reasons.Rule.{Rule}
 use Rattle.trace_view.specs.declared.reasons.Rule.TheVariants as rule

@@ -1,36 +1,24 @@
 -- What is due of the files of a trace, out of what was read of them.
-use Rattle.std.proofs.Common.{◌≡◌, ◌≤◌, ◌∙◌, ℕ, List, [], append-nil, length, refl, ap, sym}
+use Rattle.std.proofs.Common.{◌≡◌, ◌≤◌, ℕ, List, [], append-nil, length, refl, sym}
 use Rattle.std.specs.Prelude.{Option, Some, None, IfSome, Result, Ok, Err}
 use Rattle.std.specs.List.{AllByRecursion}
 use Rattle.ffm_model.specs.declared.constants.TheConstants.{MAX_ENTRIES}
 use Rattle.ffm_model.specs.Actors.{counts_of}
 use Rattle.ffm_model.specs.Reading.{Contents, Reading}
 use Rattle.ffm_model.specs.TraceText.{trace_text, EntryFits}
-use Rattle.trace_print.specs.Lines.{IsFirstWrong}
-use Rattle.trace_print.specs.View.{parts}
-use Rattle.ffm_top.specs.Replays.{wrong_line}
-use Rattle.command_words.specs.declared.words.Inspection.{Inspection}
 use Rattle.command_words.specs.declared.words.Inspection.TheVariants.{Replay}
 use Rattle.outside_io.specs.Reads.{ReadBetween}
-use Rattle.work_orders.specs.declared.work.TraceWork.{TraceWork}
 use Rattle.work_orders.specs.View.{IsTraceWork}
 use Rattle.work_orders.specs.Work.{Work, judge_of}
 use Rattle.view_commands.specs.declared.files.Halt.{Halt}
 use Rattle.view_commands.specs.declared.files.Halt.TheVariants.{Refused, Files, Memory}
 use Rattle.view_commands.specs.declared.files.TraceFiles.{TraceFiles}
-use Rattle.view_commands.specs.Files.{HaveRead, IsRefusalBy, ReadsDue}
+use Rattle.view_commands.specs.Files.{HaveRead, ReadsDue}
 
 -- a trace was read
 pub read_due : (f : TraceFiles) → IsTraceWork f.work → f.work.trace.items ≡ trace_text (counts_of f.work.system) f.trace.entries f.trace.verdict → AllByRecursion (EntryFits (counts_of f.work.system)) f.trace.entries → length f.trace.entries ≤ MAX_ENTRIES
     → ReadsDue (Ok (judge_of Replay f.work.system f.work.scenario f.work.trace.items)) (Ok f)
 read_due f work text fits few = (refl, record { work = work; read = record { text = text; fits = fits; few = few } })
-
--- the bytes are no trace's text
-pub wrong_due : (w : TraceWork) (place : ℕ) (h : Halt) → IsFirstWrong (counts_of w.system) 0 (parts 10 w.trace.items) place → IsRefusalBy (wrong_line place) h
-    → ReadsDue (Ok (judge_of Replay w.system w.scenario w.trace.items)) (Err h)
-wrong_due w place (Refused line) first is = record { place = place; first = first; text_is = is; status_is = refl }
-wrong_due w place Memory first is = tt
-wrong_due w place Files first is = absurd is
 
 -- ---- which files were read
 

@@ -1,4 +1,5 @@
 use Rattle.std.proofs.Common.{◌≡◌, ◌<◌, length, arith, refl, rules, subst, sym, ap, ◌∙◌, Some}
+use Rattle.list_laws.proofs.Options.{some-and, if-some}
 use Rattle.ffm_model.specs.declared.objects.ActorPhase.TheVariants.{Blocked}
 use Rattle.ffm_model.specs.declared.objects.OpenConnection.{OpenConnection}
 use Rattle.ffm_model.specs.State.{SpmState, in_use, with_message, with_phase}
@@ -10,7 +11,7 @@ use Rattle.object_pools.specs.Pool.{item_at}
 use Rattle.spm_tables.specs.TablesView.{TablesView, spm_of}
 use Rattle.spm_tables.proofs.PoolLemmas.{item-taken}
 use Rattle.client_calls.proofs.ServiceLemmas.{taking-service, made-services}
-use Rattle.client_calls.proofs.SendLemmas.{at-item, has-item, room-for-connection, room-for-message}
+use Rattle.client_calls.proofs.SendLemmas.{room-for-connection, room-for-message}
 use Rattle.client_calls.proofs.ConnectLemmas.{connect-rooms, connect-issues}
 use Rattle.client_calls.proofs.NameLemmas.{names-connect}
 use Rattle.client_calls.proofs.connecting.connect.Goals as goal
@@ -34,7 +35,7 @@ send-requires-clause-connection c =
     let new : OpenConnection = new_connection (spm_of d) c.args.actor.0 c.in-Some.place in
     let live : item_at m.connections c.start-slot.result ≡ Some new = ap (λ (x : TablesView). item_at x.connections c.start-slot.result) c.start-slot.ensures.after ∙ item-taken d.connections c.start-slot.result new c.start-slot.ensures.slot in
     let there : c.in-Some.place < length s.services = taking-service s c.in-Some.place c.args.version (search rules) in
-    has-item (item_at m.connections c.start-slot.result) new (λ x. x.service < length m.services) live
+    some-and (item_at m.connections c.start-slot.result) new (λ x. x.service < length m.services) live
     (omega (arith, made-services d s c.requires.premises.made, ap (λ (x : TablesView). length x.services) c.start-slot.ensures.after))
 
 pub send-requires-clause-room : goal.send-requires-clause-room
@@ -57,7 +58,7 @@ returns-clause-answer c =
     let free : in_use (spm_of d) c.args.actor.0 c.in-Some.place ≡ c.in-Some-budget.budget → ⊥ = λ e. c.if-in_use-budget.false (cc) in
     let live : item_at m.connections c.start-slot.result ≡ Some new = ap (λ (x : TablesView). item_at x.connections c.start-slot.result) c.start-slot.ensures.after ∙ item-taken d.connections c.start-slot.result new c.start-slot.ensures.slot in
     let sent : spm_of c.send.new.tables ≡ with_phase (with_message (spm_of m) new PSA_IPC_CONNECT no_vectors) a Blocked =
-    at-item (item_at m.connections c.start-slot.result) new (λ x. spm_of c.send.new.tables ≡ with_phase (with_message (spm_of m) x PSA_IPC_CONNECT no_vectors) x.client.0 Blocked) live c.send.ensures.state in
+    if-some (item_at m.connections c.start-slot.result) new (λ x. spm_of c.send.new.tables ≡ with_phase (with_message (spm_of m) x PSA_IPC_CONNECT no_vectors) x.client.0 Blocked) live c.send.ensures.state in
     let issued : spm_of c.send.new.tables ≡ connect_issued (spm_of d) a c.in-Some.place =
     sent ∙ ap (λ (b : SpmState). with_phase (with_message b new PSA_IPC_CONNECT no_vectors) a Blocked) c.start-slot.ensures.state in
     connect-issues s (spm_of d) a c.args.version c.in-Some.place c.in-Some-budget.budget c.args.sid (sym c.in-Some.ensures) (sym c.in-Some-budget.ensures) (search rules) (search rules) (search rules) free

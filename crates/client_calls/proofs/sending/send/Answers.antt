@@ -1,15 +1,16 @@
 use Rattle.std.proofs.Common.{◌≡◌, ◌++◌, [], ◌∷◌, ℤ, w32, ap, subst, ◌∙◌}
-use Rattle.std.specs.Prelude.{IsSomeAnd, IfSome}
+use Rattle.std.specs.Prelude.{IfSome}
 use Rattle.std.proofs.lemmas.Int.{to_z-of_z}
+use Rattle.std.proofs.lemmas.Option.{IfSome_then}
+use Rattle.list_laws.proofs.Options.{some-and}
 use Rattle.ffm_model.specs.declared.machine.ActorId.{ActorId}
 use Rattle.ffm_model.specs.declared.objects.ActorPhase.TheVariants.{Blocked}
-use Rattle.ffm_model.specs.declared.objects.OpenConnection.{OpenConnection}
-use Rattle.ffm_model.specs.State.{SpmState, with_message, with_phase}
+use Rattle.ffm_model.specs.State.{SpmState, with_phase}
 use Rattle.object_pools.specs.Pool.{free_slot, item_at, taken}
 use Rattle.spm_tables.specs.declared.item.QueuedMessage.{QueuedMessage}
 use Rattle.spm_tables.specs.TablesView.{TablesView, fresh_message, queued, spm_of}
 use Rattle.client_calls.specs.Sending.{item_on, message_on}
-use Rattle.client_calls.proofs.SendLemmas.{at-items, has-item, queued-on}
+use Rattle.client_calls.proofs.SendLemmas.{queued-on}
 use Rattle.client_calls.proofs.sending.send.Goals as goal
 
 queued-so : (c : goal.After-set_phase) → IfSome (item_at c.args.tables.now.connections c.args.slot) (λ x. queued c.args.tables.now.connections c.item_on-item.result ≡ message_on c.args.slot x c.args.kind c.args.vectors)
@@ -20,21 +21,17 @@ queued-so c =
 pub returns-clause-messages : goal.returns-clause-messages
 returns-clause-messages c =
     let d = c.args.tables.now in
-    let lies : OpenConnection → TablesView → Type 0 = λ x new. IsSomeAnd (free_slot d.messages) (λ place. new.messages ≡ taken d.messages place (message_on c.args.slot x c.args.kind c.args.vectors)) in
-    at-items (item_at d.connections c.args.slot) (λ x. queued d.connections c.item_on-item.result ≡ message_on c.args.slot x c.args.kind c.args.vectors) (λ x. lies x c.set_phase.new.self)
+    IfSome_then (item_at d.connections c.args.slot) (queued-so c)
     (λ x is.
-    has-item (free_slot d.messages) c.enqueue.result (λ place. c.set_phase.new.self.messages ≡ taken d.messages place (message_on c.args.slot x c.args.kind c.args.vectors)) c.enqueue.ensures.slot
+    some-and (free_slot d.messages) c.enqueue.result (λ place. c.set_phase.new.self.messages ≡ taken d.messages place (message_on c.args.slot x c.args.kind c.args.vectors)) c.enqueue.ensures.slot
     (ap (λ (e : TablesView). e.messages) c.set_phase.ensures.after ∙ ap (λ (e : TablesView). e.messages) c.enqueue.ensures.after ∙ ap (λ (m : QueuedMessage). taken d.messages c.enqueue.result m) is))
-    (queued-so c)
 
 pub returns-clause-state : goal.returns-clause-state
 returns-clause-state c =
     let d = c.args.tables.now in
     let with_sent : QueuedMessage → SpmState = λ m. record (spm_of d) { messages = (spm_of d).messages ++ fresh_message m ∷ [] } in
-    at-items (item_at d.connections c.args.slot) (λ x. queued d.connections c.item_on-item.result ≡ message_on c.args.slot x c.args.kind c.args.vectors)
-    (λ x. spm_of c.set_phase.new.self ≡ with_phase (with_message (spm_of d) x c.args.kind c.args.vectors) x.client.0 Blocked)
+    IfSome_then (item_at d.connections c.args.slot) (queued-so c)
     (λ x is.
     c.set_phase.ensures.state
     ∙ ap (λ (a : ActorId). with_phase (spm_of c.enqueue.new.self) a.0 Blocked) (ap (λ (m : QueuedMessage). m.client) is)
     ∙ ap (λ (b : SpmState). with_phase b x.client.0 Blocked) (c.enqueue.ensures.state ∙ ap with_sent is))
-    (queued-so c)

@@ -1,7 +1,7 @@
 use Rattle.std.proofs.Common.{◌+◌, ◌*◌, length, arith, ap, sym, ◌∙◌}
 use Rattle.ffm_model.specs.Memory.{bytes_at, write_bytes}
 use Rattle.memory_image.specs.Pieces.{byte_at, is_inside, regions_of}
-use Rattle.memory_image.proofs.Changed.{length-bytes_at}
+use Rattle.ffm_model.proofs.BytesLemmas.{bytes-length}
 use Rattle.machine_check.specs.Written.{ranges_from, taken_from}
 use Rattle.machine_check.proofs.Compared.{one_more, placed, taken-more}
 use Rattle.machine_check.proofs.differences.take_over.Goals as goal
@@ -19,7 +19,7 @@ overflow_add-address c =
 pub store_bytes-requires : goal.store_bytes-requires
 store_bytes-requires c =
     let a = c.args.written.first + 8 * c.loop-k.k in
-    ap (λ n. is_inside a n (regions_of c.loop-k.memory)) (ap length c.bytes.ensures ∙ length-bytes_at (byte_at c.args.other.now) a c.args.written.len)
+    ap (λ n. is_inside a n (regions_of c.loop-k.memory)) (ap length c.bytes.ensures ∙ bytes-length (byte_at c.args.other.now) a c.args.written.len)
     ∙ ap (λ rs. is_inside a c.args.written.len rs) c.loop-k.invariant.regions ∙ c.requires.inside.inside c.loop-k.k c.loop-k-test.true
 
 pub loop-k-preserved : goal.loop-k-preserved

@@ -5,10 +5,10 @@ use Rattle.std.proofs.lemmas.Bool.{eq-eqb, ne_eqb}
 use Rattle.ffm_model.specs.declared.objects.OpenConnection.{OpenConnection}
 use Rattle.ffm_model.specs.declared.objects.PendingMessage.{PendingMessage}
 use Rattle.ffm_model.specs.State.{SpmState}
+use Rattle.ffm_model.specs.Panic.{disconnect_message}
 use Rattle.object_pools.specs.Pool.{Places, item_at, taken}
 use Rattle.spm_tables.specs.TablesView.{TablesView, fresh_message, held_message, queued}
 use Rattle.spm_tables.proofs.SlotLemmas.{queued-live}
-use Rattle.panic_state.specs.Losses.{disconnect_message}
 use Rattle.panic_state.proofs.Leaving.{messages_of, leaves-other, leaves-dead, dead-shorter, leaves-closing, closing-both, closing-length, room-left, takes-left, service-known, left-connections, left-messages, left-names, left-takes}
 use Rattle.panic_state.proofs.client.leave_services.Goals as goal
 

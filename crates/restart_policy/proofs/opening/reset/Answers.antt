@@ -1,6 +1,6 @@
 use Rattle.std.proofs.Common.{◌≡◌, ◌∙◌, ◌+◌, ◌++◌, ◌∷◌, [], List, ℕ, length, take, ap, sym, get_or}
 use Rattle.std.proofs.lemmas.List.{take_all, take_more}
-use Rattle.memory_image.proofs.Changed.{length-bytes_at}
+use Rattle.ffm_model.proofs.BytesLemmas.{bytes-length}
 use Rattle.ffm_model.specs.declared.system.Class.TheVariants.{Ram}
 use Rattle.ffm_model.specs.declared.system.Region.{Region}
 use Rattle.ffm_model.specs.Memory.{ByteMap, write_bytes}
@@ -26,7 +26,7 @@ store_bytes-requires c =
     let items = c.as_slice-region-items.result.now in
     let r : Region = get_or items c.loop-region.region-index no_region in
     let same : regions_of c.loop-region.image ≡ ranges_of items = c.loop-region.invariant.regions ∙ ap ranges_of (sym (c.as_slice-region-items.ensures ∙ ap (λ s. s.regions) c.system.ensures)) in
-    let long : length c.bytes.result.now ≡ r.size = ap length c.bytes.ensures ∙ length-bytes_at (byte_at c.image-last.result.now) r.base r.size in
+    let long : length c.bytes.result.now ≡ r.size = ap length c.bytes.ensures ∙ bytes-length (byte_at c.image-last.result.now) r.base r.size in
     rw (same, long) (region_inside items c.loop-region.region-index no_region c.loop-region-test.true)
 
 pub loop-region-preserved : goal.loop-region-preserved

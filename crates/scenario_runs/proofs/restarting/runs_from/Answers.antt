@@ -7,13 +7,14 @@ use Rattle.ffm_model.specs.Actors.{counts_of}
 use Rattle.ffm_model.specs.Memory.{ByteMap, opening_memory}
 use Rattle.ffm_model.specs.Restarts.{RunsFrom, ends_panicked, memory_behind, memory_reset}
 use Rattle.ffm_model.specs.Ranges.{ranges_of}
+use Rattle.list_laws.proofs.Options.{if-some}
 use Rattle.memory_image.specs.Pieces.{byte_at}
 use Rattle.actor_programs.specs.declared.program.Program.TheVariants.{Plain}
 use Rattle.spm_core.specs.Manager.{Opening}
 use Rattle.scenario_runs.specs.Restarting.{finished, fits_counts}
 use Rattle.scenario_runs.specs.Runs.{RanBy}
 use Rattle.scenario_runs.proofs.Programs.{opening_of}
-use Rattle.scenario_runs.proofs.RunsLemmas.{LeadsOn, RunOf, again_is, if_some, leads_first, leads_on, leads_to, traces_fit}
+use Rattle.scenario_runs.proofs.RunsLemmas.{LeadsOn, RunOf, again_is, leads_first, leads_on, leads_to, traces_fit}
 use Rattle.scenario_runs.proofs.restarting.runs_from.Goals as goal
 
 pub loop-traces-init : goal.loop-traces-init
@@ -40,11 +41,11 @@ loop-traces-preserved c =
     let more : (nat_lt 0 c.loop-traces.left && ends_panicked s (byte_at memory) (finished t)) ≡ true =
     ap (λ (b : Bool). nat_lt 0 c.loop-traces.left && b) (sym (again_is y o t.verdict opening ran.verdict)) ∙ sym c.in_ok-next.ensures.again ∙ ap is_some c.in-Some.is in
     let next : byte_at c.in-Some.image ≡ memory_reset s first (memory_behind s (byte_at memory) t.entries) =
-    if_some c.in_ok-next.next c.in-Some.image _ c.in-Some.is c.in_ok-next.ensures.bytes ∙ ap (λ (p : Opening). memory_reset p.system first (memory_behind p.system (byte_at p.memory) y.history)) opening in
+    if-some c.in_ok-next.next c.in-Some.image _ c.in-Some.is c.in_ok-next.ensures.bytes ∙ ap (λ (p : Opening). memory_reset p.system first (memory_behind p.system (byte_at p.memory) y.history)) opening in
     let items : c.push.new.self.items ≡ c.loop-traces.traces.items ++ t ∷ [] = c.in_ok-push.ensures.items ∙ ap (λ (x : Trace). c.loop-traces.traces.items ++ x ∷ []) c.kept-same_system.ensures.trace in
     record {
       system = c.kept-same_system.ensures.system ∙ ap (λ (p : Opening). p.system) opening;
-      regions = if_some c.in_ok-next.next c.in-Some.image _ c.in-Some.is c.in_ok-next.ensures.regions ∙ ap (λ (p : Opening). ranges_of p.system.regions) opening;
+      regions = if-some c.in_ok-next.next c.in-Some.image _ c.in-Some.is c.in_ok-next.ensures.regions ∙ ap (λ (p : Opening). ranges_of p.system.regions) opening;
       leads = subst (λ (ts : List Trace). LeadsOn s scenario scripts first (byte_at c.in-Some.image) (c.loop-traces.left - 1) ts) (sym items)
           (leads_on s scenario scripts first (byte_at memory) (byte_at c.in-Some.image) c.loop-traces.left c.loop-traces.traces.items t c.loop-traces.invariant.leads ran more next);
     }

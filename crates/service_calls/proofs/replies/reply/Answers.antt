@@ -57,9 +57,9 @@ returns-in_default-clause-names c = unchanged-names c.args.system.now c.args.tab
 
 pub returns-clause-vectors : goal.returns-clause-vectors
 returns-clause-vectors c =
-    let waiting = c.answer.ensures.messages ∙ ap (λ (d : TablesView). d.messages) c.drop_message.ensures.after in
+    let of_messages = c.answer.ensures.messages ∙ ap (λ (d : TablesView). d.messages) c.drop_message.ensures.after in
     subst (λ rs. All (λ m. AreWithin rs m.vectors) (spm_of c.answer.new.tables).messages) (sym c.tell_lengths.ensures.regions)
-    (all-out (λ m. AreWithin (regions_of c.args.image.now) m.vectors) c.args.tables.now c.answer.new.tables c.in-Some.slot waiting c.requires.premises.vectors)
+    (all-out (λ m. AreWithin (regions_of c.args.image.now) m.vectors) c.args.tables.now c.answer.new.tables c.in-Some.slot of_messages c.requires.premises.vectors)
 
 pub returns-clause-names : goal.returns-clause-names
 returns-clause-names c =

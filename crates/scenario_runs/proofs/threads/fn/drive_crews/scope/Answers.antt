@@ -2,10 +2,11 @@ use Rattle.std.proofs.Common.{rules, ◌≡◌, ◌∷◌, [], ◌++◌, ◌∙�
 use denote.Exit.{yes}
 use denote.Param.Send.{param_send, param_sync, arg_send, shr_send}
 use Rattle.std.proofs.sync.atomic.AtomicBool.TheSendSync as flag
+use Rattle.list_laws.proofs.Lists.{AllByRecursion-push}
 use Rattle.spm_lock.proofs.Crossing.{shared_crosses, two_cross}
 use Rattle.scenario_runs.specs.declared.threads.Trip.{Trip}
-use Rattle.scenario_runs.specs.Threads.{AreNewCrews, IsNewCrew}
-use Rattle.scenario_runs.proofs.Crews.{Placed, crews_more, seats_more, waiting_more, fresh_more, left_short}
+use Rattle.scenario_runs.specs.Threads.{AreNewCrews, IsNewCrew, IsSeat}
+use Rattle.scenario_runs.proofs.Crews.{Placed, crews_more, waiting_more, fresh_more, left_short}
 use Rattle.scenario_runs.proofs.Crossing.{crew_crosses, five_cross}
 use Rattle.scenario_runs.specs.Threads.{left_of}
 use Rattle.scenario_runs.proofs.threads.fn.drive_crews.scope.Goals as goal
@@ -47,7 +48,7 @@ loop-crew-preserved g c =
     let more = ap length made.undriven ∙ length-append before.items (left_of seat.crew.value seat.progress) in
     let short = left_short seat.crew.value seat.progress made.seat.0.0 in (
       rw items (crews_more seats seat ∙ (ap (λ t. t ++ seat.crew.value ∷ []) i.0 ∙ ap (λ v. c.loop-crew.yielded ++ v ∷ []) made.crew_is)),
-      rw items (seats_more s seats seat i.1 made.seat),
+      rw items (AllByRecursion-push (IsSeat s) seats seat i.1 made.seat),
       rw items (made.undriven ∙ (ap (λ t. t ++ left_of seat.crew.value seat.progress) i.2 ∙ sym (waiting_more seats seat))),
       rw made.undriven (fresh_more s before.items seat i.3 made.seat),
       new.1,

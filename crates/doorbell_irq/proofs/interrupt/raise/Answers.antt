@@ -1,4 +1,4 @@
-use Rattle.doorbell_irq.proofs.interrupt.interrupt.Goals as goal
+use Rattle.doorbell_irq.proofs.interrupt.raise.Goals as goal
 
 pub returns-clause-names : goal.returns-clause-names
 returns-clause-names c = c.put_forwarded.ensures.names
