@@ -90,7 +90,8 @@ impl Objects {
         Some(Outcome::Done)
     }
 
-    /// `psa_eoi` (`psa/service.h`). None where it isn't the asserted signal of an interrupt source of the actor.
+    /// `psa_eoi` (`psa/service.h`). None where it isn't the asserted signal of an interrupt source of the actor, or the source has
+    /// a first-level handler.
     pub fn eoi(&mut self, system: &System, actor: ActorId, signal: u32) -> Option<Outcome>
         ensures moves { Moves (psa_eoi system.now (spm_of_objects self.old) actor.0 signal) self.old (Ok result) self.new }
         ensures messages { self.new.messages ≡ self.old.messages }
@@ -109,7 +110,7 @@ impl Objects {
         Some(Outcome::Done)
     }
 
-    /// An interrupt of the device. None where no source has the number.
+    /// An interrupt of the device. None where no source has the number, or the source has a first-level handler.
     pub fn raise(&mut self, system: &System, source: u32) -> Option<Outcome>
         ensures moves { Moves (raise system.now (spm_of_objects self.old) source) self.old (Ok result) self.new }
         ensures messages { self.new.messages ≡ self.old.messages }

@@ -125,7 +125,7 @@ fn transfer(
     }
 }
 
-// Rings or clears a doorbell, or raises or ends an interrupt.
+// Rings or clears a doorbell, or ends, enables, disables, resets, raises or fires an interrupt.
 fn signal_call(
     machine: &mut Machine,
     system: &System,

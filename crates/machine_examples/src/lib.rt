@@ -1,6 +1,6 @@
 //! Worked runs of the machine, checked by computing with its definitions. No function here does
-//! anything: each says that written traces are runs with their verdict and their names, and that
-//! the machine takes no wrong entry in them.
+//! anything: each says that written traces are runs with their verdict, of most also that their
+//! handles are the names, and of single wrong entries that the machine refuses them.
 #![tactic(auto)]
 
 mod connections;

@@ -25,7 +25,7 @@ pub record NamesTaken (d : TablesView) (h : Handle) : Type 0 where
   pub taken : slot.generation ≤ get_or (generations_of d family) slot.index 0
 
 pub record Stands (d : TablesView) (bytes : List Bytes) (st : State) : Type 0 where
-  -- the connections and messages, in the order of their making and arrival, with equal fields, and with the handles of their slots where they have one; how many connections were made; phases, doorbells and flags
+  -- the connections and messages, in the order of their making and arrival, with equal fields, a connection with the handle kept beside it, a delivered message with that of its slot; how many connections were made; phases, doorbells and flags
   pub spm : st.spm ≡ spm_of d
   -- each byte
   pub memory : st.memory ≡ byte_at bytes

@@ -27,8 +27,8 @@ use std::alloc::{AllocError, Global};
 
 const MAX_MANIFESTS: usize = 256;
 
-/// More than the trees of two files take.
-const ROOM_OF_TREES: usize = 24 << 20;
+/// More than the tree of one file takes.
+const ROOM_OF_A_TREE: usize = 24 << 20;
 
 /// The refusal of a part of the system file.
 fn refused_in_system(alloc: Global, steps: &[PathStep], code: u8) -> ReadError
@@ -205,7 +205,7 @@ fn manifest_items(alloc: Global, tree: &Value) -> Result<&[Value], ReadError>
 /// there is no such piece nothing is lost.
 fn keep_freed_memory(alloc: Global, items: &[Value]) {
     if 1 < items.iter().filter(|item| item.is_string()).count() {
-        drop(Vec::<u8>::with_capacity(alloc, ROOM_OF_TREES));
+        drop(Vec::<u8>::with_capacity(alloc, ROOM_OF_A_TREE));
     }
 }
 
