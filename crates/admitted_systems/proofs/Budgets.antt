@@ -4,7 +4,7 @@ use Rattle.std.specs.List.{AllByRecursion as Each, enumerate_from, list_any}
 use Rattle.std.specs.Option.{option_map, option_map_or}
 use Rattle.std.proofs.lemmas.Option.{slice_get-map}
 use Rattle.std.proofs.lemmas.Bool.{not_from_false, and_from, or_left, or_right, or_cases, false≢true}
-use Rattle.list_laws.proofs.Lists.{map_nil, AllByRecursion-weaker, AllByRecursion-append}
+use Rattle.list_laws.proofs.Lists.{slice_get-behind, map_nil, AllByRecursion-weaker, AllByRecursion-append}
 use Rattle.list_laws.proofs.Bools.{if_passes}
 use Rattle.ffm_model.specs.declared.system.Budget.{Budget}
 use Rattle.ffm_model.specs.declared.system.Service.{Service}
@@ -15,7 +15,7 @@ use Rattle.ffm_model.specs.Layout.{Located}
 use Rattle.ffm_model.specs.Permissions.{services_in, Permitted, permitted_to, depends_on, permitted_to_partition, permitted_to_client, permitted, count_for, budgets_of}
 use Rattle.ffm_model.specs.Compiled.{services_of}
 use Rattle.ffm_model.specs.Rules.{has_service, self_dependencies, too_many_connections}
-use Rattle.admitted_systems.proofs.Lists.{get_behind, three, filter_nil, none_any, each_both, each_map, each_filter_map, all_from, Pairs, pairs_test, pairs_weaker, pairs_map, pairs_append, pairs_filter_map, across_from, across_turned}
+use Rattle.admitted_systems.proofs.Lists.{three, filter_nil, none_any, each_both, each_map, each_filter_map, all_from, Pairs, pairs_test, pairs_weaker, pairs_map, pairs_append, pairs_filter_map, across_from, across_turned}
 use Rattle.admitted_systems.proofs.Numbered.{Among, each_numbered, numbers_of, numbers_rise, flat_each, flat_pairs}
 use Rattle.admitted_systems.proofs.Located.{each_item, items_below}
 use Rattle.admitted_systems.proofs.Services.{bare, service_at, services_are}
@@ -27,7 +27,7 @@ use Rattle.ffm_model.proofs.RuleLemmas.{only_if_nil}
 numbered_get : {A B : Type 0} (f : A → B) (k : ℕ) (xs : List A) (front : List B) → length front ≡ k → Each (λ e. slice_get (front ++ map f xs) e.0 ≡ Some (f e.1)) (enumerate_from k xs)
 numbered_get f k [] front e = tt
 numbered_get f k (x ∷ xs) front e = (
-  get_behind front (f x) (map f xs) k e,
+  slice_get-behind front (f x) (map f xs) k e,
   subst (λ ys. Each (λ e. slice_get ys e.0 ≡ Some (f e.1)) (enumerate_from (k + 1) xs)) (append_assoc front (f x ∷ []) (map f xs))
       (numbered_get f (k + 1) xs (front ++ f x ∷ []) (let l = length-append front (f x ∷ []) in omega arith)),
 )

@@ -1,5 +1,5 @@
 -- Facts of each item of a list, and of each pair of them, by recursion on the list.
-use Rattle.std.proofs.Common.{ℕ, ◌≡◌, Bool, true, false, ◌&&◌, List, [], ◌∷◌, ◌++◌, map, filter, cond, length, Option, Some, None, refl, slice_get, IfSome}
+use Rattle.std.proofs.Common.{◌≡◌, Bool, true, false, ◌&&◌, List, [], ◌∷◌, ◌++◌, map, filter, cond, Option, Some, None, refl, IfSome}
 use Rattle.std.specs.List.{AllByRecursion as Each, list_all, list_any, filter_map, cons_option}
 use Rattle.std.proofs.lemmas.Bool.{and_from, or_parts}
 use Rattle.list_laws.proofs.Lists.{append_nil, AllByRecursion-weaker, AllByRecursion-all, AllByRecursion-append}
@@ -20,12 +20,6 @@ five a b c d e h i j k l = rw (h, i, j, k, l) refl
 
 pub eight : (a b c d e f g h : Bool) → a ≡ true → b ≡ true → c ≡ true → d ≡ true → e ≡ true → f ≡ true → g ≡ true → h ≡ true → (a && b && c && d && e && f && g && h) ≡ true
 eight a b c d e f g h i j k l m n o p = rw (i, j, k, l, m, n, o, p) refl
-
--- ---- the item after those in front
-
-pub get_behind : {A : Type 0} (front : List A) (x : A) (xs : List A) (k : ℕ) → length front ≡ k → slice_get (front ++ x ∷ xs) k ≡ Some x
-get_behind [] x xs k e = rw (← e) refl
-get_behind (y ∷ ys) x xs k e = rw (← e) (get_behind ys x xs (length ys) refl)
 
 -- ---- each item
 

@@ -15,10 +15,10 @@ use Rattle.ffm_model.specs.WellFormed.{ram_size, functions_fit, models_fit}
 use Rattle.ffm_model.specs.Layout.{Located, located_in, located_from, ram_needed, domain_at, rams_from, non_secure_of, mmio_of, regions_laid_out}
 use Rattle.ffm_model.specs.Permissions.{services_in}
 use Rattle.ffm_model.specs.Compiled.{index_for, services_from, stated_indices, services_of, partition_of, partitions_of}
-use Rattle.admitted_systems.proofs.Lists.{get_behind, all_from}
+use Rattle.admitted_systems.proofs.Lists.{all_from}
 use Rattle.admitted_systems.proofs.Numbered.{each_unnumbered}
 use Rattle.list_laws.proofs.Tests.{list_any-left, list_any-right}
-use Rattle.list_laws.proofs.Lists.{AllByRecursion-weaker}
+use Rattle.list_laws.proofs.Lists.{slice_get-behind, AllByRecursion-weaker}
 use Rattle.ffm_model.proofs.RuleLemmas.{rounded_up}
 
 -- ---- services of a partition
@@ -73,7 +73,7 @@ fit_from services level k base [] front rest e h owned = tt
 fit_from services level k base (m ∷ ms) front rest e h owned =
     let ram : Region = record { base = base; size = ram_needed m; class = Ram (domain_at level m.rot (k + 1)) } in
     let behind = rams_from level (k + 1) (base + ram_needed m) ms ++ rest in
-    let bytes : option_map_or (λ (r : Region). r.size) (slice_get (front ++ ram ∷ behind) k) 0 ≡ ram_needed m = ap (λ o. option_map_or (λ (r : Region). r.size) o 0) (get_behind front ram behind k e) in
+    let bytes : option_map_or (λ (r : Region). r.size) (slice_get (front ++ ram ∷ behind) k) 0 ≡ ram_needed m = ap (λ o. option_map_or (λ (r : Region). r.size) o 0) (slice_get-behind front ram behind k e) in
     let heap : m.heap_size ≤ ram_needed m = heap_in_ram m in (
       (
         functions_by m.sfn _ _ (ram_needed m) bytes owned.0 (λ functions. stack_in_ram m (h.0.stack_size functions)),

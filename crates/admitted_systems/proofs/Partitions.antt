@@ -3,7 +3,7 @@ use Rattle.std.proofs.Common.{ℕ, suc, ◌≡◌, ◌+◌, ◌<◌, ◌≤◌, 
 use Rattle.std.specs.List.{AllByRecursion as Each, enumerate_from, list_any}
 use Rattle.std.specs.Option.{option_map_or}
 use Rattle.std.proofs.lemmas.Bool.{not_from_false, or_left, or_right, cases_eq}
-use Rattle.list_laws.proofs.Lists.{AllByRecursion-weaker}
+use Rattle.list_laws.proofs.Lists.{slice_get-behind, AllByRecursion-weaker}
 use Rattle.ffm_model.specs.declared.constants.TheConstants.{RAM_BASE}
 use Rattle.ffm_model.specs.declared.system.Region.{Region}
 use Rattle.ffm_model.specs.declared.system.Partition.{Partition}
@@ -14,7 +14,7 @@ use Rattle.ffm_model.specs.WellFormed.{is_ram_in, is_ram, partitions_fit}
 use Rattle.ffm_model.specs.Layout.{ram_needed, domain_at, rams_from, rams_of, non_secure_of, mmio_of, regions_laid_out}
 use Rattle.ffm_model.specs.Compiled.{partition_of, partitions_of}
 use Rattle.ffm_model.specs.Rules.{memory_too_large}
-use Rattle.admitted_systems.proofs.Lists.{get_behind, three, each_map, all_from, pairs_test, pairs_map}
+use Rattle.admitted_systems.proofs.Lists.{three, each_map, all_from, pairs_test, pairs_map}
 use Rattle.admitted_systems.proofs.Numbered.{each_numbered, numbers_rise}
 use Rattle.admitted_systems.proofs.Regions.{Secure, length_rams, sizes_of, mmio_right}
 
@@ -30,7 +30,7 @@ rams_found level k base [] front rest e = tt
 rams_found level k base (m ∷ ms) front rest e =
     let ram : Region = record { base = base; size = ram_needed m; class = Ram (domain_at level m.rot (k + 1)) } in
     let behind = rams_from level (k + 1) (base + ram_needed m) ms ++ rest in (
-      own_domain (domain_at level m.rot (k + 1)) (slice_get (front ++ ram ∷ behind) k) ram (get_behind front ram behind k e) (eq-eqb _ _ refl),
+      own_domain (domain_at level m.rot (k + 1)) (slice_get (front ++ ram ∷ behind) k) ram (slice_get-behind front ram behind k e) (eq-eqb _ _ refl),
       subst (λ (regions : List Region). Each (HasRam regions) (map (partition_of level) (enumerate_from (k + 1) ms))) (append_assoc front (ram ∷ []) behind)
           (rams_found level (k + 1) (base + ram_needed m) ms (front ++ ram ∷ []) rest (let l = length-append front (ram ∷ []) in omega arith)),
     )

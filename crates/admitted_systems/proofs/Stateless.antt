@@ -4,7 +4,7 @@ use Rattle.std.specs.Prelude.{nat_le}
 use Rattle.std.specs.List.{AllByRecursion as Each, list_any, list_all, enumerate_from, range_with_len}
 use Rattle.std.specs.Option.{option_map_or}
 use Rattle.std.proofs.lemmas.Bool.{or_left, or_right, and_from, not_from_false, false_from_ne_true, false≢true}
-use Rattle.list_laws.proofs.Lists.{map_nil, AllByRecursion-weaker, AllByRecursion-append}
+use Rattle.list_laws.proofs.Lists.{slice_get-behind, map_nil, AllByRecursion-weaker, AllByRecursion-append}
 use Rattle.list_laws.proofs.Bools.{if_passes}
 use Rattle.ffm_model.specs.declared.system.Service.{Service}
 use Rattle.ffm_model.specs.ManifestItems.{ManifestRecord, ServiceRecord, IsManifest, IsService}
@@ -14,7 +14,7 @@ use Rattle.ffm_model.specs.Permissions.{services_in, Permitted, permitted_to, de
 use Rattle.ffm_model.specs.Compiled.{free_index, index_for, service_of, services_from, stated_indices, services_of}
 use Rattle.ffm_model.specs.Rules.{duplicate_indices}
 use Rattle.ffm_model.specs.WellFormed.{budget_is_fitting, each_pair, stateless_fit}
-use Rattle.admitted_systems.proofs.Lists.{three, get_behind, each_both, each_map, each_filter_map, all_from, Pairs, pairs_weaker, repeated_nil}
+use Rattle.admitted_systems.proofs.Lists.{three, each_both, each_map, each_filter_map, all_from, Pairs, pairs_weaker, repeated_nil}
 use Rattle.admitted_systems.proofs.Numbered.{each_numbered}
 use Rattle.admitted_systems.proofs.Located.{item_each}
 
@@ -156,7 +156,7 @@ connected_from taken k [] front e = tt
 connected_from taken k (x ∷ xs) front e =
     let i : ℕ = index_for taken x.value in
     let v : Service = service_of i x in (
-      λ h. no_index taken x _ (get_behind front v (services_from (i ∷ taken) xs) k e) h,
+      λ h. no_index taken x _ (slice_get-behind front v (services_from (i ∷ taken) xs) k e) h,
       subst (λ vs. Each (Connected vs) (enumerate_from (k + 1) xs)) (append_assoc front (v ∷ []) (services_from (i ∷ taken) xs))
           (connected_from (i ∷ taken) (k + 1) xs (front ++ v ∷ []) (let l = length-append front (v ∷ []) in omega arith)),
     )

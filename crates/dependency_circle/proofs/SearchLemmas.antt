@@ -6,7 +6,7 @@ use Rattle.std.proofs.lemmas.Bool.Decides.{nat_tests}
 use Rattle.std.proofs.lemmas.List.{take_all, take_more, take-append-le, get_or_default}
 use Rattle.std.proofs.lemmas.List.Folds.{list_any-append}
 use Rattle.std.proofs.lemmas.Map.Steps.{length-le_from_distinct_below}
-use Rattle.std.proofs.lemmas.Bool.{and_from, and_parts, cases_Bool, or_left, eqb-true}
+use Rattle.std.proofs.lemmas.Bool.{and_from, and_parts, cases_Bool, or_left, or_right, eqb-true}
 use Rattle.list_laws.proofs.Bools.{or_rest}
 use Rattle.ffm_model.specs.Circles.{is_new, are_different}
 use Rattle.dependency_circle.specs.Ways.{marked, are_apart, is_unmarked_before, IsMarked, MarksMore, TellsWays}
@@ -144,10 +144,6 @@ at_marked (x ∷ xs) zero h = ap (λ b. b || marked xs x) (same x)
     same : (x : ℕ) → (x == x) ≡ true
     same x = grind (arith, nat_tests)
 at_marked (x ∷ xs) (suc i) h = or_right (get_or xs i 0 == x) _ (at_marked xs i (omega arith))
-  where
-    or_right : (a b : Bool) → b ≡ true → (a || b) ≡ true
-    or_right true b h = refl
-    or_right false b h = h
 
 first_search : (n : ℕ) (edge : ℕ → ℕ → Bool) (home : ℕ) (front : List ℕ) → Search n edge home front (spread_from n edge front home []) 0
 first_search n edge home front = record {

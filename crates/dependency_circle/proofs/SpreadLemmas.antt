@@ -2,7 +2,7 @@
 use Rattle.std.proofs.Common.{ℕ, ◌≡◌, ◌<◌, ◌≤◌, ◌+◌, ◌&&◌, ◌||◌, ◌⊎◌, inl, inr, not, List, [], ◌∷◌, ◌++◌, length, get_or, set, arith, ◌∙◌, ap, sym, refl, subst, Bool, true, false, append_assoc, filter, cond, length-set, add-one, zero, suc}
 use Rattle.std.specs.Prelude.{◌==◌}
 use Rattle.std.specs.List.{range_with_len}
-use Rattle.std.proofs.lemmas.Bool.{cases_eq, eqb-true}
+use Rattle.std.proofs.lemmas.Bool.{cases_eq, eqb-true, or_right}
 use Rattle.std.proofs.lemmas.List.{append-nil, get_or-set_same, get_or-set_other}
 use Rattle.std.proofs.lemmas.List.Folds.{list_any-append}
 use Rattle.std.proofs.lemmas.List.Elements.{filter-append}
@@ -127,10 +127,6 @@ in_range a (suc n) z h k = by (cases_eq z a) (λ ne. in_range (a + 1) n z (above
 
     eq : z ≡ a → (z == a) ≡ true
     eq e = grind (arith, nat_tests)
-
-    or_right : (a b : Bool) → b ≡ true → (a || b) ≡ true
-    or_right true b h = refl
-    or_right false b h = h
 
     by : (z ≡ a) ⊎ (z ≡ a → ⊥) → ((z ≡ a → ⊥) → marked (range_with_len (a + 1) n) z ≡ true) → ((z == a) || marked (range_with_len (a + 1) n) z) ≡ true
     by (inl e) rest = ap (λ b. b || marked (range_with_len (a + 1) n) z) (eq e)

@@ -2,7 +2,7 @@
 use Rattle.std.proofs.Common.{ℕ, ◌≡◌, ◌<◌, ◌&&◌, ◌||◌, ◌⊎◌, not, List, [], ◌∷◌, ◌++◌, arith, ◌∙◌, ap, sym, refl, Bool, true, false, append_assoc}
 use Rattle.std.specs.Prelude.{◌==◌, nat_lt}
 use Rattle.std.specs.List.{list_any, list_all}
-use Rattle.std.proofs.lemmas.Bool.{cases_eq, and_parts, and_from, lt-ltb}
+use Rattle.std.proofs.lemmas.Bool.{cases_eq, and_parts, and_from, lt-ltb, or_right}
 use Rattle.std.proofs.lemmas.List.Folds.{list_any-append}
 use Rattle.std.proofs.lemmas.Bool.Decides.{nat_tests}
 use Rattle.ffm_model.specs.Circles.{is_circle, are_different, is_way, is_new}
@@ -40,10 +40,6 @@ reached n edge home front marks closed x (y ∷ ys) low way apart =
   where
     lower : (y n : ℕ) → nat_lt y n ≡ true → y < n
     lower y n h = grind (arith, nat_tests)
-
-    or_right : (a b : Bool) → b ≡ true → (a || b) ≡ true
-    or_right true b h = refl
-    or_right false b h = h
 
 -- ---- a place that was not marked, before one that is
 pub new_of_unmarked : (marks : ℕ → Bool) (x : ℕ) (zs : List ℕ) → marks x ≡ false → list_all marks zs ≡ true → is_new x zs ≡ true

@@ -42,7 +42,7 @@ pub const PSA_ERROR_CONNECTION_BUSY: i32 = -131;
 /// No such item exists. Nothing is answered with it in this profile, whose machine has no call that finds items by name.
 pub const PSA_ERROR_DOES_NOT_EXIST: i32 = -140;
 
-/// The service of a connection is gone.
+/// The service of a connection, or of a request without one, is gone.
 pub const PSA_ERROR_COMMUNICATION_FAILURE: i32 = -145;
 
 /// The mask of each signal that a partition may have, for `psa_wait`.

@@ -128,18 +128,19 @@ pub enum Call {
     Eoi {
         signal: u32,
     },
-    /// `psa_irq_enable` of `psa/service.h`, of the 1.1 Extensions: the source of that signal is enabled, and an
-    /// interrupt that is pending there asserts the signal at once; with a second-level handler only where it is clear.
+    /// `psa_irq_enable` of `psa/service.h`, of the 1.1 Extensions: the source of that signal, one bit, is enabled,
+    /// and an interrupt that is pending there asserts the signal at once; with a second-level handler only where it is
+    /// clear.
     IrqEnable {
         signal: u32,
     },
-    /// `psa_irq_disable` of `psa/service.h`, of the 1.1 Extensions: the source of that signal is disabled, and
-    /// the answer tells whether it was enabled.
+    /// `psa_irq_disable` of `psa/service.h`, of the 1.1 Extensions: the source of that signal, one bit, is
+    /// disabled, and the answer tells whether it was enabled.
     IrqDisable {
         signal: u32,
     },
-    /// `psa_reset_signal` of `psa/service.h`, of the 1.1 Extensions: clears the signal of a source with a
-    /// first-level handler.
+    /// `psa_reset_signal` of `psa/service.h`, of the 1.1 Extensions: clears the signal, one bit, of a source with
+    /// a first-level handler.
     ResetSignal {
         signal: u32,
     },

@@ -3,7 +3,7 @@
 ghost use Rattle.std.specs.Prelude.{◌≡◌, ◌<◌, ◌≤◌, ◌==◌, ◌&&◌, ◌↔◌, length, IsTrue, IsSome, IfSome, Some, find, All, option_and_then, nat_le, slice_get};
 ghost use Rattle.ffm_model.specs.State.{connection_held, in_use, has_handle, with_connection_phase, with_rhandle, with_connection_handle, without_connection};
 ghost use Rattle.ffm_model.specs.ClientCalls.{new_connection};
-ghost use Rattle.object_pools.specs.Pool.{Places, most_takes, empty, taken, free_slot, item_at, without, with_item, IsKept};
+ghost use Rattle.object_pools.specs.Pool.{Places, most_takes, empty, taken, free_slot, item_at, without, with_item, IsKept, AddsUp};
 ghost use Rattle.handle_table.specs.declared.handles.Family.TheVariants as family;
 ghost use Rattle.handle_table.specs.declared.handles.Family.{Family as TheFamily};
 ghost use Rattle.object_pools.specs.declared.slot.Slot.{Slot as TheSlot};
@@ -125,8 +125,10 @@ impl Connections {
     pub fn law(&self)
         ensures pool { IsKept 256 self.now }
         ensures table { IsTable self.now }
+        ensures adds_up { AddsUp self.now }
     {
         self.pool.law();
+        self.pool.law_of_takes();
     }
 
     /// Whether a slot has a connection.

@@ -1,5 +1,6 @@
 -- Three passes are all passes of a system with three actors.
 use Rattle.std.proofs.Common.{◌≡◌, ℕ, zero, suc, ◌+◌, List, [], ◌∷◌, ◌++◌, length, slice_get, Some, sym, refl, subst, arith, length-append}
+use Rattle.list_laws.proofs.Lists.{slice_get-behind}
 use Rattle.spm_lock.specs.Histories.{actors}
 use Rattle.spm_lock.specs.Passes.{SharedView, PassView, IsOwn, FirstPasses, ArePasses}
 use Rattle.lock_tests.specs.Threes.{AreThree}
@@ -9,14 +10,10 @@ slice_get_front [] x k y at = absurd (cc)
 slice_get_front (z ∷ xs) x zero y at = at
 slice_get_front (z ∷ xs) x (suc k) y at = slice_get_front xs x k y at
 
-slice_get_last : {A : Type 0} (xs : List A) (x : A) → slice_get (xs ++ x ∷ []) (length xs) ≡ Some x
-slice_get_last [] x = refl
-slice_get_last (y ∷ xs) x = slice_get_last xs x
-
 -- the last pass, and those before it
 one_less : (s : SharedView) (n : ℕ) (ps : List PassView) (p : PassView) → FirstPasses s n (ps ++ p ∷ []) → IsOwn s p × (p.actor + 1 ≡ n) × FirstPasses s p.actor ps
 one_less s n ps p first =
-    let last = first.each (length ps) p (slice_get_last ps p) in let a = first.all in let b = length-append ps (p ∷ []) in let c = last.1 in (
+    let last = first.each (length ps) p (slice_get-behind ps p [] (length ps) refl) in let a = first.all in let b = length-append ps (p ∷ []) in let c = last.1 in (
       last.0,
       omega arith,
       record { all = sym last.1; each = λ k q at. first.each k q (slice_get_front ps p k q at) },

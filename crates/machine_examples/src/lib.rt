@@ -1,6 +1,8 @@
 //! Worked runs of the machine, checked by computing with its definitions. No function here does
-//! anything: each says that written traces are runs with their verdict, of most also that their
-//! handles are the names, and of single wrong entries that the machine refuses them.
+//! anything: most say that written traces are runs with their verdict, and most of these that the
+//! handles are the names, and many that the machine refuses single wrong entries; the others say which
+//! addresses an actor reaches, which vectors a request may have, how traces are judged, and which
+//! traces follow each other after a reset.
 #![tactic(auto)]
 
 mod connections;

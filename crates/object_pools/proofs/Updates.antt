@@ -1,12 +1,14 @@
 -- What a pool's cells and order keep through a take, a change and a putting back, and what the pool is then.
 use Rattle.std.proofs.Common.{ℕ, zero, suc, ◌≡◌, ◌≢◌, ◌<◌, ◌≤◌, ◌+◌, ◌^◌, ◌==◌, Bool, true, false, cond, not, List, [], ◌∷◌, ◌++◌, length, map, filter, get_or, set, replicate, arith, ◌∙◌, ap, sym, refl, subst}
 use Rattle.std.specs.Prelude.{find, Option, Some, None, is_some, is_none, slice_get, option_and_then, IsSome}
-use Rattle.std.specs.List.{filter_map, cons_option, range_with_len}
+use Rattle.std.specs.List.{filter_map, cons_option, range_with_len, sum}
 use Rattle.std.specs.Option.{option_map}
 use Rattle.std.proofs.Math.ListN.{length-set}
 use Rattle.std.proofs.Math.Seq.{map-set_same}
 use Rattle.std.proofs.lemmas.List.{map-set, get_or-set_same, get_or-set_other, length-map}
 use Rattle.std.proofs.lemmas.List.Elements.{filter_map-append}
+use Rattle.std.proofs.lemmas.List.Folds.{sum_by-replicate}
+use Rattle.std.proofs.lemmas.List.Sums.{sum_by-cons, sum_by-set}
 use Rattle.std.proofs.lemmas.Option.{slice_get_within, slice_get-get_or, slice_get-map, get_or_from_slice_get}
 use Rattle.std.proofs.lemmas.Bool.{eqb-true}
 use Rattle.object_pools.specs.declared.slot.Slot.{Slot}
@@ -54,6 +56,11 @@ times-out_other i j (k ∷ ks) apart =
     ] in
     go (k == i) refl ∙ sym (count-cons (λ x. x == j) k ks)
 
+le-sum : (gs : List ℕ) (i : ℕ) → get_or gs i 0 ≤ sum gs
+le-sum [] i = omega arith
+le-sum (g ∷ gs) zero = omega (arith, sum_by-cons (λ (x : ℕ). x) g gs)
+le-sum (g ∷ gs) (suc i) = omega (arith, sum_by-cons (λ (x : ℕ). x) g gs, le-sum gs i)
+
 module _ {T : Type 0} where
   pub generation-is : (cells : List (Cell T)) (i : ℕ) (c : Cell T) → slice_get cells i ≡ Some c → generation_at cells i ≡ c.generation
   generation-is cells i c e =
@@ -90,6 +97,11 @@ module _ {T : Type 0} where
 
   -- ---- what every pool keeps
 
+  -- no generation exceeds the number of takes
+  pub given-takes : (capacity : ℕ) (cells : List (Cell T)) (order : List ℕ) (takes : ℕ) → Stored capacity cells order takes → (i : ℕ) → generation_at cells i ≤ takes
+  given-takes capacity cells order takes st i =
+      omega (arith, le-sum (generations_of cells) i, st.total)
+
   named-at : (capacity : ℕ) (cells : List (Cell T)) (order : List ℕ) (takes : ℕ) → Stored capacity cells order takes → (k : ℕ) (h : Held T) → held_at cells k ≡ Some h
       → IsNamed (generations_of cells) h.slot
   named-at capacity cells order takes st k h here =
@@ -113,7 +125,7 @@ module _ {T : Type 0} where
     live = omega (arith, live-length capacity cells order takes st, order-fits capacity cells order takes st, length-map cells (λ (c : Cell T). c.generation));
     named = all-held (λ h. IsNamed (generations_of cells) h.slot) (held_at cells) order (named-at capacity cells order takes st);
     once = λ i. omega (arith, count-at capacity cells order takes st i, bit-le (is_some (held_at cells i)));
-    given = st.given;
+    given = given-takes capacity cells order takes st;
     takes_left = st.takes_left;
   }
 
@@ -169,7 +181,7 @@ module _ {T : Type 0} where
         few = omega arith;
         once = λ i. ap (λ (o : Option (Held T)). bit (is_some o)) (sym (none i));
         used = λ i live. cc (ap (λ (o : Option (Held T)). is_some o) (none i));
-        given = λ i. omega (arith, at_zero i);
+        total = ap sum (generations-new n cells e) ∙ omega (arith, sum_by-replicate (λ (g : ℕ). g) n 0);
         takes_left = omega arith;
       }
 
@@ -220,9 +232,12 @@ module _ {T : Type 0} where
         used = at_each (λ j. is_some (held_at (filled cells i x) j) ≡ true → 1 ≤ generation_at (filled cells i x) j) i
             (λ live. omega (arith, generation-here cells i x inside))
             (λ j apart live. omega (arith, generation-else cells i x j apart, st.used j (ap (λ (o : Option (Held T)). is_some o) (sym (other j apart)) ∙ live)));
-        given = at_each (λ j. generation_at (filled cells i x) j ≤ takes + 1) i
-            (omega (arith, generation-here cells i x inside, st.given i))
-            (λ j apart. omega (arith, generation-else cells i x j apart, st.given j));
+        total = omega (
+          arith,
+          ap sum (generations-filled cells i x),
+          sum_by-set (λ (g : ℕ). g) (generations_of cells) i (generation_at cells i + 1) 0 (omega (arith, length-map cells (λ (c : Cell T). c.generation))),
+          st.total,
+        );
         takes_left = omega arith;
       }
 
@@ -309,7 +324,7 @@ module _ {T : Type 0} where
         few = omega (arith, st.few);
         once = λ i. st.once i ∙ ap bit (sym (some i));
         used = λ i e. omega (arith, st.used i (sym (some i) ∙ e), ap (λ gs. get_or gs i 0) gens);
-        given = λ i. omega (arith, st.given i, ap (λ gs. get_or gs i 0) gens);
+        total = ap sum gens ∙ st.total;
         takes_left = st.takes_left;
       }
 
@@ -344,7 +359,7 @@ module _ {T : Type 0} where
         used = at_each (λ i. is_some (held_at (rewritten cells s None) i) ≡ true → 1 ≤ generation_at (rewritten cells s None) i) s.index
             (λ e. cc)
             (λ i apart e. omega (arith, st.used i (sym (other i apart) ∙ e), ap (λ gs. get_or gs i 0) gens));
-        given = λ i. omega (arith, st.given i, ap (λ gs. get_or gs i 0) gens);
+        total = ap sum gens ∙ st.total;
         takes_left = st.takes_left;
       }
 

@@ -1,7 +1,7 @@
 -- Where a pool keeps its items: an item stays in the cell of its index, and the order of the takes is a list of indices.
 -- Source: of this repository; what it stores makes up the pool that contracts see.
 use Rattle.std.specs.Prelude.{◌≡◌, ℕ, ◌≤◌, ◌<◌, ◌^◌, ◌==◌, true, is_some, if◌then◌else◌, List, length, Option, None, map, count_by, get_or, slice_get, option_and_then}
-use Rattle.std.specs.List.{filter_map}
+use Rattle.std.specs.List.{filter_map, sum}
 use Rattle.std.specs.Option.{option_map}
 use Rattle.object_pools.specs.declared.slot.Slot.{Slot}
 use Rattle.object_pools.specs.declared.slot.Held.{Held}
@@ -45,6 +45,6 @@ module _ {T : Type 0} where
     pub once : (i : ℕ) → count_by (λ k. k == i) order ≡ (if is_some (held_at cells i) then 1 else 0)
     -- where an item is live, a generation was given
     pub used : (i : ℕ) → is_some (held_at cells i) ≡ true → 1 ≤ generation_at cells i
-    -- no generation exceeds the number of takes
-    pub given : (i : ℕ) → generation_at cells i ≤ takes
+    -- the last generations add up to the number of takes
+    pub total : sum (generations_of cells) ≡ takes
     pub takes_left : takes ≤ most_takes

@@ -1,7 +1,7 @@
 -- What contracts see of a pool: for each index the last generation that it gave, the live items, and how many takes there were.
 -- Source: of this repository; FF-M 1.0 leaves open how a manager keeps its connections and messages.
 use Rattle.std.specs.Prelude.{◌≡◌, ℕ, ◌+◌, ◌<◌, ◌≤◌, ◌==◌, Bool, not, ◌&&◌, if◌then◌else◌, List, [], ◌∷◌, ◌++◌, length, Option, Some, None, Result, Ok, Err, find, map, filter, replicate, slice_set, get_or, count_by, All}
-use Rattle.std.specs.List.{list_any, range_with_len}
+use Rattle.std.specs.List.{list_any, range_with_len, sum}
 use Rattle.std.specs.Option.{option_map}
 use Rattle.object_pools.specs.declared.slot.Slot.{Slot}
 use Rattle.object_pools.specs.declared.slot.Held.{Held}
@@ -94,3 +94,7 @@ module _ {T : Type 0} where
     -- no generation exceeds the number of takes
     pub given : (i : ℕ) → get_or p.generations i 0 ≤ p.takes
     pub takes_left : p.takes ≤ most_takes
+
+  -- the last generations add up to the number of takes
+  abbrev pub AddsUp : Places T → Type 0
+  AddsUp p = sum p.generations ≡ p.takes

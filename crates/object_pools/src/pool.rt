@@ -2,7 +2,7 @@
 
 ghost use Rattle.std.specs.Prelude.{◌≡◌, ◌<◌, ◌≤◌, ◌+◌, ◌↔◌, length, IsSome, IsErr, Some, find, slice_get};
 ghost use Rattle.std.specs.Option.{option_copied, option_copied_mut};
-ghost use Rattle.object_pools.specs.Pool.{Places, most_takes, is_at, empty, taken, item_at, without, with_item, Takes, IsKept};
+ghost use Rattle.object_pools.specs.Pool.{Places, most_takes, is_at, empty, taken, item_at, without, with_item, Takes, IsKept, AddsUp};
 
 use crate::cells::{self, Cell};
 use crate::slot::{Held, Slot};
@@ -73,6 +73,13 @@ impl<T: Copy, const CAP: usize> Pool<T, CAP> {
     /// Says what every pool keeps. It does nothing.
     pub fn law(&self)
         ensures { IsKept CAP self.now }
+    {
+        let _ = &self.cells;
+    }
+
+    /// Says of every pool that its last generations add up to the number of its takes. It does nothing.
+    pub fn law_of_takes(&self)
+        ensures { AddsUp self.now }
     {
         let _ = &self.cells;
     }

@@ -15,7 +15,7 @@ use object_pools::Held;
 use spm_tables::{MessageItem, Tables};
 
 // The message that closes a connection, for which nobody waits.
-fn disconnection(held: Held<OpenConnection>) -> MessageItem
+fn disconnect_message(held: Held<OpenConnection>) -> MessageItem
     ensures message { fresh_message (queued_as (Some held.item.serial) result) ≡ disconnect_message held.item }
     ensures connection { result.connection ≡ Some held.slot }
     ensures undelivered { result.delivered ≡ false }
@@ -64,7 +64,7 @@ pub(crate) fn leave_services(tables: &mut Tables, partition: ActorId)
         } else if is_dead(held.item.phase) {
             tables.free(held.slot);
         } else {
-            tables.enqueue(disconnection(held));
+            tables.enqueue(disconnect_message(held));
             tables.set_connection_phase(held.slot, ConnPhase::Closing);
             place += 1;
         }

@@ -4,8 +4,8 @@
 //!
 //! Tables go with the system that they were made for, and an image with that system's regions. The connections, messages and
 //! phases of the tables fit each other as in each run, and no message's vectors reach beyond the regions; the calls keep both,
-//! but a reply that owes a panic leaves the fit to that panic. No call takes a slot, and each keeps the names of those that are
-//! there.
+//! `wait` the fit where its actor is Running; a reply that owes a panic leaves the fit to that panic. No call takes a slot, and
+//! each keeps the names of those that are there.
 #![tactic(auto)]
 
 mod connection;

@@ -19,7 +19,7 @@ use Rattle.std.specs.Option.{option_map, option_map_or}
 use Rattle.std.specs.Ordering.{int_eq}
 use Rattle.std.proofs.lemmas.List.{append-nil}
 use Rattle.std.proofs.lemmas.List.Folds.{list_any-append}
-use Rattle.std.proofs.lemmas.Bool.{and_from, and_parts, and_right}
+use Rattle.std.proofs.lemmas.Bool.{and_from, and_parts, and_right, not-false}
 use Rattle.list_laws.proofs.Counts.{any-count, bit, count-filter-le, count-found, none-count}
 use Rattle.list_laws.proofs.Tests.{find-passes}
 use Rattle.ffm_model.specs.declared.constants.TheConstants.{PSA_IPC_CALL, PSA_IPC_CONNECT, PSA_IPC_DISCONNECT, PSA_ERROR_PROGRAMMER_ERROR, PSA_SUCCESS}
@@ -219,7 +219,7 @@ follows-owed s old mid new a p h status fits reply effect one two =
     follows-joined s old mid new r one two messages made (ap (λ (x : SpmState). x.connections_made) is_new)
     (λ i d lt off.
     let n : PendingMessage = get_or ms i d in
-    let shown : has_handle n.handle h ≡ true = not_off (has_handle n.handle h) off in
+    let shown : has_handle n.handle h ≡ true = not-false (has_handle n.handle h) off in
     let left : stays (spm_of mid).messages n ≡ false =
     ap (λ (xs : List PendingMessage). stays xs n) (messages ∙ sym (append-nil (filter r ms)))
     ∙ like-kept same_message same-self r ms [] (fitting-messages s b fits) (λ j e k g. refl) i d lt ∙ off in (
@@ -228,10 +228,7 @@ follows-owed s old mid new a p h status fits reply effect one two =
           ∙ list_any-append (same_message n) (filter svc (spm_of mid).messages) (all_disconnects s p (spm_of mid).connections)
           ∙ ap (λ x. x || stays (all_disconnects s p (spm_of mid).connections) n) (off-filter n svc (spm_of mid).messages left)
           ∙ no-disconnect s p n (spm_of mid).connections (held-request s b a h it.m i d fits it.found request lt shown),
-    )) where
-      not_off : (x : Bool) → not x ≡ false → x ≡ true
-      not_off true e = refl
-      not_off false e = cc
+    ))
 
 pub names-owed : (s : System) (old mid new : TablesView) (a p : ℕ) (h : Handle) (status : ℤ) → ObjectsFit s (spm_of old) → reply_on s (spm_of old) a h status ≡ Some (record { spm = spm_of mid; owing = Some p })
     → spm_of new ≡ panic_effect s (spm_of mid) p → KeepsNames s old mid → KeepsNames s mid new → KeepsNames s old new

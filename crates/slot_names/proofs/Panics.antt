@@ -4,7 +4,7 @@ use Rattle.std.specs.Prelude.{All, Option, Some, None, count_by, is_some, if◌t
 use Rattle.std.specs.Option.{option_map_or}
 use Rattle.std.specs.Ordering.{int_eq}
 use Rattle.std.proofs.lemmas.List.{get_or-map, length-map}
-use Rattle.std.proofs.lemmas.Bool.{and_from}
+use Rattle.std.proofs.lemmas.Bool.{and_from, not-false}
 use Rattle.list_laws.proofs.Counts.{any-count, bit, both-le-left, both-le-right, count-cons, count-le}
 use Rattle.ffm_model.specs.declared.system.System.{System}
 use Rattle.ffm_model.specs.declared.constants.TheConstants.{PSA_IPC_DISCONNECT}
@@ -128,7 +128,7 @@ disconnects-apart s b p h = λ i d lt off.
     let numbered : (n : ℕ) → m.connection ≡ Some n → count_by (λ c. not (is_service_of s p c.service) && (c.serial == n)) b.connections ≡ 0 =
     λ n conn.
     let t : Mark = λ k a v ph. is_service_of s p v && (k == n) in
-    let here : message_marked t m ≡ true = marked_as m n t conn ∙ and_from (is_service_of s p m.service) (n == n) (not_off (is_service_of s p m.service) off) (is_itself n) in
+    let here : message_marked t m ≡ true = marked_as m n t conn ∙ and_from (is_service_of s p m.service) (n == n) (not-false (is_service_of s p m.service) off) (is_itself n) in
     omega (
       arith,
       member-counts (message_marked t) b.messages i d lt,
@@ -146,10 +146,6 @@ disconnects-apart s b p h = λ i d lt off.
     let none : count_by (same_message m) (all_disconnects s p b.connections) ≡ 0 = omega (arith, disconnects-le s p m b.connections, nobody m.connection refl) in
     let go : (x : Bool) → stays (all_disconnects s p b.connections) m ≡ x → x ≡ false = elim [ true ↦ λ e. absurd (omega (arith, any-count (same_message m) (all_disconnects s p b.connections) e, none)) | false ↦ λ e. refl ] in
     go (stays (all_disconnects s p b.connections) m) refl where
-      not_off : (x : Bool) → not x ≡ false → x ≡ true
-      not_off true e = refl
-      not_off false e = cc
-
       and_false : (x : Bool) → (x && false) ≡ false
       and_false true = refl
       and_false false = refl

@@ -31,7 +31,7 @@ enqueue-requires-clause-service c =
     omega (
       arith,
       service-known c.args.partition.0 c.loop-place.place c.args.tables.now c.loop-place.tables c.connection_at-held.result c.loop-place.invariant c.connection_at-held.ensures.at,
-      ap (λ (m : PendingMessage). m.service) c.disconnection.ensures.message,
+      ap (λ (m : PendingMessage). m.service) c.disconnect_message.ensures.message,
     )
 
 pub enqueue-requires-clause-room : goal.enqueue-requires-clause-room
@@ -51,18 +51,18 @@ set_connection_phase-requires c = subst (λ (d : TablesView). IsSome (item_at d.
 pub loop-place-smaller : goal.loop-place-smaller
 loop-place-smaller c =
     let same_length : length c.set_connection_phase.new.self.connections.held ≡ length c.loop-place.tables.connections.held =
-    closing-length c.loop-place.tables c.set_connection_phase.new.self (taken c.loop-place.tables.messages c.enqueue.result (queued c.loop-place.tables.connections c.disconnection.result)) c.connection_at-held.result.slot c.connection_at-held.result.item
-    (closing-both c.loop-place.tables c.enqueue.new.self c.set_connection_phase.new.self (taken c.loop-place.tables.messages c.enqueue.result (queued c.loop-place.tables.connections c.disconnection.result)) c.connection_at-held.result.slot c.connection_at-held.result.item c.enqueue.ensures.after c.connection_at-held.ensures.item c.set_connection_phase.ensures.item) in
+    closing-length c.loop-place.tables c.set_connection_phase.new.self (taken c.loop-place.tables.messages c.enqueue.result (queued c.loop-place.tables.connections c.disconnect_message.result)) c.connection_at-held.result.slot c.connection_at-held.result.item
+    (closing-both c.loop-place.tables c.enqueue.new.self c.set_connection_phase.new.self (taken c.loop-place.tables.messages c.enqueue.result (queued c.loop-place.tables.connections c.disconnect_message.result)) c.connection_at-held.result.slot c.connection_at-held.result.item c.enqueue.ensures.after c.connection_at-held.ensures.item c.set_connection_phase.ensures.item) in
     omega (arith, same_length, c.live.ensures, c.loop-place-test.true, ap (λ (q : Places OpenConnection). length q.held) c.connections.ensures)
 
 pub loop-place-preserved : goal.loop-place-preserved
 loop-place-preserved c =
-    let as_queued = queued-live c.loop-place.tables.connections c.connection_at-held.result.slot c.connection_at-held.result.item c.disconnection.result c.disconnection.ensures.connection c.connection_at-held.ensures.item in
-    let sent : map held_message (taken c.loop-place.tables.messages c.enqueue.result (queued c.loop-place.tables.connections c.disconnection.result)).held ≡ messages_of c.loop-place.tables ++ disconnect_message c.connection_at-held.result.item ∷ [] =
-    sym (ap (λ (d : TablesView). messages_of d) c.enqueue.ensures.after) ∙ ap (λ (b : SpmState). b.messages) c.enqueue.ensures.state ∙ ap (λ (m : PendingMessage). messages_of c.loop-place.tables ++ m ∷ []) (ap fresh_message as_queued ∙ c.disconnection.ensures.message) in
-    leaves-closing c.args.partition.0 c.loop-place.place c.args.tables.now c.loop-place.tables c.set_connection_phase.new.self c.connection_at-held.result c.enqueue.result (queued c.loop-place.tables.connections c.disconnection.result) c.loop-place.invariant c.connection_at-held.ensures.kept c.connection_at-held.ensures.at
+    let as_queued = queued-live c.loop-place.tables.connections c.connection_at-held.result.slot c.connection_at-held.result.item c.disconnect_message.result c.disconnect_message.ensures.connection c.connection_at-held.ensures.item in
+    let sent : map held_message (taken c.loop-place.tables.messages c.enqueue.result (queued c.loop-place.tables.connections c.disconnect_message.result)).held ≡ messages_of c.loop-place.tables ++ disconnect_message c.connection_at-held.result.item ∷ [] =
+    sym (ap (λ (d : TablesView). messages_of d) c.enqueue.ensures.after) ∙ ap (λ (b : SpmState). b.messages) c.enqueue.ensures.state ∙ ap (λ (m : PendingMessage). messages_of c.loop-place.tables ++ m ∷ []) (ap fresh_message as_queued ∙ c.disconnect_message.ensures.message) in
+    leaves-closing c.args.partition.0 c.loop-place.place c.args.tables.now c.loop-place.tables c.set_connection_phase.new.self c.connection_at-held.result c.enqueue.result (queued c.loop-place.tables.connections c.disconnect_message.result) c.loop-place.invariant c.connection_at-held.ensures.kept c.connection_at-held.ensures.at
     c.connection_at-held.ensures.item c.enqueue.ensures.slot (eq-eqb c.connection_at-held.result.item.client.0 c.args.partition.0 c.if-held-partition.false) (sym c.is_dead.ensures ∙ c.if-is_dead.false) sent
-    (closing-both c.loop-place.tables c.enqueue.new.self c.set_connection_phase.new.self (taken c.loop-place.tables.messages c.enqueue.result (queued c.loop-place.tables.connections c.disconnection.result)) c.connection_at-held.result.slot c.connection_at-held.result.item c.enqueue.ensures.after c.connection_at-held.ensures.item c.set_connection_phase.ensures.item)
+    (closing-both c.loop-place.tables c.enqueue.new.self c.set_connection_phase.new.self (taken c.loop-place.tables.messages c.enqueue.result (queued c.loop-place.tables.connections c.disconnect_message.result)) c.connection_at-held.result.slot c.connection_at-held.result.item c.enqueue.ensures.after c.connection_at-held.ensures.item c.set_connection_phase.ensures.item)
 
 pub returns-clause-connections : goal.returns-clause-connections
 returns-clause-connections c =

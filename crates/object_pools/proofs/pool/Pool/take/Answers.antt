@@ -1,5 +1,5 @@
 use Rattle.std.proofs.Common.{rules, arith, sym, ◌∙◌, refl}
-use Rattle.object_pools.proofs.Updates.{order-room, slot-free, slot-none, held-full, held-room, free-below, free-none, Stored-take, places-take}
+use Rattle.object_pools.proofs.Updates.{given-takes, order-room, slot-free, slot-none, held-full, held-room, free-below, free-none, Stored-take, places-take}
 use Rattle.object_pools.proofs.pool.Pool.take.Goals as goal
 
 pub returns-in_default-clause-takes : goal.returns-in_default-clause-takes
@@ -14,7 +14,7 @@ returns-in_default-clause-full g c =
 
 pub overflow_add-generation : goal.overflow_add-generation
 overflow_add-generation g c =
-    omega (arith, rw c.as_slice-2.ensures.value at c.generation_at-generation.ensures, c.self.invariant.given c.in-Some.index, c.self.invariant.takes_left)
+    omega (arith, rw c.as_slice-2.ensures.value at c.generation_at-generation.ensures, given-takes _ _ _ _ c.self.invariant c.in-Some.index, c.self.invariant.takes_left)
 
 pub put-requires : goal.put-requires
 put-requires g c =
