@@ -10,7 +10,7 @@ a wrong one, and each such file has to be refused.
 With files, from any folder, these alone are looked at, and the manifests that a system file names: as ffm does, from
 the folder one stands in, or else beside the system file. A FILE without a word before it is taken for the kind whose
 attributes it has most of, misspelt ones too. What is wrong is printed with the kind of the file and the place. The
-status is 1 where something is wrong."""
+status is 1 where something is wrong, and 2 where the package isn't there."""
 
 import argparse
 import copy
@@ -19,9 +19,6 @@ import json
 import os
 import pathlib
 import sys
-
-import jsonschema
-import referencing
 
 from example_files import examples
 
@@ -95,16 +92,16 @@ WRONG = {
         (("manifests",), [{}, [5], [None], [MANIFEST] * 257]),
         (("manifests", 1, "psa_framework_version"), [1.0, 1.2]),
         (("regions", 0, "size"), [0, "0x0", "4", -1, 4294967296]),
-        (("non_secure_ram",), [-1, "65536", None]),
-        (("clients",), [["device"], ["1N"], ["a b"], [""], ["N"] * 17]),
+        (("non_secure_ram",), [-1, "65536", "0x100\n", None]),
+        (("clients",), [["device"], ["device\n"], ["N\n"], ["1N"], ["a b"], [""], ["N"] * 17]),
         (("connections", 0, "count"), [257, -1, "2"]),
     ],
     "manifest": [
-        (("psa_framework_version",), [1.1, "1.1", 1.2, "1", "1.", "1.10", None]),
-        (("name",), ["", "device", "A-B", "A" * 65, 5]),
+        (("psa_framework_version",), [1.1, "1.1", "1.00", 1.2, "1", "1.", "1.10", None]),
+        (("name",), ["", "device", "A-B", "A\n", "A" * 65, 5]),
         (("type",), ["PSA_ROT", "psa-rot"]),
         (("priority",), ["LOWEST", "low"]),
-        (("stack_size",), ["CRYPTO_STACK_SIZE", "1024", "0X400", "0x", "0x123456789"]),
+        (("stack_size",), ["0x400\n", "CRYPTO_STACK_SIZE", "1024", "0X400", "0x", "0x123456789"]),
         (("mmio_regions", 0, "permission"), ["READ_ONLY", "READ-WRITE-EXECUTE"]),
         (("services", 0, "sid"), ["40", "SID", 4294967296]),
         (("services", 0, "non_secure_clients"), ["true", 1]),
@@ -127,7 +124,7 @@ WRONG = {
         (("services", 0, "stateless_handle"), [0, 33, -1, "1", "Auto", "0x1", "", None]),
         (("services", 0, "mm_iovec"), ["Enable", True, 1, None]),
         (("irqs", 0, "source"), [-1, "device", "I R"]),
-        (("irqs", 0, "name"), ["", "device", "A-B", "A" * 58, 5]),
+        (("irqs", 0, "name"), ["", "device", "A-B", "A\n", "A" * 58, 5]),
         (("irqs", 0, "handling"), ["flih", "FLIH ", "IRQ", 1, None]),
         (("irqs", 0, "signal"), ["I"]),
     ],
@@ -142,14 +139,14 @@ WRONG = {
     ],
     "scenario": [
         (("event_limit",), [0, 262145, "8"]),
-        (("scripts", 0, "actor"), ["device", "N S"]),
+        (("scripts", 0, "actor"), ["device", "N S", "NS\n"]),
         (("scripts", 0, "lines"), ["end", [5], ["end"] * 4097]),
         (("schedule", 0), [5, None]),
         (("interrupts", 0), [-1, "I R", [9], None]),
         (("interrupts", 2, "source"), [-1, "I R", {"source": 9}]),
         (("interrupts", 2, "result"), [2, -1, "1", True, None]),
-        (("memory", 0, "address"), ["20000000", -1]),
-        (("memory", 0, "bytes"), ["0", "0x00", "zz", "00 ff"]),
+        (("memory", 0, "address"), ["20000000", "0x20000000\n", -1]),
+        (("memory", 0, "bytes"), ["0", "00\n", "0x00", "zz", "00 ff"]),
         (("restarts",), [16, -1, "1", True, None]),
     ],
 }
@@ -166,6 +163,13 @@ REQUIRED = {
 
 
 def validators():
+    """A check of each kind."""
+    try:
+        import jsonschema
+        import referencing
+    except ImportError as error:
+        print(f"check_schemas.py needs the Python package jsonschema, 4.18 or later, and {error.name} isn't here: pip install jsonschema", file=sys.stderr)
+        sys.exit(2)
     trees = {name: json.loads((TOP / "schemas" / f"{name}.schema.json").read_text()) for name in KINDS}
     resources = [(f"{name}.schema.json", referencing.Resource.from_contents(tree)) for name, tree in trees.items()]
     registry = referencing.Registry().with_resources(resources)
@@ -402,7 +406,8 @@ def asked():
 
 def main():
     sys.stdout.reconfigure(errors="backslashreplace")
-    checks, files = validators(), asked()
+    files = asked()
+    checks = validators()
     if files:
         results = [checked(checks, path, kind) for path, kind in files]
         wrong = [line for _, lines in results for line in lines]

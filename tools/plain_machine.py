@@ -233,14 +233,17 @@ def read_system(name, stand=pathlib.Path()):
     return System(len(manifests), len(tree.get("clients", [])), services, read_sources(manifests), own, ram, mmio, budgets)
 
 
-def read_scenario(path):
+def scenario_of(tree):
     """The limit of events and the opening memory; a byte that isn't in the memory is 0."""
-    tree = json.loads(pathlib.Path(path).read_text())
     memory = {}
     for item in tree.get("memory", []):
         for offset, byte in enumerate(bytes.fromhex(item["bytes"])):
             memory[number(item["address"]) + offset] = byte
     return operator.index(tree.get("event_limit", 4096)), memory
+
+
+def read_scenario(path):
+    return scenario_of(json.loads(pathlib.Path(path).read_text()))
 
 
 # The machine
@@ -864,6 +867,8 @@ def answer_of_files(system, scenario, trace, audits, stand=pathlib.Path()):
 
 def main():
     word, names = sys.argv[1:-3], sys.argv[1:][-3:]
+    if names in (["-h"], ["--help"]):
+        sys.exit(print(__doc__))
     if len(names) < 3 or word not in ([], ["audit"]):
         print(USAGE, file=sys.stderr)
         sys.exit(2)

@@ -1,0 +1,44 @@
+#!/bin/bash
+# Packs the programs that the gate built, so that they can be handed on: tools/pack.sh GATE_LOG [FILE]
+#
+# GATE_LOG is what the gate wrote: .ci/run 2>&1 | tee gate.log. FILE is the archive, by default ffm-COMMIT.tar.gz in the
+# folder where one stands. It holds the programs, the tools and schemas for users of them, `identity.txt` with the
+# commit, the kit's line and the gate's closing lines, and `SHA256SUMS`. Nothing is packed where the gate didn't pass,
+# where a file of the repository isn't committed, or where a source is younger than a program.
+set -eu
+
+stop() { echo "pack.sh: $1" >&2; exit 1; }
+
+if [ "${1:---help}" = --help ] || [ "$1" = -h ]; then sed -n '2,/^set/{/^#/s/^# \{0,1\}//p}' "$0"; exit 0; fi
+log=$(readlink -f "$1")
+[ -f "$log" ] || stop "$1: no such file"
+top=$(cd "$(dirname "$(readlink -f "$0")")/.." && pwd)
+commit=$(git -C "$top" rev-parse HEAD)
+file=$(readlink -f "${2:-ffm-${commit:0:12}.tar.gz}")
+
+grep -qE '^[0-9]+ passed, 0 failed$' <(tail -1 "$log") || stop "the gate's log ends with: $(tail -1 "$log")"
+changed=$(git -C "$top" status --porcelain --untracked-files=no; git -C "$top" ls-files --others --exclude-standard crates)
+[ -z "$changed" ] || stop "these files aren't committed: $(head -3 <<< "$changed")"
+kit=$(rt version) || stop "rt, the command of the Rattle kit, isn't on the path"
+
+room=$(mktemp -d)
+trap 'rm -rf "$room"' EXIT
+folder="$room/ffm-${commit:0:12}"
+mkdir "$folder"
+for name in $(grep -oE '^(ffm|ffm_view)\b' "$top/crates.txt"); do
+    program="$top/crates/$name/out/$name"
+    [ "$(python3 "$top/tools/ffm_program.py" "$name" --which 2>&1)" = "$program" ] || stop "$program isn't there, or a source is younger"
+    cp "$program" "$folder"
+done
+mkdir "$folder/tools"
+cp "$top"/tools/*.py "$folder/tools"
+cp -r "$top/schemas" "$folder"
+{
+    echo "commit $commit"
+    echo "kit $kit"
+    grep -E '^rt: ok;' "$log" | tail -1
+    tail -1 "$log"
+} > "$folder/identity.txt"
+(cd "$folder" && find . -type f ! -name SHA256SUMS -printf '%P\n' | LC_ALL=C sort | xargs sha256sum > SHA256SUMS)
+tar -C "$room" -czf "$file" --sort=name --owner=0 --group=0 --mtime="$(git -C "$top" show -s --format=%cI)" "ffm-${commit:0:12}"
+echo "$file"
