@@ -1,13 +1,13 @@
 #!/usr/bin/env python3
-"""Looks at what the tables of the pages name: files, functions, clauses, wrong bodies, tests, public calls.
+"""Looks at what the tables of the pages name: files, functions, clauses, mutants, tests, public calls.
 
     python3 tools/check_evidence.py
 
-Run at the top of the repository. In the tables of PAGES each file, function, clause, wrong body and test has to be
-there, in the file or crate that is named before it in the same cell; a wrong body for which none is named is one
+Run at the top of the repository. In the tables of PAGES each file, function, clause, mutant and test has to be
+there, in the file or crate that is named before it in the same cell; a mutant for which none is named is one
 of the row's contract's crate, and in evidence.md in italics where it stands in wrong_bodies/. In proved.md each
 public call of a crate has to stand in the crate's section, in code marks, and each call and clause that a section
-names has to be the crate's. The figures of crates, wrong bodies, tests, calls, examples and stored runs that the README and the
+names has to be the crate's. The figures of crates, mutants, tests, calls, examples and stored cases that the README and the
 pages state have to be those counted (figures.py). For each kind of lines in the stored traces rule_of_line.py has to
 find a rule, a definition, a clause and a test. Prints what isn't so. The status is 1 where something is wrong."""
 
@@ -24,7 +24,7 @@ NAMES = {path.parent.name for path in CRATES.glob("*/src")}
 PROVED = pathlib.Path("docs/proved.md")
 PAGES = [pathlib.Path("docs") / name for name in ("evidence.md", "machine.md", "architecture.md")] + [PROVED]
 CITED = (
-    "Definition", "Contract", "Contract and body", "Wrong bodies, refused", "Worked run", "Tests", "Here",
+    "Definition", "Contract", "Contract and body", "Mutants, refused", "Worked run", "Tests", "Here",
     "Where", "Definitions that its clauses cite", "A caller that is proved",
 )
 TOKEN = re.compile(r"[\w/]+\.(?:rt|antt)|`[\w:]+`|\b[a-z]\w*\b|;")
@@ -80,8 +80,8 @@ def without_links(cell):
 
 
 def wrong_in(cell, column, crate):
-    """What a cell names and isn't there. `crate` is the one whose wrong bodies are meant where none is named."""
-    files, clause, edits = [], False, column.startswith("Wrong")
+    """What a cell names and isn't there. `crate` is the one whose mutants are meant where none is named."""
+    files, clause, edits = [], False, column.startswith("Mutants")
     for token in TOKEN.findall(without_links(cell)):
         if token == ";":
             files, clause = [], False
@@ -99,7 +99,7 @@ def wrong_in(cell, column, crate):
         elif token in ("clause", "clauses"):
             clause = True
         elif edits and "_" in token and not any((folder / f"{token}.edit").is_file() for folder in (CRATES / crate / "must-fail", WRONG_BODIES / crate)):
-            yield f"{token}: no such wrong body of {crate}"
+            yield f"{token}: no such mutant of {crate}"
 
 
 def wrong_cells(page):
@@ -112,7 +112,7 @@ def wrong_cells(page):
 
 
 def wrong_italics(page):
-    """The wrong bodies in italics that the gate tries, and those without that stand beside it."""
+    """The mutants in italics that the gate tries, and those without that stand beside it."""
     in_gate, beside = ({path.stem for path in edits} for edits in (CRATES.glob("*/must-fail/*.edit"), WRONG_BODIES.glob("*/*.edit")))
     for number, row in rows(page):
         for italic, name in EDIT.findall(re.sub(r"`[^`]*`", "", without_links(" | ".join(row.values())))):

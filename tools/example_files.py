@@ -8,8 +8,9 @@ import pathlib
 import re
 from dataclasses import dataclass
 
-GUIDED = pathlib.Path("crates/guided_examples")
-FIRMWARE = pathlib.Path("crates/firmware_commands")
+STORED = pathlib.Path("crates/stored_cases")
+GUIDED = STORED / "data" / "guided"
+FIRMWARE = STORED / "data" / "firmware" / "six_partitions"
 FIRST = pathlib.Path("crates/ffm")
 
 
@@ -33,18 +34,20 @@ class Example:
 
     def is_named_in(self, text):
         """Whether commands name the example's folder."""
-        return re.search(rf"\b{self.name}/|{self.folder}(?!/\w)", text) is not None
+        path = re.escape(str(self.folder.relative_to(self.stand)))
+        return re.search(rf"\b{path}/|{re.escape(str(self.folder))}(?!/\w)", text) is not None
+
+
+def stored(name, folder):
+    return Example(name, STORED / "data", folder, folder / "trace.txt")
 
 
 def guided():
-    """The examples that stand in a folder of their own each."""
-    stand = GUIDED / "data"
-    folders = sorted(path.parent for path in stand.glob("*/scenario.json"))
-    return [Example(folder.name, stand, folder, folder / "trace.txt") for folder in folders]
+    """The guided examples."""
+    return [stored(path.parent.name, path.parent) for path in sorted(GUIDED.glob("*/scenario.json"))]
 
 
 def examples():
     """All examples, by their names."""
-    firmware, first = FIRMWARE / "data", FIRST / "data"
-    others = [Example("firmware", firmware, firmware, firmware / "trace.txt"), Example("first", first, first, FIRST / "stdout")]
-    return {example.name: example for example in guided() + others}
+    first = Example("first", FIRST / "data", FIRST / "data", FIRST / "stdout")
+    return {example.name: example for example in [*guided(), stored("firmware", FIRMWARE), first]}

@@ -6,7 +6,8 @@ import json
 import pathlib
 import re
 
-from example_files import FIRMWARE, FIRST, GUIDED, examples
+from example_files import examples
+from stored_cases import cases
 
 CRATES = pathlib.Path("crates")
 NAMES = {path.parent.name for path in CRATES.glob("*/src")}
@@ -23,7 +24,7 @@ def lines_of(path):
 
 
 def edits():
-    """How many wrong bodies the gate tries."""
+    """How many mutants the gate tries."""
     return len(list(CRATES.glob("*/must-fail/*.edit")))
 
 
@@ -67,20 +68,10 @@ def crates_of_tests():
     return [crate for crate in NAMES - served if tests_of(crate) and not (CRATES / crate / "src" / "main.rt").exists()]
 
 
-def served_by(crate):
-    return sum(crate in stands_on(other) for other in NAMES)
-
-
 def calls():
     """How many variants the machine's calls have."""
     body = re.search(r"pub enum Call \{\n(.*?)^\}", MACHINE.read_text(), re.M | re.S)[1]
     return len(re.findall(r"^    [A-Z]\w*", body, re.M))
-
-
-def small_examples():
-    """How many examples have no row of their own in the README, but for the main one."""
-    rows = set(re.findall(r"^\| \[(\w+)\]", README.read_text(), re.M))
-    return len(set(examples()) - rows - {"first"})
 
 
 def partitions_of(name):
@@ -89,7 +80,7 @@ def partitions_of(name):
 
 def told_in_the_tutorial():
     """How many examples the tutorial's commands name."""
-    return len(set(re.findall(r"^ffm \w+ (\w+)/system", pathlib.Path("docs/tutorial.md").read_text(), re.M)))
+    return len(set(re.findall(r"^ffm \w+ guided/(\w+)/system", pathlib.Path("docs/tutorial.md").read_text(), re.M)))
 
 
 def lines_of_audit(name):
@@ -98,35 +89,30 @@ def lines_of_audit(name):
 
 
 def statuses():
-    """The statuses with which the commands of the stored runs end."""
-    texts = [(crate / "stdout").read_text() for crate in (GUIDED, FIRMWARE)]
-    found = sorted({0, *(int(status) for text in texts for status in re.findall(r"^status (\d)$", text, re.M))})
+    """The statuses with which the stored commands end."""
+    found = sorted({command.status for case in cases() for command in case.commands})
     return [f"{', '.join(map(str, found[:-1]))} and {found[-1]}"]
 
 
 # The forms in which pages state figures, with what is counted for each {}.
 FIGURES = [
     ("The gate tries {} of {} |", lambda: [edits(), edits() + further_edits()]),
-    ("{} crates, {} wrong bodies in the gate and {} beside it, {} tests",
+    ("{} crates, {} mutants in the gate and {} beside it, {} tests",
      lambda: [len(NAMES), edits(), further_edits(), sum(map(tests_of, NAMES))]),
     ("with the figures below N is {}", lambda: [len(NAMES) + edits()]),
     ("{} crates have tests alone", lambda: [len(crates_of_tests())]),
-    ("`sample_systems` serves {} of them, `sample_texts` {}, and `sample_commands` {}.",
-     lambda: [served_by("sample_systems"), served_by("sample_texts"), served_by("sample_commands")]),
+    ("{} stored cases with {} commands", lambda: [len(cases()), sum(len(case.commands) for case in cases())]),
     ("manifest_compile and the {} below it", lambda: [len(set(stands_on("manifest_compile")) - BASE)]),
     ("the statements of {} ported crates", lambda: [len(ported_crates("ffm"))]),
     ("all {} calls", lambda: [calls()]),
     ("any of the {} calls", lambda: [calls()]),
-    ("[{} small ones]", lambda: [small_examples()]),
-    ("| {} of the guided examples, step by step", lambda: [told_in_the_tutorial()]),
+    ("an author's first hour: {} examples", lambda: [told_in_the_tutorial()]),
     ("leads through {} of the", lambda: [told_in_the_tutorial()]),
-    ("writes {} such lines", lambda: [lines_of_audit("audited_meter")]),
     ("has {} lines of changes", lambda: [lines_of_audit("audited_meter")]),
-    ("The first {} lines are the trace", lambda: [lines_of(FIRST / "stdout")]),
     ("| {} partitions: a secret goes through", lambda: [partitions_of("storage_stack")]),
     ("| {} partitions whose manifests are files of their own", lambda: [partitions_of("firmware")]),
-    ("| {} partitions that each break one rule", lambda: [partitions_of("hostile_clients") - 1]),
-    ("| {} partitions and an audit", lambda: [partitions_of("audited_meter")]),
+    ("| {} partitions and two of four clients that break rules", lambda: [partitions_of("hostile_clients") - 1]),
+    ("what an audit shows of {} partitions", lambda: [partitions_of("audited_meter")]),
     ("with the statuses {}.", statuses),
 ]
 
@@ -134,12 +120,13 @@ FIGURES = [
 def is_number(told, counted):
     """Whether a page tells a number, in digits or as a word."""
     in_words = [WORDS[counted]] if isinstance(counted, int) and counted < len(WORDS) else []
-    return told.lower() in [str(counted), *in_words]
+    in_digits = f"{counted:,}" if isinstance(counted, int) and counted > 999 else str(counted)
+    return told.lower() in [in_digits, *in_words]
 
 
 def stated_as(form):
     """Each text of a page that has the form, with the page and the figures that it states."""
-    pattern = re.escape(form).replace(r"\{\}", r"(\d(?:, \d)+ and \d|\w+)")
+    pattern = re.escape(form).replace(r"\{\}", r"(\d(?:, \d)+ and \d|\d+(?:,\d{3})+|\w+)")
     return [(page, stated[0], stated.groups()) for page in PAGES for stated in re.finditer(pattern, page.read_text())]
 
 

@@ -22,6 +22,8 @@ import sys
 import tempfile
 from dataclasses import dataclass, field
 
+from example_files import GUIDED
+
 CRATE = pathlib.Path("crates/ffm")
 WORDS = {
     "run": ["run", "system.json", "scenario.json"],
@@ -135,7 +137,7 @@ def main():
     parser.add_argument("--from", dest="first", type=int, default=1, help="the first allocation to refuse")
     parser.add_argument("--most", type=int, default=500, help="the last one, at most")
     parser.add_argument("--step", type=int, default=1, help="refuse every so many")
-    parser.add_argument("--example", type=pathlib.Path, default=pathlib.Path("crates/guided_examples/data/two_requests"))
+    parser.add_argument("--example", type=pathlib.Path, default=GUIDED / "two_requests")
     arguments = parser.parse_args()
     if arguments.first < 1 or arguments.step < 1:
         parser.error("--from and --step are at least 1")

@@ -1,5 +1,5 @@
 #!/usr/bin/env python3
-"""Finds the rule of a line of a trace, with its definition, its clause, its wrong bodies and its tests.
+"""Finds the rule of a line of a trace, with its definition, its clause, its mutants and its tests.
 
     python3 tools/rule_of_line.py [--rule] TRACE NUMBER
     python3 tools/rule_of_line.py [--rule] 'n1 version 0x00000041 -> number 0'
@@ -11,7 +11,7 @@ places from the top of the repository:
 2. the definition,
 3. the function with its contract, with > before the clause, and the definitions of this repository that the clause cites;
    of a long contract the signature and the clause, with .. for the rest,
-4. wrong bodies that are refused, worked runs and tests.
+4. mutants that are refused, worked runs, tests and stored cases.
 The answer that a `resume` shows was made by another event. With a trace the call and that event are found; with the
 text alone the rules that may have made the answer are told by their places. Of signals, and of the message of a `get`,
 the events behind them are found as far as the trace tells them; likewise the `get` of a message's handle, the panic of a
@@ -36,8 +36,9 @@ from typing import NamedTuple
 
 from check_evidence import CRATES, ITEM, TEST, TOKEN, WRONG_BODIES, file_of, rows, sources, without_links
 from check_links import HEADING, anchor
-from example_files import examples
+from example_files import GUIDED, examples
 from plain_machine import MOST_STATELESS, STATELESS_HANDLE, read_system
+from stored_cases import DATA, RUN_STATUSES, cases
 
 TOP = pathlib.Path(__file__).resolve().parents[1]
 PAGES = ("machine.md", "evidence.md", "formats.md", "view.md", "reading_a_clause.md")
@@ -444,7 +445,7 @@ def rule_of_call(event, run):
     """The row of the call in the table of the calls."""
     number, row = row_of_call(name_of(event))
     shown, words = shows_error(event, run), []
-    for column, is_error in (("PROGRAMMER ERROR exactly where", True), ("Otherwise", False)):
+    for column, is_error in (("PROGRAMMER ERROR iff", True), ("Otherwise", False)):
         if row[column]:
             mark = "?" if shown is None else ">" if shown == is_error else " "
             words.append((mark, f"{column}: {explained(row, column)}"))
@@ -662,8 +663,8 @@ def run_around(lines, place, system=None):
 @lru_cache(maxsize=None)
 def system_beside(trace):
     """The system whose file lies beside a trace; None where none lies there that can be read. Manifests in files of their
-    own are looked for in the same folder, and in the one above it."""
-    for stand in (trace.parent, trace.parent.parent):
+    own are looked for from the same folder on, and from the three above it."""
+    for stand in list(trace.parents)[:4]:
         try:
             return read_system((trace.parent / "system.json").relative_to(stand), stand)
         except (OSError, LookupError, TypeError, ValueError, AttributeError):
@@ -671,7 +672,7 @@ def system_beside(trace):
     return None
 
 
-# ---- definitions, clauses, wrong bodies and tests
+# ---- definitions, clauses, mutants and tests
 
 
 @dataclass(frozen=True)
@@ -801,10 +802,10 @@ def functions_of(row):
     return items_of(row[column], column)
 
 
-def wrong_bodies_of(row):
-    """The files of the wrong bodies that a row names, each of the crate named before it, or of the contract's."""
+def mutants_of(row):
+    """The files of the mutants that a row names, each of the crate named before it, or of the contract's."""
     crate = next((word for item in functions_of(row)[:1] for word in item.path.parts if is_crate(word)), "")
-    for token in TOKEN.findall(without_links(row["Wrong bodies, refused"])):
+    for token in TOKEN.findall(without_links(row["Mutants, refused"])):
         crate = token if is_crate(token) else crate
         for folder in (CRATES / crate / "must-fail", WRONG_BODIES / crate):
             if (folder / f"{token}.edit").is_file():
@@ -812,12 +813,13 @@ def wrong_bodies_of(row):
 
 
 def runs_of(row):
-    """The worked runs, the tests and the examples that a row names, each with what it is."""
+    """The worked runs, the tests, the stored cases and the examples that a row names, each with what it is."""
     for column in (name for name in row if name.startswith("Worked") or name == "Tests"):
         for item in items_of(row[column], column):
             yield "test" if column == "Tests" and "machine_examples" not in item.path.parts else "worked run", item.told()
-    for path, more in re.findall(r"\]\(\.\./([^)#]+(?<!\.rt))\)([^;]*)", row["Tests"]):
-        yield "example", path + more
+    for path, more in re.findall(r"\]\(\.\./([^)#]+(?<!\.rt))\)([^;[]*)", row["Tests"]):
+        is_case = DATA in pathlib.Path(path).parents and GUIDED not in pathlib.Path(path).parents
+        yield "case" if is_case else "example", path + more.rstrip(", ")
 
 
 # ---- what is printed
@@ -859,7 +861,7 @@ def text_of(rule, is_whole, seen):
             seen.add((item.path, item.place))
     yield f"4. {EVIDENCE}:{number}"
     if is_whole:
-        yield from (f"   wrong body: {path}" for path in wrong_bodies_of(row))
+        yield from (f"   mutant: {path}" for path in mutants_of(row))
         yield from (f"   {what}: {text}" for what, text in runs_of(row))
 
 
@@ -914,10 +916,14 @@ def is_line(text):
 
 
 def stored_traces():
-    """The traces of the examples and those in sources, without the lines that are wrong there, each with its file."""
+    """The traces of the examples, of the stored runs and in sources, without the lines that are wrong there, each with its
+    file, or of a stored run its system's file."""
     line = r"(?:(?:p\d+|n\d+|dev) [a-z_]+\b[^\"\n{}]* -> [^\"\n{}]+|(?:quiet|stalled|full|restart) \d+)"
     for example in examples().values():
         yield example.trace, lines_of(example.trace)
+    for command in (command for case in cases() for command in case.commands):
+        if command.words()[:2] == ["ffm", "run"] and command.status in RUN_STATUSES:
+            yield DATA / command.files()[0], command.text.decode().splitlines()
     for path in sorted(CRATES.glob("*/src/**/*.rt")):
         for trace in re.findall(rf"(?:{line}\n)+", path.read_text().replace("\\n", "\n")):
             yield path, [text for text in trace.splitlines() if is_line(text)]
@@ -927,7 +933,7 @@ def lacks_of(rule):
     """What a rule lacks of the four things, and what docs/machine.md names of it and docs/evidence.md doesn't."""
     number, row = rule.row
     definitions, functions = items_of(row["Definition"], "Definition"), functions_of(row)
-    tests = [item for item in runs_of(row) if item[0] == "test"]
+    tests = [item for item in runs_of(row) if item[0] in ("test", "case")]
     for what, found in (("rule", rule.words), ("definition", definitions), ("clause", functions), ("test", tests)):
         if not found:
             yield f"{rule.title}: no {what} ({EVIDENCE}:{number})"

@@ -7,7 +7,7 @@ Run at the top of the repository. Takes README.md, docs/*.md and the README.md o
 named. The blocks of commands of a page are run in their order on a copy of the repository: the first at its top, and
 each further one in the folder in which the one before it ended. Where the commands say ffm, the FILE of --program is
 run, and where they say ffm_view that of --view, the proved programs; with no FILE it is tools/try_ffm.sh or
-tools/try_ffm_view.sh, which takes a minute or two at each call. The gate, what needs its libraries, and git are not
+tools/try_ffm_view.sh, which takes a minute or two at its first call. The gate, what needs its libraries, and git are not
 run, and told.
 
 What the page shows is looked for in what its commands wrote, and in the texts that stand beside the examples they
@@ -301,7 +301,7 @@ def main():
     parser.add_argument("--view", type=pathlib.Path, help="the proved ffm_view")
     parser.add_argument("pages", nargs="*", type=pathlib.Path)
     arguments = parser.parse_args()
-    of_examples = [pathlib.Path("examples/README.md"), *sorted(GUIDED.glob("data/*/README.md"))]
+    of_examples = [pathlib.Path("examples/README.md"), *sorted(GUIDED.glob("*/README.md"))]
     all_pages = [pathlib.Path("README.md"), *sorted(pathlib.Path("docs").glob("*.md")), *of_examples]
     count = 0
     with tempfile.TemporaryDirectory() as folder:

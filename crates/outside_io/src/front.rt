@@ -49,7 +49,7 @@ fn answer_of(front: io::Result<Vec<u8>>, limit: u32) -> Result<Vec<u8>, FileErro
 /// error `OutOfMemory`, and `Failed` at each other error. An error of reading is answered in the same
 /// way, but no clause says so: std doesn't tell which error comes of reading, so that there `Memory`
 /// in place of `Failed`, and the other way round, would be proved too.
-pub(crate) fn whole_of<T: Read + Drop>(
+pub fn whole_of<T: Read + Drop>(
     alloc: Global,
     opened: io::Result<T>,
     limit: u32,

@@ -13,11 +13,10 @@ mod output;
 mod sink;
 mod steady_files;
 mod steady_sink;
-#[cfg(test)]
-mod tests;
 mod words;
 
 pub use files::{FileError, Files};
+pub use front::whole_of;
 pub use gathering::Gathering;
 pub use host::{HostFiles, StdoutSink};
 pub use memory_files::MemoryFiles;

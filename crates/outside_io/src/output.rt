@@ -15,6 +15,12 @@ impl<P: Print> Telling for Printer<'_, P> {
     ghost tells = { false };
 }
 
+impl Telling for Vec<u8> {
+    ghost use Rattle.std.specs.Prelude.{true};
+
+    ghost tells = { true };
+}
+
 /// A writer with nothing between: each put is one write.
 ///
 /// It tells the bytes that the writer holds, where the writer tells them from the start on.

@@ -1,2 +1,0 @@
-mod ManifestLemmas
-mod Pushed
