@@ -1,0 +1,17 @@
+use Rattle.priority_law.proofs.Fitting.{fit_alike}
+use Rattle.priority_law.proofs.Machine.{judge_alike}
+use Rattle.priority_law.proofs.Runs.{run_alike}
+use Rattle.priority_law.proofs.Programs.{read_alike}
+use Rattle.priority_law.proofs.priority_changes_nothing.Goals as goal
+
+pub returns-clause-fit : goal.returns-clause-fit
+returns-clause-fit c = fit_alike
+
+pub returns-clause-read : goal.returns-clause-read
+returns-clause-read c = read_alike
+
+pub returns-clause-run : goal.returns-clause-run
+returns-clause-run c = run_alike
+
+pub returns-clause-judge : goal.returns-clause-judge
+returns-clause-judge c = judge_alike

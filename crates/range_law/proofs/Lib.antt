@@ -1,0 +1,16 @@
+pub mod Numbers
+pub mod Machine
+pub mod Plans
+pub mod Mapping
+pub mod Rounds
+pub mod Results
+pub mod Digits
+pub mod Versions
+pub mod Openings
+pub mod Assembly
+pub mod Functions
+pub mod Programs
+pub mod Systems
+pub mod Runs
+pub mod Every
+pub mod Files

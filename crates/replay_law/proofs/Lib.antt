@@ -1,0 +1,4 @@
+pub mod Chains
+pub mod Played
+pub mod Readable
+pub mod Replays
