@@ -146,11 +146,13 @@ def caught(name, folder):
 
 
 def agrees_with_stored_run(path, name):
-    """Whether a program writes what the crate's stored run wants."""
+    """Whether a program writes what the crate's stored run wants, and ends with its status, which is 0 where no file says it."""
     crate = TOP / "crates" / name
     words = (crate / "args").read_text().splitlines()
+    status = crate / "status"
+    wanted = int(status.read_text()) if status.exists() else 0
     done = subprocess.run([str(path), *words], cwd=crate / "data", capture_output=True, check=False)
-    return done.returncode == 0 and done.stdout == (crate / "stdout").read_bytes()
+    return done.returncode == wanted and done.stdout == (crate / "stdout").read_bytes()
 
 
 def build(name):

@@ -1,4 +1,5 @@
-//! Files at their limits, too long to be stored: a manifest file, the list of manifests, and a script.
+//! Limits that no stored file shows: of a manifest file, the list of manifests and a script, which would be too long
+//! for one, and of a run where its scenario names none.
 
 use ffm_model::{
     BAD_VALUE, FILE_TOO_LONG, Key, Memory, Parts, PartsError, PathStep, ReadError, Refusal,
@@ -78,10 +79,15 @@ fn client_alone(alloc: Global) -> Result<System, PartsError> {
     Ok(compile(alloc, &parts)?)
 }
 
-/// What a scenario says with a script of so many lines.
-fn scenario_of(alloc: Global, system: &System, count: u32) -> Result<Scenario, ReadError> {
+/// What a scenario says with a script of so many lines, all the same.
+fn scenario_of(
+    alloc: Global,
+    system: &System,
+    line: &str,
+    count: u32,
+) -> Result<Scenario, ReadError> {
     let front = r#"{"scripts":[{"actor":"NS","lines":["#;
-    let text = repeated(alloc, front, "\"end\"", count, "]}]}")?;
+    let text = repeated(alloc, front, line, count, "]}]}")?;
     read_scenario(alloc, text.as_bytes(), system)
 }
 
@@ -99,16 +105,25 @@ fn line_count(scenario: &Scenario) -> Option<usize> {
 #[test]
 fn a_script(rt: HostRuntime) -> Result<(), Fail> {
     let system = client_alone(rt.alloc())?;
-    let scenario = scenario_of(rt.alloc(), &system, 4096)?;
+    let scenario = scenario_of(rt.alloc(), &system, "\"end\"", 4096)?;
     assert!(rt; line_count(&scenario) == Some(4096));
     let place = [
         PathStep::Key(Key::Scripts),
         PathStep::Index(0),
         PathStep::Key(Key::Lines),
     ];
-    let longer = scenario_of(rt.alloc(), &system, 4097);
+    // The length is looked at before the items, of which none is a line.
+    let longer = scenario_of(rt.alloc(), &system, "7", 4097);
     assert!(rt;
         matches!(&longer, Err(ReadError::Refused(refusal)) if is_at(refusal, BAD_VALUE, &place))
     );
+    Ok(())
+}
+
+#[test]
+fn events_of_a_run(rt: HostRuntime) -> Result<(), Fail> {
+    let system = client_alone(rt.alloc())?;
+    let scenario = read_scenario(rt.alloc(), b"{}", &system)?;
+    assert!(rt; scenario.limit == 4096);
     Ok(())
 }

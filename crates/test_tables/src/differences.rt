@@ -169,13 +169,15 @@ fn images_are_compared(rt: HostRuntime) -> Result<(), Fail> {
     Ok(())
 }
 
-/// Where a region begins, and how many of its bytes are tried.
+/// Where bytes of a region begin, and how many of them are tried.
 struct RegionRow(u32, u32);
 
-const REGIONS: [RegionRow; 8] = [
+const REGIONS: [RegionRow; 10] = [
     RegionRow(0x1000_0000, 63),
     RegionRow(0x2000_0000, 65),
     RegionRow(0x3000_0000, 100),
+    RegionRow(0x3000_01f4, 1),
+    RegionRow(0x3000_03c0, 40),
     RegionRow(0x4000_0000, 1),
     RegionRow(0x4000_0001, 31),
     RegionRow(0x4000_0020, 32),
@@ -183,7 +185,7 @@ const REGIONS: [RegionRow; 8] = [
     RegionRow(0xffff_ffc0, 64),
 ];
 
-// Where a byte of the region is the only one that differs, it is the one that is found.
+// Where one of these bytes is the only one that differs, it is the one that is found.
 fn assert_each_byte(
     rt: &impl Abort,
     alloc: Global,

@@ -38,45 +38,76 @@ fn system(rt: &impl Abort, alloc: Global, spy_domain: u32) -> Result<System, Fai
     memory_of(rt, alloc, &[0, spy_domain], &regions)
 }
 
-/// An actor, a range, and whether it is a valid buffer, readable and writable.
-struct RangeRow(ActorId, u32, u32, bool, bool, bool);
+/// Whether a range is a valid buffer, readable and writable.
+struct Rights {
+    valid: bool,
+    read: bool,
+    write: bool,
+}
+
+const ALL: Rights = Rights {
+    valid: true,
+    read: true,
+    write: true,
+};
+
+const READ_AND_WRITE: Rights = Rights {
+    valid: false,
+    read: true,
+    write: true,
+};
+
+const READ: Rights = Rights {
+    valid: false,
+    read: true,
+    write: false,
+};
+
+const NONE: Rights = Rights {
+    valid: false,
+    read: false,
+    write: false,
+};
+
+/// An actor, where a range begins and how long it is, and what the actor may do with it.
+struct RangeRow(ActorId, u32, u32, Rights);
 
 const RANGES: [RangeRow; 19] = [
-    RangeRow(CLIENT, 0, 0, true, true, true),
-    RangeRow(CLIENT, 0x2000_fff8, 8, true, true, true),
-    RangeRow(CLIENT, 0x2000_fff9, 8, false, false, false),
-    RangeRow(CLIENT, 0xffff_fff0, 32, false, false, false),
-    RangeRow(CLIENT, 0x2000_0000, 0x1_0000, true, true, true),
-    RangeRow(CLIENT, 0x2000_0000, 0x1_0001, false, false, false),
-    RangeRow(CLIENT, 0x2000_ffff, 1, true, true, true),
-    RangeRow(CLIENT, 0x1fff_ffff, 1, false, false, false),
-    RangeRow(CLIENT, 0x3000_0000, 4, false, false, false),
-    RangeRow(CLIENT, 0x4000_0000, 4, false, false, false),
-    RangeRow(VAULT, 0x3000_0000, 0x400, true, true, true),
-    RangeRow(VAULT, 0x3000_03ff, 2, false, false, false),
-    RangeRow(VAULT, 0x2000_0000, 1, false, false, false),
-    RangeRow(VAULT, 0x4000_0000, 0x20, false, true, false),
-    RangeRow(VAULT, 0xffff_fff0, 0x10, false, true, true),
-    RangeRow(VAULT, 0xffff_fff0, 0x20, false, false, false),
-    RangeRow(SPY, 0x3000_0000, 4, false, false, false),
-    RangeRow(SPY, 0x4000_0000, 4, false, false, false),
-    RangeRow(NOBODY, 0x2000_0000, 1, false, false, false),
+    RangeRow(CLIENT, 0, 0, ALL),
+    RangeRow(CLIENT, 0x2000_fff8, 8, ALL),
+    RangeRow(CLIENT, 0x2000_fff9, 8, NONE),
+    RangeRow(CLIENT, 0xffff_fff0, 32, NONE),
+    RangeRow(CLIENT, 0x2000_0000, 0x1_0000, ALL),
+    RangeRow(CLIENT, 0x2000_0000, 0x1_0001, NONE),
+    RangeRow(CLIENT, 0x2000_ffff, 1, ALL),
+    RangeRow(CLIENT, 0x1fff_ffff, 1, NONE),
+    RangeRow(CLIENT, 0x3000_0000, 4, NONE),
+    RangeRow(CLIENT, 0x4000_0000, 4, NONE),
+    RangeRow(VAULT, 0x3000_0000, 0x400, ALL),
+    RangeRow(VAULT, 0x3000_03ff, 2, NONE),
+    RangeRow(VAULT, 0x2000_0000, 1, NONE),
+    RangeRow(VAULT, 0x4000_0000, 0x20, READ),
+    RangeRow(VAULT, 0xffff_fff0, 0x10, READ_AND_WRITE),
+    RangeRow(VAULT, 0xffff_fff0, 0x20, NONE),
+    RangeRow(SPY, 0x3000_0000, 4, NONE),
+    RangeRow(SPY, 0x4000_0000, 4, NONE),
+    RangeRow(NOBODY, 0x2000_0000, 1, NONE),
 ];
 
 // The same where both partitions are in one domain.
 const SHARED: [RangeRow; 5] = [
-    RangeRow(SPY, 0x3000_0000, 4, true, true, true),
-    RangeRow(VAULT, 0x3000_0400, 0x100, true, true, true),
-    RangeRow(VAULT, 0x3000_03ff, 2, false, false, false),
-    RangeRow(SPY, 0x4000_0000, 4, false, false, false),
-    RangeRow(CLIENT, 0x3000_0000, 4, false, false, false),
+    RangeRow(SPY, 0x3000_0000, 4, ALL),
+    RangeRow(VAULT, 0x3000_0400, 0x100, ALL),
+    RangeRow(VAULT, 0x3000_03ff, 2, NONE),
+    RangeRow(SPY, 0x4000_0000, 4, NONE),
+    RangeRow(CLIENT, 0x3000_0000, 4, NONE),
 ];
 
 fn assert_ranges(rt: &impl Abort, system: &System, rows: &[RangeRow]) {
-    for RangeRow(actor, base, len, valid, read, write) in rows {
-        let named = valid_buffer(system, *actor, *base, *len) == *valid;
-        let reads = may_read(system, *actor, *base, *len) == *read;
-        let writes = may_write(system, *actor, *base, *len) == *write;
+    for RangeRow(actor, base, len, rights) in rows {
+        let named = valid_buffer(system, *actor, *base, *len) == rights.valid;
+        let reads = may_read(system, *actor, *base, *len) == rights.read;
+        let writes = may_write(system, *actor, *base, *len) == rights.write;
         assert!(rt; named && reads && writes, "{actor:?} {base:#x} {len:#x}");
     }
 }

@@ -6,7 +6,8 @@ use std::cell::Cell;
 use std::sync::Wait;
 
 /// Answers each actor from its own pass, or where `over` is set that no actor can go on. As a gate it writes down two
-/// digits for each event, the actor and the event's number, and as a manager 9 and the actor for each rest.
+/// digits for each event, the actor and the event's number, and as a manager 9 and the actor for each rest. There is
+/// room for nine pairs; of too many the digits are `u64::MAX`.
 #[derive(Drop)]
 pub(crate) struct Alone {
     over: bool,
@@ -27,10 +28,10 @@ impl Alone {
     }
 
     fn note(&self, tens: u32, units: u32) {
-        let two = tens.wrapping_mul(10).wrapping_add(units);
+        let two = tens.saturating_mul(10).saturating_add(units);
         let digits = self.digits.get();
         self.digits
-            .set(digits.wrapping_mul(100).wrapping_add(u64::from(two)));
+            .set(digits.saturating_mul(100).saturating_add(u64::from(two)));
     }
 }
 

@@ -92,8 +92,7 @@ fn drive_to_the_end<R: Wait + Abort>(
     let system = system(alloc)?;
     let mut workers = workers_of(rt, alloc, &system, passes)?;
     drive(rt, shared, &mut workers, &OpenGate);
-    let passes = passes_of(alloc, workers)?;
-    Ok(passes)
+    Ok(passes_of(alloc, workers)?)
 }
 
 fn run_of_all<R: Wait + Abort>(rt: &R, alloc: Global) -> Result<Spm, Fail> {

@@ -7,6 +7,7 @@ use ffm_model::{Answer, Call, Entry, Outcome, Verdict};
 use spm_core::Spm;
 use spm_lock::{Pass, Shared};
 use std::alloc::Global;
+use std::process::Abort;
 use std::sync::Wait;
 use std::test::Fail;
 use std::thread;
@@ -36,18 +37,30 @@ fn turn<R: Wait>(rt: &R, shared: &Shared, pass: &mut Pass, call: Call) -> Option
     })
 }
 
-// Asks for the service's version three times.
-fn three_versions<R: Wait>(rt: &R, shared: &Shared, mut pass: Pass) -> Pass
+// Asks for the service's version three times. Each call is made: the client with a connection is told the version, and
+// the other one 0, since the service isn't there for it.
+fn three_versions<R: Wait + Abort>(rt: &R, shared: &Shared, mut pass: Pass) -> Pass
     requires { IsOwn shared.now pass }
     ensures { IsPassOf shared.now pass.actor result }
 {
+    let actor = pass.actor();
+    let version = if actor == CLIENT { 1 } else { 0 };
+    let wanted = Entry {
+        actor,
+        call: VERSION,
+        outcome: Outcome::Number(version),
+    };
     for _ in 0..3u32 {
-        let _ = turn(rt, shared, &mut pass, VERSION);
+        let answer = turn(rt, shared, &mut pass, VERSION);
+        assert!(rt;
+            matches!(answer, Some(Answer::Made { entry, .. }) if entry == wanted),
+            "{answer:?}"
+        );
     }
     pass
 }
 
-fn both<R: Threads + Wait + Sync>(rt: &R, shared: &Shared, a: Pass, b: Pass) -> (Pass, Pass)
+fn both<R: Threads + Wait + Abort + Sync>(rt: &R, shared: &Shared, a: Pass, b: Pass) -> (Pass, Pass)
     requires { IsOwn shared.now a × IsOwn shared.now b }
     ensures { IsPassOf shared.now a.actor result.0 × IsPassOf shared.now b.actor result.1 }
 {
@@ -64,7 +77,7 @@ fn both<R: Threads + Wait + Sync>(rt: &R, shared: &Shared, a: Pass, b: Pass) -> 
     )
 }
 
-fn run_of_two<R: Threads + Wait + Sync>(rt: &R, alloc: Global) -> Result<Spm, Fail> {
+fn run_of_two<R: Threads + Wait + Abort + Sync>(rt: &R, alloc: Global) -> Result<Spm, Fail> {
     let (shared, (vault, a, b)) = shared_by_three(alloc, 6)?;
     let (a, b) = both(rt, &shared, a, b);
     let passes = put_together(alloc, &shared, vault, a, b)?;
@@ -88,6 +101,7 @@ fn six_turns<R: Wait>(
     other: &mut Pass,
 ) -> [Option<Answer>; 6]
     requires { AreThree shared.now vault.old client.old other.old }
+    ensures { AreThree shared.now vault.new client.new other.new }
 {
     [
         turn(rt, shared, client, CONNECT),
@@ -129,10 +143,18 @@ const SIX_ANSWERS: [Option<Answer>; 6] = [
     Some(Answer::Over),
 ];
 
+fn run_of_one<R: Wait + Abort>(rt: &R, alloc: Global) -> Result<Spm, Fail> {
+    let (shared, (mut vault, mut client, mut other)) = shared_by_three(alloc, 20)?;
+    let answers = six_turns(rt, &shared, &mut vault, &mut client, &mut other);
+    assert!(rt; answers == SIX_ANSWERS, "{answers:?}");
+    let passes = put_together(alloc, &shared, vault, client, other)?;
+    Ok(shared.finish(passes))
+}
+
 #[test]
 fn one_thread_is_answered_as_by_the_manager(rt: HostRuntime) -> Result<(), Fail> {
-    let (shared, (mut vault, mut client, mut other)) = shared_by_three(rt.alloc(), 20)?;
-    let answers = six_turns(&rt, &shared, &mut vault, &mut client, &mut other);
-    assert!(rt; answers == SIX_ANSWERS, "{answers:?}");
+    let spm = run_of_one(&rt, rt.alloc())?;
+    assert!(rt; spm.length() == 3);
+    assert!(rt; spm.verdict() == Some(Verdict::Stalled));
     Ok(())
 }

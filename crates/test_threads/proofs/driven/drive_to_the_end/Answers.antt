@@ -10,4 +10,4 @@ pub returns : goal.returns
 returns g c =
     let w = c.in_ok-workers in
     let d = c.drive in
-    all_back c.args.shared.now c.args.passes c.in_ok-passes.passes w.workers d.new.workers c.requires.passes w.ensures.passes d.ensures.actors d.ensures.finished c.in_ok-passes.ensures
+    all_back c.args.shared.now c.args.passes c.in_ok-passes_of.field-0 w.workers d.new.workers c.requires.passes w.ensures.passes d.ensures.actors d.ensures.finished c.in_ok-passes_of.ensures
