@@ -1,7 +1,5 @@
 pub mod Makes
-pub mod Replays
-pub mod Audits
 pub mod Reports
 pub mod RunTexts
 pub mod Traces
-mod Valid
+pub mod Answering

@@ -16,7 +16,6 @@ use Rattle.actor_programs.specs.declared.program.Program.{Program}
 use Rattle.actor_programs.specs.Programs.{programs_of}
 use Rattle.scenario_runs.specs.Runs.{RanBy}
 use Rattle.work_orders.specs.Work.{system_in}
-use Rattle.ffm_top.proofs.Reports.{not_empty}
 use Rattle.ffm_top.proofs.Traces.{at_place}
 
 pub is_generated : (rounds : ℕ) (s : System) (c : Scenario) (programs : List Program) (held : Contents) → ((name : List ℕ) → held name ≡ None) → (system_in held system_text).gives ≡ Ok s
@@ -28,10 +27,6 @@ is_made rounds s c programs es v generated ran = record { system = s; scenario =
 
 pub made_due : (rounds : ℕ) (es : List Entry) (v : Verdict) (text : List ℕ) → IsMade rounds es v → text ≡ summary_line rounds (length es) (bytes_moved es) v → MadeDue rounds text 0
 made_due rounds es v text made e = record { entries = es; ended = v; made = made; text_is = e; status_is = refl }
-
-pub made_some : (rounds count moved : ℕ) (v : Verdict) → 0 < length (summary_line rounds count moved v)
-unfolding summary_line
-made_some rounds count moved v = not_empty (summary_line rounds count moved v) refl
 
 -- one event more
 pub moved_more : (es : List Entry) (i n : ℕ) → i < length es → IfSome (slice_get es i) (λ e. n ≡ moved_by e.call e.outcome) → bytes_moved (take (i + 1) es) ≡ bytes_moved (take i es) + n

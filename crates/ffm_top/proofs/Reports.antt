@@ -1,29 +1,28 @@
--- Runs that ended are due, and no text that is due is empty.
-use Rattle.std.proofs.Common.{ℕ, Bool, true, false, ◌≡◌, ◌<◌, ◌-◌, ◌+◌, List, [], ◌∷◌, ◌++◌, length, length-append, map, inl, inr, refl, ap, ◌∙◌, arith}
-use Rattle.std.specs.Prelude.{Option, Some, None, slice_get}
+-- Runs that ended are due, and which statuses come with what was done.
+use Rattle.std.proofs.Common.{ℕ, Bool, true, false, ◌≡◌, ◌⊎◌, ◌-◌, List, [], ◌∷◌, length, map, inl, inr, refl, ap, ◌∙◌, arith, append-nil, subst, sym}
+use Rattle.std.specs.Prelude.{Option, Some, None, IfSome, slice_get}
 use Rattle.std.specs.Option.{option_map, option_map_or}
 use Rattle.std.proofs.lemmas.List.{length-map}
 use Rattle.std.proofs.lemmas.Option.{slice_get-map}
 use Rattle.ffm_model.specs.declared.scenario.Scenario.{Scenario}
-use Rattle.std.specs.List.{flat_map}
 use Rattle.ffm_model.specs.declared.machine.Verdict.{Verdict}
 use Rattle.ffm_model.specs.declared.machine.Verdict.TheVariants.{Quiet, Stalled, Full}
 use Rattle.ffm_model.specs.declared.machine.Entry.{Entry}
-use Rattle.ffm_model.specs.declared.place.Refusal.{Refusal}
 use Rattle.ffm_model.specs.declared.system.System.{System}
 use Rattle.ffm_model.specs.declared.trace.Trace.{Trace}
 use Rattle.ffm_model.specs.Actors.{counts_of}
 use Rattle.ffm_model.specs.Counts.{ActorCounts}
-use Rattle.ffm_model.specs.Listing.{listing}
 use Rattle.ffm_model.specs.Restarts.{FinishedRun}
-use Rattle.ffm_model.specs.TraceText.{entry_text, line, trace_text, verdict_text}
+use Rattle.ffm_model.specs.TraceText.{trace_text}
+use Rattle.work_orders.specs.Work.{Work, listing_of, run_of, judge_of, make_of}
+use Rattle.ffm_top.specs.Due.{IsValidWork, LeftBy, WorkDue}
+use Rattle.judge_command.proofs.Replays.{status_of_text, status_of_trace}
 use Rattle.ffm_top.specs.declared.report.Report.TheVariants as report
 use Rattle.scenario_runs.specs.declared.restarting.Runs.{Runs}
 use Rattle.actor_programs.specs.declared.program.Program.{Program}
 use Rattle.scenario_runs.specs.Restarting.{AreRuns, finished}
 use Rattle.ffm_top.specs.Answers.{IsDoneStatus}
-use Rattle.ffm_top.specs.Runs.{RunDue, last_status, restart_line, run_text, runs_text, verdict_status}
-use Rattle.ffm_top.specs.Lines.{refusal_line, usage_line}
+use Rattle.ffm_top.specs.Runs.{RunDue, last_status, restart_line, runs_text, verdict_status}
 use Rattle.ffm_top.specs.Report.{text_of}
 
 verdict_done : (v : Verdict) → IsDoneStatus (verdict_status v)
@@ -49,47 +48,55 @@ run_due s c programs threads runs system_is are = record {
 pub last_done : (rs : List FinishedRun) → IsDoneStatus (last_status rs)
 last_done rs = done_by (slice_get rs (length rs - 1))
 
--- ---- no text is empty
+-- ---- what was done
 
-abbrev pub is_empty : List ℕ → Bool
-is_empty [] = true
-is_empty (x ∷ xs) = false
+ran_done : (s : System) (c : Scenario) (programs : List Program) (threads : Bool) (text : List ℕ) (status : ℕ) → RunDue s c programs threads text status → IsDoneStatus status
+ran_done s c programs threads text status due = subst IsDoneStatus (sym due.status_is) (last_done due.runs)
 
-pub not_empty : (xs : List ℕ) → is_empty xs ≡ false → 0 < length xs
-not_empty [] e = cc
-not_empty (x ∷ xs) e = omega arith
+judged_done : (status : ℕ) → (status ≡ 0) ⊎ (status ≡ 6) → IsDoneStatus status
+judged_done status (inl legal) = inl legal
+judged_done status (inr illegal) = inr (omega arith, omega arith)
 
--- with something after it a text isn't empty
-behind_some : (xs ys : List ℕ) → 0 < length ys → 0 < length (xs ++ ys)
-behind_some xs ys some = rw (length-append xs ys) (omega arith)
+text_done : (status : ℕ) → (status ≡ 1) ⊎ ((status ≡ 0) ⊎ (status ≡ 6)) → (status ≡ 1) ⊎ IsDoneStatus status
+text_done status (inl one) = inl one
+text_done status (inr done) = inr (judged_done status done)
 
-pub usage_some : 0 < length (text_of report.Usage)
-unfolding text_of usage_line
-usage_some = not_empty usage_line refl
+-- work that was done, or a text that is no trace's
+pub work_status : (w : Work) (text : List ℕ) (status : ℕ) → WorkDue w text status → (status ≡ 1) ⊎ IsDoneStatus status
+work_status (listing_of s) text status due = inr (inl due.1)
+work_status (run_of threads s c programs) text status due = inr (ran_done s c programs threads text status due)
+work_status (judge_of how s c bytes) text status due = text_done status (status_of_text how s c bytes text status due)
+work_status (make_of rounds) text status due = inr (inl due.status_is)
 
-pub refusal_some : (r : Refusal) → 0 < length (refusal_line r)
-unfolding refusal_line
-refusal_some r = not_empty (refusal_line r) refl
+-- work whose text is a trace's, where there is one
+pub valid_done : (w : Work) (text : List ℕ) (status : ℕ) → WorkDue w text status → IsValidWork w → IsDoneStatus status
+valid_done (listing_of s) text status due valid = inl due.1
+valid_done (run_of threads s c programs) text status due valid = ran_done s c programs threads text status due
+valid_done (judge_of how s c bytes) text status due valid = judged_done status (status_of_trace how s c bytes text status due valid)
+valid_done (make_of rounds) text status due valid = inl due.status_is
 
-pub listing_some : (s : System) → 0 < length (listing s)
-unfolding listing
-listing_some s = not_empty (listing s) refl
+-- ---- the run that threads left
 
-trace_some : (counts : ActorCounts) (es : List Entry) (v : Verdict) → 0 < length (trace_text counts es v)
-trace_some counts es v =
-    behind_some (flat_map (λ e. line (entry_text counts e)) es) (line (verdict_text v (length es))) (behind_some (verdict_text v (length es)) (10 ∷ []) (not_empty (10 ∷ []) refl))
+one_run : (counts : ActorCounts) (ts : List Trace) (es : List Entry) → map (λ (t : Trace). t.entries) ts ≡ es ∷ [] → (v : Verdict) × (runs_text counts 0 (map finished ts) ≡ trace_text counts es v)
+unfolding restart_line
+one_run counts [] es is = absurd cc
+one_run counts (t ∷ []) es is =
+    let here : t.entries ≡ es = cc in
+    (t.verdict, append-nil (trace_text counts t.entries t.verdict) ∙ ap (λ (xs : List Entry). trace_text counts xs t.verdict) here)
+one_run counts (t ∷ u ∷ ts) es is = absurd cc
 
-front_some : (xs ys : List ℕ) → 0 < length xs → 0 < length (xs ++ ys)
-front_some xs ys some = rw (length-append xs ys) (omega arith)
-
-runs_some : (s : System) (c : Scenario) (programs : List Program) (threads : Bool) (restarts : ℕ) (counts : ActorCounts) (ts : List Trace) → AreRuns s c programs threads restarts (map finished ts) → 0 < length (runs_text counts 0 (map finished ts))
-runs_some s c programs threads restarts counts [] are = absurd are
-runs_some s c programs threads restarts counts (t ∷ ts) are =
-    front_some (run_text counts 0 (finished t)) (runs_text counts (0 + 1) (map finished ts)) (behind_some (restart_line 0) (trace_text counts t.entries t.verdict) (trace_some counts t.entries t.verdict))
-
-pub ran_some : (s : System) (c : Scenario) (programs : List Program) (threads : Bool) (restarts : ℕ) (runs : Runs) → AreRuns s c programs threads restarts (map finished runs.traces.items) → 0 < length (text_of (report.Ran runs))
+-- its text is that of these entries
+pub left_text : (threads : Bool) (ended : Option (List Entry)) (runs : Runs) (status : ℕ) → (threads ≡ true → IfSome ended (λ es. map (λ (t : Trace). t.entries) runs.traces.items ≡ es ∷ []))
+    → LeftBy threads ended (text_of (report.Ran runs)) status
 unfolding text_of
-ran_some s c programs threads restarts runs are = runs_some s c programs threads restarts (counts_of runs.system) runs.traces.items are
+left_text false ended runs status is = tt
+left_text true None runs status is = λ _. tt
+left_text true (Some es) runs status is = λ _. let one = one_run (counts_of runs.system) runs.traces.items es (is refl) in (counts_of runs.system, one.0, one.1)
+
+-- no threads left it
+pub not_left : (threads : Bool) (ended : Option (List Entry)) (text : List ℕ) (status : ℕ) → threads ≡ false → LeftBy threads ended text status
+not_left false ended text status no_threads = tt
+not_left true ended text status no_threads = absurd cc
 
 -- ---- the last run
 

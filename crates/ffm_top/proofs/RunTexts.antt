@@ -1,6 +1,5 @@
 -- The traces of runs, one after the other, and what is known of each of their entries.
 use Rattle.std.proofs.Common.{ℕ, suc, true, ◌≡◌, ◌<◌, ◌≤◌, ◌+◌, ◌^◌, List, [], ◌∷◌, ◌++◌, length, map, take, drop, drop-cons, get_or, append_assoc, ap, ◌∙◌, subst, sym, arith}
-use Rattle.std.specs.Prelude.{Option}
 use Rattle.std.specs.List.{list_all}
 use Rattle.std.specs.Fmt.{decimal}
 use Rattle.std.proofs.lemmas.Fmt.{length-decimal-le}
@@ -12,8 +11,8 @@ use Rattle.ffm_model.specs.Counts.{ActorCounts}
 use Rattle.ffm_model.specs.Restarts.{FinishedRun}
 use Rattle.ffm_model.specs.TraceText.{IsActorOf}
 use Rattle.ffm_model.proofs.TestLemmas.{holds_at}
-use Rattle.outside_io.specs.Told.{Takes, TakesPart}
-use Rattle.outside_io.proofs.Told.{Takes-then, part_of_first, part_of_second, part_as}
+use Rattle.outside_io.specs.Sink.{SinkSeen, Took, Stopped}
+use Rattle.outside_io.proofs.SinkSteps.{stopped_first, stopped_then, took_then}
 use Rattle.scenario_runs.specs.Restarting.{finished, fits_counts}
 use Rattle.ffm_top.specs.Runs.{run_text, runs_text}
 
@@ -28,8 +27,8 @@ first_count : (ts : List Trace) (i : ℕ) → i ≤ length ts → length (map fi
 first_count ts i le = length-map (take i ts) finished ∙ length-take-le i ts le
 
 -- one run more
-pub run_more : (counts : ActorCounts) (ts : List Trace) (i : ℕ) (d : Trace) (a b c : Option (List ℕ)) → i < length ts
-    → Takes a b (runs_text counts 0 (map finished (take i ts))) → Takes b c (run_text counts i (finished (get_or ts i d))) → Takes a c (runs_text counts 0 (map finished (take (i + 1) ts)))
+pub run_more : (counts : ActorCounts) (ts : List Trace) (i : ℕ) (d : Trace) (a b c : SinkSeen) → i < length ts
+    → Took a b (runs_text counts 0 (map finished (take i ts))) → Took b c (run_text counts i (finished (get_or ts i d))) → Took a c (runs_text counts 0 (map finished (take (i + 1) ts)))
 run_more counts ts i d a b c lt p q =
     let x : FinishedRun = finished (get_or ts i d) in
     let front : List FinishedRun = map finished (take i ts) in
@@ -41,11 +40,11 @@ run_more counts ts i d a b c lt p q =
     ∙ runs_text-append counts 0 front (x ∷ [])
     ∙ ap (λ (n : ℕ). runs_text counts 0 front ++ (run_text counts n x ++ [])) there
     ∙ ap (λ (t : List ℕ). runs_text counts 0 front ++ t) (append-nil (run_text counts i x)) in
-    subst (λ (t : List ℕ). Takes a c t) (sym more) (Takes-then a b c _ _ p q)
+    subst (λ (t : List ℕ). Took a c t) (sym more) (took_then a b c _ _ p q)
 
 -- a text that ends inside a run's
-pub run_cut : (counts : ActorCounts) (ts : List Trace) (i : ℕ) (d : Trace) (a b c : Option (List ℕ)) → i < length ts
-    → Takes a b (runs_text counts 0 (map finished (take i ts))) → TakesPart b c (run_text counts i (finished (get_or ts i d))) → TakesPart a c (runs_text counts 0 (map finished ts))
+pub run_cut : (counts : ActorCounts) (ts : List Trace) (i : ℕ) (d : Trace) (a b c : SinkSeen) → i < length ts
+    → Took a b (runs_text counts 0 (map finished (take i ts))) → Stopped b c (run_text counts i (finished (get_or ts i d))) → Stopped a c (runs_text counts 0 (map finished ts))
 run_cut counts ts i d a b c lt p q =
     let x : FinishedRun = finished (get_or ts i d) in
     let front : List FinishedRun = map finished (take i ts) in
@@ -58,7 +57,7 @@ run_cut counts ts i d a b c lt p q =
     ∙ ap (λ (xs : List Trace). runs_text counts 0 (front ++ map finished xs)) (sym (drop-cons ts i d lt))
     ∙ ap (runs_text counts 0) (sym (map-append finished (take i ts) (drop i ts)))
     ∙ ap (λ (xs : List Trace). runs_text counts 0 (map finished xs)) (take-append-drop i ts) in
-    part_as a c _ _ whole (part_of_second a b c (runs_text counts 0 front) _ p (part_of_first b c (run_text counts i x) _ q))
+    subst (λ (t : List ℕ). Stopped a c t) whole (stopped_then a b c (runs_text counts 0 front) _ p (stopped_first b c (run_text counts i x) _ q))
 
 -- ---- entries
 

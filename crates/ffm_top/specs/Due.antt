@@ -1,32 +1,25 @@
 -- Which text and which status the words and the named files call for, and which files they ask for.
 -- Source: this simulator's.
-use Rattle.std.specs.Prelude.{◌≡◌, ◌⊎◌, ℕ, List, [], Option, None, Some, Result, Ok, Err, IsOkAnd}
-use Rattle.ffm_model.specs.declared.scenario.Scenario.{Scenario}
+use Rattle.std.specs.Prelude.{◌≡◌, ◌≢◌, ◌⊎◌, ℕ, Bool, true, false, List, [], Option, None, Some, Result, Ok, Err, IfSome, IsOkAnd}
+use Rattle.ffm_model.specs.declared.machine.Entry.{Entry}
+use Rattle.ffm_model.specs.declared.machine.Verdict.{Verdict}
 use Rattle.ffm_model.specs.declared.system.System.{System}
+use Rattle.ffm_model.specs.Counts.{ActorCounts}
 use Rattle.ffm_model.specs.Listing.{listing}
+use Rattle.ffm_model.specs.TraceText.{trace_text}
 use Rattle.ffm_model.specs.Reading.{Contents, Stop, refused, missing}
-use Rattle.ffm_top.specs.Audits.{AuditedDue}
-use Rattle.ffm_top.specs.Lines.{usage_line, refusal_line}
 use Rattle.ffm_top.specs.Makes.{MadeDue}
-use Rattle.ffm_top.specs.Replays.{IsTraceText, JudgedDue, WrongDue}
 use Rattle.ffm_top.specs.Runs.{RunDue}
-use Rattle.command_words.specs.declared.words.Inspection.{Inspection}
-use Rattle.command_words.specs.declared.words.Inspection.TheVariants.{Replay, Audit}
-use Rattle.command_words.specs.Words.{Order, make, order_of}
+use Rattle.command_words.specs.Words.{Order, order_of}
+use Rattle.judge_command.specs.Due.{TraceDue}
+use Rattle.judge_command.specs.Replays.{IsTraceText}
+use Rattle.text_lines.specs.Refusals.{refusal_line}
+use Rattle.text_lines.specs.Usage.{usage_line}
 use Rattle.work_orders.specs.Work.{Work, listing_of, run_of, judge_of, make_of, work_of}
 
 -- a system's text is its listing
 abbrev pub ListingDue : System → List ℕ → ℕ → Type 0
 ListingDue s text status = (text ≡ listing s) × (status ≡ 0)
-
--- what is due of a trace's text, by how it is to be judged
-abbrev pub InspectedDue : Inspection → System → Scenario → List ℕ → List ℕ → ℕ → Type 0
-InspectedDue Replay s c bytes text status = JudgedDue s c bytes text status
-InspectedDue Audit s c bytes text status = AuditedDue s c bytes text status
-
--- and of a text that is no trace's, the refusal of its first wrong line
-abbrev pub TraceDue : Inspection → System → Scenario → List ℕ → List ℕ → ℕ → Type 0
-TraceDue how s c bytes text status = InspectedDue how s c bytes text status ⊎ WrongDue s bytes text status
 
 abbrev pub WorkDue : Work → List ℕ → ℕ → Type 0
 WorkDue (listing_of s) text status = ListingDue s text status
@@ -47,11 +40,10 @@ OrderDue (Some order) of text status = DueBy (work_of of order).gives text statu
 abbrev pub Due : List (List ℕ) → Contents → List ℕ → ℕ → Type 0
 Due words of text status = OrderDue (order_of words) of text status
 
--- what the words alone decide, whatever the files hold: the usage line, and the summary of a generated run
-abbrev pub DueAlone : Option Order → List ℕ → ℕ → Type 0
-DueAlone None text status = (text ≡ usage_line) × (status ≡ 2)
-DueAlone (Some (make rounds)) text status = MadeDue rounds text status
-DueAlone (Some _) text status = Unit {0}
+-- with threads, the text is that of the run that they left, where it is told, unless it is a refusal's
+abbrev pub LeftBy : Bool → Option (List Entry) → List ℕ → ℕ → Type 0
+LeftBy false ended text status = Unit {0}
+LeftBy true ended text status = status ≢ 1 → IfSome ended (λ es. (counts : ActorCounts) × (v : Verdict) × (text ≡ trace_text counts es v))
 
 abbrev pub names_asked : Option Order → Contents → List (List ℕ)
 names_asked None of = []

@@ -1,8 +1,7 @@
-pub mod Lines
 pub mod Runs
-pub mod Replays
-pub mod Audits
 pub mod Makes
 pub mod Due
 pub mod Answers
 pub mod Report
+pub mod Asked
+pub mod Threads

@@ -1,16 +1,17 @@
 //! The top call: what the words of the command line ask for, done over any files and any sink.
 #![tactic(auto)]
 
-mod changes;
-mod judge;
-mod lines;
+mod asked;
+mod ends;
 mod make;
+mod perform;
 mod report;
 mod run;
 mod steady;
 mod top;
 
-pub use judge::wrong_line;
-pub use lines::refusal_line;
+pub use asked::asks_threads;
+pub use ends::program;
+pub use run::{InThreads, NoThreads, ThreadedRuns};
 pub use steady::ffm_steady;
-pub use top::{asks_threads, ffm, ffm_alone};
+pub use top::{ffm, ffm_by, ffm_starting};

@@ -11,7 +11,6 @@ ghost use Rattle.work_orders.specs.View.{IsRun};
 ghost use Rattle.work_orders.specs.Work.{system_in};
 ghost use Rattle.ffm_model.specs.TraceText.{verdict_word};
 
-use crate::lines::{append, append_number};
 use crate::report::Report;
 use actor_programs::programs_of;
 use ffm_model::{Call, Entry, Memory, Outcome, PartsError, Scenario, System, Verdict};
@@ -22,6 +21,7 @@ use scenario_runs::{Ran, run_once};
 use spm_core::Spm;
 use std::alloc::{AllocError, Global};
 use system_json::read_scenario;
+use text_lines::{append, append_number};
 use work_orders::{RunWork, system_in};
 
 // The generated system, of which no file is read.
@@ -139,12 +139,10 @@ fn made(alloc: Global, rounds: u32) -> Result<Ran, PartsError>
 }
 
 // The report of a run of the generated system.
-#[tactic(auto, unfolding(crate::specs::Report::text_of), using(crate::proofs::Makes::made_due, crate::proofs::Makes::made_some))]
+#[tactic(auto, unfolding(crate::specs::Report::text_of), using(crate::proofs::Makes::made_due))]
 fn summed_up(alloc: Global, rounds: u32, ran: &Ran) -> Result<Report, AllocError>
     requires { IsMade rounds ran.now.spm.history ran.now.verdict }
-    ensures due { IfOk result (λ report. MadeDue rounds (text_of report) (status_of report)) }
-    ensures some { IfOk result (λ report. 0 < length (text_of report)) }
-    ensures status { IfOk result (λ report. status_of report ≡ 0) }
+    ensures { IfOk result (λ report. MadeDue rounds (text_of report) (status_of report)) }
 {
     let count = ran.spm.length();
     let line = summary_line(alloc, rounds, count, bytes_moved(&ran.spm), ran.verdict)?;
@@ -154,9 +152,7 @@ fn summed_up(alloc: Global, rounds: u32, ran: &Ran) -> Result<Report, AllocError
 /// The report of a generated system's run, with so many requests of each client. Memory where no
 /// memory was found.
 pub fn make(alloc: Global, rounds: u32) -> Result<Report, Memory>
-    ensures due { IfOk result (λ report. MadeDue rounds (text_of report) (status_of report)) }
-    ensures some { IfOk result (λ report. 0 < length (text_of report)) }
-    ensures status { IfOk result (λ report. status_of report ≡ 0) }
+    ensures { IfOk result (λ report. MadeDue rounds (text_of report) (status_of report)) }
 {
     let Ok(ran) = made(alloc, rounds) else {
         return Err(Memory);

@@ -1,24 +1,19 @@
 //! What is written at the end.
 
-ghost use Rattle.std.specs.Prelude.{◌≡◌, ◌<◌, ◌≤◌, OnErr, OnOk, ◌+◌, ◌++◌, drop, length, map, take, true};
-ghost use Rattle.outside_io.specs.Count.{Rose};
-ghost use Rattle.outside_io.specs.Told.{Puts};
+ghost use Rattle.std.specs.Prelude.{◌≡◌, ◌<◌, ◌≤◌, ◌+◌, drop, length, map, take, true};
+ghost use Rattle.outside_io.specs.Sink.{Hands, Writes};
 ghost use Rattle.ffm_model.specs.Actors.{counts_of};
 ghost use Rattle.ffm_model.specs.TraceText.{IsActorOf, entry_text, line, trace_text, verdict_text};
-ghost use Rattle.machine_check.specs.Answers.{judgement};
 ghost use Rattle.scenario_runs.specs.Restarting.{finished, fits_counts};
-ghost use Rattle.ffm_top.specs.Audits.{change_lines};
-ghost use Rattle.ffm_top.specs.Replays.{judgement_status};
 ghost use Rattle.ffm_top.specs.Runs.{last_status, restart_line, run_text, runs_text, verdict_status};
 ghost use Rattle.ffm_top.specs.Report.{text_of, status_of};
 
-use crate::changes::put_changes;
-use crate::lines::usage_line;
 use ffm_model::{Counts, Entry, Trace, Verdict};
 use itoa::Buffer;
-use machine_check::{AuditReport, Checked};
+use judge_command::TraceReport;
 use outside_io::{Failed, Sink, put_all};
 use scenario_runs::Runs;
+use text_lines::usage_line;
 use trace_print::{Line, print_into, print_verdict};
 
 /// What is to be written.
@@ -32,10 +27,8 @@ pub enum Report {
     Text(Vec<u8>),
     /// The runs of a scenario ended.
     Ran(Runs),
-    /// A trace is judged, by this line.
-    Judged { checked: Checked, line: Vec<u8> },
-    /// A trace is audited: its changes, and then this line.
-    Audited { report: AuditReport, line: Vec<u8> },
+    /// A trace is judged, or its text is no trace's.
+    Inspected(TraceReport),
 }
 
 // Puts the line of an entry. The line's own room holds it.
@@ -46,10 +39,7 @@ fn put_entry<S: Sink>(
     entry: &Entry,
 ) -> Result<(), Failed>
     requires { IsActorOf counts entry.now.actor.0 }
-    ensures puts { Puts (S.taken out.old) (S.taken out.new) result (line (entry_text counts entry.now)) }
-    ensures later { S.faults out.old ≤ S.faults out.new }
-    ensures steady { OnOk result (S.faults out.new ≡ S.faults out.old) }
-    ensures failed { OnErr result (Rose (S.faults out.old) (S.faults out.new)) }
+    ensures { Writes (S.seen out.old) (S.seen out.new) result (line (entry_text counts entry.now)) }
 {
     print_into(room, counts, entry);
     put_all(out, room.as_slice())
@@ -57,10 +47,7 @@ fn put_entry<S: Sink>(
 
 // Puts the last line of a run's trace.
 fn put_verdict<S: Sink>(out: &mut S, verdict: Verdict, count: u32) -> Result<(), Failed>
-    ensures puts { Puts (S.taken out.old) (S.taken out.new) result (line (verdict_text verdict count)) }
-    ensures later { S.faults out.old ≤ S.faults out.new }
-    ensures steady { OnOk result (S.faults out.new ≡ S.faults out.old) }
-    ensures failed { OnErr result (Rose (S.faults out.old) (S.faults out.new)) }
+    ensures { Writes (S.seen out.old) (S.seen out.new) result (line (verdict_text verdict count)) }
 {
     let text = print_verdict(verdict, count);
     put_all(out, text.as_slice())
@@ -69,10 +56,7 @@ fn put_verdict<S: Sink>(out: &mut S, verdict: Verdict, count: u32) -> Result<(),
 // Puts a run's trace, line by line.
 fn put_trace<S: Sink>(out: &mut S, counts: Counts, trace: &Trace) -> Result<(), Failed>
     requires { fits_counts counts trace.now ≡ true }
-    ensures puts { Puts (S.taken out.old) (S.taken out.new) result (trace_text counts trace.now.entries trace.now.verdict) }
-    ensures later { S.faults out.old ≤ S.faults out.new }
-    ensures steady { OnOk result (S.faults out.new ≡ S.faults out.old) }
-    ensures failed { OnErr result (Rose (S.faults out.old) (S.faults out.new)) }
+    ensures { Writes (S.seen out.old) (S.seen out.new) result (trace_text counts trace.now.entries trace.now.verdict) }
 {
     let mut room = Line::new();
     for entry in trace.entries.as_slice() {
@@ -99,10 +83,7 @@ fn restart_line(count: usize) -> Line
 // Puts the trace of the run after so many others, and the line before it.
 fn put_run<S: Sink>(out: &mut S, counts: Counts, count: usize, trace: &Trace) -> Result<(), Failed>
     requires { fits_counts counts trace.now ≡ true }
-    ensures puts { Puts (S.taken out.old) (S.taken out.new) result (run_text counts count (finished trace.now)) }
-    ensures later { S.faults out.old ≤ S.faults out.new }
-    ensures steady { OnOk result (S.faults out.new ≡ S.faults out.old) }
-    ensures failed { OnErr result (Rose (S.faults out.old) (S.faults out.new)) }
+    ensures { Writes (S.seen out.old) (S.seen out.new) result (run_text counts count (finished trace.now)) }
 {
     let line = restart_line(count);
     put_all(out, line.as_slice())?;
@@ -111,10 +92,7 @@ fn put_run<S: Sink>(out: &mut S, counts: Counts, count: usize, trace: &Trace) ->
 
 // Puts the traces of runs, one after the other.
 fn put_runs<S: Sink>(out: &mut S, runs: &Runs) -> Result<(), Failed>
-    ensures puts { Puts (S.taken out.old) (S.taken out.new) result (runs_text (counts_of runs.now.system) 0 (map finished runs.now.traces.items)) }
-    ensures later { S.faults out.old ≤ S.faults out.new }
-    ensures steady { OnOk result (S.faults out.new ≡ S.faults out.old) }
-    ensures failed { OnErr result (Rose (S.faults out.old) (S.faults out.new)) }
+    ensures { Writes (S.seen out.old) (S.seen out.new) result (runs_text (counts_of runs.now.system) 0 (map finished runs.now.traces.items)) }
 {
     let counts = runs.system.counts();
     for (count, trace) in runs.traces.iter().enumerate() {
@@ -148,10 +126,7 @@ fn line_at(text: &[u8], start: usize) -> &[u8]
 
 // Puts a text, line by line.
 fn put_lines<S: Sink>(out: &mut S, text: &[u8]) -> Result<(), Failed>
-    ensures puts { Puts (S.taken out.old) (S.taken out.new) result text.now }
-    ensures later { S.faults out.old ≤ S.faults out.new }
-    ensures steady { OnOk result (S.faults out.new ≡ S.faults out.old) }
-    ensures failed { OnErr result (Rose (S.faults out.old) (S.faults out.new)) }
+    ensures { Writes (S.seen out.old) (S.seen out.new) result text.now }
 {
     let mut start = 0;
     while start < text.len() {
@@ -162,44 +137,23 @@ fn put_lines<S: Sink>(out: &mut S, text: &[u8]) -> Result<(), Failed>
     Ok(())
 }
 
-// Puts the lines of an audit, and the last one.
-fn put_audit<S: Sink>(out: &mut S, report: &AuditReport, line: &[u8]) -> Result<(), Failed>
-    ensures puts { Puts (S.taken out.old) (S.taken out.new) result (change_lines report.now.changes ++ line.now) }
-    ensures later { S.faults out.old ≤ S.faults out.new }
-    ensures steady { OnOk result (S.faults out.new ≡ S.faults out.old) }
-    ensures failed { OnErr result (Rose (S.faults out.old) (S.faults out.new)) }
-{
-    put_changes(out, report.changes.as_slice())?;
-    put_all(out, line)
-}
-
 // Puts the lines of a report.
 #[tactic(auto, unfolding(crate::specs::Report::text_of))]
 fn put_report<S: Sink>(out: &mut S, report: &Report) -> Result<(), Failed>
-    ensures puts { Puts (S.taken out.old) (S.taken out.new) result (text_of report.now) }
-    ensures later { S.faults out.old ≤ S.faults out.new }
-    ensures steady { OnOk result (S.faults out.new ≡ S.faults out.old) }
-    ensures failed { OnErr result (Rose (S.faults out.old) (S.faults out.new)) }
+    ensures { Writes (S.seen out.old) (S.seen out.new) result (text_of report.now) }
 {
     match report {
         Report::Usage => put_all(out, usage_line().as_bytes()),
         Report::Refused(line) => put_all(out, line.as_slice()),
         Report::Text(text) => put_lines(out, text.as_slice()),
         Report::Ran(runs) => put_runs(out, runs),
-        Report::Judged { line, .. } => put_all(out, line.as_slice()),
-        Report::Audited { report, line } => put_audit(out, report, line.as_slice()),
+        Report::Inspected(report) => report.put(out),
     }
 }
 
 /// Writes a report whole. Everything that it says is known by now, and no memory is taken.
-#[tactic(auto, using(crate::proofs::Traces::flushed))]
 pub fn write_report<S: Sink>(out: &mut S, report: &Report) -> Result<(), Failed>
-    requires some { 0 < length (text_of report.now) }
-    ensures handed_on { OnOk result (S.is_handed_on out.new) }
-    ensures puts { Puts (S.taken out.old) (S.taken out.new) result (text_of report.now) }
-    ensures later { S.faults out.old ≤ S.faults out.new }
-    ensures steady { OnOk result (S.faults out.new ≡ S.faults out.old) }
-    ensures failed { OnErr result (Rose (S.faults out.old) (S.faults out.new)) }
+    ensures { Hands (S.seen out.old) (S.seen out.new) result (text_of report.now) }
 {
     put_report(out, report)?;
     out.flush()
@@ -226,15 +180,6 @@ fn last_status(traces: &[Trace]) -> u8
     }
 }
 
-fn checked_status(checked: Checked) -> u8
-    ensures { result ≡ judgement_status (judgement checked) }
-{
-    match checked {
-        Checked::Legal => 0,
-        Checked::IllegalAt(_) => 6,
-    }
-}
-
 impl Report {
     /// The status of a report that was written.
     pub fn status(&self) -> u8
@@ -245,8 +190,7 @@ impl Report {
             Report::Refused(_) => 1,
             Report::Text(_) => 0,
             Report::Ran(runs) => last_status(runs.traces.as_slice()),
-            Report::Judged { checked, .. } => checked_status(*checked),
-            Report::Audited { report, .. } => checked_status(report.result),
+            Report::Inspected(report) => report.status(),
         }
     }
 }

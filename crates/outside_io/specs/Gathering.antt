@@ -1,25 +1,29 @@
--- A sink that gathers bytes before another one: what it took, and when nothing waits in it.
+-- A sink that gathers bytes before another one: what waits in it, and what it tells.
 -- Source: this project's rule for the outside.
-use Rattle.std.specs.Prelude.{◌≡◌, ℕ, List, [], ◌++◌, Option, None, Bool, if◌then◌else◌}
-use Rattle.std.specs.Option.{option_map}
+use Rattle.std.specs.Prelude.{ℕ, List, drop, ◌++◌}
+use Rattle.outside_io.specs.Sink.{SinkSeen}
 use Rattle.outside_io.specs.declared.gathering.Gathering.{Gathering}
 
 -- the sink that takes what is handed on
 abbrev pub sink_of : {S : Type 0} → Gathering S → S
 sink_of gathering = gathering.sink
 
--- the bytes that were taken and not handed on yet
+-- the bytes that were gathered since the last time that all were handed on
 abbrev pub held_by : {S : Type 0} → Gathering S → List ℕ
 held_by gathering = gathering.held.items
 
--- bytes that were gathered are gone, since a hand-on failed
-abbrev pub has_lost_bytes : {S : Type 0} → Gathering S → Bool
-has_lost_bytes gathering = gathering.has_lost
+-- how many of them were handed on
+abbrev pub at_of : {S : Type 0} → Gathering S → ℕ
+at_of gathering = gathering.at
 
--- what its sink took, and then what it still holds; not told once bytes were lost
-abbrev pub taken_through : {S : Type 0} → (S → Option (List ℕ)) → Gathering S → Option (List ℕ)
-taken_through taken gathering = if has_lost_bytes gathering then None else option_map (λ bytes. bytes ++ held_by gathering) (taken (sink_of gathering))
+-- the bytes that were taken and not handed on yet
+abbrev pub waiting_in : {S : Type 0} → Gathering S → List ℕ
+waiting_in gathering = drop (at_of gathering) (held_by gathering)
 
--- it holds nothing, and nothing waits in its sink
-abbrev pub IsHandedOnThrough : {S : Type 0} → (S → Type 0) → Gathering S → Type 0
-IsHandedOnThrough is_handed_on gathering = (held_by gathering ≡ []) × is_handed_on (sink_of gathering)
+-- what a sink tells behind which these bytes wait
+abbrev pub behind : SinkSeen → List ℕ → SinkSeen
+behind seen waiting = record { handed = seen.handed; waiting = seen.waiting ++ waiting; faults = seen.faults }
+
+-- what its sink tells, and behind it what it holds
+abbrev pub seen_through : {S : Type 0} → (S → SinkSeen) → Gathering S → SinkSeen
+seen_through seen gathering = behind (seen (sink_of gathering)) (waiting_in gathering)

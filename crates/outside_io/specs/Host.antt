@@ -1,4 +1,4 @@
--- How often the operating system answered the adapters of real files and of the standard output with an error.
+-- How often the operating system answered the adapter of the standard output with an error.
 -- Source: this project's rule for its trusted edge.
 use Rattle.std.specs.Prelude.{ℕ}
 use Rattle.std.specs.declared.io.stdio.Printer.{Printer}
@@ -6,11 +6,6 @@ use Rattle.outside_io.specs.Gathering.{sink_of}
 use Rattle.outside_io.specs.Output.{faults_of}
 use Rattle.outside_io.specs.declared.gathering.Gathering.{Gathering}
 use Rattle.outside_io.specs.declared.output.Output.{Output}
-use Rattle.outside_io.specs.declared.host.HostFiles.{HostFiles}
-
--- how many reads of real files failed
-abbrev pub files_faults : {R : Type 0} → HostFiles R → ℕ
-files_faults files = files.faults
 
 -- how many writes to the standard output failed
 abbrev pub stdout_faults : {R : Type 0} {telling : _} {write : _} → Gathering (Output (Printer R) telling write) → ℕ

@@ -1,6 +1,8 @@
 pub mod Count
-pub mod Told
-pub mod Reads
+pub mod Sink
+pub mod Files
+pub mod Faults
+pub mod Opening
 pub mod MemoryFiles
 pub mod MemorySink
 pub mod Gathering
@@ -8,3 +10,4 @@ pub mod Output
 pub mod Host
 pub mod SteadyFiles
 pub mod SteadySink
+pub mod Words

@@ -1,9 +1,10 @@
 -- Files in memory: what each name holds, the calls made, the names that were read, and which calls fail.
 -- Source: this project's rule for files in memory.
-use Rattle.std.specs.Prelude.{◌≡◌, ◌⊎◌, ℕ, List, Option, None, Contains, map, string_bytes}
+use Rattle.std.specs.Prelude.{◌≡◌, ◌⊎◌, ℕ, List, Option, None, Some, Contains, map, string_bytes}
 use Rattle.std.specs.Option.{option_map}
 use Rattle.std.specs.BTreeMap.{get_by_text}
 use Rattle.outside_io.specs.Count.{one_more}
+use Rattle.outside_io.specs.Files.{FilesSeen}
 use Rattle.outside_io.specs.declared.memory_files.MemoryFiles.{MemoryFiles}
 
 -- what the name holds
@@ -41,3 +42,7 @@ pub record SameCalls (before after : MemoryFiles) : Type 0 where
   pub failing : failing_of after ≡ failing_of before
   pub faults : faults_of after ≡ faults_of before
   pub last_failed : last_failed_of after ≡ last_failed_of before
+
+-- it tells all that files may tell
+abbrev pub seen_of : MemoryFiles → FilesSeen
+seen_of files = record { held = Some (held_by files); reads = Some (reads_of files); faults = faults_of files; last_failed = Some (last_failed_of files) }

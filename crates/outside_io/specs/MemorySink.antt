@@ -1,7 +1,8 @@
 -- A sink in memory: the bytes taken, the calls made, how much a call takes, and which calls fail.
 -- Source: this project's rule for a sink in memory.
-use Rattle.std.specs.Prelude.{◌≡◌, ◌⊎◌, ℕ, ◌-◌, List, Contains, length, min}
+use Rattle.std.specs.Prelude.{◌≡◌, ◌⊎◌, ℕ, ◌-◌, List, [], Some, Contains, length, min}
 use Rattle.outside_io.specs.Count.{one_more}
+use Rattle.outside_io.specs.Sink.{SinkSeen}
 use Rattle.outside_io.specs.declared.memory_sink.MemorySink.{MemorySink}
 
 -- the bytes taken so far
@@ -28,6 +29,10 @@ failing_of sink = sink.failing
 abbrev pub faults_of : MemorySink → ℕ
 faults_of sink = sink.faults
 
+-- nothing waits in it
+abbrev pub seen_of : MemorySink → SinkSeen
+seen_of sink = record { handed = Some (taken_by sink); waiting = []; faults = faults_of sink }
+
 abbrev pub room_left : MemorySink → ℕ
 room_left sink = room_of sink - length (taken_by sink)
 
@@ -38,6 +43,15 @@ takes_of sink len = min (min len (piece_of sink)) (room_left sink)
 -- the next put is a listed call, or no room is left
 abbrev pub Fails : MemorySink → Type 0
 Fails sink = Contains (failing_of sink) (one_more (calls_of sink)) ⊎ (room_left sink ≡ 0)
+
+-- no put was made yet
+pub record IsNew (size most : ℕ) (listed : List ℕ) (sink : MemorySink) : Type 0 where
+  pub empty : taken_by sink ≡ []
+  pub no_fault : faults_of sink ≡ 0
+  pub no_call : calls_of sink ≡ 0
+  pub room : room_of sink ≡ size
+  pub piece : piece_of sink ≡ most
+  pub failing : failing_of sink ≡ listed
 
 -- what a sink was made with is as before
 pub record SameBounds (before after : MemorySink) : Type 0 where

@@ -1,11 +1,8 @@
 //! Files by name.
 
-ghost use Rattle.std.specs.Prelude.{◌≡◌, ◌⊎◌, ℕ, ◌<◌, ◌≤◌, List, [], ◌∷◌, Option, Some, IfOk, IfSome, IsSomeAnd, IsErrOf};
-ghost use Rattle.std.specs.Prelude.{vec_len, length};
+ghost use Rattle.std.specs.Prelude.{◌≡◌, IfSome};
 ghost use Rattle.std.specs.Option.{option_map};
-ghost use Rattle.outside_io.specs.Count.{Rose};
-ghost use Rattle.outside_io.specs.Reads.{ReadBetween};
-ghost use Rattle.ffm_model.specs.Reading.{Contents};
+ghost use Rattle.outside_io.specs.Files.{FilesSeen, ReadsFile};
 
 use std::alloc::{AllocError, AllocFailed, Global};
 use thiserror::Error;
@@ -46,20 +43,11 @@ impl<T: Drop> From<AllocFailed<T>> for FileError {
     }
 }
 
-/// Files: what each name holds, which names were read, how often a read failed, and the name of the
-/// last failed read.
+/// Files by their names.
 pub trait Files {
-    /// What each name holds, where it is told.
-    ghost held: { Self → Option Contents };
-
-    /// The names that were read, in order, where they are told.
-    ghost reads: { Self → Option (List (List ℕ)) };
-
-    /// How often a read has failed, up to 2^64 - 1.
-    ghost faults: { Self → ℕ };
-
-    /// The name of the last failed read, if there was one, where it is told.
-    ghost last_failed: { Self → Option (Option (List ℕ)) };
+    /// What they tell: what each name holds, which names were read, in order, and the name of the last
+    /// failed read, where these are told, and how often a read has failed, up to 2^64 - 1.
+    ghost seen: { Self → FilesSeen };
 
     /// The bytes of the named file, at most `limit` of them.
     ///
@@ -67,24 +55,15 @@ pub trait Files {
     /// the count of faults rose in this call, and then this name is the last failed one; every other
     /// answer leaves the count and the last failed name as they were. `Memory` comes where no memory
     /// is found, and may stand in place of each other answer. Whatever it answers, each name holds
-    /// what it held. The name is read once; where `Memory` comes, it may not have been read.
+    /// what it held. The name is read once, and no other; where `Memory` comes, it may not have been
+    /// read.
     fn read(&mut self, alloc: Global, name: &str, limit: u32) -> Result<Vec<u8>, FileError>
-        ensures within { IfOk result (λ bytes. vec_len bytes ≤ limit) }
-        ensures content { IfOk result (λ bytes. IfSome (held self.old) (λ of. of name.now ≡ Some bytes.items)) }
-        ensures too_long { IsErrOf result FileError.TooLong →
-            IfSome (held self.old) (λ of. IsSomeAnd (of name.now) (λ bytes. limit < length bytes)) }
-        ensures keeps { held self.new ≡ held self.old }
+        ensures { ReadsFile (seen self.old) (seen self.new) result limit name.now };
+}
 
-        // No other name is read, and this one once. Want of memory may come before that.
-        ensures read { (IsErrOf result FileError.Memory → ⊥) → ReadBetween (reads self.old) (reads self.new) (name.now ∷ []) }
-        ensures perhaps_read { IsErrOf result FileError.Memory →
-            ReadBetween (reads self.old) (reads self.new) [] ⊎ ReadBetween (reads self.old) (reads self.new) (name.now ∷ []) }
-
-        // `Failed` has a cause outside, and is told by its name.
-        ensures later { faults self.old ≤ faults self.new }
-        ensures failed { IsErrOf result FileError.Failed → Rose (faults self.old) (faults self.new) }
-        ensures steady { (IsErrOf result FileError.Failed → ⊥) → faults self.new ≡ faults self.old }
-        ensures named { IsErrOf result FileError.Failed →
-            last_failed self.new ≡ option_map (λ _. Some name.now) (last_failed self.old) }
-        ensures unnamed { (IsErrOf result FileError.Failed → ⊥) → last_failed self.new ≡ last_failed self.old };
+/// Files that say which read failed last.
+pub trait NamesFailed: Files {
+    /// The name of the last failed read, lent, if there was one.
+    fn last_failed(&self) -> Option<&str>
+        ensures { IfSome (Self.seen self.now).last_failed (λ told. option_map (λ name. name.now) result ≡ told) };
 }

@@ -1,12 +1,11 @@
 //! Bytes that are gathered before a sink: pieces that find room wait together, and are handed on at
 //! once.
 
-ghost use Rattle.std.specs.Prelude.{◌≡◌, ◌<◌, ◌≤◌, [], None, IfOk, OnErr, OnOk, length, take};
-ghost use Rattle.std.specs.Bool.{IsFalse, OnFalse, OnTrue};
-ghost use Rattle.outside_io.specs.Count.{Rose};
-ghost use Rattle.outside_io.specs.Told.{Puts, Takes};
+ghost use Rattle.std.specs.Prelude.{◌≡◌, ◌≤◌, [], length};
+ghost use Rattle.std.specs.Bool.{OnFalse, OnTrue};
+ghost use Rattle.outside_io.specs.Sink.{HandsOn, Takes};
 
-use crate::sink::{Failed, Sink, put_all};
+use crate::sink::{Failed, Sink};
 use arrayvec::ArrayVec;
 
 // As many bytes are gathered at most.
@@ -16,29 +15,30 @@ const GATHERED_BYTES: usize = 8192;
 /// finds no room, and at each `flush`. A piece that is longer than the room goes to the sink itself,
 /// after all that was gathered.
 ///
-/// It tells what its sink took, and then what it still holds, where the sink tells its bytes. What
-/// was gathered is gone after a hand-on that failed, and from then on it tells nothing.
+/// A hand-on that fails loses nothing: the rest waits still, and the next one goes on where it
+/// stopped. So its sink never has a byte behind a hole.
 #[derive(Drop)]
 pub struct Gathering<S> {
     sink: S,
     held: ArrayVec<u8, GATHERED_BYTES>,
-    has_lost: bool,
+    // So many of the bytes held were handed on.
+    at: usize,
+    ghost within: { at ≤ length held.items },
 }
 
 impl<S: Sink> Gathering<S> {
-    ghost use Rattle.outside_io.specs.Gathering.{sink_of, held_by, taken_through, has_lost_bytes};
+    ghost use Rattle.outside_io.specs.Gathering.{seen_through, sink_of, waiting_in};
 
     /// Nothing is gathered yet before this sink.
     pub fn of(sink: S) -> Self
         ensures sink { sink_of result ≡ sink }
-        ensures empty { held_by result ≡ [] }
-        ensures taken { taken_through S.taken result ≡ S.taken sink }
-        ensures whole { IsFalse (has_lost_bytes result) }
+        ensures empty { waiting_in result ≡ [] }
+        ensures seen { seen_through S.seen result ≡ S.seen sink }
     {
         Gathering {
             sink,
             held: ArrayVec::new(),
-            has_lost: false,
+            at: 0,
         }
     }
 
@@ -49,70 +49,36 @@ impl<S: Sink> Gathering<S> {
         &self.sink
     }
 
-    // Puts what was gathered. After `Failed` the sink took a proper prefix of it, and the rest is gone.
+    // Hands on what was gathered. After `Failed` the rest of it waits still.
     fn hand_on(&mut self) -> Result<(), Failed>
-        ensures puts { Puts (S.taken (sink_of self.old)) (S.taken (sink_of self.new)) result (held_by self.old) }
-        ensures empty { held_by self.new ≡ [] }
-        ensures takes { Takes (taken_through S.taken self.old) (taken_through S.taken self.new) [] }
-        ensures untold { OnErr result (taken_through S.taken self.new ≡ None) }
-        ensures lost { OnOk result (has_lost_bytes self.new ≡ has_lost_bytes self.old) }
-        ensures later { S.faults (sink_of self.old) ≤ S.faults (sink_of self.new) }
-        ensures failed { OnErr result (Rose (S.faults (sink_of self.old)) (S.faults (sink_of self.new))) }
-        ensures steady { OnOk result (S.faults (sink_of self.new) ≡ S.faults (sink_of self.old)) }
+        ensures { HandsOn (seen_through S.seen self.old) (seen_through S.seen self.new)
+            result (waiting_in self.new) }
     {
-        let put = put_all(&mut self.sink, self.held.as_slice());
+        while self.at < self.held.len() {
+            self.at += self.sink.put(&self.held.as_slice()[self.at..])?;
+        }
         self.held.clear();
-        self.has_lost = self.has_lost || put.is_err();
-        put
+        self.at = 0;
+        Ok(())
     }
 
     // Gathers a piece, where it finds room.
     fn add(&mut self, piece: &[u8]) -> bool
-        ensures added { OnTrue result (Takes (taken_through S.taken self.old) (taken_through S.taken self.new) piece.now) }
+        ensures added { OnTrue result
+            (Takes (seen_through S.seen self.old) (seen_through S.seen self.new) piece.now) }
         ensures unchanged { OnFalse result (self.new ≡ self.old) }
-        ensures lost { has_lost_bytes self.new ≡ has_lost_bytes self.old }
         ensures same_sink { sink_of self.new ≡ sink_of self.old }
     {
         self.held.try_extend_from_slice(piece).is_ok()
     }
-
-    // Puts a front of a piece to the sink itself, while nothing is gathered.
-    fn put_through(&mut self, piece: &[u8]) -> Result<usize, Failed>
-        requires some { 0 < length piece.now }
-        requires empty { held_by self.old ≡ [] }
-        ensures some { IfOk result (λ count. 0 < count) }
-        ensures within { IfOk result (λ count. count ≤ length piece.now) }
-        ensures takes { IfOk result (λ count. Takes (taken_through S.taken self.old) (taken_through S.taken self.new) (take count piece.now)) }
-        ensures none { OnErr result (Takes (taken_through S.taken self.old) (taken_through S.taken self.new) []) }
-        ensures lost { has_lost_bytes self.new ≡ has_lost_bytes self.old }
-        ensures later { S.faults (sink_of self.old) ≤ S.faults (sink_of self.new) }
-        ensures failed { OnErr result (Rose (S.faults (sink_of self.old)) (S.faults (sink_of self.new))) }
-        ensures steady { OnOk result (S.faults (sink_of self.new) ≡ S.faults (sink_of self.old)) }
-    {
-        self.sink.put(piece)
-    }
 }
 
 impl<S: Sink> Sink for Gathering<S> {
-    ghost use Rattle.outside_io.specs.Gathering.{sink_of, held_by, taken_through, has_lost_bytes, IsHandedOnThrough};
+    ghost use Rattle.outside_io.specs.Gathering.{seen_through};
 
-    ghost taken = { taken_through S.taken };
+    ghost seen = { seen_through S.seen };
 
-    ghost faults = { λ g. S.faults (sink_of g) };
-
-    ghost is_handed_on = { IsHandedOnThrough S.is_handed_on };
-
-    fn put(&mut self, piece: &[u8]) -> Result<usize, Failed>
-        requires { 0 < length piece.now }
-        ensures some { IfOk result (λ count. 0 < count) }
-        ensures within { IfOk result (λ count. count ≤ length piece.now) }
-        ensures takes { IfOk result (λ count. Takes (taken_through S.taken self.old) (taken_through S.taken self.new) (take count piece.now)) }
-        ensures none { OnErr result (Takes (taken_through S.taken self.old) (taken_through S.taken self.new) []) }
-        ensures lost { OnOk result (has_lost_bytes self.new ≡ has_lost_bytes self.old) }
-        ensures later { S.faults (sink_of self.old) ≤ S.faults (sink_of self.new) }
-        ensures failed { OnErr result (Rose (S.faults (sink_of self.old)) (S.faults (sink_of self.new))) }
-        ensures steady { OnOk result (S.faults (sink_of self.new) ≡ S.faults (sink_of self.old)) }
-    {
+    fn put(&mut self, piece: &[u8]) -> Result<usize, Failed> {
         if self.add(piece) {
             return Ok(piece.len());
         }
@@ -120,20 +86,12 @@ impl<S: Sink> Sink for Gathering<S> {
         if self.add(piece) {
             Ok(piece.len())
         } else {
-            self.put_through(piece)
+            self.sink.put(piece)
         }
     }
 
     /// What was gathered is handed on, and then the sink is flushed.
-    fn flush(&mut self) -> Result<(), Failed>
-        ensures handed_on { OnOk result (IsHandedOnThrough S.is_handed_on self.new) }
-        ensures takes { Takes (taken_through S.taken self.old) (taken_through S.taken self.new) [] }
-        ensures untold { OnErr result (taken_through S.taken self.new ≡ None) }
-        ensures lost { OnOk result (has_lost_bytes self.new ≡ has_lost_bytes self.old) }
-        ensures later { S.faults (sink_of self.old) ≤ S.faults (sink_of self.new) }
-        ensures failed { OnErr result (Rose (S.faults (sink_of self.old)) (S.faults (sink_of self.new))) }
-        ensures steady { OnOk result (S.faults (sink_of self.new) ≡ S.faults (sink_of self.old)) }
-    {
+    fn flush(&mut self) -> Result<(), Failed> {
         self.hand_on()?;
         self.sink.flush()
     }

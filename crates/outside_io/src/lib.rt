@@ -1,7 +1,8 @@
-//! The files that are read and the sink that is written: what they tell, and how often they failed; and the words of the
-//! command line.
+//! The files that are read, the sink that is written and the words of the command line: what they
+//! tell, and how often they failed.
 #![tactic(auto)]
 
+mod faults;
 mod files;
 mod front;
 mod gathering;
@@ -9,20 +10,24 @@ mod host;
 mod listed;
 mod memory_files;
 mod memory_sink;
+mod opening;
 mod output;
+mod room;
 mod sink;
 mod steady_files;
 mod steady_sink;
 mod words;
 
-pub use files::{FileError, Files};
+pub use faults::Faults;
+pub use files::{FileError, Files, NamesFailed};
 pub use front::whole_of;
 pub use gathering::Gathering;
-pub use host::{HostFiles, StdoutSink};
+pub use host::{HostFiles, HostOpening, StdoutSink};
 pub use memory_files::MemoryFiles;
 pub use memory_sink::MemorySink;
+pub use opening::{OpenedFiles, Opening};
 pub use output::{Output, Telling};
 pub use sink::{Failed, Sink, put_all};
 pub use steady_files::SteadyFiles;
 pub use steady_sink::SteadySink;
-pub use words::given_words;
+pub use words::{HostWords, Words, given_words};

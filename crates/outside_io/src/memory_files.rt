@@ -5,7 +5,7 @@ ghost use Rattle.std.specs.Prelude.{vec_len, length, map, string_bytes};
 ghost use Rattle.std.specs.Option.{option_map};
 ghost use Rattle.outside_io.specs.Count.{one_more};
 
-use crate::files::{FileError, Files};
+use crate::files::{FileError, Files, NamesFailed};
 use crate::listed::is_listed;
 use ffm_model::{List, Memory};
 use std::alloc::Global;
@@ -51,7 +51,8 @@ impl MemoryFiles {
     /// `Memory` comes where no memory is found, and then the names hold what they did.
     pub fn add(&mut self, alloc: Global, name: &str, bytes: &[u8]) -> Result<(), Memory>
         ensures held { OnOk result (held_by self.new name.now ≡ Some bytes.now) }
-        ensures others { (other : List ℕ) → other ≢ name.now → held_by self.new other ≡ held_by self.old other }
+        ensures others { (other : List ℕ) → other ≢ name.now →
+            held_by self.new other ≡ held_by self.old other }
         ensures unchanged { OnErr result (held_by self.new ≡ held_by self.old) }
         ensures same_calls { SameCalls self.old self.new }
     {
@@ -92,8 +93,10 @@ impl MemoryFiles {
 
 // Keeps one more name after those before.
 fn keep(names: &mut Vec<String>, alloc: Global, name: &str) -> Result<(), FileError>
-    ensures kept { OnOk result (map string_bytes names.new.items ≡ map string_bytes names.old.items ++ name.now ∷ []) }
-    ensures not_kept { OnErr result (map string_bytes names.new.items ≡ map string_bytes names.old.items) }
+    ensures kept { OnOk result
+        (map string_bytes names.new.items ≡ map string_bytes names.old.items ++ name.now ∷ []) }
+    ensures not_kept { OnErr result
+        (map string_bytes names.new.items ≡ map string_bytes names.old.items) }
     ensures memory { OnErr result (IsErrOf result FileError.Memory) }
 {
     let name = String::from_str(alloc, name)?;
@@ -112,10 +115,12 @@ impl MemoryFiles {
         ensures reads { reads_of self.new ≡ reads_of self.old }
         ensures same_listed { failing_of self.new ≡ failing_of self.old }
         ensures later { faults_of self.old ≤ faults_of self.new }
-        ensures failed { result ≡ FileError.Failed → faults_of self.new ≡ one_more (faults_of self.old) }
+        ensures failed { result ≡ FileError.Failed →
+            faults_of self.new ≡ one_more (faults_of self.old) }
         ensures not_failed { result ≡ FileError.Memory → faults_of self.new ≡ faults_of self.old }
         ensures named { result ≡ FileError.Failed → last_failed_of self.new ≡ Some name.now }
-        ensures unnamed { result ≡ FileError.Memory → last_failed_of self.new ≡ last_failed_of self.old }
+        ensures unnamed { result ≡ FileError.Memory →
+            last_failed_of self.new ≡ last_failed_of self.old }
     {
         match String::from_str(alloc, name) {
             Ok(name) => {
@@ -129,40 +134,25 @@ impl MemoryFiles {
 }
 
 impl Files for MemoryFiles {
-    ghost use Rattle.outside_io.specs.MemoryFiles.{held_by, calls_of, reads_of, failing_of, faults_of, last_failed_of, Fails};
+    ghost use Rattle.outside_io.specs.MemoryFiles.{calls_of, failing_of, faults_of, seen_of, Fails};
+    ghost use Rattle.outside_io.specs.Files.{ReadsFile};
 
-    ghost held = { λ f. Some (held_by f) };
-
-    ghost reads = { λ f. Some (reads_of f) };
-
-    ghost faults = { faults_of };
-
-    ghost last_failed = { λ f. Some (last_failed_of f) };
+    ghost seen = { seen_of };
 
     /// Want of memory alone may stand in place of each other answer.
     fn read(&mut self, alloc: Global, name: &str, limit: u32) -> Result<Vec<u8>, FileError>
-        ensures within { IfOk result (λ bytes. vec_len bytes ≤ limit) }
-        ensures content { IfOk result (λ bytes. held_by self.old name.now ≡ Some bytes.items) }
-        ensures too_long { IsErrOf result FileError.TooLong → IsSomeAnd (held_by self.old name.now) (λ bytes. limit < length bytes) }
-        ensures keeps { held_by self.new ≡ held_by self.old }
+        ensures reads { ReadsFile (seen_of self.old) (seen_of self.new) result limit name.now }
 
         // Exactly the listed calls fail, and those of a name that isn't held.
-        ensures fails { Fails self.old name.now → (IsErrOf result FileError.Failed) ⊎ (IsErrOf result FileError.Memory) }
+        ensures fails { Fails self.old name.now →
+            (IsErrOf result FileError.Failed) ⊎ (IsErrOf result FileError.Memory) }
         ensures only_these_fail { IsErrOf result FileError.Failed → Fails self.old name.now }
         ensures calls { calls_of self.new ≡ one_more (calls_of self.old) }
         ensures same_listed { failing_of self.new ≡ failing_of self.old }
 
-        // The name is kept, or no memory was found for that.
-        ensures read { (IsErrOf result FileError.Memory → ⊥) → reads_of self.new ≡ reads_of self.old ++ name.now ∷ [] }
-        ensures perhaps_read { IsErrOf result FileError.Memory →
-            (reads_of self.new ≡ reads_of self.old) ⊎ (reads_of self.new ≡ reads_of self.old ++ name.now ∷ []) }
-
-        // A failed read is counted and named, and no other is.
-        ensures later { faults_of self.old ≤ faults_of self.new }
-        ensures failed { IsErrOf result FileError.Failed → faults_of self.new ≡ one_more (faults_of self.old) }
-        ensures not_failed { (IsErrOf result FileError.Failed → ⊥) → faults_of self.new ≡ faults_of self.old }
-        ensures named { IsErrOf result FileError.Failed → last_failed_of self.new ≡ Some name.now }
-        ensures unnamed { (IsErrOf result FileError.Failed → ⊥) → last_failed_of self.new ≡ last_failed_of self.old }
+        // A failed read is counted once.
+        ensures counted { IsErrOf result FileError.Failed →
+            faults_of self.new ≡ one_more (faults_of self.old) }
     {
         self.calls = self.calls.saturating_add(1);
         keep(&mut self.reads, alloc, name)?;
@@ -174,5 +164,11 @@ impl Files for MemoryFiles {
             Some(_) => Err(FileError::TooLong),
             None => Err(self.fail(alloc, name)),
         }
+    }
+}
+
+impl NamesFailed for MemoryFiles {
+    fn last_failed(&self) -> Option<&str> {
+        self.last_failed.as_ref().map(|name| name.as_str())
     }
 }

@@ -1,8 +1,9 @@
 //! A sink in memory, with a room, some of whose puts fail.
 
-ghost use Rattle.std.specs.Prelude.{◌≡◌, ◌↔◌, ◌<◌, ◌≤◌, ◌++◌, [], Some, IfOk, OnOk, OnErr, IsErr, IsOk};
-ghost use Rattle.std.specs.Prelude.{vec_len, vec_capacity, length, take};
+ghost use Rattle.std.specs.Prelude.{◌≡◌, ◌↔◌, ◌<◌, ◌≤◌, IfOk, OnErr, IsErr, IsOk};
+ghost use Rattle.std.specs.Prelude.{vec_len, vec_capacity, length};
 ghost use Rattle.outside_io.specs.Count.{one_more};
+ghost use Rattle.outside_io.specs.Sink.{Puts};
 
 use crate::listed::is_listed;
 use crate::sink::{Failed, Sink};
@@ -26,7 +27,7 @@ pub struct MemorySink {
 }
 
 impl MemorySink {
-    ghost use Rattle.outside_io.specs.MemorySink.{taken_by, room_of, piece_of, calls_of, failing_of, faults_of};
+    ghost use Rattle.outside_io.specs.MemorySink.{IsNew, taken_by};
 
     /// A sink with room for `room` bytes, which is made now. A put takes at most `piece` bytes, and
     /// the puts with the numbers of `fail` fail; the first put has the number 1.
@@ -39,12 +40,7 @@ impl MemorySink {
         fail: List<u32>,
     ) -> Result<MemorySink, Memory>
         requires { 0 < piece }
-        ensures empty { IfOk result (λ sink. taken_by sink ≡ []) }
-        ensures room { IfOk result (λ sink. room_of sink ≡ room) }
-        ensures piece { IfOk result (λ sink. piece_of sink ≡ piece) }
-        ensures listed { IfOk result (λ sink. failing_of sink ≡ fail) }
-        ensures no_call { IfOk result (λ sink. calls_of sink ≡ 0) }
-        ensures no_fault { IfOk result (λ sink. faults_of sink ≡ 0) }
+        ensures { IfOk result (IsNew room piece fail) }
     {
         Ok(MemorySink {
             bytes: Vec::with_capacity(alloc, room)?,
@@ -65,20 +61,15 @@ impl MemorySink {
 }
 
 impl Sink for MemorySink {
-    ghost use Rattle.outside_io.specs.MemorySink.{taken_by, calls_of, faults_of, takes_of, Fails, SameBounds};
+    ghost use Rattle.outside_io.specs.MemorySink.{seen_of, calls_of, faults_of, takes_of, Fails, SameBounds};
 
-    ghost taken = { λ s. Some (taken_by s) };
-
-    ghost faults = { faults_of };
-
-    ghost is_handed_on = { λ _. Unit {0} };
+    ghost seen = { seen_of };
 
     fn put(&mut self, piece: &[u8]) -> Result<usize, Failed>
         requires { 0 < length piece.now }
         ensures some { IfOk result (λ count. 0 < count) }
         ensures within { IfOk result (λ count. count ≤ length piece.now) }
-        ensures takes { IfOk result (λ count. taken_by self.new ≡ taken_by self.old ++ take count piece.now) }
-        ensures none { OnErr result (taken_by self.new ≡ taken_by self.old) }
+        ensures puts { Puts (seen_of self.old) (seen_of self.new) result piece.now }
 
         // Exactly the listed calls fail, and those with no room left.
         ensures fails { IsErr result ↔ Fails self.old }
@@ -86,10 +77,8 @@ impl Sink for MemorySink {
         ensures calls { calls_of self.new ≡ one_more (calls_of self.old) }
         ensures same_bounds { SameBounds self.old self.new }
 
-        // A failed put is counted, and no other is.
-        ensures later { faults_of self.old ≤ faults_of self.new }
-        ensures failed { OnErr result (faults_of self.new ≡ one_more (faults_of self.old)) }
-        ensures not_failed { OnOk result (faults_of self.new ≡ faults_of self.old) }
+        // A failed put is counted once.
+        ensures counted { OnErr result (faults_of self.new ≡ one_more (faults_of self.old)) }
     {
         self.calls = self.calls.saturating_add(1);
         let count = piece
@@ -104,7 +93,7 @@ impl Sink for MemorySink {
         Ok(count)
     }
 
-    /// It gathers nothing.
+    /// Nothing ever waits.
     fn flush(&mut self) -> Result<(), Failed>
         ensures fine { IsOk result }
         ensures same { self.new ≡ self.old }

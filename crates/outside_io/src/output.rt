@@ -45,13 +45,9 @@ impl<W: Telling> Output<W> {
 }
 
 impl<W: Telling> Sink for Output<W> {
-    ghost use Rattle.outside_io.specs.Output.{faults_of, told_through};
+    ghost use Rattle.outside_io.specs.Output.{seen_through};
 
-    ghost taken = { told_through W.tells W.contents };
-
-    ghost faults = { faults_of };
-
-    ghost is_handed_on = { λ _. Unit {0} };
+    ghost seen = { seen_through W.tells W.contents };
 
     /// A write that takes no byte counts as an error.
     fn put(&mut self, piece: &[u8]) -> Result<usize, Failed> {
@@ -64,7 +60,7 @@ impl<W: Telling> Sink for Output<W> {
         }
     }
 
-    /// It gathers nothing.
+    /// Nothing ever waits.
     fn flush(&mut self) -> Result<(), Failed> {
         Ok(())
     }

@@ -1,7 +1,7 @@
 //! Files in memory, none of whose reads fails.
 
-ghost use Rattle.std.specs.Prelude.{◌≡◌, ℕ, ◌<◌, ◌≤◌, List, [], Some, None, IfOk, IsErrOf};
-ghost use Rattle.std.specs.Prelude.{vec_len, length};
+ghost use Rattle.std.specs.Prelude.{◌≡◌, ℕ, ◌<◌, List, [], IfOk, IsErrOf};
+ghost use Rattle.std.specs.Prelude.{length};
 ghost use Rattle.std.specs.Option.{unwrap_or};
 
 use crate::files::{FileError, Files};
@@ -31,21 +31,17 @@ impl SteadyFiles {
 }
 
 impl Files for SteadyFiles {
-    ghost use Rattle.outside_io.specs.SteadyFiles.{content_of};
+    ghost use Rattle.outside_io.specs.Files.{ReadsFile};
+    ghost use Rattle.outside_io.specs.SteadyFiles.{content_of, seen_of};
 
-    ghost held = { λ f. Some (λ name. Some (content_of f name)) };
-
-    ghost reads = { λ _. None };
-
-    ghost faults = { λ _. 0 };
-
-    ghost last_failed = { λ _. Some None };
+    ghost seen = { seen_of };
 
     /// `Failed` never comes. Want of memory alone may stand in place of each other answer.
     fn read(&mut self, alloc: Global, name: &str, limit: u32) -> Result<Vec<u8>, FileError>
-        ensures within { IfOk result (λ bytes. vec_len bytes ≤ limit) }
+        ensures reads { ReadsFile (seen_of self.old) (seen_of self.new) result limit name.now }
         ensures content { IfOk result (λ bytes. bytes.items ≡ content_of self.old name.now) }
-        ensures too_long { IsErrOf result FileError.TooLong → limit < length (content_of self.old name.now) }
+        ensures too_long { IsErrOf result FileError.TooLong →
+            limit < length (content_of self.old name.now) }
         ensures never_fails { IsErrOf result FileError.Failed → ⊥ }
         ensures same { self.new ≡ self.old }
     {

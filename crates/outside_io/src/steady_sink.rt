@@ -2,6 +2,7 @@
 
 ghost use Rattle.std.specs.Prelude.{◌≡◌, ◌+◌, ◌<◌, ◌≤◌, ◌++◌, [], Some, None, IfOk, IfSome, IsOk};
 ghost use Rattle.std.specs.Prelude.{vec_len, vec_capacity, length};
+ghost use Rattle.outside_io.specs.Sink.{Puts};
 
 use crate::sink::{Failed, Sink};
 use ffm_model::Memory;
@@ -47,17 +48,16 @@ impl SteadySink {
 }
 
 impl Sink for SteadySink {
-    ghost use Rattle.outside_io.specs.SteadySink.{kept_by, room_of, told_by};
+    ghost use Rattle.outside_io.specs.SteadySink.{kept_by, room_of, seen_of, told_by};
 
-    ghost taken = { told_by };
-
-    ghost faults = { λ _. 0 };
-
-    ghost is_handed_on = { λ _. Unit {0} };
+    ghost seen = { seen_of };
 
     fn put(&mut self, piece: &[u8]) -> Result<usize, Failed>
         requires { 0 < length piece.now }
         ensures fine { IsOk result }
+        ensures some { IfOk result (λ count. 0 < count) }
+        ensures within { IfOk result (λ count. count ≤ length piece.now) }
+        ensures puts { Puts (seen_of self.old) (seen_of self.new) result piece.now }
         ensures whole { IfOk result (λ count. count ≡ length piece.now) }
         ensures room { room_of self.new ≡ room_of self.old }
 
@@ -69,16 +69,15 @@ impl Sink for SteadySink {
         ensures untold { told_by self.old ≡ None → told_by self.new ≡ None }
         ensures dropped { told_by self.new ≡ None → kept_by self.new ≡ kept_by self.old }
     {
-        if piece.len() > self.room - self.bytes.len() {
+        if self.is_over || piece.len() > self.room - self.bytes.len() {
             self.is_over = true;
+            return Ok(piece.len());
         }
-        if !self.is_over {
-            self.bytes.extend_from_slice(piece).unwrap();
-        }
+        self.bytes.extend_from_slice(piece).unwrap();
         Ok(piece.len())
     }
 
-    /// It gathers nothing.
+    /// Nothing ever waits.
     fn flush(&mut self) -> Result<(), Failed>
         ensures fine { IsOk result }
         ensures same { self.new ≡ self.old }

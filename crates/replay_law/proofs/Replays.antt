@@ -26,7 +26,7 @@ use Rattle.command_words.specs.Words.{Order, judge, run}
 use Rattle.work_orders.specs.declared.limits.TheConstants.{MAX_TRACE_BYTES}
 use Rattle.work_orders.specs.Work.{Work, judge_at, judge_in, judge_of, run_at, scenario_at, scenario_for, system_at, trace_in, trace_place}
 use Rattle.ffm_top.specs.Due.{DueBy, OrderDue, WorkDue}
-use Rattle.ffm_top.specs.Replays.{IsTextOf, JudgedDue, judgement_line, judgement_of, judgement_status}
+use Rattle.judge_command.specs.Replays.{IsTextOf, JudgedDue, judgement_line, judgement_of, judgement_status}
 use Rattle.ffm_top.specs.Runs.{RunDue, restart_line, runs_text}
 use Rattle.replay_law.specs.Replayed.{IsReadable, IsReplayed}
 use Rattle.replay_law.proofs.Chains.{goes-on}

@@ -18,7 +18,7 @@ use Rattle.command_words.specs.declared.words.Inspection.TheVariants.{Replay}
 use Rattle.command_words.specs.Words.{judge, order_of, run}
 use Rattle.work_orders.specs.Work.{run_at, run_of, scenario_at, system_at}
 use Rattle.ffm_top.specs.Due.{Due}
-use Rattle.ffm_top.specs.Replays.{IsTextOf, judgement_line}
+use Rattle.judge_command.specs.Replays.{IsTextOf, judgement_line}
 
 -- a run's text is that of a trace, which is the run; no line of an entry has more than 175 bytes
 pub record IsReadable (s : System) (r : FinishedRun) : Type 0 where

@@ -3,7 +3,7 @@
 //! The actors share one manager by turns. A crew is one actor's worker. Each crew is driven by a
 //! thread of its own; those for which no thread can be started are driven together by the caller.
 ghost use Rattle.std.specs.Thread.{IsSync};
-ghost use Rattle.std.specs.Prelude.{◌≡◌, ◌≤◌, ◌<◌, [], ◌∷◌, ◌++◌, IfOk, false, true, length, map, vec_capacity};
+ghost use Rattle.std.specs.Prelude.{◌≡◌, ◌≤◌, ◌<◌, [], ◌∷◌, ◌++◌, Bool, IfOk, false, true, length, map, vec_capacity};
 ghost use Rattle.std.specs.List.{AllByRecursion};
 ghost use Rattle.ffm_model.specs.Actors.{actor_count};
 ghost use Rattle.ffm_model.specs.Memory.{opening_memory};
@@ -18,6 +18,7 @@ ghost use Rattle.scenario_runs.specs.Threads.{AllFresh, AllFinished, AreNewCrews
 
 use crate::restarting::{Runs, alone};
 use crate::scheduled::{Ran, opening_image};
+use crate::starts::Starts;
 use actor_plans::scripts_that_map_nothing;
 use actor_programs::{Program, scripts_of};
 use ffm_model::{ActorId, Gate, List, Memory, Scenario, Script, System};
@@ -203,6 +204,34 @@ fn seat_of(
     }
 }
 
+// The actor of a crew.
+fn actor_of(crew: &Crew) -> ActorId
+    requires { length crew.now ≡ 1 }
+{
+    crew.as_slice()[0].pass.actor()
+}
+
+// The place of a crew for which no thread was started: its closure finds the flag set.
+fn turned_back<F: FnOnce() -> (bool, Crew)>(
+    shared: &Shared,
+    flag: &AtomicBool,
+    undriven: &mut Vec<Worker<Pass>>,
+    crew: Snapshot<Crew>,
+    trip: F,
+) -> Seat
+    requires new { IsNewCrew shared.now crew.value }
+    requires may { F.pre trip }
+    requires trip { (r : (Bool × Workers)) → F.post trip r → IsTrip shared.now crew.value r.0 r.1 }
+    requires room { length undriven.old.items < vec_capacity undriven.old }
+    ensures seat { IsSeat shared.now result }
+    ensures crew { result.crew.value ≡ crew.value }
+    ensures undriven { undriven.new.items ≡ undriven.old.items ++ left_of result.crew.value result.progress }
+    ensures capacity { vec_capacity undriven.new ≡ vec_capacity undriven.old }
+{
+    flag.store(true, Ordering::SeqCst);
+    seat_of(shared, undriven, crew, trip())
+}
+
 // The pass of a crew, when it is driven. Those that waited are driven by now, and come in order.
 fn pass_of<R: Threads + Wait, G: Gate>(
     rt: &R,
@@ -255,13 +284,14 @@ fn gather<R: Threads + Wait, G: Gate>(
     List::of(passes)
 }
 
-// Each crew is driven by a thread of its own, or where no thread can be started by the caller. All
+// Each crew is driven by a thread of its own, or where none may or can be started by the caller. All
 // memory is taken before the first thread is started.
-fn drive_crews<R: Threads + Wait + Sync, G: Gate + Sync>(
+fn drive_crews<R: Threads + Wait + Sync, G: Gate + Sync, S: Starts>(
     rt: &R,
     alloc: Global,
     shared: &Shared,
     gate: &G,
+    starts: &S,
     crews: Vec<Crew>,
 ) -> Result<List<Pass>, Memory>
     requires { AreNewCrews shared.now crews.items }
@@ -291,22 +321,24 @@ fn drive_crews<R: Threads + Wait + Sync, G: Gate + Sync>(
                     shared: Snapshot::of(shared),
                     crew: Snapshot::of(&crew),
                 };
-                let started = scope.spawn_with(
-                    trip,
-                    move || -> (bool, Crew)
-                        requires { AllFresh shared.now crew }
-                        ensures { IsTrip shared.entry.now crew result.0 result.1 }
-                    { travel(rt, shared, gate, flag, crew) },
-                );
-                let seat = match started {
-                    Ok(handle) => Seat {
-                        crew: before,
-                        progress: Progress::Started(handle),
-                    },
-                    Err(refused) => {
-                        flag.store(true, Ordering::SeqCst);
-                        seat_of(shared, &mut undriven, before, (refused.value)())
+                let may_start = starts.may_start(actor_of(&crew));
+                let travels = move || -> (bool, Crew)
+                    requires { AllFresh shared.now crew }
+                    ensures { IsTrip shared.entry.now crew result.0 result.1 }
+                { travel(rt, shared, gate, flag, crew) };
+                let seat = if may_start {
+                    match scope.spawn_with(trip, travels) {
+                        Ok(handle) => Seat {
+                            crew: before,
+                            progress: Progress::Started(handle),
+                        },
+                        Err(refused) => {
+                            turned_back(shared, flag, &mut undriven, before, refused.value)
+                        }
                     }
+                } else {
+                    drop(trip);
+                    turned_back(shared, flag, &mut undriven, before, travels)
                 };
                 seats.push_reserved(seat);
             }
@@ -316,10 +348,11 @@ fn drive_crews<R: Threads + Wait + Sync, G: Gate + Sync>(
 }
 
 // The run of scripts, one for each actor, over a system, each in a thread of its own.
-fn run_scripts<R: Threads + Wait + Sync, G: Gate + Sync>(
+fn run_scripts<R: Threads + Wait + Sync, G: Gate + Sync, S: Starts>(
     rt: &R,
     alloc: Global,
     gate: &G,
+    starts: &S,
     system: System,
     scenario: &Scenario,
     scripts: List<Script>,
@@ -331,11 +364,11 @@ fn run_scripts<R: Threads + Wait + Sync, G: Gate + Sync>(
     ensures ran { IfOk result (λ ran. RanBy system (opening_memory scenario.now.memory) scenario.now (map Plain scripts) true ran.spm.history ran.verdict) }
 {
     let image = opening_image(alloc, &system, scenario)?;
-    let starts = starts_of(alloc, &system, scripts)?;
+    let begins = starts_of(alloc, &system, scripts)?;
     let spm = Spm::new(alloc, system, image, scenario.limit)?;
     let (shared, passes) = Shared::new(alloc, spm)?;
-    let crews = crews_of(alloc, &shared, passes, starts)?;
-    let passes = drive_crews(rt, alloc, &shared, gate, crews)?;
+    let crews = crews_of(alloc, &shared, passes, begins)?;
+    let passes = drive_crews(rt, alloc, &shared, gate, starts, crews)?;
     let spm = shared.finish(passes);
     let _length = spm.length();
     match spm.verdict() {
@@ -344,15 +377,16 @@ fn run_scripts<R: Threads + Wait + Sync, G: Gate + Sync>(
     }
 }
 
-/// The run of programs, one for each actor, over a system, each in a thread of its own; where no
-/// thread can be started, the caller drives what is left. The schedule isn't used, and no run follows,
+/// The run of programs, one for each actor, over a system, each in a thread of its own; where none may
+/// or can be started, the caller drives what is left. The schedule isn't used, and no run follows,
 /// whatever restarts the scenario has.
 ///
 /// Memory where no memory was found; no thread was started then.
-pub fn run_in_threads<R: Threads + Wait + Sync, G: Gate + Sync>(
+pub fn run_in_threads<R: Threads + Wait + Sync, G: Gate + Sync, S: Starts>(
     rt: &R,
     alloc: Global,
     gate: &G,
+    starts: &S,
     system: System,
     scenario: &Scenario,
     programs: List<Program>,
@@ -365,6 +399,6 @@ pub fn run_in_threads<R: Threads + Wait + Sync, G: Gate + Sync>(
 {
     scripts_that_map_nothing();
     let scripts = scripts_of(alloc, &system, programs)?;
-    let ran = run_scripts(rt, alloc, gate, system, scenario, scripts)?;
+    let ran = run_scripts(rt, alloc, gate, starts, system, scenario, scripts)?;
     Ok(alone(alloc, ran)?)
 }

@@ -4,6 +4,3 @@ pub mod Gathered
 pub mod HexDigits
 pub mod Files
 pub mod ManifestSteps
-pub mod ManifestReads
-pub mod AloneLemmas
-pub mod ReadingSteps

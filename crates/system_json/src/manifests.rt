@@ -1,18 +1,16 @@
 //! A system file with its manifests, which stand in it or in files of their own.
-ghost use Rattle.std.specs.Prelude.{◌≡◌, ◌<◌, ◌≤◌, ◌∷◌, [], IfOk, IfSome, IsErrOf, length};
+ghost use Rattle.std.specs.Prelude.{◌≡◌, ◌<◌, ◌≤◌, [], IfOk, length};
 ghost use Rattle.std.specs.List.{AllByRecursion};
 ghost use Rattle.serde_json.specs.View.{view, items_view};
 ghost use Rattle.ffm_model.specs.Attributes.{or_refuse};
 ghost use Rattle.ffm_model.specs.ManifestItems.{IsManifest};
 ghost use Rattle.ffm_model.specs.Manifests.{manifest_of};
-ghost use Rattle.ffm_model.specs.Reading.{Contents, Gives, Reads, file_at};
+ghost use Rattle.ffm_model.specs.Reading.{Reads, file_at};
 ghost use Rattle.ffm_model.specs.Rules.{at_manifest};
 ghost use Rattle.ffm_model.specs.SystemAttributes.{manifest_in, manifest_items_of, level_of, parts_with};
 ghost use Rattle.ffm_model.specs.Systems.{behind, manifest_place, manifest_named, manifest_item, manifests_after, manifests_of, parts_of, system_of};
 ghost use Rattle.ffm_model.specs.Trees.{tree_of};
-ghost use Rattle.outside_io.specs.Count.{Rose};
-ghost use Rattle.outside_io.specs.Reads.{HasRead, ReadBetween};
-ghost use Rattle.system_json.specs.Alone.{GivesAlone};
+ghost use Rattle.outside_io.specs.Files.{Asks, part_as};
 ghost use Rattle.system_json.specs.Refused.{IsReadRefusal};
 
 use crate::system::{level, parts_with};
@@ -78,20 +76,14 @@ fn manifest_in(alloc: Global, bytes: &[u8], number: u32) -> Result<Manifest, Rea
 }
 
 /// The bytes of the file that holds a manifest.
-#[tactic(auto, using(outside_io::proofs::ReadSteps::perhaps_read, outside_io::proofs::ReadSteps::read_by_all))]
 fn manifest_bytes<F: Files>(
     alloc: Global,
     files: &mut F,
     name: &str,
     number: u32,
 ) -> Result<Vec<u8>, PartsError>
-    ensures gives { IfSome (F.held files.old) (λ of.
-        Gives (λ bytes. bytes.items) (F.last_failed files.new) result (file_at of (manifest_place number) 1048576 name.now)) }
-    ensures reads { IfSome (F.held files.old) (λ of. HasRead (F.reads files.old) (F.reads files.new) result (file_at of (manifest_place number) 1048576 name.now).names) }
-    ensures keeps { F.held files.new ≡ F.held files.old }
-    ensures later { F.faults files.old ≤ F.faults files.new }
-    ensures failed { IsErrOf result PartsError.ReadFault → Rose (F.faults files.old) (F.faults files.new) }
-    ensures steady { (IsErrOf result PartsError.ReadFault → ⊥) → F.faults files.new ≡ F.faults files.old }
+    ensures { Asks (F.seen files.old) (F.seen files.new) (part_as (λ bytes. bytes.items) result)
+        (λ of. file_at of (manifest_place number) 1048576 name.now) }
 {
     match files.read(alloc, name, MAX_FILE_BYTES) {
         Ok(bytes) => Ok(bytes),
@@ -106,44 +98,30 @@ fn manifest_bytes<F: Files>(
 }
 
 /// The manifest in the named file.
-#[tactic(auto, unfolding(ffm_model::specs::Systems::manifest_named), using(crate::proofs::ReadingSteps::reading_steps))]
 fn manifest_named<F: Files>(
     alloc: Global,
     files: &mut F,
     name: &str,
     number: u32,
 ) -> Result<Manifest, PartsError>
-    ensures gives { IfSome (F.held files.old) (λ of.
-        Gives (λ m. m) (F.last_failed files.new) result (manifest_named of number name.now)) }
-    ensures reads { IfSome (F.held files.old) (λ of. HasRead (F.reads files.old) (F.reads files.new) result (manifest_named of number name.now).names) }
+    ensures asks { Asks (F.seen files.old) (F.seen files.new) (part_as (λ m. m) result)
+        (λ of. manifest_named of number name.now) }
     ensures kept { IfOk result IsManifest }
-    ensures keeps { F.held files.new ≡ F.held files.old }
-    ensures later { F.faults files.old ≤ F.faults files.new }
-    ensures failed { IsErrOf result PartsError.ReadFault → Rose (F.faults files.old) (F.faults files.new) }
-    ensures steady { (IsErrOf result PartsError.ReadFault → ⊥) → F.faults files.new ≡ F.faults files.old }
 {
     let bytes = manifest_bytes(alloc, files, name, number)?;
     Ok(manifest_in(alloc, &bytes, number)?)
 }
 
 /// A manifest, which stands in the system file or in the file that a text names.
-#[tactic(auto, using(outside_io::proofs::ReadSteps::read_none, outside_io::proofs::ReadSteps::read_by_all, crate::proofs::AloneLemmas::named_asks))]
 fn manifest_item<F: Files>(
     alloc: Global,
     files: &mut F,
     tree: &Value,
     number: u32,
 ) -> Result<Manifest, PartsError>
-    ensures gives { IfSome (F.held files.old) (λ of.
-        Gives (λ m. m) (F.last_failed files.new) result (manifest_item of number (view tree.now))) }
-    ensures reads { IfSome (F.held files.old) (λ of. HasRead (F.reads files.old) (F.reads files.new) result (manifest_item of number (view tree.now)).names) }
-    ensures alone { (of : Contents) → (manifest_item of number (view tree.now)).names ≡ [] → GivesAlone result (manifest_item of number (view tree.now)) }
-    ensures none_read { (of : Contents) → (manifest_item of number (view tree.now)).names ≡ [] → ReadBetween (F.reads files.old) (F.reads files.new) [] }
+    ensures asks { Asks (F.seen files.old) (F.seen files.new) (part_as (λ m. m) result)
+        (λ of. manifest_item of number (view tree.now)) }
     ensures kept { IfOk result IsManifest }
-    ensures keeps { F.held files.new ≡ F.held files.old }
-    ensures later { F.faults files.old ≤ F.faults files.new }
-    ensures failed { IsErrOf result PartsError.ReadFault → Rose (F.faults files.old) (F.faults files.new) }
-    ensures steady { (IsErrOf result PartsError.ReadFault → ⊥) → F.faults files.new ≡ F.faults files.old }
 {
     match tree.as_str() {
         Some(name) => manifest_named(alloc, files, name, number),
@@ -152,24 +130,16 @@ fn manifest_item<F: Files>(
 }
 
 /// The manifests of a list, each in its turn.
-#[tactic(auto, using(outside_io::proofs::ReadSteps::read_none))]
 fn manifests_from<F: Files>(
     alloc: Global,
     files: &mut F,
     items: &[Value],
 ) -> Result<List<Manifest>, PartsError>
     requires { length items.now ≤ 256 }
-    ensures gives { IfSome (F.held files.old) (λ of.
-        Gives (λ ms. ms) (F.last_failed files.new) result (manifests_after of [] 0 (items_view items.now))) }
-    ensures reads { IfSome (F.held files.old) (λ of. HasRead (F.reads files.old) (F.reads files.new) result (manifests_after of [] 0 (items_view items.now)).names) }
-    ensures alone { (of : Contents) → (manifests_after of [] 0 (items_view items.now)).names ≡ [] → GivesAlone result (manifests_after of [] 0 (items_view items.now)) }
-    ensures none_read { (of : Contents) → (manifests_after of [] 0 (items_view items.now)).names ≡ [] → ReadBetween (F.reads files.old) (F.reads files.new) [] }
+    ensures asks { Asks (F.seen files.old) (F.seen files.new) (part_as (λ ms. ms) result)
+        (λ of. manifests_after of [] 0 (items_view items.now)) }
     ensures kept { IfOk result (AllByRecursion IsManifest) }
     ensures count { IfOk result (λ ms. length ms ≤ 256) }
-    ensures keeps { F.held files.new ≡ F.held files.old }
-    ensures later { F.faults files.old ≤ F.faults files.new }
-    ensures failed { IsErrOf result PartsError.ReadFault → Rose (F.faults files.old) (F.faults files.new) }
-    ensures steady { (IsErrOf result PartsError.ReadFault → ⊥) → F.faults files.new ≡ F.faults files.old }
 {
     let mut found = Vec::new(alloc);
     for (i, item) in items.iter().enumerate() {
@@ -210,23 +180,15 @@ fn keep_freed_memory(alloc: Global, items: &[Value]) {
 }
 
 /// The manifests of a system file.
-#[tactic(auto, unfolding(ffm_model::specs::Systems::manifests_of), using(crate::proofs::ReadingSteps::reading_steps, crate::proofs::ReadingSteps::reading_alone))]
 fn manifests<F: Files>(
     alloc: Global,
     files: &mut F,
     tree: &Value,
 ) -> Result<List<Manifest>, PartsError>
-    ensures gives { IfSome (F.held files.old) (λ of.
-        Gives (λ ms. ms) (F.last_failed files.new) result (manifests_of of (view tree.now))) }
-    ensures reads { IfSome (F.held files.old) (λ of. HasRead (F.reads files.old) (F.reads files.new) result (manifests_of of (view tree.now)).names) }
-    ensures alone { (of : Contents) → (manifests_of of (view tree.now)).names ≡ [] → GivesAlone result (manifests_of of (view tree.now)) }
-    ensures none_read { (of : Contents) → (manifests_of of (view tree.now)).names ≡ [] → ReadBetween (F.reads files.old) (F.reads files.new) [] }
+    ensures asks { Asks (F.seen files.old) (F.seen files.new) (part_as (λ ms. ms) result)
+        (λ of. manifests_of of (view tree.now)) }
     ensures kept { IfOk result (AllByRecursion IsManifest) }
     ensures count { IfOk result (λ ms. length ms ≤ 256) }
-    ensures keeps { F.held files.new ≡ F.held files.old }
-    ensures later { F.faults files.old ≤ F.faults files.new }
-    ensures failed { IsErrOf result PartsError.ReadFault → Rose (F.faults files.old) (F.faults files.new) }
-    ensures steady { (IsErrOf result PartsError.ReadFault → ⊥) → F.faults files.new ≡ F.faults files.old }
 {
     let items = manifest_items(alloc, tree)?;
     keep_freed_memory(alloc, items);
@@ -259,17 +221,9 @@ fn parts_here(
 }
 
 /// What a system file's tree says.
-#[tactic(auto, unfolding(ffm_model::specs::Systems::parts_of), using(crate::proofs::ReadingSteps::reading_steps, crate::proofs::ReadingSteps::reading_alone))]
 fn parts<F: Files>(alloc: Global, files: &mut F, tree: &Value) -> Result<Parts, PartsError>
-    ensures gives { IfSome (F.held files.old) (λ of.
-        Gives (λ p. p) (F.last_failed files.new) result (parts_of of (view tree.now))) }
-    ensures reads { IfSome (F.held files.old) (λ of. HasRead (F.reads files.old) (F.reads files.new) result (parts_of of (view tree.now)).names) }
-    ensures alone { (of : Contents) → (parts_of of (view tree.now)).names ≡ [] → GivesAlone result (parts_of of (view tree.now)) }
-    ensures none_read { (of : Contents) → (parts_of of (view tree.now)).names ≡ [] → ReadBetween (F.reads files.old) (F.reads files.new) [] }
-    ensures keeps { F.held files.new ≡ F.held files.old }
-    ensures later { F.faults files.old ≤ F.faults files.new }
-    ensures failed { IsErrOf result PartsError.ReadFault → Rose (F.faults files.old) (F.faults files.new) }
-    ensures steady { (IsErrOf result PartsError.ReadFault → ⊥) → F.faults files.new ≡ F.faults files.old }
+    ensures { Asks (F.seen files.old) (F.seen files.new) (part_as (λ p. p) result)
+        (λ of. parts_of of (view tree.now)) }
 {
     let level = level_here(alloc, tree)?;
     let manifests = manifests(alloc, files, tree)?;
@@ -302,25 +256,13 @@ fn system_tree(alloc: Global, bytes: &[u8]) -> Result<Value, ReadError>
 /// failed name is that of a manifest file that was asked for before any refusal; every other answer
 /// leaves the count, and a system file that names no other file never gives it. `Memory` where no
 /// memory is found.
-#[tactic(auto, unfolding(ffm_model::specs::Systems::system_of), using(crate::proofs::ReadingSteps::reading_steps, crate::proofs::ReadingSteps::reading_alone))]
 pub fn read_system<F: Files>(
     alloc: Global,
     bytes: &[u8],
     files: &mut F,
 ) -> Result<Parts, PartsError>
-    ensures gives { IfSome (F.held files.old) (λ of.
-        Gives (λ p. p) (F.last_failed files.new) result (system_of of bytes.now)) }
-    ensures reads { IfSome (F.held files.old) (λ of. HasRead (F.reads files.old) (F.reads files.new) result (system_of of bytes.now).names) }
-
-    // A system file that asks for no other file is read whatever the files tell, and none of them with it.
-    ensures alone { (of : Contents) → (system_of of bytes.now).names ≡ [] → GivesAlone result (system_of of bytes.now) }
-    ensures none_read { (of : Contents) → (system_of of bytes.now).names ≡ [] → ReadBetween (F.reads files.old) (F.reads files.new) [] }
-
-    // What the files hold stays, and no count falls.
-    ensures keeps { F.held files.new ≡ F.held files.old }
-    ensures later { F.faults files.old ≤ F.faults files.new }
-    ensures failed { IsErrOf result PartsError.ReadFault → Rose (F.faults files.old) (F.faults files.new) }
-    ensures steady { (IsErrOf result PartsError.ReadFault → ⊥) → F.faults files.new ≡ F.faults files.old }
+    ensures { Asks (F.seen files.old) (F.seen files.new) (part_as (λ p. p) result)
+        (λ of. system_of of bytes.now) }
 {
     let tree = system_tree(alloc, bytes)?;
     parts(alloc, files, &tree)

@@ -1,11 +1,9 @@
-//! The commands of both programs over reads that fail, and into sinks that fail or take a byte a put.
+//! The commands of both programs over reads that fail, and into sinks that fail, take a byte a put, or gather.
 
 use crate::told::{Command, Program, Told, assert_told, files_of, run, sink_of, status_of};
-use crate::words::USAGE;
 use ffm_model::{List, OpenGate};
-use outside_io::{Failed, Sink};
+use outside_io::{Gathering, MemorySink, Sink};
 use std::alloc::Global;
-use std::process::Abort;
 use std::sync::Wait;
 use std::test::Fail;
 use std::thread::Threads;
@@ -107,7 +105,7 @@ admitted 1 partitions 1 services 1 connections
         },
         reads: 0,
         status: 2,
-        text: USAGE,
+        text: "usage: ffm compile SYSTEM | ffm run [--threads] SYSTEM SCENARIO | ffm replay SYSTEM SCENARIO TRACE | ffm audit SYSTEM SCENARIO TRACE | ffm make N\n",
     },
     Case {
         command: Command {
@@ -214,92 +212,50 @@ fn told_with<R: Threads + Wait + Sync>(
     Ok(run(rt, alloc, &OpenGate, command, files, sink)?)
 }
 
-// Fails unless each read of the command that fails is told by 7, with nothing written. One after the last that is made
-// changes nothing.
-fn assert_failing_reads<R: Threads + Wait + Sync + Abort>(
-    rt: &R,
-    alloc: Global,
-    case: &Case,
-) -> Result<(), Fail> {
-    for failing in 1..6u32 {
-        let found = told_with(rt, alloc, case.command, failing, 0)?;
-        if failing <= case.reads {
-            assert_told(rt, case.command, &found, 7, b"");
-        } else {
-            assert_told(rt, case.command, &found, case.status, case.text.as_bytes());
-        }
-    }
-    Ok(())
-}
-
+// A read that fails is told by 7, and nothing is written. One after the last that is made changes nothing.
 #[test]
-fn reads_that_fail(rt: HostRuntime) -> Result<(), Fail> {
+fn each_read_fails(rt: HostRuntime) -> Result<(), Fail> {
     for case in &CASES {
-        assert_failing_reads(&rt, rt.alloc(), case)?;
-    }
-    Ok(())
-}
-
-// Fails unless a put that fails is told by 8, with the bytes before it written: at the first byte, each 61st and the
-// last.
-fn assert_failing_puts<R: Threads + Wait + Sync + Abort>(
-    rt: &R,
-    alloc: Global,
-    case: &Case,
-) -> Result<(), Fail> {
-    let text = case.text.as_bytes();
-    let mut failing: u32 = 0;
-    for before in 0..text.len() {
-        failing = failing.saturating_add(1);
-        if before % 61 == 0 || before + 1 == text.len() {
-            let found = told_with(rt, alloc, case.command, 0, failing)?;
-            assert_told(rt, case.command, &found, 8, &text[..before]);
+        for failing in 1..6u32 {
+            let found = told_with(&rt, rt.alloc(), case.command, failing, 0)?;
+            if failing <= case.reads {
+                assert_told(&rt, case.command, &found, 7, b"");
+            } else {
+                assert_told(&rt, case.command, &found, case.status, case.text.as_bytes());
+            }
         }
     }
     Ok(())
 }
 
+// A put that fails is told by 8, and the bytes before it are written: at the first byte, each 61st and the last.
 #[test]
 fn puts_that_fail(rt: HostRuntime) -> Result<(), Fail> {
     for case in &CASES {
-        assert_failing_puts(&rt, rt.alloc(), case)?;
+        let text = case.text.as_bytes();
+        let mut failing: u32 = 0;
+        for before in 0..text.len() {
+            failing = failing.saturating_add(1);
+            if before % 61 == 0 || before + 1 == text.len() {
+                let found = told_with(&rt, rt.alloc(), case.command, 0, failing)?;
+                assert_told(&rt, case.command, &found, 8, &text[..before]);
+            }
+        }
     }
     Ok(())
 }
 
-/// A sink that gathers everything and can hand nothing on.
-#[derive(Drop)]
-struct Lost {
-    faults: u64,
-}
-
-impl Sink for Lost {
-    ghost use Rattle.std.specs.Prelude.{None};
-
-    ghost taken = { λ _. None };
-
-    ghost faults = { λ s. s.faults };
-
-    ghost is_handed_on = { λ _. ⊥ };
-
-    fn put(&mut self, piece: &[u8]) -> Result<usize, Failed> {
-        Ok(piece.len())
-    }
-
-    fn flush(&mut self) -> Result<(), Failed> {
-        self.faults = self.faults.saturating_add(1);
-        Err(Failed)
-    }
-}
-
+// The first hand-on fails, which is told by 8. The text waits whole, and the next one hands on nothing else.
 #[test]
-fn lost_output(rt: HostRuntime) -> Result<(), Fail> {
+fn output_that_waits(rt: HostRuntime) -> Result<(), Fail> {
     for case in &CASES {
         let mut files = files_of(rt.alloc(), &FILES)?;
-        let mut sink = Lost { faults: 0 };
+        let mut sink: Gathering<MemorySink> = Gathering::of(sink_of(rt.alloc(), 1024, 1024, 1)?);
         let command = case.command;
         let status = status_of(&rt, rt.alloc(), &OpenGate, command, &mut files, &mut sink)?;
-        assert!(rt; status == 8);
+        assert!(rt; status == 8 && sink.sink().bytes().is_empty());
+        assert!(rt; sink.flush().is_ok());
+        assert!(rt; sink.sink().bytes() == case.text.as_bytes());
     }
     Ok(())
 }

@@ -61,14 +61,14 @@ fn assert_gathered(
     Ok(())
 }
 
-// The sink takes five thousand bytes at a time, and its seventh put fails.
+// The sink takes five thousand bytes at a time, and its seventh put fails. What it didn't take waits still.
 #[test]
 fn gathered_pieces(rt: HostRuntime) -> Result<(), Fail> {
     let mut sink = Gathering::of(sink_of(rt.alloc(), 40000, 5000, 7)?);
     assert_gathered(&rt, rt.alloc(), &mut sink)?;
     for (text, wanted, put) in [
         (b"".as_slice(), Err(Failed), 26384),
-        (b"last", Ok(()), 26388),
+        (b"last", Ok(()), 29580),
     ] {
         assert!(rt; put_all(&mut sink, text).is_ok());
         assert!(rt; sink.flush() == wanted);

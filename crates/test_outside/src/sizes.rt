@@ -2,7 +2,7 @@
 
 use crate::told::{Command, Program, Told, assert_told, files_of, run, sink_of, status_of};
 use ffm_model::OpenGate;
-use outside_io::{Gathering, MemorySink};
+use outside_io::{Gathering, MemorySink, Sink};
 use std::alloc::{AllocError, Global};
 use std::process::Abort;
 use std::sync::Wait;
@@ -98,30 +98,39 @@ fn more_than_a_hundred_thousand_entries(rt: HostRuntime) -> Result<(), Fail> {
     assert_legal(&rt, rt.alloc(), scenario.as_str(), &found.text, 120_000)
 }
 
-// The status of a run whose text is gathered before a sink of which a put fails, and the text that came there.
-fn told_through<R: Threads + Wait + Sync>(
+// A run whose text is gathered before a sink of which a put fails.
+fn gathered_run<R: Threads + Wait + Sync>(
     rt: &R,
     alloc: Global,
-    failing: u32,
-) -> Result<Told, Fail> {
+    sink: &mut Gathering<MemorySink>,
+) -> Result<u8, Fail> {
     let scenario = asking_often(alloc, 600)?;
     let mut files = files_of(alloc, &[("system", VAULT), ("scenario", scenario.as_str())])?;
-    let mut sink: Gathering<MemorySink> = Gathering::of(sink_of(alloc, 65_536, 65_536, failing)?);
-    let status = status_of(rt, alloc, &OpenGate, RUN, &mut files, &mut sink)?;
-    let text = sink.sink().bytes().to_vec(alloc)?;
-    Ok(Told { status, text })
+    Ok(status_of(rt, alloc, &OpenGate, RUN, &mut files, sink)?)
 }
 
 // 8 KiB are gathered: the first line and 240 more, then 240 lines, and the rest is handed on at the end. Each of these
-// puts fails in turn, and then none.
+// puts fails in turn, and then none. What waits behind a put that failed is the text's too: it goes on where it stopped.
 #[test]
 fn a_put_fails_behind_what_is_gathered(rt: HostRuntime) -> Result<(), Fail> {
     let text = asked_often(rt.alloc(), 600)?;
     let text = text.as_bytes();
-    for (failing, status, written) in [(1, 8, 0), (2, 8, 8180), (3, 8, 16340), (4, 5, 20395)] {
-        let found = told_through(&rt, rt.alloc(), failing)?;
-        assert!(rt; written <= text.len());
-        assert_told(&rt, RUN, &found, status, &text[..written]);
+    let rows = [
+        (1, 8, 0, 8180),
+        (2, 8, 8180, 16340),
+        (3, 8, 16340, 20395),
+        (4, 5, 20395, 20395),
+    ];
+    for (failing, status, written, then) in rows {
+        let mut sink = Gathering::of(sink_of(rt.alloc(), 65_536, 65_536, failing)?);
+        assert!(rt; gathered_run(&rt, rt.alloc(), &mut sink)? == status);
+        assert!(rt;
+            text.strip_prefix(sink.sink().bytes()).is_some() && sink.sink().bytes().len() == written
+        );
+        assert!(rt; sink.flush().is_ok());
+        assert!(rt;
+            text.strip_prefix(sink.sink().bytes()).is_some() && sink.sink().bytes().len() == then
+        );
     }
     Ok(())
 }
@@ -148,25 +157,16 @@ fn the_longest_file(rt: HostRuntime) -> Result<(), Fail> {
     Ok(())
 }
 
-// Fails unless a command refuses the system file where it is cut anywhere before its last brace.
-fn assert_cuts<R: Threads + Wait + Sync + Abort>(
-    rt: &R,
-    alloc: Global,
-    command: Command,
-) -> Result<(), Fail> {
-    for length in 0..VAULT.len() {
-        if let Some((cut, _)) = VAULT.split_at_checked(length) {
-            let found = told_over(rt, alloc, command, (cut, "{}", b"quiet 0\n"))?;
-            assert_told(rt, command, &found, 1, b"refused 1 Json system\n");
-        }
-    }
-    Ok(())
-}
-
+// A system file that is cut anywhere before its last brace.
 #[test]
 fn each_cut_system(rt: HostRuntime) -> Result<(), Fail> {
     for command in [RUN, REPLAY, AUDIT] {
-        assert_cuts(&rt, rt.alloc(), command)?;
+        for length in 0..VAULT.len() {
+            if let Some((cut, _)) = VAULT.split_at_checked(length) {
+                let found = told_over(&rt, rt.alloc(), command, (cut, "{}", b"quiet 0\n"))?;
+                assert_told(&rt, command, &found, 1, b"refused 1 Json system\n");
+            }
+        }
     }
     Ok(())
 }

@@ -1,8 +1,10 @@
-//! Runs with a thread for each actor: that the actors run beside each other, and that the trace written is the history
-//! that their turns made.
+//! Runs with a thread for each actor: that the actors run beside each other, that the trace written is the history that
+//! their turns made, and that actors without a thread run all the same.
 
-use crate::told::{Command, Program, Told, assert_told, files_of, run, sink_of};
+use crate::told::{Command, Program, Told, assert_told, files_of, run, sink_of, words_of};
 use ffm_model::{ActorId, Gate, OpenGate};
+use ffm_top::ffm_starting;
+use scenario_runs::Starts;
 use std::alloc::Global;
 use std::hint;
 use std::process::Abort;
@@ -228,18 +230,95 @@ fn assert_lines(rt: &impl Abort, text: &str, lines: &str, count: usize) {
     }
 }
 
+// Fails unless a run told its lines, and they are judged to be a run.
+fn assert_run<R: Threads + Wait + Sync + Abort>(
+    rt: &R,
+    alloc: Global,
+    row: &Ordered,
+    found: &Told,
+) -> Result<(), Fail> {
+    let trace = str::from_utf8(&found.text)?;
+    assert!(rt; found.status == 0, "{trace}");
+    assert_lines(rt, trace, row.lines, row.count);
+    let files = (row.system, row.scenario, trace);
+    let judged = told_at(rt, alloc, &OpenGate, REPLAY, files)?;
+    assert!(rt; judged.status == 0, "{trace}");
+    Ok(())
+}
+
 #[test]
 fn runs_have_their_lines_in_any_order(rt: HostRuntime) -> Result<(), Fail> {
-    let alloc = rt.alloc();
     for row in &ORDERED {
         let files = (row.system, row.scenario, "");
-        let found = told_at(&rt, alloc, &OpenGate, RUN, files)?;
-        let trace = str::from_utf8(&found.text)?;
-        assert!(rt; found.status == 0, "{trace}");
-        assert_lines(&rt, trace, row.lines, row.count);
-        let files = (row.system, row.scenario, trace);
-        let judged = told_at(&rt, alloc, &OpenGate, REPLAY, files)?;
-        assert!(rt; judged.status == 0, "{trace}");
+        let found = told_at(&rt, rt.alloc(), &OpenGate, RUN, files)?;
+        assert_run(&rt, rt.alloc(), row, &found)?;
+    }
+    Ok(())
+}
+
+/// Whose threads are refused.
+#[derive(Clone, Copy)]
+enum Refused {
+    Only(ActorId),
+    Everyone,
+}
+
+impl Starts for Refused {
+    fn may_start(&self, actor: ActorId) -> bool {
+        match *self {
+            Refused::Only(refused) => actor != refused,
+            Refused::Everyone => false,
+        }
+    }
+}
+
+// What a run tells whose actors get no thread where it is refused.
+fn told_without<R: Threads + Wait + Sync, G: Gate + Sync>(
+    rt: &R,
+    alloc: Global,
+    gate: &G,
+    refused: Refused,
+    (system, scenario): (&str, &str),
+) -> Result<Told, Fail> {
+    let words = words_of(alloc, RUN.words)?;
+    let mut files = files_of(alloc, &[("system", system), ("scenario", scenario)])?;
+    let mut sink = sink_of(alloc, 8192, 256, 0)?;
+    let status = ffm_starting(rt, alloc, &words, &mut files, &mut sink, gate, &refused);
+    let text = sink.bytes().to_vec(alloc)?;
+    Ok(Told { status, text })
+}
+
+#[test]
+fn threads_refused(rt: HostRuntime) -> Result<(), Fail> {
+    let everyone = [
+        Refused::Only(ActorId(0)),
+        Refused::Only(ActorId(1)),
+        Refused::Only(ActorId(2)),
+        Refused::Everyone,
+    ];
+    for row in &ORDERED {
+        for refused in everyone {
+            let files = (row.system, row.scenario);
+            let found = told_without(&rt, rt.alloc(), &OpenGate, refused, files)?;
+            assert_run(&rt, rt.alloc(), row, &found)?;
+        }
+    }
+    Ok(())
+}
+
+// The mutual holds end where one actor has no thread, since the caller drives it beside the other's; where nobody has
+// one, the first hold gives up.
+#[test]
+fn refused_actors_run_beside_the_threads(rt: HostRuntime) -> Result<(), Fail> {
+    for (refused, gives_up) in [
+        (Refused::Only(ActorId(1)), false),
+        (Refused::Only(ActorId(2)), false),
+        (Refused::Everyone, true),
+    ] {
+        let gate = Holds::new(ActorId(1), ActorId(2));
+        let files = (TWO_CLIENTS, ASKING);
+        let found = told_without(&rt, rt.alloc(), &gate, refused, files)?;
+        assert!(rt; gate.gave_up() == gives_up && found.status == 0);
     }
     Ok(())
 }

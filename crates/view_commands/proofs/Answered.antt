@@ -1,72 +1,116 @@
 -- What is due of the words and the files, out of what was read and shown.
-use Rattle.std.proofs.Common.{◌≡◌, ◌≢◌, ◌<◌, ℕ, List, inl, inr, length, subst, sym}
-use Rattle.std.specs.Prelude.{◌⊎◌, Option, Some, None, IfOk, IfSome, IsOk, Result, Ok, Err}
+use Rattle.std.proofs.Common.{◌≡◌, ◌≢◌, ℕ, ◌<◌, List, [], arith, inl, inr, refl, subst, sym}
+use Rattle.std.specs.Prelude.{◌⊎◌, Option, None, Some, IfOk, IsErrOf, Result, Ok, Err}
 use Rattle.clap.specs.Words.{kind_of}
 use Rattle.clap.specs.declared.error.Error.{Error}
 use Rattle.clap.specs.declared.error.kind.ErrorKind.TheVariants as kind
-use Rattle.ffm_model.specs.Reading.{Contents, FailedAmong, Reading}
-use Rattle.outside_io.proofs.ReadSteps.{read_none}
-use Rattle.outside_io.specs.Reads.{FrontReadBetween, ReadBetween}
-use Rattle.outside_io.specs.Told.{Takes, TakesPart}
-use Rattle.work_orders.specs.Work.{Work, work_of}
+use Rattle.command_words.specs.declared.words.Inspection.TheVariants.{Replay}
+use Rattle.outside_io.specs.Files.{Asks, FilesSeen, no_memory}
+use Rattle.outside_io.specs.Sink.{Hands, SinkSeen}
+use Rattle.outside_io.proofs.FilesSteps.{asks_lost}
+use Rattle.work_orders.specs.Work.{Work, judge_of}
 use Rattle.view_commands.specs.declared.files.TraceFiles.{TraceFiles}
 use Rattle.view_commands.specs.declared.top.Answer.{Answer}
-use Rattle.view_commands.specs.Answers.{Due, FailedAsked, ReadsAsked, ReadsAskedPart, Shows, ViewDue, WritesDue, WritesPart, files_of}
-use Rattle.view_commands.specs.Files.{ReadsDue, order_of_files}
-use Rattle.view_words.specs.declared.words.Aspect.{Aspect}
+use Rattle.view_commands.specs.declared.top.Stopped.{Stopped}
+use Rattle.view_commands.specs.declared.top.Stopped.TheVariants as stopped
+use Rattle.view_commands.specs.Answers.{Answered, AnswersRequest, AnswersWords, Due, EndsWith, IsAnswer, IsShownStatus, IsStatus, Shows, Unfinished, Unread}
+use Rattle.view_commands.specs.Files.{FilesRead, files_of}
 use Rattle.view_words.specs.declared.words.Request.{Request}
 use Rattle.view_words.specs.Requests.{AsksFor, IsTold, told_status}
 
+-- ---- the answer to a request
+
 -- the aspect is shown of the files that were read
-pub shown_due : (held : Option Contents) (f : Contents → Reading Work) (files : TraceFiles) (a : Aspect) (text : List ℕ) (status : ℕ) → IfSome held (λ of. ReadsDue (f of).gives (Ok files)) → Shows files a text status
-    → IfSome held (λ of. ViewDue (f of).gives a text status)
-shown_due None f files a text status read shows = tt
-shown_due (Some of) f files a text status read shows = inr (record { files = files; work = read.0; are = read.1; shows = shows })
+pub shown_answer : (r : Request) (a b : FilesSeen) (f : TraceFiles) (text : List ℕ) (status : ℕ) → FilesRead r.names a b (Ok f) → Shows f r.aspect text status → IsAnswer r a b text status
+shown_answer r a b f text status read shows = record {
+  due = Ok (judge_of Replay f.work.system f.work.scenario f.work.trace.items);
+  reads = read.0;
+  is_due = inr (record { files = f; work = refl; are = read.1; shows = shows });
+}
 
--- what the words ask for is due
-pub asked_due : {E : Type 0} (held : Option Contents) (words : List (List ℕ)) (r : Request) (result : Result Answer E) → AsksFor words r
-    → IfSome held (λ of. IfOk result (λ answer. ViewDue (work_of of (order_of_files r.names)).gives r.aspect answer.text.items answer.status))
-    → IfSome held (λ of. IfOk result (λ answer. Due words of answer.text.items answer.status))
-asked_due None words r result asks due = tt
-asked_due (Some of) words r (Ok answer) asks due = inr (r, asks, due)
-asked_due (Some of) words r (Err e) asks due = tt
+-- no memory was found to show it
+pub unshown : (r : Request) (a b : FilesSeen) (f : TraceFiles) → FilesRead r.names a b (Ok f) → Asks {A = Work} a b (Err no_memory) (files_of r.names)
+unshown r a b f read = asks_lost a b (judge_of Replay f.work.system f.work.scenario f.work.trace.items) (files_of r.names) read.0
 
--- the words ask for nothing, and were answered
-pub told_due : {E : Type 0} (held : Option Contents) (words : List (List ℕ)) (e : Error) (result : Result Answer E) → (kind_of e ≡ kind.OutOfMemory) ⊎ IsTold words (told_status (kind_of e)) → IfOk result (λ answer. answer.status ≡ told_status (kind_of e))
-    → IfOk result (λ answer. kind_of e ≢ kind.OutOfMemory) → IfSome held (λ of. IfOk result (λ answer. Due words of answer.text.items answer.status))
-told_due None words e result told status other = tt
-told_due (Some of) words e (Err x) told status other = tt
-told_due (Some of) words e (Ok answer) (inl memory) status other = absurd (other memory)
-told_due (Some of) words e (Ok answer) (inr told) status other = inl (subst (IsTold words) (sym status) told)
+-- ---- the answer to the words
 
--- a text that is due was written in part
-pub part_due : (held : Option Contents) (words : List (List ℕ)) (text : List ℕ) (status : ℕ) (before after : Option (List ℕ)) → IfSome held (λ of. Due words of text status) → (0 < length text → TakesPart before after text)
-    → IfSome held (λ of. WritesPart words of before after)
-part_due None words text status before after due part = tt
-part_due (Some of) words text status before after due part = (text, status, due, part)
+-- they ask for this
+pub asked_answer : (words : List (List ℕ)) (r : Request) (a b : FilesSeen) (result : Result Answer Stopped) → AsksFor words r → AnswersRequest r a b result → AnswersWords words a b result
+asked_answer words r a b (Ok answer) asks is = inr (r, asks, is)
+asked_answer words r a b (Err stopped.Files) asks is = (r, asks, is)
+asked_answer words r a b (Err stopped.Memory) asks is = inr (r, asks, is)
 
--- ---- the files that are read
+-- they ask for nothing, and were answered
+pub told_answer : (words : List (List ℕ)) (e : Error) (a : FilesSeen) (result : Result Answer Stopped) → (kind_of e ≡ kind.OutOfMemory) ⊎ IsTold words (told_status (kind_of e)) → IfOk result (λ answer. answer.status ≡ told_status (kind_of e))
+    → IfOk result (λ answer. kind_of e ≢ kind.OutOfMemory) → (IsErrOf result stopped.Files → ⊥) → AnswersWords words a a result
+told_answer words e a (Ok answer) (inl memory) status other read = absurd (other memory)
+told_answer words e a (Ok answer) (inr told) status other read = inl (subst (IsTold words) (sym status) told, refl)
+told_answer words e a (Err stopped.Files) told status other read = absurd (read refl)
+told_answer words e a (Err stopped.Memory) told status other read = inl refl
 
-pub failed_asked : (held : Option Contents) (words : List (List ℕ)) (r : Request) (last : Option (Option (List ℕ))) → AsksFor words r → IfSome held (λ of. FailedAmong (files_of r of) last) → IfSome held (λ of. FailedAsked words of last)
-failed_asked None words r last asks failed = tt
-failed_asked (Some of) words r last asks failed = (r, asks, failed)
+-- ---- what is made of files and sink
 
-pub read_asked : (held : Option Contents) (words : List (List ℕ)) (r : Request) (a b : Option (List (List ℕ))) → AsksFor words r → IfSome held (λ of. ReadBetween a b (files_of r of)) → IfSome held (λ of. ReadsAsked words of a b)
-read_asked None words r a b asks read = tt
-read_asked (Some of) words r a b asks read = inr (r, asks, read)
+is_status : (status : ℕ) → IsShownStatus status → IsStatus status
+is_status status (inl few) = inl few
+is_status status (inr six) = inr (omega arith, omega arith)
 
-pub part_asked : (held : Option Contents) (words : List (List ℕ)) (r : Request) (a b : Option (List (List ℕ))) → AsksFor words r → IfSome held (λ of. FrontReadBetween a b (files_of r of)) → IfSome held (λ of. ReadsAskedPart words of a b)
-part_asked None words r a b asks read = tt
-part_asked (Some of) words r a b asks read = inr (r, asks, read)
+below_seven : (status : ℕ) → IsShownStatus status → status < 7
+below_seven status (inl few) = omega arith
+below_seven status (inr six) = omega arith
 
--- the words ask for no file
-pub none_asked : {E : Type 0} (held : Option Contents) (words : List (List ℕ)) (e : Error) (result : Result Answer E) (a : Option (List (List ℕ))) → (kind_of e ≡ kind.OutOfMemory) ⊎ IsTold words (told_status (kind_of e)) → IfOk result (λ answer. kind_of e ≢ kind.OutOfMemory)
-    → IsOk result → IfSome held (λ of. ReadsAsked words of a a)
-none_asked None words e result a told other ok = tt
-none_asked (Some of) words e (Err x) a told other ok = absurd cc
-none_asked (Some of) words e (Ok answer) a (inl memory) other ok = absurd (other memory)
-none_asked (Some of) words e (Ok answer) a (inr told) other ok = inl (told_status (kind_of e), told, read_none a)
+not_both : (status : ℕ) → status < 7 → (status ≡ 7) ⊎ (status ≡ 9) → ⊥
+not_both status lt (inl seven) = omega arith
+not_both status lt (inr nine) = omega arith
 
-pub none_yet : (held : Option Contents) (words : List (List ℕ)) (a : Option (List (List ℕ))) → IfSome held (λ of. ReadsAskedPart words of a a)
-none_yet None words a = tt
-none_yet (Some of) words a = inl (read_none a)
+-- the text was written whole
+pub answered_whole : (words : List (List ℕ)) (f g : FilesSeen) (out after : SinkSeen) (text : List ℕ) (status : ℕ) → Due words f g text status → IsShownStatus status → Hands {E = Unit {0}} out after (Ok (tt {0})) text → Answered words f g out after status
+answered_whole words f g out after text status due is hands =
+    let lt : status < 7 = below_seven status is in
+    record {
+      status_is = is_status status is;
+      whole = λ _. (text, due, hands);
+      part = λ eight. absurd (omega arith);
+      nothing = λ e. absurd (not_both status lt e);
+      unread = λ seven. absurd (omega arith);
+      unfinished = λ nine. absurd (omega arith);
+    }
+
+-- it wasn't
+pub answered_part : (words : List (List ℕ)) (f g : FilesSeen) (out after : SinkSeen) (text : List ℕ) (status : ℕ) → Due words f g text status → Hands {T = Unit {0}} out after (Err (tt {0})) text → Answered words f g out after 8
+answered_part words f g out after text status due hands = record {
+  status_is = inr (omega arith, omega arith);
+  whole = λ lt. absurd (omega arith);
+  part = λ _. (text, status, due, hands);
+  nothing = λ e. absurd (elim e [ inl seven ↦ omega arith | inr nine ↦ omega arith ]);
+  unread = λ seven. absurd (omega arith);
+  unfinished = λ nine. absurd (omega arith);
+}
+
+-- a file wasn't read
+pub answered_unread : (words : List (List ℕ)) (f g : FilesSeen) (out : SinkSeen) → Unread words f g → Answered words f g out out 7
+answered_unread words f g out unread = record {
+  status_is = inr (omega arith, omega arith);
+  whole = λ lt. absurd (omega arith);
+  part = λ eight. absurd (omega arith);
+  nothing = λ _. refl;
+  unread = λ _. unread;
+  unfinished = λ nine. absurd (omega arith);
+}
+
+-- no memory was found
+pub answered_unfinished : (words : List (List ℕ)) (f g : FilesSeen) (out : SinkSeen) → Unfinished words f g → Answered words f g out out 9
+answered_unfinished words f g out unfinished = record {
+  status_is = inr (omega arith, omega arith);
+  whole = λ lt. absurd (omega arith);
+  part = λ eight. absurd (omega arith);
+  nothing = λ _. refl;
+  unread = λ seven. absurd (omega arith);
+  unfinished = λ _. unfinished;
+}
+
+-- ---- the program
+
+-- no memory was found for its words
+pub ends_unread : (told : Option (List (List ℕ))) (f : FilesSeen) (out : SinkSeen) → EndsWith told f f out out 9
+ends_unread None f out = ([], tt, answered_unfinished [] f f out (inl refl))
+ends_unread (Some given) f out = (given, inl refl, answered_unfinished given f f out (inl refl))

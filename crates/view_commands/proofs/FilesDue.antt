@@ -1,33 +1,49 @@
--- What is due of the files of a trace, out of what was read of them.
-use Rattle.std.proofs.Common.{◌≡◌, ◌≤◌, ℕ, List, [], append-nil, length, refl, sym}
-use Rattle.std.specs.Prelude.{Option, Some, None, IfSome, Result, Ok, Err}
+-- What came of the files of a trace, out of what was read of them.
+use Rattle.std.proofs.Common.{◌≡◌, ◌≤◌, ℕ, length, refl, subst, sym}
+use Rattle.std.specs.Prelude.{Result, Ok, Err}
 use Rattle.std.specs.List.{AllByRecursion}
 use Rattle.ffm_model.specs.declared.constants.TheConstants.{MAX_ENTRIES}
+use Rattle.ffm_model.specs.declared.place.Refusal.{Refusal}
+use Rattle.ffm_model.specs.declared.trace.Trace.{Trace}
 use Rattle.ffm_model.specs.Actors.{counts_of}
-use Rattle.ffm_model.specs.Reading.{Contents, Reading}
+use Rattle.ffm_model.specs.Reading.{refused}
 use Rattle.ffm_model.specs.TraceText.{trace_text, EntryFits}
 use Rattle.command_words.specs.declared.words.Inspection.TheVariants.{Replay}
-use Rattle.outside_io.specs.Reads.{ReadBetween}
+use Rattle.outside_io.specs.Files.{Asks, FilesSeen, stopped}
+use Rattle.outside_io.proofs.FilesSteps.{asks_lost, asks_unrefused}
+use Rattle.text_lines.specs.Refusals.{wrong_line}
+use Rattle.trace_print.specs.Lines.{IsFirstWrong}
+use Rattle.trace_print.specs.View.{parts}
 use Rattle.work_orders.specs.View.{IsTraceWork}
 use Rattle.work_orders.specs.Work.{Work, judge_of}
+use Rattle.work_orders.specs.declared.work.TraceWork.{TraceWork}
 use Rattle.view_commands.specs.declared.files.Halt.{Halt}
 use Rattle.view_commands.specs.declared.files.Halt.TheVariants.{Refused, Files, Memory}
 use Rattle.view_commands.specs.declared.files.TraceFiles.{TraceFiles}
-use Rattle.view_commands.specs.Files.{HaveRead, ReadsDue}
+use Rattle.view_commands.specs.Files.{FilesRead, IsRefusalBy, TraceRead, files_of}
+use Rattle.view_words.specs.declared.words.FileNames.{FileNames}
 
 -- a trace was read
-pub read_due : (f : TraceFiles) → IsTraceWork f.work → f.work.trace.items ≡ trace_text (counts_of f.work.system) f.trace.entries f.trace.verdict → AllByRecursion (EntryFits (counts_of f.work.system)) f.trace.entries → length f.trace.entries ≤ MAX_ENTRIES
-    → ReadsDue (Ok (judge_of Replay f.work.system f.work.scenario f.work.trace.items)) (Ok f)
-read_due f work text fits few = (refl, record { work = work; read = record { text = text; fits = fits; few = few } })
+pub trace_read : (work : TraceWork) (t : Trace) → IsTraceWork work → work.trace.items ≡ trace_text (counts_of work.system) t.entries t.verdict → AllByRecursion (EntryFits (counts_of work.system)) t.entries → length t.entries ≤ MAX_ENTRIES
+    → TraceRead work (Ok (record { work = work; trace = t }))
+trace_read work t is text fits few = (refl, record { work = is; read = record { text = text; fits = fits; few = few } })
 
--- ---- which files were read
+-- the text is no trace's
+pub wrong_read : (work : TraceWork) (k : ℕ) (h : Halt) → IsFirstWrong (counts_of work.system) 0 (parts 10 work.trace.items) k → IsRefusalBy (wrong_line k) h → TraceRead work (Err h)
+wrong_read work k (Refused line) first by = record { place = k; first = first; text_is = by; status_is = refl }
+wrong_read work k Files first by = by
+wrong_read work k Memory first by = tt
 
--- all of them
-pub all_read : (held : Option Contents) (f : Contents → Reading Work) (a b : Option (List (List ℕ))) (r : Result TraceFiles Halt) → IfSome held (λ of. ReadBetween a b (f of).names) → IfSome held (λ of. HaveRead a b r (f of).names)
-all_read None f a b r read = tt
-all_read (Some of) f a b r read = by r where
-  by : (r : Result TraceFiles Halt) → HaveRead a b r (f of).names
-  by (Ok x) = read
-  by (Err (Refused line)) = read
-  by (Err Files) = record { front = (f of).names; rest = []; whole = sym (append-nil (f of).names); read = read }
-  by (Err Memory) = record { front = (f of).names; rest = []; whole = sym (append-nil (f of).names); read = read }
+-- all files were read
+pub files_read : (names : FileNames) (a b : FilesSeen) (w : TraceWork) (r : Result TraceFiles Halt) → w.inspection ≡ Replay → Asks a b (Ok (judge_of w.inspection w.system w.scenario w.trace.items)) (files_of names) → TraceRead w r → FilesRead names a b r
+files_read names a b w (Ok f) is asks (same, are) =
+    (subst (λ (x : TraceWork). Asks a b (Ok (judge_of Replay x.system x.scenario x.trace.items)) (files_of names)) (sym same) (rw is at asks), are)
+files_read names a b w (Err (Refused line)) is asks wrong = (Ok (judge_of w.inspection w.system w.scenario w.trace.items), asks, wrong)
+files_read names a b w (Err Files) is asks none = absurd none
+files_read names a b w (Err Memory) is asks lost = asks_lost a b (judge_of w.inspection w.system w.scenario w.trace.items) (files_of names) asks
+
+-- one of them is refused
+pub refused_read : (names : FileNames) (a b : FilesSeen) (r : Refusal) (h : Halt) → Asks {A = Work} a b (Err (stopped (refused r))) (files_of names) → IsRefusalBy r h → FilesRead names a b (Err h)
+refused_read names a b r (Refused line) asks by = (Err (refused r), asks, by)
+refused_read names a b r Files asks by = absurd by
+refused_read names a b r Memory asks by = asks_unrefused a b (refused r) (files_of names) asks

@@ -1,15 +1,19 @@
--- Which text and which status the words and the files call for.
+-- Which text and which status the words and the files call for, and what is made of files and sink.
 -- Source: this simulator's.
-use Rattle.std.specs.Prelude.{◌≡◌, ◌⊎◌, ◌<◌, ◌≤◌, ℕ, List, [], length, Option, Result, Ok}
+use Rattle.std.specs.Prelude.{◌≡◌, ◌⊎◌, ◌<◌, ◌≤◌, ℕ, List, Option, IfSome, Result, Ok, Err}
 use Rattle.command_words.specs.declared.words.Inspection.TheVariants.{Replay}
-use Rattle.ffm_model.specs.Reading.{Contents, FailedAmong, Stop}
-use Rattle.outside_io.specs.Reads.{FrontReadBetween, ReadBetween}
-use Rattle.outside_io.specs.Told.{Takes, TakesPart}
-use Rattle.work_orders.specs.Work.{Work, judge_of, work_of}
-use Rattle.view_commands.specs.Files.{AreTraceFiles, RefusalDue, order_of_files}
+use Rattle.ffm_model.specs.Reading.{Stop}
+use Rattle.outside_io.specs.Files.{Asks, FilesSeen, failed, no_memory}
+use Rattle.outside_io.specs.Sink.{Hands, SinkSeen}
+use Rattle.outside_io.specs.Words.{AreGiven}
+use Rattle.work_orders.specs.Work.{Work, judge_of}
+use Rattle.view_commands.specs.Files.{AreTraceFiles, RefusalDue, files_of, given}
 use Rattle.view_commands.specs.Views.{IsView, IsViewText, status_of}
 use Rattle.view_words.specs.Requests.{AsksFor, IsTold}
 use Rattle.view_commands.specs.declared.files.TraceFiles.{TraceFiles}
+use Rattle.view_commands.specs.declared.top.Answer.{Answer}
+use Rattle.view_commands.specs.declared.top.Stopped.{Stopped}
+use Rattle.view_commands.specs.declared.top.Stopped.TheVariants as stopped
 use Rattle.view_commands.specs.declared.view.View.{View}
 use Rattle.view_words.specs.declared.words.Aspect.{Aspect}
 use Rattle.view_words.specs.declared.words.Request.{Request}
@@ -37,36 +41,46 @@ pub record IsShown (due : Result Work Stop) (a : Aspect) (text : List ℕ) (stat
 abbrev pub ViewDue : Result Work Stop → Aspect → List ℕ → ℕ → Type 0
 ViewDue due a text status = (RefusalDue due text × (status ≡ 1)) ⊎ IsShown due a text status
 
--- the words are no command or ask for help or the version, or what they ask for is shown
-abbrev pub Due : List (List ℕ) → Contents → List ℕ → ℕ → Type 0
-Due words of text status = IsTold words status ⊎ ((r : Request) × AsksFor words r × ViewDue (work_of of (order_of_files r.names)).gives r.aspect text status)
+-- the files of a request were read, in order and no other, and the text is due of what they give
+pub record IsAnswer (r : Request) (before after : FilesSeen) (text : List ℕ) (status : ℕ) : Type 0 where
+  pub due : Result Work Stop
+  pub reads : Asks before after (given due) (files_of r.names)
+  pub is_due : ViewDue due r.aspect text status
 
--- a text that is due with this status was taken, all of it
-abbrev pub WritesDue : List (List ℕ) → Contents → Option (List ℕ) → Option (List ℕ) → ℕ → Type 0
-WritesDue words of before after status = (text : List ℕ) × Due words of text status × Takes before after text
+-- the words are no command or ask for help or the version, and no file is read; or what they ask for is shown
+abbrev pub Due : List (List ℕ) → FilesSeen → FilesSeen → List ℕ → ℕ → Type 0
+Due words before after text status = (IsTold words status × (after ≡ before)) ⊎ ((r : Request) × AsksFor words r × IsAnswer r before after text status)
 
--- a proper prefix of a text that is due was taken, where it has a byte
-abbrev pub WritesPart : List (List ℕ) → Contents → Option (List ℕ) → Option (List ℕ) → Type 0
-WritesPart words of before after = (text : List ℕ) × (status : ℕ) × Due words of text status × (0 < length text → TakesPart before after text)
+-- a file that the words ask for can't be read: the last one of those in front that were read
+abbrev pub Unread : List (List ℕ) → FilesSeen → FilesSeen → Type 0
+Unread words before after = (r : Request) × AsksFor words r × Asks {A = Work} before after (Err failed) (files_of r.names)
 
--- ---- the files that are read
+-- no memory was found, where none of the files that the words ask for was read yet, or some of those in front
+abbrev pub Unfinished : List (List ℕ) → FilesSeen → FilesSeen → Type 0
+Unfinished words before after = (after ≡ before) ⊎ ((r : Request) × AsksFor words r × Asks {A = Work} before after (Err no_memory) (files_of r.names))
 
--- those that a request asks for, each as often as it is
-abbrev pub files_of : Request → Contents → List (List ℕ)
-files_of r of = (work_of of (order_of_files r.names)).names
+-- what these words are answered over these files and this sink
+pub record Answered (words : List (List ℕ)) (files files_after : FilesSeen) (out out_after : SinkSeen) (status : ℕ) : Type 0 where
+  pub status_is : IsStatus status
+  -- 0 to 6: a text that is due was written whole. 8: a put or the flush failed, and such a text wasn't. 7 and 9: nothing was written
+  pub whole : status < 7 → (text : List ℕ) × Due words files files_after text status × Hands {E = Unit {0}} out out_after (Ok (tt {0})) text
+  pub part : status ≡ 8 → (text : List ℕ) × (wanted : ℕ) × Due words files files_after text wanted × Hands {T = Unit {0}} out out_after (Err (tt {0})) text
+  pub nothing : (status ≡ 7) ⊎ (status ≡ 9) → out_after ≡ out
+  pub unread : status ≡ 7 → Unread words files files_after
+  pub unfinished : status ≡ 9 → Unfinished words files files_after
 
--- the last failed name, where it is told, is one that the words ask for
-abbrev pub FailedAsked : List (List ℕ) → Contents → Option (Option (List ℕ)) → Type 0
-FailedAsked words of last = (r : Request) × AsksFor words r × FailedAmong (files_of r of) last
+-- what a program ends with over these words, if they are told, these files and this sink
+abbrev pub EndsWith : Option (List (List ℕ)) → FilesSeen → FilesSeen → SinkSeen → SinkSeen → ℕ → Type 0
+EndsWith told files files_after out out_after status = (words : List (List ℕ)) × IfSome told (λ given. AreGiven given words) × Answered words files files_after out out_after status
 
--- the words ask for no file, and none was read
-abbrev pub ReadsNone : List (List ℕ) → Option (List (List ℕ)) → Option (List (List ℕ)) → Type 0
-ReadsNone words before after = (status : ℕ) × IsTold words status × ReadBetween before after []
+-- ---- what the code answers on the way
 
--- the files that the words ask for were read, in the order in which they are asked for, and no other
-abbrev pub ReadsAsked : List (List ℕ) → Contents → Option (List (List ℕ)) → Option (List (List ℕ)) → Type 0
-ReadsAsked words of before after = ReadsNone words before after ⊎ ((r : Request) × AsksFor words r × ReadBetween before after (files_of r of))
+abbrev pub AnswersRequest : Request → FilesSeen → FilesSeen → Result Answer Stopped → Type 0
+AnswersRequest r before after (Ok answer) = IsAnswer r before after answer.text.items answer.status
+AnswersRequest r before after (Err stopped.Files) = Asks {A = Work} before after (Err failed) (files_of r.names)
+AnswersRequest r before after (Err stopped.Memory) = Asks {A = Work} before after (Err no_memory) (files_of r.names)
 
--- of the files that the words ask for, those in front were read, up to where the reading ended, and no other
-abbrev pub ReadsAskedPart : List (List ℕ) → Contents → Option (List (List ℕ)) → Option (List (List ℕ)) → Type 0
-ReadsAskedPart words of before after = ReadBetween before after [] ⊎ ((r : Request) × AsksFor words r × FrontReadBetween before after (files_of r of))
+abbrev pub AnswersWords : List (List ℕ) → FilesSeen → FilesSeen → Result Answer Stopped → Type 0
+AnswersWords words before after (Ok answer) = Due words before after answer.text.items answer.status
+AnswersWords words before after (Err stopped.Files) = Unread words before after
+AnswersWords words before after (Err stopped.Memory) = Unfinished words before after

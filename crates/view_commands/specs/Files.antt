@@ -1,15 +1,16 @@
 -- What the files of a trace say, and which line refuses them.
 -- Source: this simulator's; the refusals are those of `ffm replay`.
-use Rattle.std.specs.Prelude.{◌≡◌, ℕ, List, Option, Result, Ok, Err}
+use Rattle.std.specs.Prelude.{◌≡◌, ℕ, List, Result, Ok, Err}
 use Rattle.command_words.specs.declared.words.Inspection.TheVariants.{Replay}
 use Rattle.command_words.specs.Words.{Order, judge}
 use Rattle.ffm_model.specs.declared.place.Refusal.{Refusal}
-use Rattle.ffm_model.specs.Reading.{Stop, refused}
-use Rattle.ffm_top.specs.Lines.{refusal_line}
-use Rattle.ffm_top.specs.Replays.{IsTextOf, WrongDue}
-use Rattle.outside_io.specs.Reads.{FrontReadBetween, ReadBetween}
+use Rattle.ffm_model.specs.Reading.{Contents, Reading, Stop, refused}
+use Rattle.judge_command.specs.Replays.{IsTextOf, WrongDue}
+use Rattle.outside_io.specs.Files.{Asks, FilesSeen, Halt as Why, stopped, failed, no_memory}
+use Rattle.text_lines.specs.Refusals.{refusal_line}
 use Rattle.work_orders.specs.View.{IsTraceWork}
-use Rattle.work_orders.specs.Work.{Work, judge_of}
+use Rattle.work_orders.specs.Work.{Work, judge_of, work_of}
+use Rattle.work_orders.specs.declared.work.TraceWork.{TraceWork}
 use Rattle.view_commands.specs.declared.files.Halt.{Halt}
 use Rattle.view_commands.specs.declared.files.Halt.TheVariants as halt
 use Rattle.view_commands.specs.declared.files.TraceFiles.{TraceFiles}
@@ -24,6 +25,10 @@ pub record AreTraceFiles (f : TraceFiles) : Type 0 where
 abbrev pub order_of_files : FileNames → Order
 order_of_files names = judge Replay names.system.now names.scenario.now names.trace.now
 
+-- which files are read, in which order, and what they give
+abbrev pub files_of : FileNames → Contents → Reading Work
+files_of names of = work_of of (order_of_files names)
+
 -- the line of this refusal
 abbrev pub IsRefusalBy : Refusal → Halt → Type 0
 IsRefusalBy r (halt.Refused line) = line.items ≡ refusal_line r
@@ -36,16 +41,21 @@ RefusalDue (Err (refused r)) line = line ≡ refusal_line r
 RefusalDue (Ok (judge_of how s c bytes)) line = WrongDue s bytes line 1
 RefusalDue _ line = ⊥
 
--- what was read is what the files are to give
-abbrev pub ReadsDue : Result Work Stop → Result TraceFiles Halt → Type 0
-ReadsDue due (Ok f) = (due ≡ Ok (judge_of Replay f.work.system f.work.scenario f.work.trace.items)) × AreTraceFiles f
-ReadsDue due (Err (halt.Refused line)) = RefusalDue due line.items
-ReadsDue due (Err halt.Files) = Unit {0}
-ReadsDue due (Err halt.Memory) = Unit {0}
+-- the trace whose text the work has, or the refusal of its first wrong line
+abbrev pub TraceRead : TraceWork → Result TraceFiles Halt → Type 0
+TraceRead work (Ok f) = (f.work ≡ work) × AreTraceFiles f
+TraceRead work (Err (halt.Refused line)) = WrongDue work.system work.trace.items line.items 1
+TraceRead work (Err halt.Files) = ⊥
+TraceRead work (Err halt.Memory) = Unit {0}
 
--- all of these files were read, in this order, where they were or one is refused; else those in front, up to where the reading ended
-abbrev pub HaveRead : Option (List (List ℕ)) → Option (List (List ℕ)) → Result TraceFiles Halt → List (List ℕ) → Type 0
-HaveRead before after (Ok f) names = ReadBetween before after names
-HaveRead before after (Err (halt.Refused line)) names = ReadBetween before after names
-HaveRead before after (Err halt.Files) names = FrontReadBetween before after names
-HaveRead before after (Err halt.Memory) names = FrontReadBetween before after names
+-- what the files give, or why they stop
+abbrev pub given : Result Work Stop → Result Work Why
+given (Ok work) = Ok work
+given (Err s) = Err (stopped s)
+
+-- these files were read, in order, and give this work, or are refused; or one can't be read, or no memory was found
+abbrev pub FilesRead : FileNames → FilesSeen → FilesSeen → Result TraceFiles Halt → Type 0
+FilesRead names before after (Ok f) = Asks before after (Ok (judge_of Replay f.work.system f.work.scenario f.work.trace.items)) (files_of names) × AreTraceFiles f
+FilesRead names before after (Err (halt.Refused line)) = (due : Result Work Stop) × Asks before after (given due) (files_of names) × RefusalDue due line.items
+FilesRead names before after (Err halt.Files) = Asks before after (Err failed) (files_of names)
+FilesRead names before after (Err halt.Memory) = Asks before after (Err no_memory) (files_of names)

@@ -1,18 +1,14 @@
 //! The files of a trace.
-ghost use Rattle.std.specs.Prelude.{◌≡◌, ◌≤◌, IfOk, IfSome, IsErrOf, Ok};
-ghost use Rattle.ffm_model.specs.Reading.{FailedAmong};
-ghost use Rattle.outside_io.specs.Count.{Rose};
-ghost use Rattle.ffm_top.specs.Lines.{refusal_line};
-ghost use Rattle.ffm_top.specs.Replays.{wrong_line};
-ghost use Rattle.view_commands.specs.Files.{AreTraceFiles, HaveRead, IsRefusalBy, ReadsDue, order_of_files};
+ghost use Rattle.std.specs.Prelude.{◌≡◌, IfOk};
+ghost use Rattle.text_lines.specs.Refusals.{wrong_line};
+ghost use Rattle.view_commands.specs.Files.{AreTraceFiles, FilesRead, IsRefusalBy, TraceRead};
 ghost use Rattle.work_orders.specs.View.{IsTraceWork};
-ghost use Rattle.work_orders.specs.Work.{judge_of, work_of};
 
 use command_words::{Command, Inspection};
-use ffm_model::{Memory, PartsError, Refusal, Trace};
-use ffm_top::{refusal_line, wrong_line};
+use ffm_model::{PartsError, Refusal, Trace};
 use outside_io::Files;
-use std::alloc::{AllocError, Global};
+use std::alloc::Global;
+use text_lines::{refusal_line, wrong_line};
 use trace_print::{TraceError, read_trace};
 use view_words::FileNames;
 use work_orders::{TraceWork, Work, work_of};
@@ -25,18 +21,6 @@ pub enum Halt {
     /// A file can't be read.
     Files,
     Memory,
-}
-
-impl From<AllocError> for Halt {
-    fn from(_error: AllocError) -> Halt {
-        Halt::Memory
-    }
-}
-
-impl From<Memory> for Halt {
-    fn from(_error: Memory) -> Halt {
-        Halt::Memory
-    }
 }
 
 /// What the files of a trace say.
@@ -65,12 +49,10 @@ fn wrong_trace(alloc: Global, line: u32) -> Halt
 }
 
 // The trace whose text the bytes are, with what the other files say.
-#[tactic(auto, using(crate::proofs::FilesDue::read_due))]
+#[tactic(auto, using(crate::proofs::FilesDue::trace_read))]
 fn with_trace(alloc: Global, work: TraceWork) -> Result<TraceFiles, Halt>
-    requires work { IsTraceWork work }
-    requires replay { work.inspection ≡ Inspection.Replay }
-    ensures due { ReadsDue (Ok (judge_of Inspection.Replay work.system work.scenario work.trace.items)) result }
-    ensures memory { IsErrOf result Halt.Files → ⊥ }
+    requires { IsTraceWork work }
+    ensures { TraceRead work result }
 {
     match read_trace(alloc, work.system.counts(), &work.trace) {
         Ok(trace) => Ok(TraceFiles { work, trace }),
@@ -80,21 +62,18 @@ fn with_trace(alloc: Global, work: TraceWork) -> Result<TraceFiles, Halt>
 }
 
 /// Reads the files of a trace, in the order of `ffm replay`.
+///
+/// # Errors
+///
+/// `Refused` with ffm's own line, `Files` only where a read failed in this call, of a file that is asked
+/// for, and `Memory` where no memory is found.
 pub fn read_files<F: Files>(
     alloc: Global,
     names: FileNames<'_>,
     files: &mut F,
 ) -> Result<TraceFiles, Halt>
-    ensures due { IfSome (F.held files.old) (λ of. ReadsDue (work_of of (order_of_files names.entry)).gives result) }
+    ensures read { FilesRead names.entry (F.seen files.old) (F.seen files.new) result }
     ensures files { IfOk result AreTraceFiles }
-    ensures keeps { F.held files.new ≡ F.held files.old }
-    ensures later { F.faults files.old ≤ F.faults files.new }
-    ensures steady { (IsErrOf result Halt.Files → ⊥) → F.faults files.new ≡ F.faults files.old }
-    ensures failed { IsErrOf result Halt.Files → Rose (F.faults files.old) (F.faults files.new) }
-    ensures asked { IsErrOf result Halt.Files → IfSome (F.held files.old) (λ of.
-        FailedAmong (work_of of (order_of_files names.entry)).names (F.last_failed files.new)) }
-    ensures reads { IfSome (F.held files.old) (λ of.
-        HaveRead (F.reads files.old) (F.reads files.new) result (work_of of (order_of_files names.entry)).names) }
 {
     let command = Command::Judge {
         inspection: Inspection::Replay,

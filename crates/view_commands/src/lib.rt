@@ -2,8 +2,10 @@
 #![tactic(auto)]
 
 mod diagrams;
+mod ends;
 mod files;
 mod top;
 mod view;
 
+pub use ends::program;
 pub use top::ffm_view;

@@ -1,9 +1,8 @@
 //! What a command and its files ask to be done.
 
-ghost use Rattle.std.specs.Prelude.{◌≡◌, ◌≤◌, ℕ, [], None, Ok, Some, IsOkAnd, false, true, IfOk, IfErr, IfSome, IsErrOf, length};
-ghost use Rattle.outside_io.specs.Count.{Rose};
-ghost use Rattle.outside_io.specs.Reads.{HasRead};
-ghost use Rattle.ffm_model.specs.Reading.{Gives, Reads, file_at};
+ghost use Rattle.std.specs.Prelude.{◌≡◌, ◌≤◌, ℕ, [], None, Ok, Some, IsOkAnd, false, true, IfOk, length};
+ghost use Rattle.outside_io.specs.Files.{Asks, part_as};
+ghost use Rattle.ffm_model.specs.Reading.{Reads, file_at};
 ghost use Rattle.ffm_model.specs.Scenarios.{IsScenarioOf};
 ghost use Rattle.command_words.specs.Words.{has_threads, make, order};
 ghost use Rattle.work_orders.specs.Work.{system_in, system_at, scenario_at, scenario_for, run_in, list_in, run_at, trace_in, judge_in, judge_at, make_of, work_of};
@@ -81,7 +80,6 @@ fn bad_value(alloc: Global, root: Root, steps: Vec<PathStep>) -> Refusal
 }
 
 // The bytes of a file.
-#[tactic(auto, using(outside_io::proofs::ReadSteps::perhaps_read, outside_io::proofs::ReadSteps::read_by_all))]
 fn bytes_of<F: Files>(
     alloc: Global,
     files: &mut F,
@@ -89,12 +87,8 @@ fn bytes_of<F: Files>(
     limit: u32,
     name: &str,
 ) -> Result<Vec<u8>, PartsError>
-    ensures gives { IfSome (F.held files.old) (λ of. Gives (λ bytes. bytes.items) (F.last_failed files.new) result (file_at of (record { root = root; steps = [] }) limit name.now)) }
-    ensures reads { IfSome (F.held files.old) (λ of. HasRead (F.reads files.old) (F.reads files.new) result (file_at of (record { root = root; steps = [] }) limit name.now).names) }
-    ensures keeps { F.held files.new ≡ F.held files.old }
-    ensures later { F.faults files.old ≤ F.faults files.new }
-    ensures steady { (IsErrOf result PartsError.ReadFault → ⊥) → F.faults files.new ≡ F.faults files.old }
-    ensures failed { IsErrOf result PartsError.ReadFault → Rose (F.faults files.old) (F.faults files.new) }
+    ensures asks { Asks (F.seen files.old) (F.seen files.new) (part_as (λ bytes. bytes.items) result)
+        (λ of. file_at of (record { root = root; steps = [] }) limit name.now) }
     ensures short { IfOk result (λ bytes. length bytes.items ≤ limit) }
 {
     match files.read(alloc, name, limit) {
@@ -106,47 +100,32 @@ fn bytes_of<F: Files>(
 }
 
 /// The system of a system file's bytes.
-#[tactic(auto, unfolding(crate::specs::Work::system_in), using(crate::proofs::Readings::reading_steps))]
 pub fn system_in<F: Files>(alloc: Global, files: &mut F, bytes: &[u8]) -> Result<System, PartsError>
-    ensures gives { IfSome (F.held files.old) (λ of. Gives (λ s. s) (F.last_failed files.new) result (system_in of bytes.now)) }
-    ensures reads { IfSome (F.held files.old) (λ of. HasRead (F.reads files.old) (F.reads files.new) result (system_in of bytes.now).names) }
-    ensures keeps { F.held files.new ≡ F.held files.old }
-    ensures later { F.faults files.old ≤ F.faults files.new }
-    ensures steady { (IsErrOf result PartsError.ReadFault → ⊥) → F.faults files.new ≡ F.faults files.old }
-    ensures failed { IsErrOf result PartsError.ReadFault → Rose (F.faults files.old) (F.faults files.new) }
+    ensures { Asks (F.seen files.old) (F.seen files.new) (part_as (λ s. s) result)
+        (λ of. system_in of bytes.now) }
 {
     let parts = read_system(alloc, bytes, files)?;
     Ok(compile(alloc, &parts)?)
 }
 
 // The system of a system file.
-#[tactic(auto, unfolding(crate::specs::Work::system_at), using(crate::proofs::Readings::reading_steps))]
 fn system_at<F: Files>(alloc: Global, files: &mut F, name: &str) -> Result<System, PartsError>
-    ensures gives { IfSome (F.held files.old) (λ of. Gives (λ s. s) (F.last_failed files.new) result (system_at of name.now)) }
-    ensures reads { IfSome (F.held files.old) (λ of. HasRead (F.reads files.old) (F.reads files.new) result (system_at of name.now).names) }
-    ensures keeps { F.held files.new ≡ F.held files.old }
-    ensures later { F.faults files.old ≤ F.faults files.new }
-    ensures steady { (IsErrOf result PartsError.ReadFault → ⊥) → F.faults files.new ≡ F.faults files.old }
-    ensures failed { IsErrOf result PartsError.ReadFault → Rose (F.faults files.old) (F.faults files.new) }
+    ensures { Asks (F.seen files.old) (F.seen files.new) (part_as (λ s. s) result)
+        (λ of. system_at of name.now) }
 {
     let bytes = bytes_of(alloc, files, Root::System, MAX_FILE_BYTES, name)?;
     system_in(alloc, files, &bytes)
 }
 
 // The scenario of a scenario file.
-#[tactic(auto, unfolding(crate::specs::Work::scenario_at), using(crate::proofs::Readings::reading_steps))]
 fn scenario_at<F: Files>(
     alloc: Global,
     files: &mut F,
     system: &System,
     name: &str,
 ) -> Result<Scenario, PartsError>
-    ensures gives { IfSome (F.held files.old) (λ of. Gives (λ c. c) (F.last_failed files.new) result (scenario_at of system.now name.now)) }
-    ensures reads { IfSome (F.held files.old) (λ of. HasRead (F.reads files.old) (F.reads files.new) result (scenario_at of system.now name.now).names) }
-    ensures keeps { F.held files.new ≡ F.held files.old }
-    ensures later { F.faults files.old ≤ F.faults files.new }
-    ensures steady { (IsErrOf result PartsError.ReadFault → ⊥) → F.faults files.new ≡ F.faults files.old }
-    ensures failed { IsErrOf result PartsError.ReadFault → Rose (F.faults files.old) (F.faults files.new) }
+    ensures asks { Asks (F.seen files.old) (F.seen files.new) (part_as (λ c. c) result)
+        (λ of. scenario_at of system.now name.now) }
     ensures kept { IfOk result (IsScenarioOf system.now) }
 {
     let bytes = bytes_of(alloc, files, Root::Scenario, MAX_FILE_BYTES, name)?;
@@ -167,7 +146,6 @@ fn scenario_for(alloc: Global, single: bool, scenario: Scenario) -> Result<Scena
 }
 
 // The scenario's runs of a system.
-#[tactic(auto, unfolding(crate::specs::Work::run_in), using(crate::proofs::Readings::reading_steps))]
 fn run_in<F: Files>(
     alloc: Global,
     files: &mut F,
@@ -175,12 +153,8 @@ fn run_in<F: Files>(
     system: System,
     name: &str,
 ) -> Result<Work, PartsError>
-    ensures gives { IfSome (F.held files.old) (λ of. Gives work (F.last_failed files.new) result (run_in of threads system name.now)) }
-    ensures reads { IfSome (F.held files.old) (λ of. HasRead (F.reads files.old) (F.reads files.new) result (run_in of threads system name.now).names) }
-    ensures keeps { F.held files.new ≡ F.held files.old }
-    ensures later { F.faults files.old ≤ F.faults files.new }
-    ensures steady { (IsErrOf result PartsError.ReadFault → ⊥) → F.faults files.new ≡ F.faults files.old }
-    ensures failed { IsErrOf result PartsError.ReadFault → Rose (F.faults files.old) (F.faults files.new) }
+    ensures asks { Asks (F.seen files.old) (F.seen files.new) (part_as work result)
+        (λ of. run_in of threads system name.now) }
     ensures kept { IfOk result IsWork }
     ensures threads { IfOk result (λ work. threads_of work ≡ threads) }
     ensures inspection { IfOk result (λ work. inspection_of work ≡ None) }
@@ -197,14 +171,9 @@ fn run_in<F: Files>(
 }
 
 // The listing of a system, from its file.
-#[tactic(auto, unfolding(crate::specs::Work::list_in), using(crate::proofs::Readings::reading_steps))]
 fn list_in<F: Files>(alloc: Global, files: &mut F, name: &str) -> Result<Work, PartsError>
-    ensures gives { IfSome (F.held files.old) (λ of. Gives work (F.last_failed files.new) result (list_in of name.now)) }
-    ensures reads { IfSome (F.held files.old) (λ of. HasRead (F.reads files.old) (F.reads files.new) result (list_in of name.now).names) }
-    ensures keeps { F.held files.new ≡ F.held files.old }
-    ensures later { F.faults files.old ≤ F.faults files.new }
-    ensures steady { (IsErrOf result PartsError.ReadFault → ⊥) → F.faults files.new ≡ F.faults files.old }
-    ensures failed { IsErrOf result PartsError.ReadFault → Rose (F.faults files.old) (F.faults files.new) }
+    ensures asks { Asks (F.seen files.old) (F.seen files.new) (part_as work result)
+        (λ of. list_in of name.now) }
     ensures kept { IfOk result IsWork }
     ensures threads { IfOk result (λ work. threads_of work ≡ false) }
     ensures inspection { IfOk result (λ work. inspection_of work ≡ None) }
@@ -214,7 +183,6 @@ fn list_in<F: Files>(alloc: Global, files: &mut F, name: &str) -> Result<Work, P
 }
 
 // The scenario's runs of a system, from their files.
-#[tactic(auto, unfolding(crate::specs::Work::run_at), using(crate::proofs::Readings::reading_steps))]
 fn run_at<F: Files>(
     alloc: Global,
     files: &mut F,
@@ -222,12 +190,8 @@ fn run_at<F: Files>(
     system: &str,
     scenario: &str,
 ) -> Result<Work, PartsError>
-    ensures gives { IfSome (F.held files.old) (λ of. Gives work (F.last_failed files.new) result (run_at of threads system.now scenario.now)) }
-    ensures reads { IfSome (F.held files.old) (λ of. HasRead (F.reads files.old) (F.reads files.new) result (run_at of threads system.now scenario.now).names) }
-    ensures keeps { F.held files.new ≡ F.held files.old }
-    ensures later { F.faults files.old ≤ F.faults files.new }
-    ensures steady { (IsErrOf result PartsError.ReadFault → ⊥) → F.faults files.new ≡ F.faults files.old }
-    ensures failed { IsErrOf result PartsError.ReadFault → Rose (F.faults files.old) (F.faults files.new) }
+    ensures asks { Asks (F.seen files.old) (F.seen files.new) (part_as work result)
+        (λ of. run_at of threads system.now scenario.now) }
     ensures kept { IfOk result IsWork }
     ensures threads { IfOk result (λ work. threads_of work ≡ threads) }
     ensures inspection { IfOk result (λ work. inspection_of work ≡ None) }
@@ -237,7 +201,6 @@ fn run_at<F: Files>(
 }
 
 // A trace for a scenario over a system, from its file.
-#[tactic(auto, unfolding(crate::specs::Work::trace_in), using(crate::proofs::Readings::reading_steps))]
 fn trace_in<F: Files>(
     alloc: Global,
     files: &mut F,
@@ -247,12 +210,8 @@ fn trace_in<F: Files>(
     name: &str,
 ) -> Result<Work, PartsError>
     requires { IsScenarioOf system scenario }
-    ensures gives { IfSome (F.held files.old) (λ of. Gives work (F.last_failed files.new) result (trace_in of inspection system scenario name.now)) }
-    ensures reads { IfSome (F.held files.old) (λ of. HasRead (F.reads files.old) (F.reads files.new) result (trace_in of inspection system scenario name.now).names) }
-    ensures keeps { F.held files.new ≡ F.held files.old }
-    ensures later { F.faults files.old ≤ F.faults files.new }
-    ensures steady { (IsErrOf result PartsError.ReadFault → ⊥) → F.faults files.new ≡ F.faults files.old }
-    ensures failed { IsErrOf result PartsError.ReadFault → Rose (F.faults files.old) (F.faults files.new) }
+    ensures asks { Asks (F.seen files.old) (F.seen files.new) (part_as work result)
+        (λ of. trace_in of inspection system scenario name.now) }
     ensures kept { IfOk result IsWork }
     ensures threads { IfOk result (λ work. threads_of work ≡ false) }
     ensures inspection { IfOk result (λ work. inspection_of work ≡ Some inspection) }
@@ -268,7 +227,6 @@ fn trace_in<F: Files>(
 
 // A trace for a system, which is of one run, from the files of the scenario and the trace. The
 // programs are read and not used.
-#[tactic(auto, unfolding(crate::specs::Work::judge_in), using(crate::proofs::Readings::reading_steps))]
 fn judge_in<F: Files>(
     alloc: Global,
     files: &mut F,
@@ -277,12 +235,8 @@ fn judge_in<F: Files>(
     scenario: &str,
     trace: &str,
 ) -> Result<Work, PartsError>
-    ensures gives { IfSome (F.held files.old) (λ of. Gives work (F.last_failed files.new) result (judge_in of inspection system scenario.now trace.now)) }
-    ensures reads { IfSome (F.held files.old) (λ of. HasRead (F.reads files.old) (F.reads files.new) result (judge_in of inspection system scenario.now trace.now).names) }
-    ensures keeps { F.held files.new ≡ F.held files.old }
-    ensures later { F.faults files.old ≤ F.faults files.new }
-    ensures steady { (IsErrOf result PartsError.ReadFault → ⊥) → F.faults files.new ≡ F.faults files.old }
-    ensures failed { IsErrOf result PartsError.ReadFault → Rose (F.faults files.old) (F.faults files.new) }
+    ensures asks { Asks (F.seen files.old) (F.seen files.new) (part_as work result)
+        (λ of. judge_in of inspection system scenario.now trace.now) }
     ensures kept { IfOk result IsWork }
     ensures threads { IfOk result (λ work. threads_of work ≡ false) }
     ensures inspection { IfOk result (λ work. inspection_of work ≡ Some inspection) }
@@ -294,7 +248,6 @@ fn judge_in<F: Files>(
 }
 
 // A trace for a scenario over a system, from their files.
-#[tactic(auto, unfolding(crate::specs::Work::judge_at), using(crate::proofs::Readings::reading_steps))]
 fn judge_at<F: Files>(
     alloc: Global,
     files: &mut F,
@@ -303,12 +256,8 @@ fn judge_at<F: Files>(
     scenario: &str,
     trace: &str,
 ) -> Result<Work, PartsError>
-    ensures gives { IfSome (F.held files.old) (λ of. Gives work (F.last_failed files.new) result (judge_at of inspection system.now scenario.now trace.now)) }
-    ensures reads { IfSome (F.held files.old) (λ of. HasRead (F.reads files.old) (F.reads files.new) result (judge_at of inspection system.now scenario.now trace.now).names) }
-    ensures keeps { F.held files.new ≡ F.held files.old }
-    ensures later { F.faults files.old ≤ F.faults files.new }
-    ensures steady { (IsErrOf result PartsError.ReadFault → ⊥) → F.faults files.new ≡ F.faults files.old }
-    ensures failed { IsErrOf result PartsError.ReadFault → Rose (F.faults files.old) (F.faults files.new) }
+    ensures asks { Asks (F.seen files.old) (F.seen files.new) (part_as work result)
+        (λ of. judge_at of inspection system.now scenario.now trace.now) }
     ensures kept { IfOk result IsWork }
     ensures threads { IfOk result (λ work. threads_of work ≡ false) }
     ensures inspection { IfOk result (λ work. inspection_of work ≡ Some inspection) }
@@ -323,18 +272,16 @@ pub fn work_of<F: Files>(
     command: Command<'_>,
     files: &mut F,
 ) -> Result<Work, PartsError>
-    ensures gives { IfSome (F.held files.old) (λ of. Gives work (F.last_failed files.new) result (work_of of (order command.entry))) }
-    ensures reads { IfSome (F.held files.old) (λ of. HasRead (F.reads files.old) (F.reads files.new) result (work_of of (order command.entry)).names) }
-    ensures keeps { F.held files.new ≡ F.held files.old }
-    ensures later { F.faults files.old ≤ F.faults files.new }
-    ensures steady { (IsErrOf result PartsError.ReadFault → ⊥) → F.faults files.new ≡ F.faults files.old }
-    ensures failed { IsErrOf result PartsError.ReadFault → Rose (F.faults files.old) (F.faults files.new) }
+    ensures asks { Asks (F.seen files.old) (F.seen files.new) (part_as work result)
+        (λ of. work_of of (order command.entry)) }
     ensures kept { IfOk result IsWork }
     ensures threads { IfOk result (λ work. threads_of work ≡ has_threads (order command.entry)) }
-    ensures inspection { IfOk result (λ work. inspection_of work ≡ inspection_asked (order command.entry)) }
+    ensures inspection { IfOk result (λ work.
+        inspection_of work ≡ inspection_asked (order command.entry)) }
 
     // A generated run asks for no file.
-    ensures made { (rounds : ℕ) → order command.entry ≡ make rounds → IsOkAnd result (λ w. work w ≡ make_of rounds) }
+    ensures made { (rounds : ℕ) → order command.entry ≡ make rounds →
+        IsOkAnd result (λ w. work w ≡ make_of rounds) }
 {
     match command {
         Command::Compile { system } => list_in(alloc, files, system),

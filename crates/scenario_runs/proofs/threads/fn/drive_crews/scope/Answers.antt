@@ -10,13 +10,13 @@ use Rattle.scenario_runs.proofs.Crews.{Placed, crews_more, waiting_more, fresh_m
 use Rattle.scenario_runs.proofs.Crossing.{crew_crosses, five_cross}
 use Rattle.scenario_runs.specs.Threads.{left_of}
 use Rattle.scenario_runs.proofs.threads.fn.drive_crews.scope.Goals as goal
-use Rattle.scenario_runs.proofs.threads.fn.drive_crews.scope.Goals.{in-Ok, in-Err}
+use Rattle.scenario_runs.proofs.threads.fn.drive_crews.scope.Goals.{then-may_start+in-Ok, then-may_start+in-Err, else-may_start}
 
-pub spawn_with-started-requires-send-F : goal.spawn_with-started-requires-send-F
-spawn_with-started-requires-send-F g c κs within = param_send _ _ (arg_send _ yes _ (five_cross _ _ _ _ _ _ (shr_send _ _ _ (param_sync 0 _ c.requires.sync.0)) (shr_send _ _ _ shared_crosses) (shr_send _ _ _ (param_sync 1 _ c.requires.sync.1)) (shr_send _ _ _ flag.the_sync) crew_crosses))
+pub spawn_with-requires-send-F : goal.spawn_with-requires-send-F
+spawn_with-requires-send-F g c κs within = param_send _ _ (arg_send _ yes _ (five_cross _ _ _ _ _ _ (shr_send _ _ _ (param_sync 0 _ c.requires.sync.0)) (shr_send _ _ _ shared_crosses) (shr_send _ _ _ (param_sync 1 _ c.requires.sync.1)) (shr_send _ _ _ flag.the_sync) crew_crosses))
 
-pub spawn_with-started-requires-send-T : goal.spawn_with-started-requires-send-T
-spawn_with-started-requires-send-T g c κs within = search (rules, crew_crosses, two_cross, param_send, arg_send) depth 12
+pub spawn_with-requires-send-T : goal.spawn_with-requires-send-T
+spawn_with-requires-send-T g c κs within = search (rules, crew_crosses, two_cross, param_send, arg_send) depth 12
 
 pub loop-crew-preserved : goal.loop-crew-preserved
 loop-crew-preserved g c =
@@ -27,19 +27,22 @@ loop-crew-preserved g c =
     let next = c.in-Some.ensures.steps.0 in
     let new = subst (AreNewCrews s) next i.4 in
     let before = c.loop-crew.undriven in
-    let after = c.match-started.undriven in
-    let seat = c.match-started.seat in
+    let after = c.if-may_start.undriven in
+    let seat = c.if-may_start.seat in
     let seats = c.loop-crew.seats.items in
     let made : Placed s crew seat before.items after.items (vec_capacity before) (vec_capacity after) =
-    elim c.match-started.branch [
-      | in-Ok w ↦
+    elim c.if-may_start.branch [
+      | then-may_start+in-Ok w ↦
           let ok = w.in-Ok.ensures.ok in
           let new_there : IsNewCrew s c.of-before.result.value = subst (IsNewCrew s) (sym c.of-before.ensures) new.0 in
           let mine : w.in-Ok.handle.promise.shared.value ≡ s = ap (λ (p : Trip). p.shared.value) ok ∙ c.of.ensures in
           let its : w.in-Ok.handle.promise.crew.value ≡ c.of-before.result.value = ap (λ (p : Trip). p.crew.value) ok ∙ (c.of-in-loop-crew.ensures ∙ sym c.of-before.ensures) in
           rw (w.seat-is, w.undriven-is) (record { seat = (new_there, (mine, its)); crew_is = c.of-before.ensures; undriven = sym (append-nil before.items); capacity = refl })
-      | in-Err w ↦
-          let e = w.seat_of-seat.ensures in
+      | then-may_start+in-Err w ↦
+          let e = w.turned_back.ensures in
+          rw (w.seat-is, w.undriven-is) (record { seat = e.seat; crew_is = e.crew ∙ c.of-before.ensures; undriven = e.undriven; capacity = e.capacity })
+      | else-may_start w ↦
+          let e = w.turned_back-seat.ensures in
           rw (w.seat-is, w.undriven-is) (record { seat = e.seat; crew_is = e.crew ∙ c.of-before.ensures; undriven = e.undriven; capacity = e.capacity })
     ] in
     let items = c.push_reserved.ensures.items in

@@ -1,8 +1,0 @@
-use Rattle.std.proofs.Common.{◌≡◌, ◌++◌, drop}
-use Rattle.std.specs.List.{flat_map}
-use Rattle.ffm_top.specs.Lines.{id_text}
-use Rattle.ffm_top.proofs.lines.append_ids.Given as goal
-
--- the IDs so far, and then the others
-abbrev pub invariant-loop-id : goal.invariant-loop-id
-invariant-loop-id l = l.line.items ++ flat_map id_text (drop l.id-index l.ids) ≡ l.initial.line.items ++ flat_map id_text l.ids

@@ -1,7 +1,0 @@
-use Rattle.std.proofs.Common.{◌≡◌, drop, map}
-use Rattle.ffm_top.specs.Lines.{name_in}
-use Rattle.ffm_top.proofs.lines.name_in.Given as goal
-
--- the codes so far are others
-abbrev pub invariant-loop-named : goal.invariant-loop-named
-invariant-loop-named l = name_in (map (λ c. (c.code, c.name.now)) (drop l.named-index l.names)) l.code ≡ name_in (map (λ c. (c.code, c.name.now)) l.names) l.code

@@ -1,0 +1,49 @@
+//! How the program ends.
+
+ghost use Rattle.std.specs.Process.{exit_status};
+ghost use Rattle.ffm_top.specs.Answers.{EndsWith};
+
+use crate::top::{NO_MEMORY, ffm};
+use ffm_model::{Gate, Memory};
+use outside_io::{NamesFailed, Sink, Words, given_words};
+use std::alloc::Global;
+use std::io::Eprint;
+use std::process::ExitCode;
+use std::sync::Wait;
+use std::thread::Threads;
+use text_lines::say_problem;
+
+// The status to end with: the answer to the words, or 9 where no memory was found for them.
+fn status_of<R: Threads + Wait + Sync, W: Words, F: NamesFailed, S: Sink, G: Gate + Sync>(
+    rt: &R,
+    alloc: Global,
+    words: &W,
+    files: &mut F,
+    out: &mut S,
+    gate: &G,
+) -> u8
+    ensures { EndsWith (W.told words.now)
+        (F.seen files.old) (F.seen files.new) (S.seen out.old) (S.seen out.new) result }
+{
+    match given_words(alloc, words) {
+        Ok(words) => ffm(rt, alloc, &words, files, out, gate),
+        Err(Memory) => NO_MEMORY,
+    }
+}
+
+/// The program: `ffm` over the words that it was given. It ends with the answer, or with 9 where no
+/// memory was found for the words. At 2, 7, 8 and 9 it says a line on the standard error.
+pub fn program<
+    R: Threads + Wait + Eprint + Sync,
+    W: Words,
+    F: NamesFailed,
+    S: Sink,
+    G: Gate + Sync,
+>(rt: &R, alloc: Global, words: &W, files: &mut F, out: &mut S, gate: &G) -> ExitCode
+    ensures { EndsWith (W.told words.now)
+        (F.seen files.old) (F.seen files.new) (S.seen out.old) (S.seen out.new) (exit_status result) }
+{
+    let status = status_of(rt, alloc, words, files, out, gate);
+    say_problem(rt, "ffm", status, files.last_failed());
+    ExitCode::from(status)
+}

@@ -1,0 +1,4 @@
+pub mod Replays
+pub mod Audits
+pub mod Due
+pub mod Report
