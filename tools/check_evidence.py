@@ -8,14 +8,15 @@ there, in the file or crate that is named before it in the same cell; a mutant f
 of the row's contract's crate, and in evidence.md in italics where it stands in wrong_bodies/. In proved.md each
 public call of a crate has to stand in the crate's section, in code marks, and each call and clause that a section
 names has to be the crate's. The figures of crates, mutants, tests, calls, examples and stored cases that the README and the
-pages state have to be those counted (figures.py). For each kind of lines in the stored traces rule_of_line.py has to
-find a rule, a definition, a clause and a test. Prints what isn't so. The status is 1 where something is wrong."""
+pages state have to be those counted (figures.py). By crates.txt no crate of MANAGER stands below one of APART. For each
+kind of lines in the stored traces rule_of_line.py has to find a rule, a definition, a clause and a test. Prints what
+isn't so. The status is 1 where something is wrong."""
 
 import pathlib
 import re
 import sys
 
-from figures import figures, wrong_figures
+from figures import figures, with_those_below, wrong_figures
 
 CRATES = pathlib.Path("crates")
 WRONG_BODIES = pathlib.Path("wrong_bodies")
@@ -32,6 +33,12 @@ ITEM = r"\b(?:fn|struct|enum|trait|record|data|abbrev pub|pub) {}\b"
 CLAUSE = r"\bensures {}\b"
 NAMED = r"\b(?:ensures|requires)\*? {0}\b|\bpub {0} :|\bghost {0}\b"
 TEST = r"#\[test\]\s+(?:pub )?fn {}\b"
+# The crates of the manager, and those that have none of them below.
+MANAGER = {
+    "spm_core", "spm_lock", "spm_tables", "handle_table", "object_pools", "client_calls", "service_calls", "doorbell_irq",
+    "panic_state", "partition_sim", "scenario_runs",
+}
+APART = ("machine_check", "judge_command", "view_commands", "ffm_view")
 EDIT = re.compile(r"(\*?)\b([a-z][a-z0-9]*(?:_[a-z0-9]+)+)\b\1")
 
 
@@ -177,6 +184,14 @@ def wrong_proved(page):
             yield from (f"{crate}: {name} is not there" for name in sorted(calls_told(section)) if not has(files, name, ITEM))
 
 
+def wrong_layers():
+    """The crates of the manager below those that have none."""
+    for crate in APART:
+        found = sorted(with_those_below(crate) & MANAGER)
+        if found:
+            yield f"crates.txt: {crate} stands on {', '.join(found)}"
+
+
 def main():
     # Not at the top, since it uses the functions above.
     from rule_of_line import kinds_and_lacks
@@ -185,6 +200,7 @@ def main():
     wrong += [f"{PROVED}: {what}" for what in wrong_proved(PROVED)]
     wrong += wrong_italics(pathlib.Path("docs/evidence.md"))
     wrong += wrong_figures()
+    wrong += wrong_layers()
     kinds, lacks = kinds_and_lacks()
     wrong += lacks
     count = sum(bool(set(row) & set(CITED)) for page in PAGES for _, row in rows(page))
