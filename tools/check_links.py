@@ -52,6 +52,17 @@ def anchors(page, known={}):
     return known[page]
 
 
+def table_rows(page):
+    """Each row of a page's tables with its line's number, as a map from the heads of the columns to the cells."""
+    head = None
+    for number, line in enumerate(page.read_text().splitlines(), 1):
+        cells = [cell.strip() for cell in line.strip("|").split("|")] if line.startswith("|") else None
+        if cells is None or head is None:
+            head = cells
+        elif set(line) - set("|- "):
+            yield number, dict(zip(head, cells))
+
+
 def wrong_links(page):
     for number, line in plain(page.read_text().splitlines()):
         for link in LINK.findall(CODE.sub("", line)):

@@ -19,7 +19,7 @@ the events behind them are found as far as the trace tells them; likewise the `g
 the system's file, system.json, lies beside the trace.
 A line `refused ..` is of no trace: the rows of its code in docs/formats.md are printed.
 
-All of it is read from the tables of docs/machine.md and docs/evidence.md, the words of traces from docs/formats.md.
+All of it is read from docs/machine.md and docs/evidence.json, the words of traces from docs/formats.md.
 check_evidence.py says whether each line of the stored traces has the four things. A line isn't judged here: it is taken
 as one that the machine allows. The status is 1 where no such line is found, and 2 where the words are wrong."""
 
@@ -34,15 +34,15 @@ from functools import lru_cache
 from itertools import takewhile
 from typing import NamedTuple
 
-from check_evidence import CRATES, ITEM, TEST, TOKEN, WRONG_BODIES, file_of, rows, sources, without_links
-from check_links import HEADING, anchor
+from check_links import HEADING, anchor, table_rows
+from evidence import CASES, CRATES, PAGE as EVIDENCE, found_in, items_of, line_of, mutants_of, path_of, rows
 from example_files import GUIDED, examples
 from plain_machine import MOST_STATELESS, STATELESS_HANDLE, read_system
 from stored_cases import DATA, RUN_STATUSES, cases
 
 TOP = pathlib.Path(__file__).resolve().parents[1]
-PAGES = ("machine.md", "evidence.md", "formats.md", "view.md", "reading_a_clause.md")
-MACHINE, EVIDENCE, FORMATS, VIEW, READING = (pathlib.Path("docs") / name for name in PAGES)
+PAGES = ("machine.md", "formats.md", "view.md", "reading_a_clause.md")
+MACHINE, FORMATS, VIEW, READING = (pathlib.Path("docs") / name for name in PAGES)
 USAGE = "usage: rule_of_line.py [--rule] TRACE NUMBER | rule_of_line.py [--rule] 'LINE', with the line in quotation marks"
 EVENT = re.compile(r"([pn][1-9]\d*|dev) (\w+)((?: \S+)*) -> (\w+)((?: \S+)*)")
 VERDICT, RESTART = re.compile(r"(quiet|stalled|full) \d+"), re.compile(r"restart \d+")
@@ -118,7 +118,7 @@ class Event(NamedTuple):
 def forms():
     """The words of calls and of outcomes, each with its name and the kinds of its operands."""
     found = {"Call": {}, "Outcome": {}}
-    for _, row in rows(FORMATS):
+    for _, row in table(FORMATS):
         for column in set(found) & set(row) if "Text" in row else ():
             for name, form in zip(row[column].split(", "), re.findall("`([^`]+)`", row["Text"])):
                 word, *operands = form.split()
@@ -305,7 +305,7 @@ class Run:
 
 @lru_cache(maxsize=None)
 def table(page):
-    return list(rows(page))
+    return list(table_rows(page))
 
 
 @lru_cache(maxsize=None)
@@ -359,10 +359,10 @@ def row_of_call(name):
 
 
 def evidence_of(words):
-    """The row of docs/evidence.md that has these words in its API, or in its link to the rule in words."""
-    for number, row in table(EVIDENCE):
-        if "Definition" in row and words in (row.get("API") or row.get("Rule in words") or ""):
-            return number, row
+    """The row of docs/evidence.json that has these words in its name, or as the end of a link to its rule in words."""
+    for row in rows():
+        if words in row["name"] or any(link.endswith(words) for link in row.get("rules", [])):
+            return row
     raise Unknown(f"{EVIDENCE}: no row for {words}")
 
 
@@ -371,13 +371,13 @@ def evidence_of(words):
 
 @dataclass
 class Rule:
-    """A rule that bears on a line: its title, the place of its words and the words, each line with a mark, its row in
-    docs/evidence.md with the number of that line, the row of the table of the calls that it is about, and the definitions
-    of its row that don't bear on the line."""
+    """A rule that bears on a line: its title, the place of its words and the words, each line with a mark, its row of
+    docs/evidence.json, the row of the table of the calls that it is about, and the definitions of its row that don't bear on
+    the line."""
     title: str
     place: str
     words: list
-    row: tuple
+    row: dict
     call: str = ""
     is_sure: bool = True
     without: tuple = ()
@@ -476,7 +476,7 @@ def rule_of_error(event, is_sure):
     words = list(words_of(ERROR, lambda kind, due, state: kind.startswith(event.kind()) and due == outcome))
     rights = list(words_of(RIGHTS, lacks_it))
     words += rights if any(mark == ">" for mark, _ in rights) else []
-    return Rule("what a PROGRAMMER ERROR does", place_of(ERROR), words, evidence_of(f"#{ERROR})"), is_sure=is_sure)
+    return Rule("what a PROGRAMMER ERROR does", place_of(ERROR), words, evidence_of(f"#{ERROR}"), is_sure=is_sure)
 
 
 def rule_of_section(name, row, keeps=lambda *cells: True, call="", is_sure=True):
@@ -511,7 +511,7 @@ def rule_of_closing_panic():
 def rules_of_signals(event, run):
     """The section Signals, and the events that asserted the signals that are shown, as far as the lines tell; the rule of
     a panic that is one of them."""
-    rule, notes, untold = rule_of_section(SIGNALS, f"#{SIGNALS})"), [], []
+    rule, notes, untold = rule_of_section(SIGNALS, f"#{SIGNALS}"), [], []
     for bit in (1 << place for place in range(32) if run and int(event.shown[0], 16) >> place & 1):
         found = run.asserted_by(event.actor, bit)
         notes += found
@@ -532,7 +532,7 @@ def gives_handle(event, kinds):
 def rules_of_load(event, run):
     """What a load reads beside its own rule: the last store to these bytes, and after a reset what that leaves."""
     stored = run.stored_at(event)
-    rules = [] if stored or not run.is_later else [rule_of_section(RESETS, f"#{RESETS})", is_sure=False)]
+    rules = [] if stored or not run.is_later else [rule_of_section(RESETS, f"#{RESETS}", is_sure=False)]
     what = "the last store to these bytes; a call that moved bytes since may have changed them too"
     words = [] if stored else [(" ", "No `store` of this run wrote these bytes: they are as at its opening, or a call that moves bytes put them there")]
     return words, rules, [(stored, what)] if stored else []
@@ -640,7 +640,7 @@ def rules_of(text, number=0, run=None):
         blocked = run.blocked_calls() if run and verdict[1] == "stalled" else []
         return [rule_of_section(VERDICTS, f"`{verdict[1]}`", lambda name, state: name == verdict[1])], [(event, "waits for its answer") for event in blocked]
     if RESTART.fullmatch(text):
-        rule = rule_of_section(RESETS, f"#{RESETS})")
+        rule = rule_of_section(RESETS, f"#{RESETS}")
         rule.words += [(">", f"Its text, {FORMATS}:{number}: {plain(line, FORMATS)}") for number, line in section(TRACE, FORMATS) if f"`{RESTART_FORM}`" in line]
         return [rule], []
     return rules_of_event(event_of(text, number), run)
@@ -675,62 +675,12 @@ def system_beside(trace):
 # ---- definitions, clauses, mutants and tests
 
 
-@dataclass(frozen=True)
-class Item:
-    """A function or a definition that a cell names: its file, the place of its line, from 0, its name, its clauses, and
-    what the cell says of it in parentheses."""
-    path: pathlib.Path
-    place: int
-    name: str
-    clauses: tuple = ()
-    remark: str = ""
-
-    def told(self, clauses=()):
-        named = [name or "without a name" for name in clauses or self.clauses]
-        clause = f", clause {', '.join(named)}" if named else ""
-        return f"{self.path}:{self.place + 1}, {self.name}{clause}{self.remark}"
-
-
-def is_crate(word):
-    return (CRATES / word / "src").is_dir()
-
-
-def found_in(files, name, clauses, part):
-    """The item of that name, in the first of the files that has it. `part` is the text of the cell that names it."""
-    remark = re.search(rf"\b{name}`( \([^)]*\))", part)
-    for path in files:
-        for place, line in enumerate(lines_of(path)):
-            if re.search(ITEM.format(name), line) and not re.match(r"\s*(//|--)", line):
-                return [Item(path, place, name, tuple(clauses), remark[1] if remark else "")]
-    return []
-
-
-def tests_in(path):
-    text = path.read_text()
-    return [Item(path, text[:test.start(1)].count("\n"), test[1]) for test in re.finditer(TEST.format(r"(\w+)"), text)]
-
-
-@lru_cache(maxsize=None)
-def items_of(cell, column):
-    """The items that a cell names, with their clauses; of a file of tests without names all its tests."""
-    found = []
-    for part in without_links(cell).split(";"):
-        files, named, has_clauses = [], [], False
-        for token in TOKEN.findall(part):
-            word = token.strip("`").split("::")[-1]
-            if token.endswith((".rt", ".antt")):
-                path = file_of(token, column, files)
-                files = [path] if path else []
-            elif token[0] == "`" and has_clauses:
-                named[-1][1].append(word)
-            elif token[0] == "`":
-                named.append((word, []))
-            elif is_crate(token):
-                files = sources(token)
-            has_clauses = has_clauses or named != [] and token in ("clause", "clauses")
-        found += [item for name, clauses in named for item in found_in(files, name, clauses, part)]
-        found += [test for path in files[:1] if column == "Tests" and not named for test in tests_in(path)]
-    return found
+def told_of(item, clauses=()):
+    """Where an item is, with its clauses, or others."""
+    named = [name or "without a name" for name in clauses or item.clauses]
+    clause = f", clause {', '.join(named)}" if named else ""
+    note = f" ({item.note})" if item.note else ""
+    return f"{item.path}:{item.place + 1}{', ' if item.name else ''}{item.name}{clause}{note}"
 
 
 def block_of(item):
@@ -793,33 +743,20 @@ def cited_by(item, lines):
         text += f"{line}\n" if keeps else ""
     words = re.findall(r"\w+", text)
     for name, (path, there) in dict(imported_by(item.path)).items():
-        if name in words and path.is_file():
-            yield from found_in([path], there, (), "")
-
-
-def functions_of(row):
-    column = "Contract and body" if "Contract and body" in row else "Contract"
-    return items_of(row[column], column)
-
-
-def mutants_of(row):
-    """The files of the mutants that a row names, each of the crate named before it, or of the contract's."""
-    crate = next((word for item in functions_of(row)[:1] for word in item.path.parts if is_crate(word)), "")
-    for token in TOKEN.findall(without_links(row["Mutants, refused"])):
-        crate = token if is_crate(token) else crate
-        for folder in (CRATES / crate / "must-fail", WRONG_BODIES / crate):
-            if (folder / f"{token}.edit").is_file():
-                yield folder / f"{token}.edit"
+        item = found_in([path], there) if name in words else None
+        if item:
+            yield item
 
 
 def runs_of(row):
     """The worked runs, the tests, the stored cases and the examples that a row names, each with what it is."""
-    for column in (name for name in row if name.startswith("Worked") or name == "Tests"):
-        for item in items_of(row[column], column):
-            yield "test" if column == "Tests" and "machine_examples" not in item.path.parts else "worked run", item.told()
-    for path, more in re.findall(r"\]\(\.\./([^)#]+(?<!\.rt))\)([^;[]*)", row["Tests"]):
-        is_case = DATA in pathlib.Path(path).parents and GUIDED not in pathlib.Path(path).parents
-        yield "case" if is_case else "example", path + more.rstrip(", ")
+    for column, what in (("examples", "worked run"), ("tests", "test")):
+        yield from ((what, told_of(item)) for item in items_of(row, column))
+    for cited in row.get("tests", []):
+        if "in" not in cited:
+            note = f" ({cited['note']})" if "note" in cited else ""
+            name = f", {cited['case']}" if "case" in cited and path_of(cited).suffix == ".txt" and path_of(cited).parent == CASES else ""
+            yield "example" if GUIDED in path_of(cited).parents else "case", f"{path_of(cited)}{name}{note}"
 
 
 # ---- what is printed
@@ -840,28 +777,28 @@ def words_told(rule, is_whole, _seen=frozenset()):
 
 def text_of(rule, is_whole, seen):
     """The lines that are printed of a rule: all of it, or the places alone, as of the items that were seen before."""
-    number, row = rule.row
+    row = rule.row
     yield from words_told(rule, is_whole)
-    for item in items_of(row["Definition"], "Definition"):
+    for item in items_of(row, "definitions"):
         if item.name in rule.without:
             continue
         is_new = is_whole and (item.path, item.place) not in seen
-        yield f"2. {item.told()}{'' if is_new or not is_whole else ', as above'}"
+        yield f"2. {told_of(item)}{'' if is_new or not is_whole else ', as above'}"
         yield from (f"   {line}" for line in definition_of(item, rule.call) if is_new)
         if is_whole:
             seen.add((item.path, item.place))
-    for item in functions_of(row):
+    for item in items_of(row, "contracts"):
         lines, names = contract_of(item)
         is_new = is_whole and (item.path, item.place) not in seen
-        yield f"3. {item.told(names)}{'' if is_new or not is_whole else ', as above'}"
+        yield f"3. {told_of(item, names)}{'' if is_new or not is_whole else ', as above'}"
         yield from (f" {mark} {line}" for mark, line in lines if is_new)
         cited = [one for one in cited_by(item, lines) if is_new and (one.path, one.place) not in seen]
-        yield from (f"   cites {one.told()}" for one in cited)
+        yield from (f"   cites {told_of(one)}" for one in cited)
         if is_whole:
             seen.add((item.path, item.place))
-    yield f"4. {EVIDENCE}:{number}"
+    yield f"4. {EVIDENCE}:{line_of(row)}"
     if is_whole:
-        yield from (f"   mutant: {path}" for path in mutants_of(row))
+        yield from (f"   mutant: {path}" for path in mutants_of(row) if path)
         yield from (f"   {what}: {text}" for what, text in runs_of(row))
 
 
@@ -930,19 +867,10 @@ def stored_traces():
 
 
 def lacks_of(rule):
-    """What a rule lacks of the four things, and what docs/machine.md names of it and docs/evidence.md doesn't."""
-    number, row = rule.row
-    definitions, functions = items_of(row["Definition"], "Definition"), functions_of(row)
-    tests = [item for item in runs_of(row) if item[0] in ("test", "case")]
-    for what, found in (("rule", rule.words), ("definition", definitions), ("clause", functions), ("test", tests)):
-        if not found:
-            yield f"{rule.title}: no {what} ({EVIDENCE}:{number})"
-    row_in_words = row_of_call(rule.call)[1] if rule.call else {}
-    for column, found in (("Definition", definitions), ("Contract and body", functions)):
-        places = [(item.path, item.place) for item in found]
-        for item in items_of(row_in_words.get(column, ""), column):
-            if (item.path, item.place) not in places:
-                yield f"{EVIDENCE}:{number} doesn't name {item.name}, as the row {rule.call} of {MACHINE} does"
+    """What a rule lacks of the four things."""
+    tests = [item for item in runs_of(rule.row) if item[0] in ("test", "case")]
+    things = ("rule", rule.words), ("definition", items_of(rule.row, "definitions")), ("clause", items_of(rule.row, "contracts")), ("test", tests)
+    yield from (f"{rule.title}: no {what} ({EVIDENCE}:{line_of(rule.row)})" for what, found in things if not found)
 
 
 def kinds_and_lacks():
