@@ -24,12 +24,12 @@ def lines_of(path):
 
 
 def edits():
-    """How many mutants the gate tries."""
+    """How many mutants the CI tries."""
     return len(list(CRATES.glob("*/must-fail/*.edit")))
 
 
 def further_edits():
-    """How many stand beside the gate."""
+    """How many stand beside the CI."""
     return len(list(pathlib.Path("wrong_bodies").glob("*/*.edit")))
 
 
@@ -62,12 +62,6 @@ def ported_crates(crate):
     return {name for below in with_those_below(crate) for name in named_behind(below)} - NAMES
 
 
-def crates_of_tests():
-    """The crates with tests on which no other stands, without the programs."""
-    served = {name for crate in NAMES for name in stands_on(crate)}
-    return [crate for crate in NAMES - served if tests_of(crate) and not (CRATES / crate / "src" / "main.rt").exists()]
-
-
 def calls():
     """How many variants the machine's calls have."""
     body = re.search(r"pub enum Call \{\n(.*?)^\}", MACHINE.read_text(), re.M | re.S)[1]
@@ -88,19 +82,12 @@ def lines_of_audit(name):
     return lines_of(examples()[name].folder / "audit.txt") - 1
 
 
-def statuses():
-    """The statuses with which the stored commands end."""
-    found = sorted({command.status for case in cases() for command in case.commands})
-    return [f"{', '.join(map(str, found[:-1]))} and {found[-1]}"]
-
-
 # The forms in which pages state figures, with what is counted for each {}.
 FIGURES = [
-    ("The gate tries {} of {} |", lambda: [edits(), edits() + further_edits()]),
-    ("{} crates, {} mutants in the gate and {} beside it, {} tests",
+    ("The CI tries {} of {} |", lambda: [edits(), edits() + further_edits()]),
+    ("{} crates, {} mutants in the CI and {} beside it, {} tests",
      lambda: [len(NAMES), edits(), further_edits(), sum(map(tests_of, NAMES))]),
     ("with the figures below N is {}", lambda: [len(NAMES) + edits()]),
-    ("{} crates have tests alone", lambda: [len(crates_of_tests())]),
     ("{} stored cases with {} commands", lambda: [len(cases()), sum(len(case.commands) for case in cases())]),
     ("manifest_compile and the {} below it", lambda: [len(set(stands_on("manifest_compile")) - BASE)]),
     ("the statements of {} ported crates", lambda: [len(ported_crates("ffm"))]),
@@ -113,7 +100,6 @@ FIGURES = [
     ("| {} partitions whose manifests are files of their own", lambda: [partitions_of("firmware")]),
     ("| {} partitions and two of four clients that break rules", lambda: [partitions_of("hostile_clients") - 1]),
     ("what an audit shows of {} partitions", lambda: [partitions_of("audited_meter")]),
-    ("with the statuses {}.", statuses),
 ]
 
 
@@ -126,7 +112,7 @@ def is_number(told, counted):
 
 def stated_as(form):
     """Each text of a page that has the form, with the page and the figures that it states."""
-    pattern = re.escape(form).replace(r"\{\}", r"(\d(?:, \d)+ and \d|\d+(?:,\d{3})+|\w+)")
+    pattern = re.escape(form).replace(r"\{\}", r"(\d+(?:,\d{3})+|\w+)")
     return [(page, stated[0], stated.groups()) for page in PAGES for stated in re.finditer(pattern, page.read_text())]
 
 
