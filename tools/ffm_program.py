@@ -9,7 +9,7 @@
 tools/try_ffm.sh and tools/try_ffm_view.sh call it with the name of the program. The program is the first of these:
 
 1. crates/NAME/out/NAME, the proved one that .ci/run and `rt run` leave, where no source of it is younger; or, in a
-   folder that tools/pack.sh made, the one beside tools/;
+   folder that tools/pack.sh made, bin/NAME;
 2. one that an earlier call built without proofs and kept under ~/.cache/ffm (or XDG_CACHE_HOME), in a folder named by
    the checksum of the sources and of the kit's line. A changed source has another checksum, so a kept program is never
    that of other sources;
@@ -72,9 +72,9 @@ def checksum(name):
 
 
 def proved(name):
-    """The program that the gate left, or that stands beside tools/ in a pack; None where a source is younger."""
+    """The program that the CI left, or that of a pack; None where a source is younger."""
     if not (TOP / "crates.txt").is_file():
-        return TOP / name
+        return TOP / "bin" / name
     path = TOP / "crates" / name / "out" / name
     if not path.is_file() or any(source.stat().st_mtime > path.stat().st_mtime for source in sources_of(name)):
         return None
@@ -88,7 +88,7 @@ def kept(name):
 
 
 def program(name="ffm", given=None):
-    """The path of a program that is there: the given one, that of the gate, a kept one, or one on the path."""
+    """The path of a program that is there: the given one, that of the CI, a kept one, or one on the path."""
     if given is not None:
         found = shutil.which(given)
         if found is None:

@@ -1,10 +1,12 @@
 #!/bin/bash
-# Packs the programs that the gate built, so that they can be handed on: tools/pack.sh GATE_LOG [FILE]
+# Packs the programs that the CI built, so that they can be handed on: tools/pack.sh GATE_LOG [FILE]
 #
-# GATE_LOG is what the gate wrote: .ci/run 2>&1 | tee gate.log. FILE is the archive, by default ffm-COMMIT.tar.gz in the
-# folder where one stands. It holds the programs, the tools and schemas for users of them, `identity.txt` with the
-# commit, the kit's line and the gate's closing lines, and `SHA256SUMS`. Nothing is packed where the gate didn't pass,
-# where a file of the repository isn't committed, or where a source is younger than a program.
+# GATE_LOG is what the CI wrote: .ci/run 2>&1 | tee gate.log. FILE is the archive, by default ffm-COMMIT.tar.gz in the
+# current folder. It holds the programs in bin/, the tools and schemas for users of them, `identity.txt` with the commit,
+# the kit's line and the CI's closing lines, and `SHA256SUMS`. Beside bin/ it has a script of each program's name, which
+# runs the program, and at --version prints identity.txt and the program's checksum; the status is 1 where that of the file
+# is another. Nothing is packed where the CI didn't pass, where a file of the repository isn't committed, or where a source
+# is younger than a program.
 set -eu
 
 stop() { echo "pack.sh: $1" >&2; exit 1; }
@@ -16,7 +18,7 @@ top=$(cd "$(dirname "$(readlink -f "$0")")/.." && pwd)
 commit=$(git -C "$top" rev-parse HEAD)
 file=$(readlink -f "${2:-ffm-${commit:0:12}.tar.gz}")
 
-grep -qE '^[0-9]+ passed, 0 failed$' <(tail -1 "$log") || stop "the gate's log ends with: $(tail -1 "$log")"
+grep -qE '^[0-9]+ passed, 0 failed$' <(tail -1 "$log") || stop "the CI's log ends with: $(tail -1 "$log")"
 changed=$(git -C "$top" status --porcelain --untracked-files=no; git -C "$top" ls-files --others --exclude-standard crates)
 [ -z "$changed" ] || stop "these files aren't committed: $(head -3 <<< "$changed")"
 kit=$(rt version) || stop "rt, the command of the Rattle kit, isn't on the path"
@@ -24,11 +26,22 @@ kit=$(rt version) || stop "rt, the command of the Rattle kit, isn't on the path"
 room=$(mktemp -d)
 trap 'rm -rf "$room"' EXIT
 folder="$room/ffm-${commit:0:12}"
-mkdir "$folder"
+mkdir -p "$folder/bin"
 for name in $(grep -oE '^(ffm|ffm_view)\b' "$top/crates.txt"); do
     program="$top/crates/$name/out/$name"
     [ "$(python3 "$top/tools/ffm_program.py" "$name" --which 2>&1)" = "$program" ] || stop "$program isn't there, or a source is younger"
-    cp "$program" "$folder"
+    cp "$program" "$folder/bin"
+    cat > "$folder/$name" << END
+#!/bin/bash
+# Runs bin/$name; at --version it says which program that is.
+here=\$(dirname "\$(readlink -f "\$0")")
+[ "\$*" = --version ] || exec "\$here/bin/$name" "\$@"
+cd "\$here"
+cat identity.txt
+grep ' bin/$name\$' SHA256SUMS
+exec sha256sum --quiet --check <(grep ' bin/$name\$' SHA256SUMS)
+END
+    chmod +x "$folder/$name"
 done
 mkdir "$folder/tools"
 cp "$top"/tools/*.py "$folder/tools"

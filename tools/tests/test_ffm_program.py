@@ -143,12 +143,28 @@ class Repository(unittest.TestCase):
         self.assertEqual((folder / "identity.txt").read_text(), f"commit {commit}\nkit kit of the test\nrt: ok; handles allowed: Threads\n5 passed, 0 failed\n")
         self.assertEqual(subprocess.run(["sha256sum", "--quiet", "--check", "SHA256SUMS"], cwd=folder, check=False).returncode, 0)
         self.assertTrue((folder / "schemas/system.schema.json").is_file())
-        self.assertEqual(self.call(sys.executable, folder / "tools/ffm_program.py", "ffm", "--which")[1], f"{folder / 'ffm'}\n")
+        self.assertEqual(self.call(sys.executable, folder / "tools/ffm_program.py", "ffm", "--which")[1], f"{folder / 'bin/ffm'}\n")
+
+    def test_the_scripts_of_a_pack_run_the_program_and_say_which_one_it_is(self):
+        commit = self.commit()
+        self.leave_proved()
+        self.pack("rt: ok; handles allowed: Threads\n5 passed, 0 failed\n")
+        subprocess.run(["tar", "-xzf", "ffm.tar.gz"], cwd=self.top.parent, check=True)
+        folder = self.top.parent / f"ffm-{commit[:12]}"
+        link = self.top.parent / "link"
+        link.symlink_to(folder / "ffm")
+        self.assertEqual(self.call(link, "run", "a b", "--version"), (0, "run a b --version\n", ""))
+        status, text, _ = self.call(link, "--version")
+        self.assertEqual((status, text.splitlines()[:2]), (0, [f"commit {commit}", "kit kit of the test"]))
+        self.assertRegex(text.splitlines()[-1], "^[0-9a-f]{64}  bin/ffm$")
+        (folder / "bin/ffm").write_text("another program\n")
+        status, text, _ = self.call(link, "--version")
+        self.assertEqual((status, text.splitlines()[-1]), (1, "bin/ffm: FAILED"))
 
     def test_nothing_is_packed_that_the_gate_did_not_pass(self):
         self.commit()
         self.leave_proved()
-        self.assertEqual(self.pack("4 passed, 1 failed\n")[0::2], (1, "pack.sh: the gate's log ends with: 4 passed, 1 failed\n"))
+        self.assertEqual(self.pack("4 passed, 1 failed\n")[0::2], (1, "pack.sh: the CI's log ends with: 4 passed, 1 failed\n"))
         self.assertEqual(self.pack("1 passed, 0 failed (low and the crates below alone: not the gate)\n")[0], 1)
         (self.top / "crates/low/src/other.rt").write_text("new\n")
         self.assertEqual(self.pack("5 passed, 0 failed\n")[0::2], (1, "pack.sh: these files aren't committed: crates/low/src/other.rt\n"))
