@@ -1,11 +1,11 @@
 #!/usr/bin/env bash
-# Tries the wrong bodies of wrong_bodies/, which the gate leaves out for its time, on a copy of the crates.
+# Tries the mutants of wrong_bodies/, which the CI leaves out for its time, on a copy of the crates.
 #
 #     bash tools/try_wrong_bodies.sh [CRATE..]
 #
 # Run at the top of the repository. Without names all crates of wrong_bodies/ are tried. The prover has to refuse
-# each. It stands on what the gate proved on this machine: the crates themselves aren't proved again where a gate
-# of the same files passed here, but for one check of each crate with which its wrong bodies begin.
+# each. It takes what the CI proved on this machine: the crates themselves aren't proved again where a CI run
+# of the same files passed here, but for one check of each crate with which its mutants begin.
 set -eu
 case "${1:-}" in -h | --help) sed -n '2,9s/^# \{0,1\}//p' "$0"; exit 0 ;; esac
 for crate in "$@"; do
