@@ -11,6 +11,7 @@ stored cases that the pages state have to be those counted (figures.py). For eac
 rule_of_line.py has to find a rule, a definition, a clause and a test. Prints what isn't so. The status is 1 where something
 is wrong."""
 
+import argparse
 import pathlib
 import re
 import sys
@@ -84,6 +85,7 @@ def wrong_page():
 
 
 def main():
+    argparse.ArgumentParser(description=__doc__, formatter_class=argparse.RawDescriptionHelpFormatter).parse_args()
     kinds, lacks = kinds_and_lacks()
     wrong = [*evidence.wrong(), *wrong_page(), *wrong_walks(), *wrong_wings(), *wrong_layers(), *wrong_figures(), *lacks]
     told = f"{len(evidence.rows())} rows of evidence, {len(list(wings()))} wings, {len(list(figures()))} texts with figures, {len(kinds)} kinds of lines"

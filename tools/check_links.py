@@ -7,6 +7,7 @@ Run at the top of the repository. Prints each link that leads nowhere, and each 
 like a file of this repository and isn't there. Links to other hosts aren't followed. The status is 1 where
 something is wrong."""
 
+import argparse
 import pathlib
 import re
 import sys
@@ -85,6 +86,7 @@ def wrong_paths(page):
 
 
 def main():
+    argparse.ArgumentParser(description=__doc__, formatter_class=argparse.RawDescriptionHelpFormatter).parse_args()
     wrong = [(page, *rest) for page in pages() for rest in (*wrong_links(page), *wrong_paths(page))]
     for page, number, link, what in wrong:
         print(f"{page}:{number}: {link}: {what}")

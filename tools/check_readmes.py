@@ -8,6 +8,7 @@ name in code marks is a word of the crate's files, or a crate that it stands on 
 there: in the crate, or behind `in NAME,` in that one, up to the next full stop or semicolon. The crates under "Stands on"
 are those of crates.txt. Prints what isn't so. The status is 1 where something is wrong."""
 
+import argparse
 import pathlib
 import re
 import sys
@@ -81,9 +82,7 @@ def wrong_in(crate, text, behind, crates):
 
 
 def main():
-    if sys.argv[1:]:
-        print(__doc__)
-        sys.exit(0 if sys.argv[1:] in (["--help"], ["-h"]) else 2)
+    argparse.ArgumentParser(description=__doc__, formatter_class=argparse.RawDescriptionHelpFormatter).parse_args()
     behind, wrong = named_behind(pathlib.Path("crates.txt").read_text()), []
     for crate in sorted(behind):
         page = CRATES / crate / "README.md"

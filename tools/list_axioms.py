@@ -4,10 +4,12 @@
     python3 tools/list_axioms.py [PROGRAM]
 
 Run at the top of the repository, after .ci/run: it checks the one crate, ffm where none is named, over the libraries
-that the gate proved and left in crates/*/out/rlib, with the prover's flag --list-axioms. Prints the lines of the
+that the CI proved and left in crates/*/out/rlib, with the prover's flag --list-axioms. Prints the lines of the
 axioms and the verdict, and ends with the prover's status."""
 
+import argparse
 import pathlib
+import shutil
 import subprocess
 import sys
 import tempfile
@@ -38,10 +40,16 @@ def below(crate, named):
 
 
 def main():
-    crate = sys.argv[1] if len(sys.argv) > 1 else "ffm"
+    parser = argparse.ArgumentParser(description=__doc__, formatter_class=argparse.RawDescriptionHelpFormatter)
+    parser.add_argument("program", nargs="?", default="ffm", metavar="PROGRAM", help="the crate of a program")
+    crate = parser.parse_args().program
+    if shutil.which("rt") is None:
+        sys.exit("list_axioms.py: rt, the command of the Rattle kit, isn't on the path")
     page = subprocess.run(["rt", "doc"], capture_output=True, text=True, check=True).stdout
     kit = pathlib.Path(page.strip()).parent
     named = libraries_of()
+    if crate not in named:
+        sys.exit(f"list_axioms.py: {crate}: no such crate in crates.txt")
     with tempfile.TemporaryDirectory() as links:
         for library in below(crate, named):
             built = CRATES / library / "out" / "rlib" / f"{library}.rlib"
