@@ -4,8 +4,8 @@
     python3 tools/check_evidence.py
 
 Run at the top of the repository. What docs/evidence.json names has to be there, and docs/evidence.md as it is made
-(evidence.py). In the column "Where" of docs/house.md each file has to be there, and each name and clause after it in that
-file. Its table of wings has each crate once, and a wing's crates stand by crates.txt on its own and on those of the wings
+(evidence.py). In docs/house.md each file of a crate has to be there, and in its column "Where" each name and clause after a
+file in that file. Its table of wings has each crate once, and a wing's crates stand by crates.txt on its own and on those of the wings
 that its row names. No crate of MANAGER stands below one of APART. The figures of crates, mutants, tests, calls, examples and
 stored cases that the pages state have to be those counted (figures.py). For each kind of lines in the stored traces
 rule_of_line.py has to find a rule, a definition, a clause and a test. Prints what isn't so. The status is 1 where something
@@ -28,11 +28,14 @@ MANAGER = {
     "panic_state", "partition_sim", "scenario_runs",
 }
 APART = ("machine_check", "judge_command", "view_commands", "ffm_view")
+FILE = re.compile(r"(?<![\w/])(?:crates/)?(\w+/(?:src|specs|must-fail|data)/[\w/]+\.(?:rt|antt|edit|txt))")
 TOKEN = re.compile(r"crates/[\w/]+\.(?:rt|antt)|`[\w:]+`|\bclauses?\b|;")
 
 
 def wrong_walks():
-    """The files, names and clauses in the walks that aren't there."""
+    """The files that the page names, and the names and clauses in its walks, that aren't there."""
+    lost = (name for name in FILE.findall(HOUSE.read_text()) if not (evidence.CRATES / name).is_file())
+    yield from (f"{HOUSE}: {name}: no such file" for name in lost)
     for number, row in table_rows(HOUSE):
         where, pattern = None, evidence.ITEM
         for token in TOKEN.findall(row.get("Where", "")):
@@ -40,8 +43,6 @@ def wrong_walks():
                 where, pattern = None, evidence.ITEM
             elif token[0] != "`" and token.startswith("crates/"):
                 where, pattern = pathlib.Path(token), evidence.ITEM
-                if not where.is_file():
-                    yield f"{HOUSE}:{number}: {token}: no such file"
             elif token[0] != "`":
                 pattern = evidence.CLAUSE
             elif where and where.is_file():
