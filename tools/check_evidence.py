@@ -7,7 +7,7 @@ Run at the top of the repository. What docs/evidence.json names has to be there,
 (evidence.py). In docs/house.md each file of a crate has to be there, and in its column "Where" each name and clause after a
 file in that file. Its table of wings has each crate once, and a wing's crates stand by crates.txt on its own and on those of the wings
 that its row names. No crate of MANAGER stands below one of APART. The figures of crates, mutants, tests, calls, examples and
-stored cases that the pages state have to be those counted (figures.py). For each kind of lines in the stored traces
+stored cases that the pages state have to be those counted (figures.py), and the pages have at most so many words. For each kind of lines in the stored traces
 rule_of_line.py has to find a rule, a definition, a clause and a test. Prints what isn't so. The status is 1 where something
 is wrong."""
 
@@ -18,10 +18,12 @@ import sys
 
 import evidence
 from check_links import table_rows
-from figures import NAMES, figures, stands_on, with_those_below, wrong_figures
+from figures import NAMES, PAGES, README, figures, stands_on, with_those_below, wrong_figures
 from rule_of_line import kinds_and_lacks
 
 HOUSE = pathlib.Path("docs/house.md")
+# How many words the README, and all pages without their made parts, may have.
+MOST_WORDS = {"README.md": 1_600, "all pages": 38_000}
 # The crates of the manager, and those that have none of them below.
 MANAGER = {
     "spm_core", "spm_lock", "spm_tables", "handle_table", "object_pools", "client_calls", "service_calls", "doorbell_irq",
@@ -80,6 +82,14 @@ def wrong_layers():
             yield f"crates.txt: {crate} stands on {', '.join(found)}"
 
 
+def wrong_lengths():
+    """More words in the README, or in all pages without their made parts, than a reader takes in."""
+    counts = {page: len(evidence.MADE.sub("", page.read_text()).split()) for page in PAGES}
+    for what, count in (("README.md", counts[README]), ("all pages", sum(counts.values()))):
+        if count > MOST_WORDS[what]:
+            yield f"{what}: {count} words, and not {MOST_WORDS[what]} at most"
+
+
 def wrong_page():
     if evidence.PAGE.read_text() != evidence.made(evidence.PAGE.read_text()):
         yield f"{evidence.PAGE}: not as it is made: python3 tools/evidence.py"
@@ -88,7 +98,7 @@ def wrong_page():
 def main():
     argparse.ArgumentParser(description=__doc__, formatter_class=argparse.RawDescriptionHelpFormatter).parse_args()
     kinds, lacks = kinds_and_lacks()
-    wrong = [*evidence.wrong(), *wrong_page(), *wrong_walks(), *wrong_wings(), *wrong_layers(), *wrong_figures(), *lacks]
+    wrong = [*evidence.wrong(), *wrong_page(), *wrong_walks(), *wrong_wings(), *wrong_layers(), *wrong_figures(), *wrong_lengths(), *lacks]
     told = f"{len(evidence.rows())} rows of evidence, {len(list(wings()))} wings, {len(list(figures()))} texts with figures, {len(kinds)} kinds of lines"
     print("\n".join(wrong) if wrong else told)
     sys.exit(1 if wrong else 0)
