@@ -841,7 +841,7 @@ def answer(words, parts):
     if refusal:
         return told_of_refusal(text, refusal[1])
     if JUDGEMENT.fullmatch(text):
-        raise Unknown(f"{text}: no line of a trace, but what `replay` or `audit` says of one (README.md, Judging a trace)")
+        raise Unknown(f"{text}: no line of a trace, but what `replay` or `audit` says of one (docs/formats.md, Judging a trace)")
     return told(text, number, run_around(lines, number - 1, system_beside(trace)) if number else None, parts)
 
 
