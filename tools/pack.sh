@@ -44,7 +44,11 @@ END
     chmod +x "$folder/$name"
 done
 mkdir "$folder/tools"
-cp "$top"/tools/*.py "$folder/tools"
+# The tools that need no repository, and what they import.
+for tool in check_runs check_schemas expand import_tfm trace_diff ffm_program plain_machine plain_run plain_listing \
+    c_symbols example_files expansion expectations followed json_places plain_script scenario_names; do
+    cp "$top/tools/$tool.py" "$folder/tools"
+done
 cp -r "$top/schemas" "$folder"
 {
     echo "commit $commit"

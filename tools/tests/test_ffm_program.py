@@ -143,6 +143,8 @@ class Repository(unittest.TestCase):
         self.assertEqual((folder / "identity.txt").read_text(), f"commit {commit}\nkit kit of the test\nrt: ok; handles allowed: Threads\n5 passed, 0 failed\n")
         self.assertEqual(subprocess.run(["sha256sum", "--quiet", "--check", "SHA256SUMS"], cwd=folder, check=False).returncode, 0)
         self.assertTrue((folder / "schemas/system.schema.json").is_file())
+        for name in ("check_runs", "check_schemas", "expand", "import_tfm", "trace_diff", "ffm_program", "plain_machine", "plain_run", "plain_listing"):
+            self.assertEqual(self.call(sys.executable, folder / f"tools/{name}.py", "--help")[0::2], (0, ""), name)
         self.assertEqual(self.call(sys.executable, folder / "tools/ffm_program.py", "ffm", "--which")[1], f"{folder / 'bin/ffm'}\n")
 
     def test_the_scripts_of_a_pack_run_the_program_and_say_which_one_it_is(self):
