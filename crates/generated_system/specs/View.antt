@@ -1,18 +1,9 @@
--- The parts and the items of a text, as the code holds them.
+-- The items of the files' lists, as the code holds them.
 -- Source: this simulator's.
-use Rattle.std.specs.Prelude.{ℕ, List, [], ◌∷◌}
-use Rattle.std.specs.Fmt.{decimal}
+use Rattle.std.specs.Prelude.{ℕ, List}
 use Rattle.generated_system.specs.declared.items.Item.{Item}
 use Rattle.generated_system.specs.declared.items.Item.TheVariants as item
-use Rattle.generated_system.specs.declared.parts.Part.{Part}
-use Rattle.generated_system.specs.declared.parts.Part.TheVariants.{Text, Number, Byte}
 use Rattle.generated_system.specs.Texts.{manifest_text, client_text, scripts_text, memory_text}
-
--- the bytes of a part
-abbrev pub part_text : Part → List ℕ
-part_text (Text text) = text.now
-part_text (Number n) = decimal n
-part_text (Byte byte) = byte ∷ []
 
 -- the text of an item with a number
 abbrev pub item_text : Item → ℕ → List ℕ

@@ -2,13 +2,17 @@
 
 ghost use Rattle.std.specs.Prelude.{◌≡◌, ◌++◌, ◌≤◌, ◌<◌, OnOk};
 ghost use Rattle.std.specs.List.{flat_map};
-ghost use Rattle.generated_system.specs.Texts.{numbers};
+ghost use Rattle.generated_system.specs.Texts.{comma, numbers};
 ghost use Rattle.generated_system.specs.View.{item_text};
+ghost use Rattle.text_lines.specs.Words.{word_text};
 
-use crate::parts::COUNT;
 use crate::scenario::{append_memory, append_scripts};
 use crate::system::{append_client, append_manifest};
 use std::alloc::AllocError;
+use text_lines::Word;
+
+/// How many partitions there are, and how many clients.
+pub const COUNT: u32 = 16;
 
 /// An item that a list of the files has for each number.
 #[derive(Clone, Copy, Debug)]
@@ -21,6 +25,17 @@ pub enum Item {
     Scripts { rounds: u32 },
     /// The opening memory of a client.
     Memory,
+}
+
+/// What stands before an item of a list.
+pub fn comma(number: u32) -> Word<'static>
+    ensures { word_text result ≡ comma number }
+{
+    if number == 1 {
+        Word::Text("")
+    } else {
+        Word::Text(",")
+    }
 }
 
 fn append_item(text: &mut Vec<u8>, item: Item, number: u32) -> Result<(), AllocError>

@@ -3,7 +3,6 @@
 #![tactic(auto)]
 
 mod items;
-mod parts;
 mod scenario;
 mod system;
 

@@ -4,11 +4,11 @@ ghost use Rattle.std.specs.Prelude.{◌≡◌, ◌++◌, ◌≤◌, ◌<◌, ◌
 ghost use Rattle.ffm_model.specs.TraceText.{hexadecimal_digit};
 ghost use Rattle.generated_system.specs.Texts.{client_base, partition_base, client_script, partition_script, scripts_text, descriptors, memory_text, scenario_text};
 
-use crate::items::{Item, append_items};
-use crate::parts::Part::{Byte, Number, Text};
-use crate::parts::{COUNT, append, append_parts, comma};
+use crate::items::{COUNT, Item, append_items, comma};
 use ffm_model::{Memory, NON_SECURE_RAM_BASE, RAM_BASE};
 use std::alloc::{AllocError, Global};
+use text_lines::Word::{Byte, Number, Text};
+use text_lines::{append, append_words};
 
 // Where a client's part of the non-secure RAM begins.
 #[tactic(auto, unfolding(crate::specs::Texts::client_base))]
@@ -58,7 +58,7 @@ fn append_client_script(
     requires room { base + 8 < 2 ^ 32 }
     ensures { OnOk result (text.new.items ≡ text.old.items ++ client_script rounds number base) }
 {
-    let parts = [
+    let words = [
         comma(number),
         Text(r#"{"actor":"N"#),
         Number(number),
@@ -72,7 +72,7 @@ fn append_client_script(
         Number(base + 8),
         Text(r#" 1","sub r6 1","jne r6 0 again","close r5"]}"#),
     ];
-    append_parts(text, &parts)
+    append_words(text, &words)
 }
 
 // The script of one of the partitions.
@@ -81,7 +81,7 @@ fn append_partition_script(text: &mut Vec<u8>, number: u32, base: u32) -> Result
     requires room { base + 256 < 2 ^ 32 }
     ensures { OnOk result (text.new.items ≡ text.old.items ++ partition_script number base) }
 {
-    let parts = [
+    let words = [
         Text(r#",{"actor":"P"#),
         Number(number),
         Text(r#"","lines":["top:","wait 4294967295 2147483648","get r0 "#),
@@ -92,7 +92,7 @@ fn append_partition_script(text: &mut Vec<u8>, number: u32, base: u32) -> Result
         Number(base + 256),
         Text(r#" 4","reply r2 0","jmp top"]}"#),
     ];
-    append_parts(text, &parts)
+    append_words(text, &words)
 }
 
 // The descriptors of a client's vectors.
@@ -105,7 +105,7 @@ fn append_descriptors(
 ) -> Result<(), AllocError>
     ensures { OnOk result (text.new.items ≡ text.old.items ++ descriptors number base digit) }
 {
-    let parts = [
+    let words = [
         comma(number),
         Text(r#"{"address":"#),
         Number(base),
@@ -115,7 +115,7 @@ fn append_descriptors(
         Byte(digit),
         Text(r#"002004000000"}"#),
     ];
-    append_parts(text, &parts)
+    append_words(text, &words)
 }
 
 /// Appends the scripts of a client and of the partition that it asks.

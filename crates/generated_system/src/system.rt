@@ -3,11 +3,11 @@
 ghost use Rattle.std.specs.Prelude.{◌≡◌, ◌++◌, ◌≤◌, OnOk, IfOk};
 ghost use Rattle.generated_system.specs.Texts.{manifest_text, client_text, system_text};
 
-use crate::items::{Item, append_items};
-use crate::parts::Part::{Number, Text};
-use crate::parts::{COUNT, append, append_parts, comma};
+use crate::items::{COUNT, Item, append_items, comma};
 use ffm_model::Memory;
 use std::alloc::{AllocError, Global};
+use text_lines::Word::{Number, Text};
+use text_lines::{append, append_words};
 
 /// Appends the manifest of one of the partitions.
 #[tactic(auto, unfolding(crate::specs::Texts::manifest_text))]
@@ -15,7 +15,7 @@ pub fn append_manifest(text: &mut Vec<u8>, number: u32) -> Result<(), AllocError
     requires { number ≤ COUNT }
     ensures { OnOk result (text.new.items ≡ text.old.items ++ manifest_text number) }
 {
-    let parts = [
+    let words = [
         comma(number),
         Text(r#"{"psa_framework_version":"1.0","name":"P"#),
         Number(number),
@@ -27,7 +27,7 @@ pub fn append_manifest(text: &mut Vec<u8>, number: u32) -> Result<(), AllocError
         Number(4096 + number),
         Text(r#","non_secure_clients":true}]}"#),
     ];
-    append_parts(text, &parts)
+    append_words(text, &words)
 }
 
 /// Appends the name of one of the clients.
@@ -35,8 +35,8 @@ pub fn append_manifest(text: &mut Vec<u8>, number: u32) -> Result<(), AllocError
 pub fn append_client(text: &mut Vec<u8>, number: u32) -> Result<(), AllocError>
     ensures { OnOk result (text.new.items ≡ text.old.items ++ client_text number) }
 {
-    let parts = [comma(number), Text("\"N"), Number(number), Text("\"")];
-    append_parts(text, &parts)
+    let words = [comma(number), Text("\"N"), Number(number), Text("\"")];
+    append_words(text, &words)
 }
 
 /// The text of the system's file.

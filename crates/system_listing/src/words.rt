@@ -4,50 +4,18 @@ ghost use Rattle.std.specs.Prelude.{◌≡◌, ◌++◌, map, OnOk};
 ghost use Rattle.std.specs.List.{flat_map};
 ghost use Rattle.ffm_model.specs.TraceText.{spaced};
 ghost use Rattle.ffm_model.specs.Listing.{rot_word, priority_word, policy_word, yes_or_no, permission_word, line_of};
-ghost use Rattle.system_listing.specs.Words.{word_text};
+ghost use Rattle.text_lines.specs.Words.{word_text};
 
 use ffm_model::{Policy, Priority, RotType};
-use itoa::Buffer;
 use std::alloc::AllocError;
-use trace_print::hexadecimal;
-
-/// A word of a line.
-#[derive(Clone, Copy, Debug)]
-pub enum Word<'a> {
-    Text(&'a str),
-    /// In decimal.
-    Number(u32),
-    /// In decimal, with a `-` where it is negative.
-    Signed(i32),
-    /// `0x` and eight digits.
-    Hexadecimal(u32),
-}
-
-/// Appends bytes.
-pub fn append(text: &mut Vec<u8>, bytes: &[u8]) -> Result<(), AllocError>
-    ensures { OnOk result (text.new.items ≡ text.old.items ++ bytes.now) }
-{
-    text.extend_from_slice(bytes)
-}
-
-// Appends a space and a word.
-fn append_word(text: &mut Vec<u8>, word: Word<'_>) -> Result<(), AllocError>
-    ensures { OnOk result (text.new.items ≡ text.old.items ++ spaced (word_text word.entry)) }
-{
-    append(text, b" ")?;
-    match word {
-        Word::Text(word) => append(text, word.as_bytes()),
-        Word::Number(n) => append(text, Buffer::new().format(n).as_bytes()),
-        Word::Signed(n) => append(text, Buffer::new().format(n).as_bytes()),
-        Word::Hexadecimal(n) => append(text, hexadecimal(n).as_slice()),
-    }
-}
+use text_lines::{Word, append, append_word};
 
 /// Appends words, each after a space.
-pub fn append_words(text: &mut Vec<u8>, words: &[Word<'_>]) -> Result<(), AllocError>
+pub fn append_spaced(text: &mut Vec<u8>, words: &[Word<'_>]) -> Result<(), AllocError>
     ensures { OnOk result (text.new.items ≡ text.old.items ++ flat_map spaced (map word_text words.now)) }
 {
     for word in words {
+        append(text, " ")?;
         append_word(text, *word)?;
     }
     Ok(())
@@ -57,9 +25,9 @@ pub fn append_words(text: &mut Vec<u8>, words: &[Word<'_>]) -> Result<(), AllocE
 pub fn append_line(text: &mut Vec<u8>, front: &str, words: &[Word<'_>]) -> Result<(), AllocError>
     ensures { OnOk result (text.new.items ≡ text.old.items ++ line_of front.now (map word_text words.now)) }
 {
-    append(text, front.as_bytes())?;
-    append_words(text, words)?;
-    append(text, b"\n")
+    append(text, front)?;
+    append_spaced(text, words)?;
+    append(text, "\n")
 }
 
 /// The manifest's `type`.

@@ -3,8 +3,10 @@
 ghost use Rattle.std.specs.Prelude.{◌≡◌, ◌++◌, OnOk, map};
 ghost use Rattle.std.specs.Fmt.{decimal};
 ghost use Rattle.std.specs.List.{flat_map};
+ghost use Rattle.ffm_model.specs.TraceText.{verdict_word};
 ghost use Rattle.text_lines.specs.Words.{word_text};
 
+use ffm_model::Verdict;
 use itoa::Buffer;
 use std::alloc::AllocError;
 use trace_print::hexadecimal;
@@ -19,6 +21,8 @@ pub enum Word<'a> {
     Signed(i32),
     /// `0x` and eight digits.
     Hexadecimal(u32),
+    /// A byte as it is.
+    Byte(u8),
 }
 
 /// Appends a text.
@@ -44,6 +48,7 @@ pub fn append_word(text: &mut Vec<u8>, word: Word<'_>) -> Result<(), AllocError>
         Word::Number(number) => append_number(text, number),
         Word::Signed(number) => append(text, Buffer::new().format(number)),
         Word::Hexadecimal(number) => text.extend_from_slice(hexadecimal(number).as_slice()),
+        Word::Byte(byte) => text.extend_from_slice(&[byte]),
     }
 }
 
@@ -55,4 +60,15 @@ pub fn append_words(text: &mut Vec<u8>, words: &[Word<'_>]) -> Result<(), AllocE
         append_word(text, *word)?;
     }
     Ok(())
+}
+
+/// The word of a verdict in a trace.
+pub fn verdict_word(verdict: Verdict) -> &'static str
+    ensures { result.now ≡ verdict_word verdict }
+{
+    match verdict {
+        Verdict::Quiet => "quiet",
+        Verdict::Stalled => "stalled",
+        Verdict::Full => "full",
+    }
 }

@@ -5,15 +5,16 @@ use ffm_model::System;
 use itoa::Buffer;
 use machine_rules::is_stateless;
 use std::alloc::{AllocError, Global};
+use text_lines::{Word, append, append_words};
 use trace_words::{
-    CALL_COUNT, Word, actor_name, longest_actor_name, longest_name, name_at, put, put_actor,
-    put_left, put_right, put_words, service_name,
+    CALL_COUNT, actor_name, longest_actor_name, longest_name, name_at, put_actor, put_left,
+    put_right, service_name,
 };
 
 // How often each actor made each call.
 fn put_calls(text: &mut Vec<u8>, system: &System, stats: &TraceCounts) -> Result<(), AllocError> {
     let width = longest_actor_name(system);
-    put(text, "entries by actor and call\n")?;
+    append(text, "entries by actor and call\n")?;
     let rows = stats.calls.as_slice().chunks(CALL_COUNT);
     for (actor, row) in (0..system.actor_count()).zip(rows) {
         put_row(text, system, actor, row, width)?;
@@ -31,24 +32,24 @@ fn put_row(
     let sum = row
         .iter()
         .fold(0, |sum: u32, count| sum.saturating_add(*count));
-    put(text, "  ")?;
+    append(text, "  ")?;
     put_actor(text, system, actor, width)?;
     put_right(text, sum, 7)?;
-    put(text, "\n")?;
+    append(text, "\n")?;
     for (place, count) in row.iter().enumerate() {
         if *count > 0 {
-            put(text, "      ")?;
+            append(text, "      ")?;
             put_left(text, Word::Text(name_at(place)), width.max(21))?;
             put_right(text, *count, 7)?;
-            put(text, "\n")?;
+            append(text, "\n")?;
         }
     }
     Ok(())
 }
 
 fn put_bytes(text: &mut Vec<u8>, name: &str, bytes: u64) -> Result<(), AllocError> {
-    put_words(text, &[Word::Text("  "), Word::Text(name), Word::Text(" ")])?;
-    put(text, Buffer::new().format(bytes))
+    append_words(text, &[Word::Text("  "), Word::Text(name), Word::Text(" ")])?;
+    append(text, Buffer::new().format(bytes))
 }
 
 fn put_moved(
@@ -57,14 +58,14 @@ fn put_moved(
     moved: &Moved,
     width: usize,
 ) -> Result<(), AllocError> {
-    put(text, "  ")?;
+    append(text, "  ")?;
     put_left(text, Word::Text(actor_name(system, moved.client)), width)?;
-    put(text, " -> ")?;
+    append(text, " -> ")?;
     put_left(text, Word::Text(service_name(system, moved.service)), width)?;
     put_bytes(text, "read", moved.read)?;
     put_bytes(text, "skipped", moved.skipped)?;
     put_bytes(text, "written", moved.written)?;
-    put(text, "\n")
+    append(text, "\n")
 }
 
 fn put_all_moved(
@@ -73,10 +74,10 @@ fn put_all_moved(
     stats: &TraceCounts,
 ) -> Result<(), AllocError> {
     if stats.moved.is_empty() {
-        return put(text, "no bytes moved\n");
+        return append(text, "no bytes moved\n");
     }
     let width = longest_name(system);
-    put(text, "bytes moved by client and service\n")?;
+    append(text, "bytes moved by client and service\n")?;
     for moved in stats.moved.as_slice() {
         put_moved(text, system, moved, width)?;
     }
@@ -93,10 +94,10 @@ fn put_wait(
     if wait.from == 0 {
         return Ok(());
     }
-    put(text, "  ")?;
+    append(text, "  ")?;
     put_actor(text, system, actor, width)?;
     put_right(text, wait.entries, 7)?;
-    put_words(
+    append_words(
         text,
         &[
             Word::Text("  "),
@@ -110,7 +111,7 @@ fn put_wait(
 
 fn put_waits(text: &mut Vec<u8>, system: &System, stats: &TraceCounts) -> Result<(), AllocError> {
     let width = longest_actor_name(system);
-    put(text, "longest wait of each actor, in entries\n")?;
+    append(text, "longest wait of each actor, in entries\n")?;
     for (actor, wait) in (0..system.actor_count()).zip(stats.longest.iter()) {
         put_wait(text, system, actor, wait, width)?;
     }
@@ -142,9 +143,9 @@ fn stateless_users(system: &System) -> u32 {
 fn put_live(text: &mut Vec<u8>, system: &System, stats: &TraceCounts) -> Result<(), AllocError> {
     let connections = most_connections(system);
     let messages = connections.saturating_add(stateless_users(system));
-    put(text, "most at a time, of those declared\n  connections ")?;
-    put(text, Buffer::new().format(stats.most_connections))?;
-    put_words(
+    append(text, "most at a time, of those declared\n  connections ")?;
+    append(text, Buffer::new().format(stats.most_connections))?;
+    append_words(
         text,
         &[
             Word::Text(" of "),
@@ -152,8 +153,8 @@ fn put_live(text: &mut Vec<u8>, system: &System, stats: &TraceCounts) -> Result<
             Word::Text("\n  messages    "),
         ],
     )?;
-    put(text, Buffer::new().format(stats.most_messages))?;
-    put_words(
+    append(text, Buffer::new().format(stats.most_messages))?;
+    append_words(
         text,
         &[Word::Text(" of "), Word::Number(messages), Word::Text("\n")],
     )
@@ -166,7 +167,7 @@ pub fn stats_text(
     stats: &TraceCounts,
 ) -> Result<Vec<u8>, AllocError> {
     let mut text = Vec::new(alloc);
-    put_words(
+    append_words(
         &mut text,
         &[
             Word::Number(stats.count),

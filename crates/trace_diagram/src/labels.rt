@@ -4,10 +4,11 @@ use crate::arrows::{Arrow, Meaning};
 use ffm_model::{
     ActorId, Call, Entry, Outcome, PSA_DOORBELL, PSA_ERROR_COMMUNICATION_FAILURE,
     PSA_ERROR_CONNECTION_BUSY, PSA_ERROR_CONNECTION_REFUSED, PSA_ERROR_PROGRAMMER_ERROR,
-    PSA_IPC_CALL, PSA_IPC_CONNECT, System, Trace, Verdict,
+    PSA_IPC_CALL, PSA_IPC_CONNECT, System, Trace,
 };
 use machine_check::Checked;
 use std::alloc::{AllocError, Global};
+use text_lines::verdict_word;
 use trace_words::service_name;
 
 fn signal_name(system: &System, source: u32) -> &str {
@@ -201,13 +202,6 @@ pub fn push_end(out: &mut String, trace: &Trace, judged: Checked) -> Result<(), 
     let count = trace.entries.len();
     match judged {
         Checked::IllegalAt(place) => write!(out, "illegal at {place}"),
-        Checked::Legal => {
-            let word = match trace.verdict {
-                Verdict::Quiet => "quiet",
-                Verdict::Stalled => "stalled",
-                Verdict::Full => "full",
-            };
-            write!(out, "{word} {count}")
-        }
+        Checked::Legal => write!(out, "{} {count}", verdict_word(trace.verdict)),
     }
 }

@@ -4,7 +4,8 @@ use crate::reasons::{Finding, IllegalEntry, Rule};
 use call_conditions::Condition;
 use ffm_model::{Call, Entry, Outcome, System, Verdict};
 use std::alloc::{AllocError, Global};
-use trace_words::{Word, actor_name, call_name, put, put_actor_word, put_entry, put_words};
+use text_lines::{Word, append, append_words, verdict_word};
+use trace_words::{actor_name, call_name, put_actor_word, put_entry};
 
 fn rule_words(rule: Rule) -> &'static str {
     match rule {
@@ -50,7 +51,7 @@ fn put_conditions(
     }
     let is_known = conditions.iter().any(|c| matches!(c.holds, Some(true)));
     let otherwise = if is_known { None } else { is_refused };
-    put_words(
+    append_words(
         text,
         &[
             Word::Text(call_name(call)),
@@ -58,7 +59,7 @@ fn put_conditions(
         ],
     )?;
     for condition in conditions {
-        put_words(
+        append_words(
             text,
             &[
                 Word::Text(mark(condition.holds.or(otherwise))),
@@ -76,7 +77,7 @@ fn put_actor_line(
     illegal: &IllegalEntry,
 ) -> Result<(), AllocError> {
     let actor = illegal.entry.actor.0;
-    put_words(
+    append_words(
         text,
         &[
             Word::Text("actor   "),
@@ -85,9 +86,9 @@ fn put_actor_line(
         ],
     )?;
     put_actor_word(text, system, actor)?;
-    put(text, "), before: ")?;
+    append(text, "), before: ")?;
     text.extend_from_slice(illegal.doing.as_slice())?;
-    put(text, "\n")
+    append(text, "\n")
 }
 
 // Whether the answer that is due shows a handle, which may be any fresh one.
@@ -102,10 +103,10 @@ fn put_due(
     outcome: Outcome,
     shows_handle: bool,
 ) -> Result<(), AllocError> {
-    put(text, "due     ")?;
+    append(text, "due     ")?;
     put_entry(text, system, &Entry { outcome, ..*entry })?;
     if shows_handle {
-        return put(text, "        with this handle or any other fresh one\n");
+        return append(text, "        with this handle or any other fresh one\n");
     }
     Ok(())
 }
@@ -115,7 +116,7 @@ fn put_illegal(
     system: &System,
     illegal: &IllegalEntry,
 ) -> Result<(), AllocError> {
-    put_words(
+    append_words(
         text,
         &[
             Word::Text("illegal "),
@@ -125,7 +126,7 @@ fn put_illegal(
     )?;
     put_entry(text, system, &illegal.entry)?;
     put_actor_line(text, system, illegal)?;
-    put_words(
+    append_words(
         text,
         &[
             Word::Text("rule    "),
@@ -153,21 +154,13 @@ fn put_illegal(
     }
 }
 
-fn verdict_word(verdict: Verdict) -> &'static str {
-    match verdict {
-        Verdict::Quiet => "quiet",
-        Verdict::Stalled => "stalled",
-        Verdict::Full => "full",
-    }
-}
-
 fn put_verdict(
     text: &mut Vec<u8>,
     place: u32,
     told: Verdict,
     due: Option<Verdict>,
 ) -> Result<(), AllocError> {
-    put_words(
+    append_words(
         text,
         &[
             Word::Text("illegal "),
@@ -178,8 +171,8 @@ fn put_verdict(
         ],
     )?;
     match due {
-        Some(verdict) => put_words(text, &[Word::Text(verdict_word(verdict)), Word::Text("\n")]),
-        None => put(text, "another entry: some actor can go on\n"),
+        Some(verdict) => append_words(text, &[Word::Text(verdict_word(verdict)), Word::Text("\n")]),
+        None => append(text, "another entry: some actor can go on\n"),
     }
 }
 
@@ -187,7 +180,7 @@ fn put_verdict(
 pub fn why_text(alloc: Global, system: &System, finding: &Finding) -> Result<Vec<u8>, AllocError> {
     let mut text = Vec::new(alloc);
     match finding {
-        Finding::Legal(count) => put_words(
+        Finding::Legal(count) => append_words(
             &mut text,
             &[Word::Text("legal "), Word::Number(*count), Word::Text("\n")],
         )?,

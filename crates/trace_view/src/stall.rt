@@ -4,9 +4,8 @@ use crate::state::{message_awaited, put_call};
 use ffm_model::{ActorPhase, PSA_DOORBELL, PendingMessage, Source, SourceFlags, System};
 use machine_calls::Objects;
 use std::alloc::{AllocError, Global};
-use trace_words::{
-    Word, actor_name, longest_actor_name, put, put_comma, put_left, put_words, service_at,
-};
+use text_lines::{Word, append, append_words};
+use trace_words::{actor_name, longest_actor_name, put_comma, put_left, service_at};
 
 // A set with one actor: a bit of a word. A system has at most 49.
 fn only(actor: u32) -> u64 {
@@ -103,11 +102,11 @@ fn put_set(text: &mut Vec<u8>, system: &System, set: u64) -> Result<(), AllocErr
         if has(set, actor) {
             put_comma(text, is_first)?;
             is_first = false;
-            put(text, actor_name(system, actor))?;
+            append(text, actor_name(system, actor))?;
         }
     }
     if is_first {
-        put(text, "nobody")
+        append(text, "nobody")
     } else {
         Ok(())
     }
@@ -120,9 +119,9 @@ fn put_signal(
     name: &str,
     set: u64,
 ) -> Result<(), AllocError> {
-    put(text, if *is_first { " " } else { ", or " })?;
+    append(text, if *is_first { " " } else { ", or " })?;
     *is_first = false;
-    put_words(text, &[Word::Text(name), Word::Text(" from ")])?;
+    append_words(text, &[Word::Text(name), Word::Text(" from ")])?;
     put_set(text, system, set)
 }
 
@@ -139,7 +138,7 @@ fn put_source(
     if flags.enabled {
         Ok(())
     } else {
-        put(text, " while it is disabled")
+        append(text, " while it is disabled")
     }
 }
 
@@ -152,7 +151,7 @@ fn put_waiting(
     mask: u32,
 ) -> Result<(), AllocError> {
     let mut is_first = true;
-    put(text, "waits for")?;
+    append(text, "waits for")?;
     for (place, service) in (0..u32::MAX).zip(system.services.as_slice().iter()) {
         if service.owner == partition && service.signal & mask != 0 {
             let set = users(system, objects, place);
@@ -190,25 +189,25 @@ fn put_blocked(
     objects: &Objects,
     message: &PendingMessage,
 ) -> Result<(), AllocError> {
-    put(text, "blocked in ")?;
+    append(text, "blocked in ")?;
     put_call(text, system, message)?;
     let partition = match service_at(system, message.service) {
         Some(service) => service.owner,
         None => return Ok(()),
     };
-    put_words(
+    append_words(
         text,
         &[Word::Text("; "), Word::Text(actor_name(system, partition))],
     )?;
     match message.handle {
-        Some(handle) => put_words(
+        Some(handle) => append_words(
             text,
             &[Word::Text(" holds message "), Word::Signed(handle.0)],
         )?,
-        None => put(text, " has to take the message")?,
+        None => append(text, " has to take the message")?,
     }
-    put(text, " and ")?;
-    put(text, hindrance(objects, partition))
+    append(text, " and ")?;
+    append(text, hindrance(objects, partition))
 }
 
 fn put_actor_line(
@@ -222,15 +221,15 @@ fn put_actor_line(
     if !matches!(phase, ActorPhase::Blocked | ActorPhase::Waiting { .. }) {
         return Ok(());
     }
-    put(text, "  ")?;
+    append(text, "  ")?;
     put_left(text, Word::Text(actor_name(system, actor)), width)?;
-    put(text, "  ")?;
+    append(text, "  ")?;
     if let ActorPhase::Waiting { mask } = phase {
         put_waiting(text, system, objects, actor, mask)?;
     } else if let Some(message) = message_awaited(objects, actor) {
         put_blocked(text, system, objects, &message)?;
     }
-    put(text, "\n")
+    append(text, "\n")
 }
 
 fn edge(edges: &[u64], actor: u32) -> u64 {
@@ -294,7 +293,7 @@ fn put_circle(
     if nearest(ranks.as_slice(), edge(edges, start)).is_none() {
         return Ok(false);
     }
-    put_words(
+    append_words(
         text,
         &[
             Word::Text("circle: "),
@@ -304,7 +303,7 @@ fn put_circle(
     for _ in 0..edges.len() {
         match nearest(ranks.as_slice(), edge(edges, actor)) {
             Some(next) => {
-                put_words(
+                append_words(
                     text,
                     &[Word::Text(" -> "), Word::Text(actor_name(system, next))],
                 )?;
@@ -316,7 +315,7 @@ fn put_circle(
             break;
         }
     }
-    put(text, "\n")?;
+    append(text, "\n")?;
     Ok(true)
 }
 
@@ -341,7 +340,7 @@ fn put_first_circle(
             return Ok(());
         }
     }
-    put(
+    append(
         text,
         "no circle: they wait for actors that are gone or for signals that nobody gives\n",
     )
@@ -366,7 +365,7 @@ pub fn put_stall(
         return Ok(());
     }
     let width = longest_actor_name(system);
-    put(text, "stalled: no actor can go on\n")?;
+    append(text, "stalled: no actor can go on\n")?;
     for actor in 0..system.actor_count() {
         put_actor_line(text, system, objects, actor, width)?;
     }

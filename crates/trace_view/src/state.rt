@@ -8,10 +8,10 @@ use ffm_model::{
 };
 use machine_calls::Objects;
 use std::alloc::{AllocError, Global};
+use text_lines::{Word, append, append_words};
 use trace_words::{
-    Word, actor_name, call_of_kind, longest_actor_name, longest_name, pad, put, put_actor,
-    put_comma, put_left, put_outcome, put_right, put_service, put_signals, put_words, service_at,
-    service_name,
+    actor_name, call_of_kind, longest_actor_name, longest_name, pad, put_actor, put_comma,
+    put_left, put_outcome, put_right, put_service, put_signals, service_at, service_name,
 };
 
 /// The message for whose answer a blocked actor waits. It has no other.
@@ -26,8 +26,8 @@ pub fn put_call(
     system: &System,
     message: &PendingMessage,
 ) -> Result<(), AllocError> {
-    put(text, call_of_kind(message.kind))?;
-    put(text, " at ")?;
+    append(text, call_of_kind(message.kind))?;
+    append(text, " at ")?;
     put_service(text, system, message.service)
 }
 
@@ -37,10 +37,10 @@ fn put_blocked(
     objects: &Objects,
     actor: u32,
 ) -> Result<(), AllocError> {
-    put(text, "blocked")?;
+    append(text, "blocked")?;
     match message_awaited(objects, actor) {
         Some(message) => {
-            put(text, " in ")?;
+            append(text, " in ")?;
             put_call(text, system, &message)
         }
         None => Ok(()),
@@ -54,13 +54,13 @@ fn put_waiting(
     actor: u32,
     mask: u32,
 ) -> Result<(), AllocError> {
-    put(text, "waits for ")?;
+    append(text, "waits for ")?;
     put_signals(text, system, actor, mask)?;
     let came = objects.signals(system, actor) & mask;
     if came == 0 {
         return Ok(());
     }
-    put(text, "; asserted: ")?;
+    append(text, "; asserted: ")?;
     put_signals(text, system, actor, came)
 }
 
@@ -70,12 +70,12 @@ fn put_connected(
     objects: &Objects,
     serial: u32,
 ) -> Result<(), AllocError> {
-    put(text, "connected")?;
+    append(text, "connected")?;
     match objects.connection_by_serial(serial) {
         Some(connection) => {
-            put(text, " to ")?;
+            append(text, " to ")?;
             put_service(text, system, connection.service)?;
-            put(text, ", returns with a handle")
+            append(text, ", returns with a handle")
         }
         None => Ok(()),
     }
@@ -89,36 +89,36 @@ pub fn put_phase(
     actor: u32,
 ) -> Result<(), AllocError> {
     match objects.phase(actor) {
-        ActorPhase::Running => put(text, "runs"),
+        ActorPhase::Running => append(text, "runs"),
         ActorPhase::Blocked => put_blocked(text, system, objects, actor),
         ActorPhase::Waiting { mask } => put_waiting(text, system, objects, actor, mask),
         ActorPhase::Ready(outcome) => {
-            put(text, "returns with ")?;
+            append(text, "returns with ")?;
             put_outcome(text, system, outcome)
         }
         ActorPhase::Connected(serial) => put_connected(text, system, objects, serial),
-        ActorPhase::Ended => put(text, "has ended"),
-        ActorPhase::Panicked => put(text, "has panicked"),
+        ActorPhase::Ended => append(text, "has ended"),
+        ActorPhase::Panicked => append(text, "has panicked"),
     }
 }
 
 fn put_last(text: &mut Vec<u8>, last: &[u32], actor: u32) -> Result<(), AllocError> {
     match last.get(actor as usize) {
         Some(place) if *place > 0 => put_right(text, *place, 6),
-        _ => put(text, "     -"),
+        _ => append(text, "     -"),
     }
 }
 
 fn put_actors(text: &mut Vec<u8>, system: &System, behind: &StateBehind) -> Result<(), AllocError> {
     let width = longest_actor_name(system);
-    put(text, "actors, each with the place of its last entry\n")?;
+    append(text, "actors, each with the place of its last entry\n")?;
     for actor in 0..system.actor_count() {
-        put(text, "  ")?;
+        append(text, "  ")?;
         put_actor(text, system, actor, width)?;
         put_last(text, behind.last.as_slice(), actor)?;
-        put(text, "  ")?;
+        append(text, "  ")?;
         put_phase(text, system, &behind.checker.machine.objects, actor)?;
-        put(text, "\n")?;
+        append(text, "\n")?;
     }
     Ok(())
 }
@@ -143,7 +143,7 @@ fn put_way(
     width: usize,
 ) -> Result<(), AllocError> {
     put_left(text, Word::Text(actor_name(system, client)), width)?;
-    put(text, " -> ")?;
+    append(text, " -> ")?;
     put_left(text, Word::Text(service_name(system, service)), width)
 }
 
@@ -153,16 +153,16 @@ fn put_connection(
     connection: &OpenConnection,
     width: usize,
 ) -> Result<(), AllocError> {
-    put(text, "  ")?;
+    append(text, "  ")?;
     put_way(text, system, connection.client.0, connection.service, width)?;
-    put(text, "  ")?;
+    append(text, "  ")?;
     put_left(text, Word::Text(phase_name(connection.phase)), 7)?;
     match connection.handle {
-        Some(handle) => put_words(text, &[Word::Text("  handle "), Word::Signed(handle.0)])?,
-        None => put(text, "  no handle yet")?,
+        Some(handle) => append_words(text, &[Word::Text("  handle "), Word::Signed(handle.0)])?,
+        None => append(text, "  no handle yet")?,
     }
     if connection.rhandle != 0 {
-        put_words(
+        append_words(
             text,
             &[
                 Word::Text("  rhandle "),
@@ -170,7 +170,7 @@ fn put_connection(
             ],
         )?;
     }
-    put(text, "\n")
+    append(text, "\n")
 }
 
 fn put_connections(
@@ -180,9 +180,9 @@ fn put_connections(
     width: usize,
 ) -> Result<(), AllocError> {
     if objects.connections.is_empty() {
-        return put(text, "no connection\n");
+        return append(text, "no connection\n");
     }
-    put(text, "connections\n")?;
+    append(text, "connections\n")?;
     for connection in objects.connections.as_slice() {
         put_connection(text, system, connection, width)?;
     }
@@ -193,7 +193,7 @@ fn put_connections(
 fn put_moved(text: &mut Vec<u8>, name: &str, spans: &[Span]) -> Result<(), AllocError> {
     for (index, span) in (0..PSA_MAX_IOVEC).zip(spans.iter()) {
         if span.len > 0 {
-            put_words(
+            append_words(
                 text,
                 &[
                     Word::Text("  "),
@@ -217,7 +217,7 @@ fn put_holder(
     message: &PendingMessage,
 ) -> Result<(), AllocError> {
     match (message.handle, service_at(system, message.service)) {
-        (Some(handle), Some(service)) => put_words(
+        (Some(handle), Some(service)) => append_words(
             text,
             &[
                 Word::Text("held by "),
@@ -226,7 +226,7 @@ fn put_holder(
                 Word::Signed(handle.0),
             ],
         ),
-        _ => put(text, "queued"),
+        _ => append(text, "queued"),
     }
 }
 
@@ -236,17 +236,17 @@ fn put_message(
     message: &PendingMessage,
     width: usize,
 ) -> Result<(), AllocError> {
-    put(text, "  ")?;
+    append(text, "  ")?;
     put_way(text, system, message.client.0, message.service, width)?;
-    put(text, "  ")?;
+    append(text, "  ")?;
     put_left(text, Word::Text(call_of_kind(message.kind)), 12)?;
     put_holder(text, system, message)?;
     if message.kind >= PSA_IPC_CALL {
-        put_words(text, &[Word::Text("  type "), Word::Signed(message.kind)])?;
+        append_words(text, &[Word::Text("  type "), Word::Signed(message.kind)])?;
         put_moved(text, "in", &message.vectors.input)?;
         put_moved(text, "out", &message.vectors.output)?;
     }
-    put(text, "\n")
+    append(text, "\n")
 }
 
 fn put_messages(
@@ -256,9 +256,9 @@ fn put_messages(
     width: usize,
 ) -> Result<(), AllocError> {
     if objects.messages.is_empty() {
-        return put(text, "no message\n");
+        return append(text, "no message\n");
     }
-    put(
+    append(
         text,
         "messages, oldest first, with the bytes moved of each vector\n",
     )?;
@@ -273,7 +273,7 @@ fn put_doorbells(text: &mut Vec<u8>, system: &System, objects: &Objects) -> Resu
     let partitions = system.counts().partitions;
     for (partition, is_asserted) in (0..partitions).zip(objects.doorbells.iter()) {
         if *is_asserted {
-            put(
+            append(
                 text,
                 if is_first {
                     "doorbells asserted: "
@@ -281,11 +281,11 @@ fn put_doorbells(text: &mut Vec<u8>, system: &System, objects: &Objects) -> Resu
                     ", "
                 },
             )?;
-            put(text, actor_name(system, partition))?;
+            append(text, actor_name(system, partition))?;
             is_first = false;
         }
     }
-    put(
+    append(
         text,
         if is_first {
             "no doorbell asserted\n"
@@ -304,7 +304,7 @@ fn put_flag(
     if is_set {
         put_comma(text, *is_first)?;
         *is_first = false;
-        put(text, name)?;
+        append(text, name)?;
     }
     Ok(())
 }
@@ -317,18 +317,18 @@ fn put_source(
     width: usize,
 ) -> Result<(), AllocError> {
     let start = text.len();
-    put(text, "  ")?;
-    put(text, source.signal_name.as_str())?;
-    put(text, " of ")?;
-    put(text, actor_name(system, source.owner))?;
+    append(text, "  ")?;
+    append(text, source.signal_name.as_str())?;
+    append(text, " of ")?;
+    append(text, actor_name(system, source.owner))?;
     pad(text, start, width)?;
-    put(text, "  ")?;
+    append(text, "  ")?;
     let mut is_first = true;
     let enabling = if flags.enabled { "enabled" } else { "disabled" };
     put_flag(text, &mut is_first, true, enabling)?;
     put_flag(text, &mut is_first, flags.pending, "pending")?;
     put_flag(text, &mut is_first, flags.asserted, "asserted")?;
-    put(text, "\n")
+    append(text, "\n")
 }
 
 // How many bytes the longest front of an interrupt's line has.
@@ -346,7 +346,7 @@ fn put_sources(text: &mut Vec<u8>, system: &System, objects: &Objects) -> Result
     if system.sources.is_empty() {
         return Ok(());
     }
-    put(text, "interrupts\n")?;
+    append(text, "interrupts\n")?;
     let width = longest_source(system);
     let flags = objects.sources.as_slice();
     for (source, flags) in system.sources.as_slice().iter().zip(flags.iter()) {
@@ -357,9 +357,9 @@ fn put_sources(text: &mut Vec<u8>, system: &System, objects: &Objects) -> Result
 
 fn put_place(text: &mut Vec<u8>, behind: &StateBehind) -> Result<(), AllocError> {
     if behind.checker.count == 0 {
-        put(text, "state at the opening, of ")?;
+        append(text, "state at the opening, of ")?;
     } else {
-        put_words(
+        append_words(
             text,
             &[
                 Word::Text("state after entry "),
@@ -368,7 +368,7 @@ fn put_place(text: &mut Vec<u8>, behind: &StateBehind) -> Result<(), AllocError>
             ],
         )?;
     }
-    put_words(text, &[Word::Number(behind.total), Word::Text("\n")])
+    append_words(text, &[Word::Number(behind.total), Word::Text("\n")])
 }
 
 /// The text of a state: its actors, connections, messages, doorbells and interrupts, and at a stall who waits

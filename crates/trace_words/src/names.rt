@@ -1,8 +1,9 @@
 //! The names of a system's actors, services and signals.
 
-use crate::text::{Word, pad, put, put_comma, put_words};
+use crate::columns::{pad, put_comma};
 use ffm_model::{PSA_DOORBELL, PSA_IPC_CONNECT, PSA_IPC_DISCONNECT, Service, Source, System};
 use std::alloc::AllocError;
+use text_lines::{Word, append, append_words};
 
 /// The name of an actor: a partition's, a client's, or `device`.
 pub fn actor_name(system: &System, actor: u32) -> &str {
@@ -43,12 +44,12 @@ pub fn longest_name(system: &System) -> usize {
 pub fn put_actor_word(text: &mut Vec<u8>, system: &System, actor: u32) -> Result<(), AllocError> {
     let counts = system.counts();
     if actor < counts.partitions {
-        put_words(text, &[Word::Text("p"), Word::Number(actor + 1)])
+        append_words(text, &[Word::Text("p"), Word::Number(actor + 1)])
     } else if actor - counts.partitions < counts.clients {
         let place = actor - counts.partitions + 1;
-        put_words(text, &[Word::Text("n"), Word::Number(place)])
+        append_words(text, &[Word::Text("n"), Word::Number(place)])
     } else {
-        put(text, "dev")
+        append(text, "dev")
     }
 }
 
@@ -61,9 +62,9 @@ pub fn put_actor(
     width: usize,
 ) -> Result<(), AllocError> {
     let start = text.len();
-    put(text, actor_name(system, actor))?;
+    append(text, actor_name(system, actor))?;
     pad(text, start, width)?;
-    put(text, "  ")?;
+    append(text, "  ")?;
     let start = text.len();
     put_actor_word(text, system, actor)?;
     pad(text, start, 3)
@@ -85,14 +86,14 @@ pub fn service_name(system: &System, service: u32) -> &str {
 /// Appends a service's name, and its partition's where that is another.
 pub fn put_service(text: &mut Vec<u8>, system: &System, service: u32) -> Result<(), AllocError> {
     let name = service_name(system, service);
-    put(text, name)?;
+    append(text, name)?;
     match service_at(system, service) {
         Some(found) => {
             let partition = actor_name(system, found.owner);
             if partition == name {
                 return Ok(());
             }
-            put_words(text, &[Word::Text(" of "), Word::Text(partition)])
+            append_words(text, &[Word::Text(" of "), Word::Text(partition)])
         }
         None => Ok(()),
     }
@@ -118,7 +119,7 @@ fn is_source_in(source: &Source, partition: u32, mask: u32) -> bool {
 fn put_name(text: &mut Vec<u8>, is_first: &mut bool, name: &str) -> Result<(), AllocError> {
     put_comma(text, *is_first)?;
     *is_first = false;
-    put(text, name)
+    append(text, name)
 }
 
 /// Appends the names of a partition's signals in a word: its services', its interrupts', and DOORBELL.
@@ -143,7 +144,7 @@ pub fn put_signals(
         put_name(text, &mut is_first, "DOORBELL")?;
     }
     if is_first {
-        put(text, "no signal")
+        append(text, "no signal")
     } else {
         Ok(())
     }

@@ -1,8 +1,8 @@
 //! Entries and outcomes as a trace has them.
 
-use crate::text::put;
 use ffm_model::{ActorId, Call, Entry, Outcome, System};
 use std::alloc::AllocError;
+use text_lines::append;
 use trace_print::print;
 
 /// Appends the line of an entry, with its line feed, where the system has its actor.
@@ -11,7 +11,7 @@ pub fn put_entry(text: &mut Vec<u8>, system: &System, entry: &Entry) -> Result<(
     if entry.actor.0 < system.actor_count() {
         text.extend_from_slice(print(system.counts(), entry).as_slice())
     } else {
-        put(text, "\n")
+        append(text, "\n")
     }
 }
 

@@ -1,8 +1,8 @@
 use Rattle.std.proofs.Common.{◌≡◌, ◌++◌, drop, map}
 use Rattle.std.specs.List.{flat_map}
 use Rattle.ffm_model.specs.TraceText.{spaced}
-use Rattle.system_listing.specs.Words.{word_text}
-use Rattle.system_listing.proofs.words.append_words.Given as goal
+use Rattle.text_lines.specs.Words.{word_text}
+use Rattle.system_listing.proofs.words.append_spaced.Given as goal
 
 -- the words so far, and then the others
 abbrev pub invariant-loop-word : goal.invariant-loop-word
