@@ -11,8 +11,8 @@ use Rattle.ffm_model.specs.Counts.{ActorCounts}
 use Rattle.ffm_model.specs.Restarts.{FinishedRun}
 use Rattle.ffm_model.specs.TraceText.{IsActorOf}
 use Rattle.ffm_model.proofs.TestLemmas.{holds_at}
-use Rattle.outside_io.specs.Sink.{SinkSeen, Took, Stopped}
-use Rattle.outside_io.proofs.SinkSteps.{stopped_first, stopped_then, took_then}
+use Rattle.outside_io.specs.Sink.{SinkSeen, Took, TookPart}
+use Rattle.outside_io.proofs.SinkSteps.{took_part_first, took_part_then, took_then}
 use Rattle.scenario_runs.specs.Restarting.{finished, fits_counts}
 use Rattle.ffm_top.specs.Runs.{run_text, runs_text}
 
@@ -44,7 +44,7 @@ run_more counts ts i d a b c lt p q =
 
 -- a text that ends inside a run's
 pub run_cut : (counts : ActorCounts) (ts : List Trace) (i : ℕ) (d : Trace) (a b c : SinkSeen) → i < length ts
-    → Took a b (runs_text counts 0 (map finished (take i ts))) → Stopped b c (run_text counts i (finished (get_or ts i d))) → Stopped a c (runs_text counts 0 (map finished ts))
+    → Took a b (runs_text counts 0 (map finished (take i ts))) → TookPart b c (run_text counts i (finished (get_or ts i d))) → TookPart a c (runs_text counts 0 (map finished ts))
 run_cut counts ts i d a b c lt p q =
     let x : FinishedRun = finished (get_or ts i d) in
     let front : List FinishedRun = map finished (take i ts) in
@@ -57,7 +57,7 @@ run_cut counts ts i d a b c lt p q =
     ∙ ap (λ (xs : List Trace). runs_text counts 0 (front ++ map finished xs)) (sym (drop-cons ts i d lt))
     ∙ ap (runs_text counts 0) (sym (map-append finished (take i ts) (drop i ts)))
     ∙ ap (λ (xs : List Trace). runs_text counts 0 (map finished xs)) (take-append-drop i ts) in
-    subst (λ (t : List ℕ). Stopped a c t) whole (stopped_then a b c (runs_text counts 0 front) _ p (stopped_first b c (run_text counts i x) _ q))
+    subst (λ (t : List ℕ). TookPart a c t) whole (took_part_then a b c (runs_text counts 0 front) _ p (took_part_first b c (run_text counts i x) _ q))
 
 -- ---- entries
 

@@ -7,23 +7,27 @@ use Rattle.command_words.specs.Words.{Order}
 use Rattle.outside_io.specs.Files.{Asks, FilesSeen, failed, no_memory, stopped}
 use Rattle.work_orders.specs.View.{IsWork, threads_of, work}
 use Rattle.work_orders.specs.Work.{work_of}
+use Rattle.work_orders.specs.declared.unanswered.Unanswered.{Unanswered}
+use Rattle.work_orders.specs.declared.unanswered.Unanswered.TheVariants as unanswered
 use Rattle.ffm_top.specs.Due.{IsValidWork, LeftBy, WorkDue}
 use Rattle.text_lines.specs.Refusals.{refusal_line}
 use Rattle.text_lines.specs.Usage.{usage_line}
 use Rattle.ffm_top.specs.declared.asked.Asked.{Asked}
 use Rattle.ffm_top.specs.declared.asked.Asked.TheVariants as asked
-use Rattle.ffm_top.specs.declared.asked.Halt.{Halt}
-use Rattle.ffm_top.specs.declared.asked.Halt.TheVariants as halt
 
 -- words that are no command ask for no file; those of an order ask for its work
-abbrev pub AskedBy : Option Order → FilesSeen → FilesSeen → Result Asked Halt → Type 0
+abbrev pub AskedBy : Option Order → FilesSeen → FilesSeen → Result Asked Unanswered → Type 0
 AskedBy None before after (Ok asked.Usage) = after ≡ before
 AskedBy None before after _ = ⊥
 AskedBy (Some o) before after (Ok asked.Usage) = ⊥
-AskedBy (Some o) before after (Ok (asked.Refused r)) = Asks before after (Err (stopped (refused r))) (λ of. work_of of o)
-AskedBy (Some o) before after (Ok (asked.Work w)) = Asks before after (Ok (work w)) (λ of. work_of of o)
-AskedBy (Some o) before after (Err halt.Files) = Asks before after (Err failed) (λ of. work_of of o)
-AskedBy (Some o) before after (Err halt.Memory) = Asks before after (Err no_memory) (λ of. work_of of o)
+AskedBy (Some o) before after (Ok (asked.Refused r)) =
+    Asks before after (Err (stopped (refused r))) (λ of. work_of of o)
+AskedBy (Some o) before after (Ok (asked.Work w)) =
+    Asks before after (Ok (work w)) (λ of. work_of of o)
+AskedBy (Some o) before after (Err unanswered.File) =
+    Asks before after (Err failed) (λ of. work_of of o)
+AskedBy (Some o) before after (Err unanswered.Memory) =
+    Asks before after (Err no_memory) (λ of. work_of of o)
 
 abbrev pub IsAsked : Asked → Type 0
 IsAsked (asked.Work w) = IsWork w

@@ -8,7 +8,7 @@ use command_words::{Command, command_of, confirmed};
 use ffm_model::{PartsError, Refusal};
 use outside_io::Files;
 use std::alloc::{AllocError, Global};
-use work_orders::{Work, work_of};
+use work_orders::{Unanswered, Work, work_of};
 
 /// What is to be done.
 #[derive(Drop)]
@@ -20,25 +20,22 @@ pub enum Asked {
     Work(Work),
 }
 
-/// Why it isn't known what is to be done.
-#[derive(Clone, Copy, Debug, PartialEq, Eq)]
-pub enum Halt {
-    /// A file that is asked for can't be read.
-    Files,
-    Memory,
-}
-
 // What a command asks for.
-fn asked_by<F: Files>(alloc: Global, command: Command<'_>, files: &mut F) -> Result<Asked, Halt>
-    ensures asks { AskedBy (Some (order command.entry)) (F.seen files.old) (F.seen files.new) result }
+fn asked_by<F: Files>(
+    alloc: Global,
+    command: Command<'_>,
+    files: &mut F,
+) -> Result<Asked, Unanswered>
+    ensures asks { AskedBy (Some (order command.entry))
+        (F.seen files.old) (F.seen files.new) result }
     ensures kept { IfOk result IsAsked }
     ensures threads { IfOk result (TakesThreads (asks_threads (Some (order command.entry)))) }
 {
     match work_of(alloc, command, files) {
         Ok(work) => Ok(Asked::Work(work)),
         Err(PartsError::Refused(refusal)) => Ok(Asked::Refused(refusal)),
-        Err(PartsError::ReadFault) => Err(Halt::Files),
-        Err(PartsError::Memory) => Err(Halt::Memory),
+        Err(PartsError::ReadFault) => Err(Unanswered::File),
+        Err(PartsError::Memory) => Err(Unanswered::Memory),
     }
 }
 
@@ -47,18 +44,24 @@ fn asked_by<F: Files>(alloc: Global, command: Command<'_>, files: &mut F) -> Res
 ///
 /// # Errors
 ///
-/// `Files` only where a read failed in this call, of a file that is asked for. `Memory` where no
+/// `File` only where a read failed in this call, of a file that is asked for. `Memory` where no
 /// memory is found.
-pub fn asked_of<F: Files>(alloc: Global, words: &Vec<String>, files: &mut F) -> Result<Asked, Halt>
-    ensures asks { AskedBy (order_of (map string_bytes words.now.items)) (F.seen files.old) (F.seen files.new) result }
+pub fn asked_of<F: Files>(
+    alloc: Global,
+    words: &Vec<String>,
+    files: &mut F,
+) -> Result<Asked, Unanswered>
+    ensures asks { AskedBy (order_of (map string_bytes words.now.items))
+        (F.seen files.old) (F.seen files.new) result }
     ensures kept { IfOk result IsAsked }
-    ensures threads { IfOk result (TakesThreads (asks_threads (order_of (map string_bytes words.now.items)))) }
+    ensures threads { IfOk result
+        (TakesThreads (asks_threads (order_of (map string_bytes words.now.items)))) }
 {
     match command_of(words) {
         None => Ok(Asked::Usage),
         Some(command) => match confirmed(alloc, words.as_slice(), command) {
             Ok(command) => asked_by(alloc, command, files),
-            Err(AllocError) => Err(Halt::Memory),
+            Err(AllocError) => Err(Unanswered::Memory),
         },
     }
 }

@@ -3,7 +3,7 @@
 ghost use Rattle.std.specs.Process.{exit_status};
 ghost use Rattle.ffm_top.specs.Answers.{EndsWith};
 
-use crate::top::{NO_MEMORY, ffm};
+use crate::top::ffm;
 use ffm_model::{Gate, Memory};
 use outside_io::{NamesFailed, Sink, Words, given_words};
 use std::alloc::Global;
@@ -11,7 +11,7 @@ use std::io::Eprint;
 use std::process::ExitCode;
 use std::sync::Wait;
 use std::thread::Threads;
-use text_lines::say_problem;
+use text_lines::{NO_MEMORY, say_problem};
 
 // The status to end with: the answer to the words, or 9 where no memory was found for them.
 fn status_of<R: Threads + Wait + Sync, W: Words, F: NamesFailed, S: Sink, G: Gate + Sync>(
@@ -41,7 +41,8 @@ pub fn program<
     G: Gate + Sync,
 >(rt: &R, alloc: Global, words: &W, files: &mut F, out: &mut S, gate: &G) -> ExitCode
     ensures { EndsWith (W.told words.now)
-        (F.seen files.old) (F.seen files.new) (S.seen out.old) (S.seen out.new) (exit_status result) }
+        (F.seen files.old) (F.seen files.new) (S.seen out.old) (S.seen out.new)
+        (exit_status result) }
 {
     let status = status_of(rt, alloc, words, files, out, gate);
     say_problem(rt, "ffm", status, files.last_failed());

@@ -7,7 +7,7 @@ ghost use Rattle.ffm_top.specs.Answers.{Answered};
 ghost use Rattle.ffm_top.specs.Threads.{IsThreadedRun};
 ghost use Rattle.command_words.specs.Words.{asks_threads, order_of};
 
-use crate::asked::{Halt, asked_of};
+use crate::asked::asked_of;
 use crate::perform::perform;
 use crate::report::write_report;
 use crate::run::{InThreads, ThreadedRuns};
@@ -17,15 +17,8 @@ use scenario_runs::{EveryStart, Runs, Starts, run_in_threads};
 use std::alloc::Global;
 use std::sync::Wait;
 use std::thread::Threads;
-use work_orders::RunWork;
-
-// The statuses where there is nothing to write, or it can't be written.
-const UNREAD: u8 = 7;
-
-const UNWRITTEN: u8 = 8;
-
-/// The status where no memory was found.
-pub const NO_MEMORY: u8 = 9;
+use text_lines::{NO_MEMORY, UNREAD, UNWRITTEN};
+use work_orders::{RunWork, Unanswered};
 
 /// Does what the words ask for over these files, writes the text that is due, and answers the
 /// status to end with. A run with threads is left to `threads`, and nothing else is asked of it.
@@ -50,7 +43,8 @@ pub fn ffm_by<F: Files, S: Sink, T: ThreadedRuns + Drop>(
     out: &mut S,
     threads: T,
 ) -> u8
-    requires { asks_threads (order_of (map string_bytes words.now.items)) ≡ true → T.may_run threads }
+    requires { asks_threads (order_of (map string_bytes words.now.items)) ≡ true →
+        T.may_run threads }
     ensures { Answered (map string_bytes words.now.items) (T.ended threads)
         (F.seen files.old) (F.seen files.new) (S.seen out.old) (S.seen out.new) result }
 {
@@ -62,8 +56,8 @@ pub fn ffm_by<F: Files, S: Sink, T: ThreadedRuns + Drop>(
             },
             Err(Memory) => NO_MEMORY,
         },
-        Err(Halt::Files) => UNREAD,
-        Err(Halt::Memory) => NO_MEMORY,
+        Err(Unanswered::File) => UNREAD,
+        Err(Unanswered::Memory) => NO_MEMORY,
     }
 }
 

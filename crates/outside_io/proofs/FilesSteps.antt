@@ -9,7 +9,7 @@ use Rattle.ffm_model.specs.declared.place.ReadError.TheVariants as read_error
 use Rattle.ffm_model.specs.Reading.{Contents, Reading, Stop, ◌>>=◌, go_on, asks_nothing, file_at, refused_at, within_limit, Reads}
 use Rattle.outside_io.specs.declared.files.FileError.{FileError}
 use Rattle.outside_io.specs.declared.files.FileError.TheVariants as file_error
-use Rattle.outside_io.specs.Files.{FilesSeen, ReadBetween, ReadsFile, ReadsOnce, ReadsWhole, FaultsBy, NamesFailed, Halt, stopped, failed, no_memory, ReadsFront, Answers, Counts, MayHold, Asks, read_at, seen_as}
+use Rattle.outside_io.specs.Files.{FilesSeen, ReadBetween, ReadsFile, ReadsOnce, ReadsWhole, FaultsBy, FailedName, NoValue, stopped, failed, no_memory, ReadsFront, Answers, Counts, MayHold, Asks, read_at, seen_as}
 
 -- ---- names that were read
 
@@ -41,19 +41,19 @@ perhaps_read a b name (inl none) = record { front = []; rest = name ∷ []; whol
 perhaps_read a b name (inr read) = record { front = name ∷ []; rest = []; whole = refl; read = read }
 
 one_answer : {A : Type 0} (place : Place) (a b : FilesSeen) (r : Result (Vec ℕ A) FileError) (limit : ℕ) (name : List ℕ) (content : Option (List ℕ)) → IfOk r (λ bytes. length bytes.items ≤ limit) → ReadsWhole limit content r
-    → ReadsOnce a.reads b.reads r name → NamesFailed a.last_failed b.last_failed r name → Answers a b (read_at place r) (record { names = name ∷ []; gives = within_limit place limit content })
+    → ReadsOnce a.reads b.reads r name → FailedName a.last_failed b.last_failed r name → Answers a b (read_at place r) (record { names = name ∷ []; gives = within_limit place limit content })
 one_answer place a b (Ok bytes) limit name content short p q l = (q, fits place limit content bytes.items p short)
 one_answer place a b (Err file_error.TooLong) limit name content short p q l = (q, is_over place limit content p)
 one_answer place a b (Err file_error.Failed) limit name content short p q l = record { front = []; name = name; rest = []; whole = refl; read = q; last = l }
 one_answer place a b (Err file_error.Memory) limit name content short p q l = perhaps_read a b name q
 
 one_told : {A : Type 0} (place : Place) (a b : FilesSeen) (r : Result (Vec ℕ A) FileError) (limit : ℕ) (name : List ℕ) (h : Option Contents) (of : Contents) → MayHold h of (name ∷ []) → IfSome h (λ at. ReadsWhole limit (at name) r)
-    → IfOk r (λ bytes. length bytes.items ≤ limit) → ReadsOnce a.reads b.reads r name → NamesFailed a.last_failed b.last_failed r name → Answers a b (read_at place r) (file_at of place limit name)
+    → IfOk r (λ bytes. length bytes.items ≤ limit) → ReadsOnce a.reads b.reads r name → FailedName a.last_failed b.last_failed r name → Answers a b (read_at place r) (file_at of place limit name)
 one_told place a b r limit name h of (inl told) p short q l =
     one_answer place a b r limit name (of name) short (subst (λ (o : Option Contents). IfSome o (λ at. ReadsWhole limit (at name) r)) told p) q l
 one_told place a b r limit name h of (inr none) p short q l = absurd cc
 
-one_counted : {A : Type 0} (place : Place) (a b : FilesSeen) (r : Result (Vec ℕ A) FileError) (name : List ℕ) → FaultsBy a.faults b.faults r → NamesFailed a.last_failed b.last_failed r name → Counts a b (read_at place r)
+one_counted : {A : Type 0} (place : Place) (a b : FilesSeen) (r : Result (Vec ℕ A) FileError) (name : List ℕ) → FaultsBy a.faults b.faults r → FailedName a.last_failed b.last_failed r name → Counts a b (read_at place r)
 one_counted place a b (Ok bytes) name p q = (p, q)
 one_counted place a b (Err file_error.TooLong) name p q = (p, q)
 one_counted place a b (Err file_error.Failed) name p q = p
@@ -89,7 +89,7 @@ may_second h m of first f y is same (inl told) = inl (same ∙ told)
 may_second h m of first f y is same (inr none) = inr (go_behind first.names first.gives f y is none)
 
 -- the answer after names that were read
-later : {Z : Type 0} (a b c : FilesSeen) (r : Result Z Halt) (xs : List (List ℕ)) (asked : Reading Z) → ReadBetween a.reads b.reads xs → b.last_failed ≡ a.last_failed → Answers b c r asked
+later : {Z : Type 0} (a b c : FilesSeen) (r : Result Z NoValue) (xs : List (List ℕ)) (asked : Reading Z) → ReadBetween a.reads b.reads xs → b.last_failed ≡ a.last_failed → Answers b c r asked
     → Answers a c r (record { names = xs ++ asked.names; gives = asked.gives })
 later a b c (Ok x) xs asked p same (q, gives) = (read_then a.reads b.reads c.reads xs asked.names p q, gives)
 later a b c (Err (stopped s)) xs asked p same (q, gives) = (read_then a.reads b.reads c.reads xs asked.names p q, gives)
@@ -109,24 +109,24 @@ later a b c (Err no_memory) xs asked p same q = record {
 }
 
 -- after a first step that gave y
-after_first : {Y Z : Type 0} (a b c : FilesSeen) (r : Result Z Halt) (first : Reading Y) (f : Y → Reading Z) (y : Y) → ReadBetween a.reads b.reads first.names → first.gives ≡ Ok y → b.last_failed ≡ a.last_failed
+after_first : {Y Z : Type 0} (a b c : FilesSeen) (r : Result Z NoValue) (first : Reading Y) (f : Y → Reading Z) (y : Y) → ReadBetween a.reads b.reads first.names → first.gives ≡ Ok y → b.last_failed ≡ a.last_failed
     → Answers b c r (f y) → Answers a c r (first >>= f)
 after_first a b c r first f y p gives same q = rw gives (later a b c r first.names (f y) p same q)
 
-counts_then : {Z : Type 0} (a b c : FilesSeen) (r : Result Z Halt) → (b.faults ≡ a.faults) × (b.last_failed ≡ a.last_failed) → Counts b c r → Counts a c r
+counts_then : {Z : Type 0} (a b c : FilesSeen) (r : Result Z NoValue) → (b.faults ≡ a.faults) × (b.last_failed ≡ a.last_failed) → Counts b c r → Counts a c r
 counts_then a b c (Ok x) (s, l) (t, m) = (t ∙ s, m ∙ l)
 counts_then a b c (Err (stopped e)) (s, l) (t, m) = (t ∙ s, m ∙ l)
 counts_then a b c (Err failed) (s, l) q = rw s at q
 counts_then a b c (Err no_memory) (s, l) (t, m) = (t ∙ s, m ∙ l)
 
-told_then : {Y Z : Type 0} (a b c : FilesSeen) (r : Result Z Halt) (first : Contents → Reading Y) (second : Contents → Y → Reading Z) (y : Y) (of : Contents) → b.held ≡ a.held → b.last_failed ≡ a.last_failed
+told_then : {Y Z : Type 0} (a b c : FilesSeen) (r : Result Z NoValue) (first : Contents → Reading Y) (second : Contents → Y → Reading Z) (y : Y) (of : Contents) → b.held ≡ a.held → b.last_failed ≡ a.last_failed
     → MayHold a.held of (first of >>= second of).names → ReadBetween a.reads b.reads (first of).names × ((first of).gives ≡ Ok y) → (MayHold b.held of (second of y).names → Answers b c r (second of y))
     → Answers a c r (first of >>= second of)
 told_then a b c r first second y of keeps same may (read, gives) q =
     after_first a b c r (first of) (second of) y read gives same (q (may_second a.held b.held of (first of) (second of) y gives keeps may))
 
 -- the second of two steps decides
-pub asks_then : {Y Z : Type 0} (a b c : FilesSeen) (r : Result Z Halt) (first : Contents → Reading Y) (second : Contents → Y → Reading Z) (y : Y)
+pub asks_then : {Y Z : Type 0} (a b c : FilesSeen) (r : Result Z NoValue) (first : Contents → Reading Y) (second : Contents → Y → Reading Z) (y : Y)
     → Asks a b (Ok y) first → Asks b c r (λ of. second of y) → Asks a c r (λ of. first of >>= second of)
 asks_then a b c r first second y p q = record {
   keeps = q.keeps ∙ p.keeps;
@@ -135,7 +135,7 @@ asks_then a b c r first second y p q = record {
 }
 
 -- a step that gave nothing is the end
-stops : {Y Z : Type 0} (a b : FilesSeen) (e : Halt) (names : List (List ℕ)) (gives : Result Y Stop) (f : Y → Reading Z) → Answers {A = Y} a b (Err e) (record { names = names; gives = gives }) → Answers {A = Z} a b (Err e) (go_on names gives f)
+stops : {Y Z : Type 0} (a b : FilesSeen) (e : NoValue) (names : List (List ℕ)) (gives : Result Y Stop) (f : Y → Reading Z) → Answers {A = Y} a b (Err e) (record { names = names; gives = gives }) → Answers {A = Z} a b (Err e) (go_on names gives f)
 stops a b (stopped s) names (Ok y) f (p, e) = absurd cc
 stops a b (stopped s) names (Err t) f (p, e) = (p, cc)
 stops a b failed names (Ok y) f p = record {
@@ -155,13 +155,13 @@ stops a b no_memory names (Ok y) f p = record {
 }
 stops a b no_memory names (Err t) f p = p
 
-counts_stop : (Y Z : Type 0) (a b : FilesSeen) (e : Halt) → Counts {A = Y} a b (Err e) → Counts {A = Z} a b (Err e)
+counts_stop : (Y Z : Type 0) (a b : FilesSeen) (e : NoValue) → Counts {A = Y} a b (Err e) → Counts {A = Z} a b (Err e)
 counts_stop Y Z a b (stopped s) p = p
 counts_stop Y Z a b failed p = p
 counts_stop Y Z a b no_memory p = p
 
 -- the first of two steps gave nothing
-pub asks_stops : {Y Z : Type 0} (a b : FilesSeen) (e : Halt) (first : Contents → Reading Y) (second : Contents → Y → Reading Z) → Asks {A = Y} a b (Err e) first → Asks {A = Z} a b (Err e) (λ of. first of >>= second of)
+pub asks_stops : {Y Z : Type 0} (a b : FilesSeen) (e : NoValue) (first : Contents → Reading Y) (second : Contents → Y → Reading Z) → Asks {A = Y} a b (Err e) first → Asks {A = Z} a b (Err e) (λ of. first of >>= second of)
 asks_stops {Y = Y} {Z = Z} a b e first second p = record {
   keeps = p.keeps;
   answers = λ of may. stops a b e (first of).names (first of).gives (second of) (p.answers of (may_first a.held of (first of) (second of) may));
@@ -201,7 +201,7 @@ pub asks_part : {X Y Z : Type 0} (a b : FilesSeen) (view : X → Z) (r : Result 
 asks_part a b view r first gives y p q = asks_then a b b (seen_as view r) first (λ of y. asks_nothing (gives y)) y p (asks_pure b view r (gives y) q)
 
 -- the same of equal readings
-pub asks_as : {A : Type 0} (a b : FilesSeen) (r : Result A Halt) (f g : Contents → Reading A) → ((of : Contents) → f of ≡ g of) → Asks a b r f → Asks a b r g
+pub asks_as : {A : Type 0} (a b : FilesSeen) (r : Result A NoValue) (f g : Contents → Reading A) → ((of : Contents) → f of ≡ g of) → Asks a b r f → Asks a b r g
 asks_as {A = A} a b r f g same p = record {
   keeps = p.keeps;
   answers = λ of may. subst (λ (x : Reading A). Answers a b r x) (same of) (p.answers of (subst (λ (x : Reading A). MayHold a.held of x.names) (sym (same of)) may));

@@ -5,7 +5,7 @@ use Rattle.std.proofs.lemmas.List.Concat.{flat_map-append, flat_map-cons}
 use Rattle.std.proofs.lemmas.List.{take_all, drop_more, take_more, take-append-drop, take_rest, length-append, length-drop}
 use Rattle.std.proofs.Math.Seq.{take-add}
 use Rattle.outside_io.specs.Count.{Rose}
-use Rattle.outside_io.specs.Sink.{SinkSeen, Adds, Takes, Took, Stopped, Writes, HandsPart, Hands, Flushes}
+use Rattle.outside_io.specs.Sink.{SinkSeen, Adds, Takes, Took, TookPart, Writes, HandsPart, Hands, Flushes}
 
 adds_none : (a : Option (List ℕ)) → Adds a a []
 adds_none None = tt
@@ -45,8 +45,8 @@ pub took_then : (a b c : SinkSeen) (x y : List ℕ) → Took a b x → Took b c 
 took_then a b c x y (p, s) (q, t) = (takes_then a b c x y p q, t ∙ s)
 
 -- the first text failed, and so both do
-pub stopped_first : (a b : SinkSeen) (x y : List ℕ) → Stopped a b x → Stopped a b (x ++ y)
-stopped_first a b x y (p, rose) = (
+pub took_part_first : (a b : SinkSeen) (x y : List ℕ) → TookPart a b x → TookPart a b (x ++ y)
+took_part_first a b x y (p, rose) = (
   record {
     part = p.part;
     rest = p.rest ++ y;
@@ -58,8 +58,8 @@ stopped_first a b x y (p, rose) = (
 )
 
 -- the second text failed
-pub stopped_then : (a b c : SinkSeen) (x y : List ℕ) → Took a b x → Stopped b c y → Stopped a c (x ++ y)
-stopped_then a b c x y (p, s) (q, rose) = (
+pub took_part_then : (a b c : SinkSeen) (x y : List ℕ) → Took a b x → TookPart b c y → TookPart a c (x ++ y)
+took_part_then a b c x y (p, s) (q, rose) = (
   record {
     part = x ++ q.part;
     rest = q.rest;
@@ -73,7 +73,7 @@ stopped_then a b c x y (p, s) (q, rose) = (
 -- the second text decides
 pub writes_then : {U E : Type 0} (a b c : SinkSeen) (r : Result U E) (x y : List ℕ) → Took a b x → Writes b c r y → Writes a c r (x ++ y)
 writes_then a b c (Ok u) x y p q = took_then a b c x y p q
-writes_then a b c (Err e) x y p q = stopped_then a b c x y p q
+writes_then a b c (Err e) x y p q = took_part_then a b c x y p q
 
 -- ---- the rest of a text, and lists of texts
 
@@ -82,8 +82,8 @@ pub took_more : (a b c : SinkSeen) (i n : ℕ) (xs : List ℕ) → Took a b (tak
 took_more a b c i n xs p q = rw (take-add i n xs) (took_then a b c (take i xs) (take n (drop i xs)) p (rw take_rest at q))
 
 -- no piece more of a text that isn't whole
-pub stopped_at : (a b c : SinkSeen) (i : ℕ) (xs : List ℕ) → i < length xs → Took a b (take i xs) → Takes b c [] × Rose b.faults c.faults → Stopped a c xs
-stopped_at a b c i xs lt (p, s) (q, rose) = (
+pub took_part_at : (a b c : SinkSeen) (i : ℕ) (xs : List ℕ) → i < length xs → Took a b (take i xs) → Takes b c [] × Rose b.faults c.faults → TookPart a c xs
+took_part_at a b c i xs lt (p, s) (q, rose) = (
   record {
     part = take i xs ++ [];
     rest = drop i xs;
@@ -103,17 +103,17 @@ took_item {X = X} f xs i d a b c lt p q =
     subst (λ (t : List ℕ). Took a c t) (sym more) (took_then a b c _ _ p q)
 
 -- the texts of the first items, and a proper prefix of the next one's
-pub stopped_item : {X : Type 0} (f : X → List ℕ) (xs : List X) (i : ℕ) (d : X) (a b c : SinkSeen) → i < length xs → Took a b (flat_map f (take i xs)) → Stopped b c (f (get_or xs i d)) → Stopped a c (flat_map f xs)
-stopped_item f xs i d a b c lt p q =
+pub took_part_item : {X : Type 0} (f : X → List ℕ) (xs : List X) (i : ℕ) (d : X) (a b c : SinkSeen) → i < length xs → Took a b (flat_map f (take i xs)) → TookPart b c (f (get_or xs i d)) → TookPart a c (flat_map f xs)
+took_part_item f xs i d a b c lt p q =
     let rest : flat_map f (drop i xs) ≡ f (get_or xs i d) ++ flat_map f (drop (i + 1) xs) = ap (flat_map f) (drop_more xs i d lt) ∙ flat_map-cons f (get_or xs i d) (drop (i + 1) xs) in
     let whole : flat_map f xs ≡ flat_map f (take i xs) ++ (f (get_or xs i d) ++ flat_map f (drop (i + 1) xs)) =
     ap (flat_map f) (sym (take-append-drop i xs)) ∙ (flat_map-append f (take i xs) (drop i xs) ∙ ap (λ (t : List ℕ). flat_map f (take i xs) ++ t) rest) in
-    subst (λ (t : List ℕ). Stopped a c t) (sym whole) (stopped_then a b c _ _ p (stopped_first b c _ _ q))
+    subst (λ (t : List ℕ). TookPart a c t) (sym whole) (took_part_then a b c _ _ p (took_part_first b c _ _ q))
 
 -- ---- what is handed on
 
 -- a text that isn't taken whole isn't handed on whole
-pub hands_cut : (a b : SinkSeen) (x : List ℕ) → Stopped a b x → HandsPart a b x × Rose a.faults b.faults
+pub hands_cut : (a b : SinkSeen) (x : List ℕ) → TookPart a b x → HandsPart a b x × Rose a.faults b.faults
 hands_cut a b x (p, rose) = (record { front = p.part; rest = p.rest; whole = p.whole; takes = p.takes; some = omega (arith, p.some, length-append b.waiting p.rest) }, rose)
 
 -- a text that was taken whole, and a flush

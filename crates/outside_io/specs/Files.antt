@@ -50,9 +50,9 @@ FaultsBy before after (Ok _) = after ≡ before
 FaultsBy before after (Err e) = FaultAt before after e
 
 -- where the answer is `Failed`, its name is the last failed one, and else that is as before
-abbrev pub NamesFailed : {X : Type 0} → Option (Option (List ℕ)) → Option (Option (List ℕ)) → Result X FileError → List ℕ → Type 0
-NamesFailed before after (Err file_error.Failed) name = after ≡ option_map (λ _. Some name) before
-NamesFailed before after _ name = after ≡ before
+abbrev pub FailedName : {X : Type 0} → Option (Option (List ℕ)) → Option (Option (List ℕ)) → Result X FileError → List ℕ → Type 0
+FailedName before after (Err file_error.Failed) name = after ≡ option_map (λ _. Some name) before
+FailedName before after _ name = after ≡ before
 
 -- a read of this name up to this limit; each name holds what it held
 pub record ReadsFile {A : Type 0} (before after : FilesSeen) (result : Result (Vec ℕ A) FileError) (limit : ℕ) (name : List ℕ) : Type 0 where
@@ -61,15 +61,15 @@ pub record ReadsFile {A : Type 0} (before after : FilesSeen) (result : Result (V
   pub whole : IfSome before.held (λ of. ReadsWhole limit (of name) result)
   pub once : ReadsOnce before.reads after.reads result name
   pub faults : FaultsBy before.faults after.faults result
-  pub failed : NamesFailed before.last_failed after.last_failed result name
+  pub failed : FailedName before.last_failed after.last_failed result name
 
 -- ---- work that reads files
 
 -- why work that asks for files gave no value: what they hold stops it, a read failed, no memory was found
-pub data Halt : Type 0 where
-  stopped : Stop → Halt
-  failed : Halt
-  no_memory : Halt
+pub data NoValue : Type 0 where
+  stopped : Stop → NoValue
+  failed : NoValue
+  no_memory : NoValue
 
 -- a front of these names was read, perhaps all or none
 pub record ReadsFront (before after : FilesSeen) (names : List (List ℕ)) : Type 0 where
@@ -88,14 +88,14 @@ pub record ReadsFailing (before after : FilesSeen) (names : List (List ℕ)) : T
   pub last : after.last_failed ≡ option_map (λ _. Some name) before.last_failed
 
 -- which of the names asked for were read, and what was given
-abbrev pub Answers : {A : Type 0} → FilesSeen → FilesSeen → Result A Halt → Reading A → Type 0
+abbrev pub Answers : {A : Type 0} → FilesSeen → FilesSeen → Result A NoValue → Reading A → Type 0
 Answers before after (Ok x) asked = ReadBetween before.reads after.reads asked.names × (asked.gives ≡ Ok x)
 Answers before after (Err (stopped s)) asked = ReadBetween before.reads after.reads asked.names × (asked.gives ≡ Err s)
 Answers before after (Err failed) asked = ReadsFailing before after asked.names
 Answers before after (Err no_memory) asked = ReadsFront before after asked.names
 
 -- a fault was counted where a read failed, and else neither the count nor the last failed name changed
-abbrev pub Counts : {A : Type 0} → FilesSeen → FilesSeen → Result A Halt → Type 0
+abbrev pub Counts : {A : Type 0} → FilesSeen → FilesSeen → Result A NoValue → Type 0
 Counts before after (Err failed) = Rose before.faults after.faults
 Counts before after _ = (after.faults ≡ before.faults) × (after.last_failed ≡ before.last_failed)
 
@@ -104,7 +104,7 @@ abbrev pub MayHold : Option Contents → Contents → List (List ℕ) → Type 0
 MayHold held of names = (held ≡ Some of) ⊎ (names ≡ [])
 
 -- work that asks for files: each name holds what it held, and the rest is as the reading says of what is held
-pub record Asks {A : Type 0} (before after : FilesSeen) (result : Result A Halt) (asked : Contents → Reading A) : Type 0 where
+pub record Asks {A : Type 0} (before after : FilesSeen) (result : Result A NoValue) (asked : Contents → Reading A) : Type 0 where
   pub keeps : after.held ≡ before.held
   pub answers : (of : Contents) → MayHold before.held of (asked of).names → Answers before after result (asked of)
   pub counts : Counts before after result
@@ -112,23 +112,23 @@ pub record Asks {A : Type 0} (before after : FilesSeen) (result : Result A Halt)
 -- ---- answers as work sees them
 
 -- a read, where a refusal for the length stands at this place
-abbrev pub read_at : {A : Type 0} → Place → Result (Vec ℕ A) FileError → Result (List ℕ) Halt
+abbrev pub read_at : {A : Type 0} → Place → Result (Vec ℕ A) FileError → Result (List ℕ) NoValue
 read_at place (Ok bytes) = Ok bytes.items
 read_at place (Err file_error.TooLong) = Err (stopped (refused_at FILE_TOO_LONG place))
 read_at place (Err file_error.Failed) = Err failed
 read_at place (Err file_error.Memory) = Err no_memory
 
-abbrev pub halt_of : PartsError → Halt
-halt_of (parts_error.Refused r) = stopped (refused r)
-halt_of parts_error.ReadFault = failed
-halt_of parts_error.Memory = no_memory
+abbrev pub no_value_of : PartsError → NoValue
+no_value_of (parts_error.Refused r) = stopped (refused r)
+no_value_of parts_error.ReadFault = failed
+no_value_of parts_error.Memory = no_memory
 
 -- what a part of a file was read as, seen by this view
-abbrev pub part_as : {X A : Type 0} → (X → A) → Result X PartsError → Result A Halt
+abbrev pub part_as : {X A : Type 0} → (X → A) → Result X PartsError → Result A NoValue
 part_as view (Ok x) = Ok (view x)
-part_as view (Err e) = Err (halt_of e)
+part_as view (Err e) = Err (no_value_of e)
 
 -- the same of what bytes alone were read as
-abbrev pub seen_as : {X A : Type 0} → (X → A) → Result X ReadError → Result A Halt
+abbrev pub seen_as : {X A : Type 0} → (X → A) → Result X ReadError → Result A NoValue
 seen_as view (Ok x) = Ok (view x)
-seen_as view (Err e) = Err (halt_of (parts_error_of e))
+seen_as view (Err e) = Err (no_value_of (parts_error_of e))

@@ -35,8 +35,8 @@ abbrev pub Took : SinkSeen → SinkSeen → List ℕ → Type 0
 Took before after text = Takes before after text × (after.faults ≡ before.faults)
 
 -- the sink took a proper prefix of this text, and a fault was counted
-abbrev pub Stopped : SinkSeen → SinkSeen → List ℕ → Type 0
-Stopped before after text = TakesPart before after text × Rose before.faults after.faults
+abbrev pub TookPart : SinkSeen → SinkSeen → List ℕ → Type 0
+TookPart before after text = TakesPart before after text × Rose before.faults after.faults
 
 -- `Ok`: so many bytes were taken; `Err`: none was taken, and a fault was counted
 abbrev pub Puts : {E : Type 0} → SinkSeen → SinkSeen → Result ℕ E → List ℕ → Type 0
@@ -46,7 +46,7 @@ Puts before after (Err _) piece = Takes before after [] × Rose before.faults af
 -- `Ok`: the whole text was taken; `Err`: a proper prefix of it, and a fault was counted
 abbrev pub Writes : {T E : Type 0} → SinkSeen → SinkSeen → Result T E → List ℕ → Type 0
 Writes before after (Ok _) text = Took before after text
-Writes before after (Err _) text = Stopped before after text
+Writes before after (Err _) text = TookPart before after text
 
 -- `Ok`: nothing of `waiting` is left; `Err`: some of it is, and a fault was counted
 abbrev pub HandsOn : {T E : Type 0} → SinkSeen → SinkSeen → Result T E → List ℕ → Type 0

@@ -19,7 +19,7 @@ use Rattle.ffm_model.specs.SystemAttributes.{manifest_in, manifest_items_of}
 use Rattle.ffm_model.specs.Systems.{behind, manifest_place, manifest_item, manifests_after}
 use Rattle.ffm_model.specs.Manifests.{manifest_of}
 use Rattle.ffm_model.specs.Trees.{tree_of}
-use Rattle.outside_io.specs.Files.{Asks, FilesSeen, Halt, halt_of, no_memory, stopped}
+use Rattle.outside_io.specs.Files.{Asks, FilesSeen, NoValue, no_value_of, no_memory, stopped}
 use Rattle.outside_io.proofs.FilesSteps.{asks_as, asks_given, asks_stops, asks_then, asks_unread, asks_unrefused}
 use Rattle.manifest_json.specs.Trees.{FailsTree}
 use Rattle.system_json.specs.Refused.{IsReadRefusal}
@@ -39,7 +39,7 @@ manifest_at_tree bytes d is = rw is refl
 
 -- the refusal of a manifest file's length
 pub refused_long : {X : Type 0} (a b : FilesSeen) (k : ℕ) (e : ReadError) (asked : Contents → Reading X) → IsReadRefusal e (record { code = FILE_TOO_LONG; place = manifest_place k; cycle = [] })
-    → Asks {A = X} a b (Err (stopped (refused_at FILE_TOO_LONG (manifest_place k)))) asked → Asks {A = X} a b (Err (halt_of (parts_error_of e))) asked
+    → Asks {A = X} a b (Err (stopped (refused_at FILE_TOO_LONG (manifest_place k)))) asked → Asks {A = X} a b (Err (no_value_of (parts_error_of e))) asked
 refused_long a b k read_error.Memory asked refusal p = asks_unrefused a b _ asked p
 refused_long a b k (read_error.Refused r) asked refusal p = rw refusal p
 
@@ -54,7 +54,7 @@ whole_of of vs = manifests_after of [] 0 (items_view vs)
 
 -- whatever the rest asks for from here on, the whole list asks for from its start on
 abbrev pub Leads : FilesSeen → FilesSeen → List Manifest → ℕ → List Value → Type 0
-Leads before here found i vs = (after : FilesSeen) (r : Result (List Manifest) Halt) → Asks here after r (λ of. rest_of of found i vs) → Asks before after r (λ of. whole_of of vs)
+Leads before here found i vs = (after : FilesSeen) (r : Result (List Manifest) NoValue) → Asks here after r (λ of. rest_of of found i vs) → Asks before after r (λ of. whole_of of vs)
 
 one_step : (of : Contents) (found : List Manifest) (vs : List Value) (i : ℕ) (v : Value) → i < length vs → v ≡ get_or vs i v
     → rest_of of found i vs ≡ (manifest_item of i (view v) >>= λ m. rest_of of (found ++ m ∷ []) (i + 1) vs)
@@ -69,7 +69,7 @@ goes_on a b c found vs i v m lt is so_far item = λ after r p.
     (asks_then b c after r (λ of. manifest_item of i (view v)) (λ of n. rest_of of (found ++ n ∷ []) (i + 1) vs) m item p))
 
 -- the next manifest ends it
-pub ends : (a b c : FilesSeen) (e : Halt) (found : List Manifest) (vs : List Value) (i : ℕ) (v : Value) → i < length vs → v ≡ get_or vs i v
+pub ends : (a b c : FilesSeen) (e : NoValue) (found : List Manifest) (vs : List Value) (i : ℕ) (v : Value) → i < length vs → v ≡ get_or vs i v
     → Leads a b found i vs → Asks {A = Manifest} b c (Err e) (λ of. manifest_item of i (view v)) → Asks {A = List Manifest} a c (Err e) (λ of. whole_of of vs)
 ends a b c e found vs i v lt is so_far item =
     so_far c (Err e) (asks_as b c (Err e) (λ of. manifest_item of i (view v) >>= λ n. rest_of of (found ++ n ∷ []) (i + 1) vs) (λ of. rest_of of found i vs) (λ of. sym (one_step of found vs i v lt is))

@@ -7,7 +7,7 @@ mod refusals;
 mod usage;
 mod words;
 
-pub use problems::say_problem;
+pub use problems::{NO_MEMORY, UNREAD, UNWRITTEN, say_problem};
 pub use refusals::{refusal_line, wrong_line};
 pub use usage::usage_line;
 pub use words::{Word, append, append_number, append_word, append_words, verdict_word};

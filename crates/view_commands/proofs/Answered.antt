@@ -1,6 +1,6 @@
 -- What is due of the words and the files, out of what was read and shown.
 use Rattle.std.proofs.Common.{◌≡◌, ◌≢◌, ℕ, ◌<◌, List, [], arith, inl, inr, refl, subst, sym}
-use Rattle.std.specs.Prelude.{◌⊎◌, Option, None, Some, IfOk, IsErrOf, Result, Ok, Err}
+use Rattle.std.specs.Prelude.{◌⊎◌, Option, None, Some, Result, Ok, Err}
 use Rattle.clap.specs.Words.{kind_of}
 use Rattle.clap.specs.declared.error.Error.{Error}
 use Rattle.clap.specs.declared.error.kind.ErrorKind.TheVariants as kind
@@ -9,10 +9,10 @@ use Rattle.outside_io.specs.Files.{Asks, FilesSeen, no_memory}
 use Rattle.outside_io.specs.Sink.{Hands, SinkSeen}
 use Rattle.outside_io.proofs.FilesSteps.{asks_lost}
 use Rattle.work_orders.specs.Work.{Work, judge_of}
+use Rattle.work_orders.specs.declared.unanswered.Unanswered.{Unanswered}
+use Rattle.work_orders.specs.declared.unanswered.Unanswered.TheVariants as unanswered
 use Rattle.view_commands.specs.declared.files.TraceFiles.{TraceFiles}
 use Rattle.view_commands.specs.declared.top.Answer.{Answer}
-use Rattle.view_commands.specs.declared.top.Stopped.{Stopped}
-use Rattle.view_commands.specs.declared.top.Stopped.TheVariants as stopped
 use Rattle.view_commands.specs.Answers.{Answered, AnswersRequest, AnswersWords, Due, EndsWith, IsAnswer, IsShownStatus, IsStatus, Shows, Unfinished, Unread}
 use Rattle.view_commands.specs.Files.{FilesRead, files_of}
 use Rattle.view_words.specs.declared.words.Request.{Request}
@@ -35,18 +35,16 @@ unshown r a b f read = asks_lost a b (judge_of Replay f.work.system f.work.scena
 -- ---- the answer to the words
 
 -- they ask for this
-pub asked_answer : (words : List (List ℕ)) (r : Request) (a b : FilesSeen) (result : Result Answer Stopped) → AsksFor words r → AnswersRequest r a b result → AnswersWords words a b result
+pub asked_answer : (words : List (List ℕ)) (r : Request) (a b : FilesSeen) (result : Result Answer Unanswered) → AsksFor words r → AnswersRequest r a b result → AnswersWords words a b result
 asked_answer words r a b (Ok answer) asks is = inr (r, asks, is)
-asked_answer words r a b (Err stopped.Files) asks is = (r, asks, is)
-asked_answer words r a b (Err stopped.Memory) asks is = inr (r, asks, is)
+asked_answer words r a b (Err unanswered.File) asks is = (r, asks, is)
+asked_answer words r a b (Err unanswered.Memory) asks is = inr (r, asks, is)
 
 -- they ask for nothing, and were answered
-pub told_answer : (words : List (List ℕ)) (e : Error) (a : FilesSeen) (result : Result Answer Stopped) → (kind_of e ≡ kind.OutOfMemory) ⊎ IsTold words (told_status (kind_of e)) → IfOk result (λ answer. answer.status ≡ told_status (kind_of e))
-    → IfOk result (λ answer. kind_of e ≢ kind.OutOfMemory) → (IsErrOf result stopped.Files → ⊥) → AnswersWords words a a result
-told_answer words e a (Ok answer) (inl memory) status other read = absurd (other memory)
-told_answer words e a (Ok answer) (inr told) status other read = inl (subst (IsTold words) (sym status) told, refl)
-told_answer words e a (Err stopped.Files) told status other read = absurd (read refl)
-told_answer words e a (Err stopped.Memory) told status other read = inl refl
+pub told_answer : (words : List (List ℕ)) (e : Error) (a : FilesSeen) (answer : Answer) → (kind_of e ≡ kind.OutOfMemory) ⊎ IsTold words (told_status (kind_of e)) → answer.status ≡ told_status (kind_of e)
+    → kind_of e ≢ kind.OutOfMemory → AnswersWords words a a (Ok answer)
+told_answer words e a answer (inl memory) status other = absurd (other memory)
+told_answer words e a answer (inr told) status other = inl (subst (IsTold words) (sym status) told, refl)
 
 -- ---- what is made of files and sink
 

@@ -7,18 +7,19 @@ use Rattle.outside_io.specs.Files.{Asks, FilesSeen, failed, no_memory}
 use Rattle.outside_io.specs.Sink.{Hands, SinkSeen}
 use Rattle.outside_io.specs.Words.{AreGiven}
 use Rattle.work_orders.specs.Work.{Work, judge_of}
+use Rattle.work_orders.specs.declared.unanswered.Unanswered.{Unanswered}
+use Rattle.work_orders.specs.declared.unanswered.Unanswered.TheVariants as unanswered
 use Rattle.view_commands.specs.Files.{AreTraceFiles, RefusalDue, files_of, given}
 use Rattle.view_commands.specs.Views.{IsView, IsViewText, status_of}
 use Rattle.view_words.specs.Requests.{AsksFor, IsTold}
 use Rattle.view_commands.specs.declared.files.TraceFiles.{TraceFiles}
 use Rattle.view_commands.specs.declared.top.Answer.{Answer}
-use Rattle.view_commands.specs.declared.top.Stopped.{Stopped}
-use Rattle.view_commands.specs.declared.top.Stopped.TheVariants as stopped
 use Rattle.view_commands.specs.declared.view.View.{View}
 use Rattle.view_words.specs.declared.words.Aspect.{Aspect}
 use Rattle.view_words.specs.declared.words.Request.{Request}
 
--- 0: shown. 1: a file is refused. 2: the words are no command, or name a place that the trace doesn't have. 6: the trace is illegal. 7: a file can't be read. 8: the text can't be written. 9: no memory
+-- 0: shown. 1: a file is refused. 2: the words are no command, or name a place that the trace doesn't
+-- have. 6: the trace is illegal. 7: a file can't be read. 8: the text can't be written. 9: no memory
 abbrev pub IsStatus : ℕ → Type 0
 IsStatus status = (status ≤ 2) ⊎ ((6 ≤ status) × (status ≤ 9))
 
@@ -28,7 +29,8 @@ IsShownStatus status = (status ≤ 2) ⊎ (status ≡ 6)
 
 -- the aspect of the files' trace, with its text and its status
 abbrev pub Shows : TraceFiles → Aspect → List ℕ → ℕ → Type 0
-Shows files a text status = (v : View) × IsView files a v × IsViewText v text × (status ≡ status_of v)
+Shows files a text status =
+    (v : View) × IsView files a v × IsViewText v text × (status ≡ status_of v)
 
 -- the aspect is shown of the trace that the files are to give
 pub record IsShown (due : Result Work Stop) (a : Aspect) (text : List ℕ) (status : ℕ) : Type 0 where
@@ -42,45 +44,66 @@ abbrev pub ViewDue : Result Work Stop → Aspect → List ℕ → ℕ → Type 0
 ViewDue due a text status = (RefusalDue due text × (status ≡ 1)) ⊎ IsShown due a text status
 
 -- the files of a request were read, in order and no other, and the text is due of what they give
-pub record IsAnswer (r : Request) (before after : FilesSeen) (text : List ℕ) (status : ℕ) : Type 0 where
+pub record IsAnswer
+    (r : Request) (before after : FilesSeen) (text : List ℕ) (status : ℕ) : Type 0 where
   pub due : Result Work Stop
   pub reads : Asks before after (given due) (files_of r.names)
   pub is_due : ViewDue due r.aspect text status
 
--- the words are no command or ask for help or the version, and no file is read; or what they ask for is shown
+-- the words are no command or ask for help or the version, and no file is read; or what they ask
+-- for is shown
 abbrev pub Due : List (List ℕ) → FilesSeen → FilesSeen → List ℕ → ℕ → Type 0
-Due words before after text status = (IsTold words status × (after ≡ before)) ⊎ ((r : Request) × AsksFor words r × IsAnswer r before after text status)
+Due words before after text status =
+    (IsTold words status × (after ≡ before))
+    ⊎ ((r : Request) × AsksFor words r × IsAnswer r before after text status)
 
 -- a file that the words ask for can't be read: the last one of those in front that were read
 abbrev pub Unread : List (List ℕ) → FilesSeen → FilesSeen → Type 0
-Unread words before after = (r : Request) × AsksFor words r × Asks {A = Work} before after (Err failed) (files_of r.names)
+Unread words before after =
+    (r : Request) × AsksFor words r × Asks {A = Work} before after (Err failed) (files_of r.names)
 
--- no memory was found, where none of the files that the words ask for was read yet, or some of those in front
+-- no memory was found, where none of the files that the words ask for was read yet, or some of
+-- those in front
 abbrev pub Unfinished : List (List ℕ) → FilesSeen → FilesSeen → Type 0
-Unfinished words before after = (after ≡ before) ⊎ ((r : Request) × AsksFor words r × Asks {A = Work} before after (Err no_memory) (files_of r.names))
+Unfinished words before after =
+    (after ≡ before)
+    ⊎ ((r : Request) × AsksFor words r × Asks {A = Work} before after (Err no_memory) (files_of r.names))
 
 -- what these words are answered over these files and this sink
-pub record Answered (words : List (List ℕ)) (files files_after : FilesSeen) (out out_after : SinkSeen) (status : ℕ) : Type 0 where
+pub record Answered
+    (words : List (List ℕ)) (files files_after : FilesSeen) (out out_after : SinkSeen)
+    (status : ℕ) : Type 0 where
   pub status_is : IsStatus status
-  -- 0 to 6: a text that is due was written whole. 8: a put or the flush failed, and such a text wasn't. 7 and 9: nothing was written
-  pub whole : status < 7 → (text : List ℕ) × Due words files files_after text status × Hands {E = Unit {0}} out out_after (Ok (tt {0})) text
-  pub part : status ≡ 8 → (text : List ℕ) × (wanted : ℕ) × Due words files files_after text wanted × Hands {T = Unit {0}} out out_after (Err (tt {0})) text
+  -- 0 to 6: a text that is due was written whole. 8: a put or the flush failed, and such a text
+  -- wasn't. 7 and 9: nothing was written
+  pub whole : status < 7 → (text : List ℕ)
+      × Due words files files_after text status
+      × Hands {E = Unit {0}} out out_after (Ok (tt {0})) text
+  pub part : status ≡ 8 → (text : List ℕ) × (wanted : ℕ)
+      × Due words files files_after text wanted
+      × Hands {T = Unit {0}} out out_after (Err (tt {0})) text
   pub nothing : (status ≡ 7) ⊎ (status ≡ 9) → out_after ≡ out
   pub unread : status ≡ 7 → Unread words files files_after
   pub unfinished : status ≡ 9 → Unfinished words files files_after
 
 -- what a program ends with over these words, if they are told, these files and this sink
-abbrev pub EndsWith : Option (List (List ℕ)) → FilesSeen → FilesSeen → SinkSeen → SinkSeen → ℕ → Type 0
-EndsWith told files files_after out out_after status = (words : List (List ℕ)) × IfSome told (λ given. AreGiven given words) × Answered words files files_after out out_after status
+abbrev pub EndsWith :
+    Option (List (List ℕ)) → FilesSeen → FilesSeen → SinkSeen → SinkSeen → ℕ → Type 0
+EndsWith told files files_after out out_after status =
+    (words : List (List ℕ))
+    × IfSome told (λ given. AreGiven given words)
+    × Answered words files files_after out out_after status
 
 -- ---- what the code answers on the way
 
-abbrev pub AnswersRequest : Request → FilesSeen → FilesSeen → Result Answer Stopped → Type 0
+abbrev pub AnswersRequest : Request → FilesSeen → FilesSeen → Result Answer Unanswered → Type 0
 AnswersRequest r before after (Ok answer) = IsAnswer r before after answer.text.items answer.status
-AnswersRequest r before after (Err stopped.Files) = Asks {A = Work} before after (Err failed) (files_of r.names)
-AnswersRequest r before after (Err stopped.Memory) = Asks {A = Work} before after (Err no_memory) (files_of r.names)
+AnswersRequest r before after (Err unanswered.File) =
+    Asks {A = Work} before after (Err failed) (files_of r.names)
+AnswersRequest r before after (Err unanswered.Memory) =
+    Asks {A = Work} before after (Err no_memory) (files_of r.names)
 
-abbrev pub AnswersWords : List (List ℕ) → FilesSeen → FilesSeen → Result Answer Stopped → Type 0
+abbrev pub AnswersWords : List (List ℕ) → FilesSeen → FilesSeen → Result Answer Unanswered → Type 0
 AnswersWords words before after (Ok answer) = Due words before after answer.text.items answer.status
-AnswersWords words before after (Err stopped.Files) = Unread words before after
-AnswersWords words before after (Err stopped.Memory) = Unfinished words before after
+AnswersWords words before after (Err unanswered.File) = Unread words before after
+AnswersWords words before after (Err unanswered.Memory) = Unfinished words before after

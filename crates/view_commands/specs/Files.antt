@@ -6,13 +6,13 @@ use Rattle.command_words.specs.Words.{Order, judge}
 use Rattle.ffm_model.specs.declared.place.Refusal.{Refusal}
 use Rattle.ffm_model.specs.Reading.{Contents, Reading, Stop, refused}
 use Rattle.judge_command.specs.Replays.{IsTextOf, WrongDue}
-use Rattle.outside_io.specs.Files.{Asks, FilesSeen, Halt as Why, stopped, failed, no_memory}
+use Rattle.outside_io.specs.Files.{Asks, FilesSeen, NoValue, stopped, failed, no_memory}
 use Rattle.text_lines.specs.Refusals.{refusal_line}
 use Rattle.work_orders.specs.View.{IsTraceWork}
 use Rattle.work_orders.specs.Work.{Work, judge_of, work_of}
 use Rattle.work_orders.specs.declared.work.TraceWork.{TraceWork}
-use Rattle.view_commands.specs.declared.files.Halt.{Halt}
-use Rattle.view_commands.specs.declared.files.Halt.TheVariants as halt
+use Rattle.view_commands.specs.declared.files.NoTrace.{NoTrace}
+use Rattle.view_commands.specs.declared.files.NoTrace.TheVariants as no_trace
 use Rattle.view_commands.specs.declared.files.TraceFiles.{TraceFiles}
 use Rattle.view_words.specs.declared.words.FileNames.{FileNames}
 
@@ -30,10 +30,10 @@ abbrev pub files_of : FileNames → Contents → Reading Work
 files_of names of = work_of of (order_of_files names)
 
 -- the line of this refusal
-abbrev pub IsRefusalBy : Refusal → Halt → Type 0
-IsRefusalBy r (halt.Refused line) = line.items ≡ refusal_line r
-IsRefusalBy r halt.Memory = Unit {0}
-IsRefusalBy r halt.Files = ⊥
+abbrev pub IsRefusalBy : Refusal → NoTrace → Type 0
+IsRefusalBy r (no_trace.Refused line) = line.items ≡ refusal_line r
+IsRefusalBy r no_trace.Memory = Unit {0}
+IsRefusalBy r no_trace.File = ⊥
 
 -- ffm's own line: of the first refused file, or of the first wrong line of a text that is no trace's
 abbrev pub RefusalDue : Result Work Stop → List ℕ → Type 0
@@ -42,20 +42,24 @@ RefusalDue (Ok (judge_of how s c bytes)) line = WrongDue s bytes line 1
 RefusalDue _ line = ⊥
 
 -- the trace whose text the work has, or the refusal of its first wrong line
-abbrev pub TraceRead : TraceWork → Result TraceFiles Halt → Type 0
+abbrev pub TraceRead : TraceWork → Result TraceFiles NoTrace → Type 0
 TraceRead work (Ok f) = (f.work ≡ work) × AreTraceFiles f
-TraceRead work (Err (halt.Refused line)) = WrongDue work.system work.trace.items line.items 1
-TraceRead work (Err halt.Files) = ⊥
-TraceRead work (Err halt.Memory) = Unit {0}
+TraceRead work (Err (no_trace.Refused line)) = WrongDue work.system work.trace.items line.items 1
+TraceRead work (Err no_trace.File) = ⊥
+TraceRead work (Err no_trace.Memory) = Unit {0}
 
 -- what the files give, or why they stop
-abbrev pub given : Result Work Stop → Result Work Why
+abbrev pub given : Result Work Stop → Result Work NoValue
 given (Ok work) = Ok work
 given (Err s) = Err (stopped s)
 
--- these files were read, in order, and give this work, or are refused; or one can't be read, or no memory was found
-abbrev pub FilesRead : FileNames → FilesSeen → FilesSeen → Result TraceFiles Halt → Type 0
-FilesRead names before after (Ok f) = Asks before after (Ok (judge_of Replay f.work.system f.work.scenario f.work.trace.items)) (files_of names) × AreTraceFiles f
-FilesRead names before after (Err (halt.Refused line)) = (due : Result Work Stop) × Asks before after (given due) (files_of names) × RefusalDue due line.items
-FilesRead names before after (Err halt.Files) = Asks before after (Err failed) (files_of names)
-FilesRead names before after (Err halt.Memory) = Asks before after (Err no_memory) (files_of names)
+-- these files were read, in order, and give this work, or are refused; or one can't be read, or
+-- no memory was found
+abbrev pub FilesRead : FileNames → FilesSeen → FilesSeen → Result TraceFiles NoTrace → Type 0
+FilesRead names before after (Ok f) =
+    Asks before after (Ok (judge_of Replay f.work.system f.work.scenario f.work.trace.items)) (files_of names)
+    × AreTraceFiles f
+FilesRead names before after (Err (no_trace.Refused line)) =
+    (due : Result Work Stop) × Asks before after (given due) (files_of names) × RefusalDue due line.items
+FilesRead names before after (Err no_trace.File) = Asks before after (Err failed) (files_of names)
+FilesRead names before after (Err no_trace.Memory) = Asks before after (Err no_memory) (files_of names)

@@ -3,13 +3,13 @@
 ghost use Rattle.std.specs.Process.{exit_status};
 ghost use Rattle.view_commands.specs.Answers.{EndsWith};
 
-use crate::top::{NO_MEMORY, ffm_view};
+use crate::top::ffm_view;
 use ffm_model::Memory;
 use outside_io::{NamesFailed, Sink, Words, given_words};
 use std::alloc::Global;
 use std::io::Eprint;
 use std::process::ExitCode;
-use text_lines::say_problem;
+use text_lines::{NO_MEMORY, say_problem};
 
 // The status to end with: the answer to the words, or 9 where no memory was found for them.
 fn status_of<W: Words, F: NamesFailed, S: Sink>(
@@ -37,7 +37,8 @@ pub fn program<R: Eprint, W: Words, F: NamesFailed, S: Sink>(
     out: &mut S,
 ) -> ExitCode
     ensures { EndsWith (W.told words.now)
-        (F.seen files.old) (F.seen files.new) (S.seen out.old) (S.seen out.new) (exit_status result) }
+        (F.seen files.old) (F.seen files.new) (S.seen out.old) (S.seen out.new)
+        (exit_status result) }
 {
     let status = status_of(alloc, words, files, out);
     say_problem(rt, "ffm_view", status, files.last_failed());

@@ -13,13 +13,13 @@ use trace_print::{TraceError, read_trace};
 use view_words::FileNames;
 use work_orders::{TraceWork, Work, work_of};
 
-/// Why there is nothing to show.
+/// Why there is no trace to show.
 #[derive(Drop)]
-pub enum Halt {
+pub enum NoTrace {
     /// A file is refused, by this line.
     Refused(Vec<u8>),
     /// A file can't be read.
-    Files,
+    File,
     Memory,
 }
 
@@ -30,34 +30,34 @@ pub struct TraceFiles {
     pub trace: Trace,
 }
 
-fn refused(alloc: Global, refusal: &Refusal) -> Halt
+fn refused(alloc: Global, refusal: &Refusal) -> NoTrace
     ensures { IsRefusalBy refusal.now result }
 {
     match refusal_line(alloc, refusal) {
-        Ok(line) => Halt::Refused(line),
-        Err(_) => Halt::Memory,
+        Ok(line) => NoTrace::Refused(line),
+        Err(_) => NoTrace::Memory,
     }
 }
 
-fn wrong_trace(alloc: Global, line: u32) -> Halt
+fn wrong_trace(alloc: Global, line: u32) -> NoTrace
     ensures { IsRefusalBy (wrong_line line) result }
 {
     match wrong_line(alloc, line) {
         Ok(refusal) => refused(alloc, &refusal),
-        Err(_) => Halt::Memory,
+        Err(_) => NoTrace::Memory,
     }
 }
 
 // The trace whose text the bytes are, with what the other files say.
 #[tactic(auto, using(crate::proofs::FilesDue::trace_read))]
-fn with_trace(alloc: Global, work: TraceWork) -> Result<TraceFiles, Halt>
+fn with_trace(alloc: Global, work: TraceWork) -> Result<TraceFiles, NoTrace>
     requires { IsTraceWork work }
     ensures { TraceRead work result }
 {
     match read_trace(alloc, work.system.counts(), &work.trace) {
         Ok(trace) => Ok(TraceFiles { work, trace }),
         Err(TraceError::Syntax { line }) => Err(wrong_trace(alloc, line)),
-        Err(TraceError::Memory) => Err(Halt::Memory),
+        Err(TraceError::Memory) => Err(NoTrace::Memory),
     }
 }
 
@@ -65,13 +65,13 @@ fn with_trace(alloc: Global, work: TraceWork) -> Result<TraceFiles, Halt>
 ///
 /// # Errors
 ///
-/// `Refused` with ffm's own line, `Files` only where a read failed in this call, of a file that is asked
-/// for, and `Memory` where no memory is found.
+/// `Refused` with ffm's own line, `File` only where a read failed in this call, of a file that is
+/// asked for, and `Memory` where no memory is found.
 pub fn read_files<F: Files>(
     alloc: Global,
     names: FileNames<'_>,
     files: &mut F,
-) -> Result<TraceFiles, Halt>
+) -> Result<TraceFiles, NoTrace>
     ensures read { FilesRead names.entry (F.seen files.old) (F.seen files.new) result }
     ensures files { IfOk result AreTraceFiles }
 {
@@ -85,7 +85,7 @@ pub fn read_files<F: Files>(
         Ok(Work::Judge(work)) => with_trace(alloc, work),
         Ok(_) => unreachable!(),
         Err(PartsError::Refused(refusal)) => Err(refused(alloc, &refusal)),
-        Err(PartsError::ReadFault) => Err(Halt::Files),
-        Err(PartsError::Memory) => Err(Halt::Memory),
+        Err(PartsError::ReadFault) => Err(NoTrace::File),
+        Err(PartsError::Memory) => Err(NoTrace::Memory),
     }
 }

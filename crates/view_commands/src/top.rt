@@ -1,48 +1,27 @@
 //! The top call.
-ghost use Rattle.std.specs.Prelude.{◌≡◌, ◌≢◌, IfOk, IsErrOf, map, string_bytes};
+ghost use Rattle.std.specs.Prelude.{◌≡◌, ◌≢◌, IfOk, map, string_bytes};
 ghost use Rattle.outside_io.specs.Sink.{Hands};
 ghost use Rattle.clap.specs.Words.{kind_of};
 ghost use Rattle.view_commands.specs.Answers.{Answered, AnswersRequest, AnswersWords, IsShownStatus, Shows};
 ghost use Rattle.view_commands.specs.Files.{AreTraceFiles};
 ghost use Rattle.view_words.specs.Requests.{told_status};
 
-use crate::files::{Halt, TraceFiles, read_files};
+use crate::files::{NoTrace, TraceFiles, read_files};
 use crate::view::view_of;
 use clap::Error;
 use clap::error::ErrorKind;
 use ffm_model::Memory;
 use outside_io::{Failed, Files, Sink, put_all};
-use std::alloc::{AllocError, Global};
+use std::alloc::Global;
+use text_lines::{NO_MEMORY, UNREAD, UNWRITTEN};
 use view_words::{Aspect, Request, request_of};
-
-// The statuses where there is nothing to write, or it can't be written.
-const UNREAD: u8 = 7;
-
-const UNWRITTEN: u8 = 8;
-
-/// The status where no memory was found.
-pub const NO_MEMORY: u8 = 9;
+use work_orders::Unanswered;
 
 /// A text to be written, and the status to end with.
 #[derive(Drop)]
 struct Answer {
     text: Vec<u8>,
     status: u8,
-}
-
-/// Why there is nothing to write.
-#[derive(Clone, Copy, Debug, PartialEq, Eq)]
-enum Stopped {
-    /// A file can't be read.
-    Files,
-    Memory,
-}
-
-// The text of clap on words that are no command, or that ask for help or the version.
-fn text_of(alloc: Global, error: &Error) -> Result<Vec<u8>, AllocError> {
-    let mut text = Vec::new(alloc);
-    text.extend_from_slice(error.to_string(alloc)?.as_bytes())?;
-    Ok(text)
 }
 
 // The status of help and the version, and of words that are no command.
@@ -52,22 +31,17 @@ fn told_status(error: &Error) -> u8
     if error.use_stderr() { 2 } else { 0 }
 }
 
-// The answer to words that are no command, or that ask for help or the version.
-fn told(alloc: Global, error: &Error) -> Result<Answer, Stopped>
+// The answer of clap to words that are no command, or that ask for help or the version.
+fn told(alloc: Global, error: &Error) -> Result<Answer, Memory>
     ensures status { IfOk result (λ answer. answer.status ≡ told_status (kind_of error.now)) }
     ensures kind { IfOk result (λ answer. kind_of error.now ≢ ErrorKind.OutOfMemory) }
-    ensures memory { IsErrOf result Stopped.Files → ⊥ }
 {
     if error.kind() == ErrorKind::OutOfMemory {
-        return Err(Stopped::Memory);
+        return Err(Memory);
     }
-    match text_of(alloc, error) {
-        Ok(text) => Ok(Answer {
-            text,
-            status: told_status(error),
-        }),
-        Err(_) => Err(Stopped::Memory),
-    }
+    let text = error.to_string(alloc)?.into_bytes();
+    let status = told_status(error);
+    Ok(Answer { text, status })
 }
 
 // What an aspect shows of the files of a trace.
@@ -86,32 +60,36 @@ fn answer_of<F: Files>(
     alloc: Global,
     request: Request<'_>,
     files: &mut F,
-) -> Result<Answer, Stopped>
+) -> Result<Answer, Unanswered>
     ensures answers { AnswersRequest request.entry (F.seen files.old) (F.seen files.new) result }
     ensures status { IfOk result (λ answer. IsShownStatus answer.status) }
 {
     match read_files(alloc, request.names, files) {
         Ok(read) => match shown(alloc, &read, request.aspect) {
             Ok(answer) => Ok(answer),
-            Err(Memory) => Err(Stopped::Memory),
+            Err(Memory) => Err(Unanswered::Memory),
         },
-        Err(Halt::Refused(line)) => Ok(Answer {
+        Err(NoTrace::Refused(line)) => Ok(Answer {
             text: line,
             status: 1,
         }),
-        Err(Halt::Files) => Err(Stopped::Files),
-        Err(Halt::Memory) => Err(Stopped::Memory),
+        Err(NoTrace::File) => Err(Unanswered::File),
+        Err(NoTrace::Memory) => Err(Unanswered::Memory),
     }
 }
 
 // The answer to the words.
-fn answer_to<F: Files>(alloc: Global, words: &[String], files: &mut F) -> Result<Answer, Stopped>
-    ensures answers { AnswersWords (map string_bytes words.now) (F.seen files.old) (F.seen files.new) result }
+fn answer_to<F: Files>(alloc: Global, words: &[String], files: &mut F) -> Result<Answer, Unanswered>
+    ensures answers { AnswersWords (map string_bytes words.now)
+        (F.seen files.old) (F.seen files.new) result }
     ensures status { IfOk result (λ answer. IsShownStatus answer.status) }
 {
     match request_of(alloc, words) {
         Ok(request) => answer_of(alloc, request, files),
-        Err(error) => told(alloc, &error),
+        Err(error) => match told(alloc, &error) {
+            Ok(answer) => Ok(answer),
+            Err(Memory) => Err(Unanswered::Memory),
+        },
     }
 }
 
@@ -148,7 +126,7 @@ pub fn ffm_view<F: Files, S: Sink>(
             Ok(()) => answer.status,
             Err(Failed) => UNWRITTEN,
         },
-        Err(Stopped::Files) => UNREAD,
-        Err(Stopped::Memory) => NO_MEMORY,
+        Err(Unanswered::File) => UNREAD,
+        Err(Unanswered::Memory) => NO_MEMORY,
     }
 }

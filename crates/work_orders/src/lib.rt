@@ -3,7 +3,9 @@
 #![tactic(auto)]
 
 mod limits;
+mod unanswered;
 mod work;
 
 pub use limits::{MAX_TRACE_BYTES, value_of_the_trace_limit};
+pub use unanswered::Unanswered;
 pub use work::{RunWork, TraceWork, Work, system_in, work_of};

@@ -51,26 +51,13 @@ pub enum Work {
     Make(u32),
 }
 
-// A refusal of a whole file.
-fn too_long(alloc: Global, root: Root) -> Refusal
-    ensures { result ≡ record { code = FILE_TOO_LONG; place = record { root = root; steps = [] }; cycle = [] } }
+// The refusal, with this code, of what stands at these steps of a file.
+fn refusal(alloc: Global, code: u8, root: Root, steps: Vec<PathStep>) -> Refusal
+    ensures { result ≡
+        record { code = code; place = record { root = root; steps = steps.items }; cycle = [] } }
 {
     Refusal {
-        code: FILE_TOO_LONG,
-        place: Place {
-            root,
-            steps: List::of(Vec::new(alloc)),
-        },
-        cycle: List::of(Vec::new(alloc)),
-    }
-}
-
-// The refusal of what stands at these steps of a file, as a bad value.
-fn bad_value(alloc: Global, root: Root, steps: Vec<PathStep>) -> Refusal
-    ensures { result ≡ record { code = BAD_VALUE; place = record { root = root; steps = steps.items }; cycle = [] } }
-{
-    Refusal {
-        code: BAD_VALUE,
+        code,
         place: Place {
             root,
             steps: List::of(steps),
@@ -93,7 +80,10 @@ fn bytes_of<F: Files>(
 {
     match files.read(alloc, name, limit) {
         Ok(bytes) => Ok(bytes),
-        Err(FileError::TooLong) => Err(PartsError::Refused(too_long(alloc, root))),
+        Err(FileError::TooLong) => {
+            let too_long = refusal(alloc, FILE_TOO_LONG, root, Vec::new(alloc));
+            Err(PartsError::Refused(too_long))
+        }
         Err(FileError::Failed) => Err(PartsError::ReadFault),
         Err(FileError::Memory) => Err(PartsError::Memory),
     }
@@ -140,7 +130,8 @@ fn scenario_for(alloc: Global, single: bool, scenario: Scenario) -> Result<Scena
 {
     if single && scenario.restarts > 0 {
         let steps = vec![in alloc; PathStep::Key(Key::Restarts)]?;
-        return Err(ReadError::Refused(bad_value(alloc, Root::Scenario, steps)));
+        let restarts = refusal(alloc, BAD_VALUE, Root::Scenario, steps);
+        return Err(ReadError::Refused(restarts));
     }
     Ok(scenario)
 }

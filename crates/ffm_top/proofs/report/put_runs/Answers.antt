@@ -4,7 +4,7 @@ use Rattle.std.specs.List.{list_all}
 use Rattle.std.proofs.lemmas.Result.{err_from_is_err_and}
 use Rattle.ffm_model.specs.declared.trace.Trace.{Trace}
 use Rattle.ffm_model.specs.Counts.{ActorCounts}
-use Rattle.outside_io.specs.Sink.{Took, Stopped}
+use Rattle.outside_io.specs.Sink.{Took, TookPart}
 use Rattle.scenario_runs.specs.Restarting.{finished, fits_counts}
 use Rattle.ffm_top.specs.Runs.{run_text, runs_text}
 use Rattle.ffm_top.proofs.RunTexts.{run_more, run_cut, trace_at}
@@ -26,9 +26,9 @@ returns-in_err-put_run g c =
     let behind = g.S.Sink.seen c.put_run.new.out in
     let lt : k < length ts = subst (λ (xs : List Trace). k < length xs) c.deref-trace-items.ensures.value c.loop-count-test.true in
     let item : d ≡ get_or ts k d = c.trace-item.is ∙ ap (λ (xs : List Trace). get_or xs k d) c.deref-trace-items.ensures.value in
-    let piece : Stopped before behind (run_text c.counts-counts.result k (finished (get_or ts k d))) =
-    subst (λ (t : Trace). Stopped before behind (run_text c.counts-counts.result k (finished t))) item c.in_err-put_run.ensures in
-    rw p.1 (subst (λ (n : ActorCounts). Stopped (g.S.Sink.seen c.args.out.now) behind (runs_text n 0 (map finished ts))) c.counts-counts.ensures
+    let piece : TookPart before behind (run_text c.counts-counts.result k (finished (get_or ts k d))) =
+    subst (λ (t : Trace). TookPart before behind (run_text c.counts-counts.result k (finished t))) item c.in_err-put_run.ensures in
+    rw p.1 (subst (λ (n : ActorCounts). TookPart (g.S.Sink.seen c.args.out.now) behind (runs_text n 0 (map finished ts))) c.counts-counts.ensures
     (run_cut c.counts-counts.result ts k d (g.S.Sink.seen c.args.out.now) before behind lt c.loop-count.invariant piece))
 
 pub loop-count-preserved : goal.loop-count-preserved

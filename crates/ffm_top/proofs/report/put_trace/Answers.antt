@@ -5,7 +5,7 @@ use Rattle.std.specs.List.{flat_map}
 use Rattle.ffm_model.specs.declared.machine.Entry.{Entry}
 use Rattle.ffm_model.specs.TraceText.{entry_text, line, verdict_text}
 use Rattle.outside_io.specs.Sink.{Took, Writes}
-use Rattle.outside_io.proofs.SinkSteps.{stopped_first, stopped_item, took_item, writes_then}
+use Rattle.outside_io.proofs.SinkSteps.{took_part_first, took_part_item, took_item, writes_then}
 use Rattle.ffm_top.proofs.RunTexts.{actor_at, few_entries}
 use Rattle.ffm_top.proofs.report.put_trace.Goals as goal
 
@@ -19,8 +19,8 @@ returns-in_err-put_entry g c =
     let p = err_from_is_err_and c.from_residual.result c.from_residual.ensures.1 in
     let f = λ (e : Entry). line (entry_text c.args.counts e) in
     let items = c.as_slice-entry-items.result.now in
-    rw (p.1, ← c.as_slice-entry-items.ensures) (stopped_first _ _ (flat_map f items) (line (verdict_text c.args.trace.now.verdict (length items)))
-    (stopped_item f items c.loop-entry.entry-index _ _ _ _ c.loop-entry-test.true c.loop-entry.invariant c.in_err-put_entry.ensures))
+    rw (p.1, ← c.as_slice-entry-items.ensures) (took_part_first _ _ (flat_map f items) (line (verdict_text c.args.trace.now.verdict (length items)))
+    (took_part_item f items c.loop-entry.entry-index _ _ _ _ c.loop-entry-test.true c.loop-entry.invariant c.in_err-put_entry.ensures))
 
 pub loop-entry-preserved : goal.loop-entry-preserved
 loop-entry-preserved g c = took_item (λ (e : Entry). line (entry_text c.args.counts e)) c.as_slice-entry-items.result.now c.loop-entry.entry-index _ _ _ _ c.loop-entry-test.true c.loop-entry.invariant c.in_ok-put_entry.ensures

@@ -5,5 +5,6 @@ use Rattle.view_commands.proofs.top.answer_to.Goals as goal
 pub returns-in-Ok-clause-answers : goal.returns-in-Ok-clause-answers
 returns-in-Ok-clause-answers g c = asked_answer (map string_bytes c.args.words.now) c.in-Ok.request _ _ c.answer_of.result c.in-Ok.ensures.asked c.answer_of.ensures.answers
 
-pub returns-in-Err-clause-answers : goal.returns-in-Err-clause-answers
-returns-in-Err-clause-answers g c = told_answer (map string_bytes c.args.words.now) c.in-Err.error _ c.told.result c.in-Err.ensures.told c.told.ensures.status c.told.ensures.kind c.told.ensures.memory
+pub returns-in-Ok-told-clause-answers : goal.returns-in-Ok-told-clause-answers
+returns-in-Ok-told-clause-answers g c =
+    told_answer (map string_bytes c.args.words.now) c.in-Err.error _ c.in-Ok-told.answer c.in-Err.ensures.told c.in-Ok-told.ensures.status c.in-Ok-told.ensures.kind
