@@ -11,9 +11,9 @@ use crate::top::ffm_by;
 use outside_io::{SteadyFiles, SteadySink};
 use std::alloc::Global;
 
-/// `ffm` without threads, over files and a sink that never fail: neither 7 nor 8 comes, and where the
-/// words are accepted and the files give no refusal, what was asked for is done and its text written,
-/// or no memory was found.
+/// `ffm` without threads, over files and a sink that never fail: neither 7 nor 8 comes, and where
+/// the words are accepted and the files give no refusal, what was asked for is done and its text
+/// written, or no memory was found. The files tell which of them were read.
 pub fn ffm_steady(
     alloc: Global,
     words: &Vec<String>,
@@ -22,7 +22,8 @@ pub fn ffm_steady(
 ) -> u8
     requires { asks_threads (order_of (map string_bytes words.now.items)) ≡ false }
     ensures answered { Answered (map string_bytes words.now.items) None
-        (files_seen files.old) (files_seen files.new) (sink_seen out.old) (sink_seen out.new) result }
+        (files_seen files.old) (files_seen files.new)
+        (sink_seen out.old) (sink_seen out.new) result }
     ensures no_read_fails { result ≢ 7 }
     ensures no_put_fails { result ≢ 8 }
 {

@@ -1,7 +1,6 @@
 //! Files in memory, some of whose reads fail.
 
-ghost use Rattle.std.specs.Prelude.{◌≡◌, ◌≢◌, ◌⊎◌, ℕ, ◌<◌, ◌≤◌, List, [], ◌∷◌, ◌++◌, Some, None, IfOk, OnOk, OnErr, IsSomeAnd, IsErrOf};
-ghost use Rattle.std.specs.Prelude.{vec_len, length, map, string_bytes};
+ghost use Rattle.std.specs.Prelude.{◌≡◌, ◌≢◌, ◌⊎◌, ℕ, ◌<◌, ◌≤◌, List, [], ◌∷◌, ◌++◌, Some, None, IfOk, OnOk, OnErr, IsSomeAnd, IsErrOf, vec_len, length, map, string_bytes};
 ghost use Rattle.std.specs.Option.{option_map};
 ghost use Rattle.outside_io.specs.Count.{one_more};
 
@@ -19,7 +18,7 @@ pub struct MemoryFiles {
     files: BTreeMap<String, Vec<u8>>,
     failing: List<u32>,
     calls: u64,
-    reads: Vec<String>,
+    pub(crate) reads: Vec<String>,
     faults: u64,
     last_failed: Option<String>,
 }
@@ -91,8 +90,8 @@ impl MemoryFiles {
     }
 }
 
-// Keeps one more name after those before.
-fn keep(names: &mut Vec<String>, alloc: Global, name: &str) -> Result<(), FileError>
+/// Keeps one more name after those before.
+pub(crate) fn keep(names: &mut Vec<String>, alloc: Global, name: &str) -> Result<(), FileError>
     ensures kept { OnOk result
         (map string_bytes names.new.items ≡ map string_bytes names.old.items ++ name.now ∷ []) }
     ensures not_kept { OnErr result

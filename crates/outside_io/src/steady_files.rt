@@ -1,32 +1,41 @@
 //! Files in memory, none of whose reads fails.
 
-ghost use Rattle.std.specs.Prelude.{◌≡◌, ℕ, ◌<◌, List, [], IfOk, IsErrOf};
-ghost use Rattle.std.specs.Prelude.{length};
+ghost use Rattle.std.specs.Prelude.{◌≡◌, ℕ, ◌<◌, List, [], IfOk, IsErrOf, length, map, string_bytes};
 ghost use Rattle.std.specs.Option.{unwrap_or};
 
 use crate::files::{FileError, Files};
-use crate::memory_files::MemoryFiles;
+use crate::memory_files::{MemoryFiles, keep};
 use std::alloc::Global;
 
 /// Files in memory that hold something under every name, so that no read fails.
 ///
-/// It tells what each name holds, and that no read failed; its count of faults is 0. It doesn't tell
-/// which names were read.
+/// It tells what each name holds, the names that were read, and that no read failed; its count of
+/// faults is 0.
 #[derive(Drop)]
 pub struct SteadyFiles {
     files: MemoryFiles,
 }
 
 impl SteadyFiles {
-    ghost use Rattle.outside_io.specs.MemoryFiles.{held_by};
-    ghost use Rattle.outside_io.specs.SteadyFiles.{content_of};
+    ghost use Rattle.outside_io.specs.MemoryFiles.{held_by, reads_of as reads_before};
+    ghost use Rattle.outside_io.specs.SteadyFiles.{content_of, reads_of};
 
     /// Every name holds what it holds in `files`, and no byte where it isn't held there. The calls
-    /// that are listed there to fail don't fail here. It takes no memory.
+    /// that are listed there to fail don't fail here. The names that were read there stand before
+    /// those that are read here. It takes no memory.
     pub fn new(files: MemoryFiles) -> Self
-        ensures { (name : List ℕ) → content_of result name ≡ unwrap_or (held_by files name) [] }
+        ensures held { (name : List ℕ) → content_of result name ≡ unwrap_or (held_by files name) [] }
+        ensures reads { reads_of result ≡ reads_before files }
     {
         SteadyFiles { files }
+    }
+
+    /// The names that were read, in order, lent. A call that found no memory to keep its name read
+    /// nothing.
+    pub fn reads(&self) -> &[String]
+        ensures { map string_bytes result.now ≡ reads_of self.now }
+    {
+        self.files.reads()
     }
 }
 
@@ -43,12 +52,13 @@ impl Files for SteadyFiles {
         ensures too_long { IsErrOf result FileError.TooLong →
             limit < length (content_of self.old name.now) }
         ensures never_fails { IsErrOf result FileError.Failed → ⊥ }
-        ensures same { self.new ≡ self.old }
+        ensures keeps { content_of self.new ≡ content_of self.old }
     {
-        let bytes = self.files.content(name).unwrap_or(&[]);
-        if bytes.len() > limit as usize {
-            return Err(FileError::TooLong);
+        keep(&mut self.files.reads, alloc, name)?;
+        match self.files.content(name) {
+            Some(bytes) if bytes.len() <= limit as usize => Ok(bytes.to_vec(alloc)?),
+            Some(_) => Err(FileError::TooLong),
+            None => Ok(Vec::new(alloc)),
         }
-        Ok(bytes.to_vec(alloc)?)
     }
 }

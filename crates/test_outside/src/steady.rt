@@ -9,13 +9,13 @@ use std::test::Fail;
 
 const SYSTEM: &str = r#"{"isolation_level":1,"manifests":[],"clients":["NS"]}"#;
 
-// Fails unless this status comes of the words, and the sink keeps this text.
+// Fails unless this status comes of the words, the sink keeps this text, and so many files were read.
 fn assert_steady(
     rt: &impl Abort,
     alloc: Global,
     words: &[&str],
     room: usize,
-    (status, text): (u8, &str),
+    (status, text, reads): (u8, &str, usize),
 ) -> Result<(), Fail> {
     let words = words_of(alloc, words)?;
     if asks_threads(&words) {
@@ -26,6 +26,7 @@ fn assert_steady(
     let mut sink = SteadySink::new(alloc, room)?;
     assert!(rt; ffm_steady(alloc, &words, &mut files, &mut sink) == status);
     assert!(rt; sink.bytes() == text.as_bytes());
+    assert!(rt; files.reads().len() == reads);
     Ok(())
 }
 
@@ -36,9 +37,9 @@ fn steady_pair(rt: HostRuntime) -> Result<(), Fail> {
     let run: &[&str] = &["ffm", "run", "system", "scenario"];
     let compile: &[&str] = &["ffm", "compile", "nothing"];
     for (words, room, told) in [
-        (run, 64, (0, "n1 stop end -> done\nquiet 1\n")),
-        (run, 20, (0, "n1 stop end -> done\n")),
-        (compile, 64, (1, "refused 1 Json system\n")),
+        (run, 64, (0, "n1 stop end -> done\nquiet 1\n", 2)),
+        (run, 20, (0, "n1 stop end -> done\n", 2)),
+        (compile, 64, (1, "refused 1 Json system\n", 1)),
     ] {
         assert_steady(&rt, rt.alloc(), words, room, told)?;
     }
