@@ -4,14 +4,14 @@ use Rattle.std.specs.Prelude.{◌≢◌, IfSome, IsOkAnd}
 use Rattle.ffm_model.specs.declared.machine.Entry.{Entry}
 use Rattle.ffm_model.specs.Reading.{Contents, Reading, Stop, refused}
 use Rattle.command_words.specs.Words.{Order, asks_threads, order_of}
-use Rattle.outside_io.specs.Files.{Answers, Asks, FilesSeen, Halt as Ended, MayHold, failed, no_memory, stopped}
+use Rattle.outside_io.specs.Files.{Answers, Asks, FilesSeen, NoValue, MayHold, failed, no_memory, stopped}
 use Rattle.outside_io.specs.Sink.{SinkSeen, Hands}
 use Rattle.outside_io.proofs.FilesSteps.{asks_given, asks_lost}
 use Rattle.work_orders.specs.View.{work}
 use Rattle.work_orders.specs.Work.{Work, work_of}
+use Rattle.work_orders.specs.declared.unanswered.Unanswered.TheVariants as unanswered
 use Rattle.ffm_top.specs.declared.asked.Asked.{Asked}
 use Rattle.ffm_top.specs.declared.asked.Asked.TheVariants as asked
-use Rattle.ffm_top.specs.declared.asked.Halt.TheVariants as halt
 use Rattle.ffm_top.specs.Answers.{Answered, IsDoneStatus, IsStatus, all_asked}
 use Rattle.ffm_top.specs.Asked.{AskedBy, AskedDue, IsToDo, IsValidAsked, TakesThreads, wants_threads}
 use Rattle.ffm_top.specs.Due.{DueBy, IsValidBy, IsValidWork, LeftBy, OrderDue, names_asked}
@@ -54,7 +54,7 @@ due_over (Some o) f g ended (asked.Work w) text status by due of may = due_by _ 
 
 -- ---- what was read
 
-all_of : {A : Type 0} (f g : FilesSeen) (r : Result A Ended) (asked : Contents → Reading A) → ((of : Contents) → MayHold f.held of (asked of).names → Answers {A = Unit {0}} f g (Ok tt) (record { names = (asked of).names; gives = Ok tt }))
+all_of : {A : Type 0} (f g : FilesSeen) (r : Result A NoValue) (asked : Contents → Reading A) → ((of : Contents) → MayHold f.held of (asked of).names → Answers {A = Unit {0}} f g (Ok tt) (record { names = (asked of).names; gives = Ok tt }))
     → (g.faults ≡ f.faults) × (g.last_failed ≡ f.last_failed) → g.held ≡ f.held → Asks {A = Unit {0}} f g (Ok tt) (λ of. record { names = (asked of).names; gives = Ok tt })
 all_of f g r asked answers counts keeps = record { keeps = keeps; answers = answers; counts = counts }
 
@@ -66,11 +66,11 @@ reads_all (Some o) f g asked.Usage by = absurd by
 reads_all (Some o) f g (asked.Refused r) by = all_of f g (Err (stopped (refused r))) (λ of. work_of of o) (λ of may. ((by.answers of may).0, refl)) by.counts by.keeps
 reads_all (Some o) f g (asked.Work w) by = all_of f g (Ok (work w)) (λ of. work_of of o) (λ of may. ((by.answers of may).0, refl)) by.counts by.keeps
 
-reads_failed : (o : Option Order) (f g : FilesSeen) → AskedBy o f g (Err halt.Files) → Asks {A = Unit {0}} f g (Err failed) (λ of. record { names = names_asked o of; gives = Ok tt })
+reads_failed : (o : Option Order) (f g : FilesSeen) → AskedBy o f g (Err unanswered.File) → Asks {A = Unit {0}} f g (Err failed) (λ of. record { names = names_asked o of; gives = Ok tt })
 reads_failed None f g by = absurd by
 reads_failed (Some o) f g by = record { keeps = by.keeps; answers = λ of may. by.answers of may; counts = by.counts }
 
-reads_front : (o : Option Order) (f g : FilesSeen) → AskedBy o f g (Err halt.Memory) → Asks {A = Unit {0}} f g (Err no_memory) (λ of. record { names = names_asked o of; gives = Ok tt })
+reads_front : (o : Option Order) (f g : FilesSeen) → AskedBy o f g (Err unanswered.Memory) → Asks {A = Unit {0}} f g (Err no_memory) (λ of. record { names = names_asked o of; gives = Ok tt })
 reads_front None f g by = absurd by
 reads_front (Some o) f g by = record { keeps = by.keeps; answers = λ of may. by.answers of may; counts = by.counts }
 
@@ -108,11 +108,11 @@ no_words_by None f g ended (asked.Work w) text status by due none = absurd by
 no_words_by (Some o) f g ended a text status by due none = absurd cc
 
 -- without words there is an answer
-no_halt : (o : Option Order) (f g : FilesSeen) → AskedBy o f g (Err halt.Memory) → o ≡ None → ⊥
+no_halt : (o : Option Order) (f g : FilesSeen) → AskedBy o f g (Err unanswered.Memory) → o ≡ None → ⊥
 no_halt None f g by none = by
 no_halt (Some o) f g by none = cc
 
-no_fault : (o : Option Order) (f g : FilesSeen) → AskedBy o f g (Err halt.Files) → o ≡ None → ⊥
+no_fault : (o : Option Order) (f g : FilesSeen) → AskedBy o f g (Err unanswered.File) → o ≡ None → ⊥
 no_fault None f g by none = by
 no_fault (Some o) f g by none = cc
 
@@ -164,11 +164,12 @@ answered_whole words ended f g out after a text status by takes due hands =
 
 -- it wasn't
 pub answered_part : (words : List (List ℕ)) (ended : Option (List Entry)) (f g : FilesSeen) (out after : SinkSeen) (a : Asked) (text : List ℕ) (status : ℕ)
-    → AskedBy (order_of words) f g (Ok a) → AskedDue a ended text status → Hands {T = Unit {0}} {E = Unit {0}} out after (Err tt) text → Answered words ended f g out after 8
-answered_part words ended f g out after a text status by due hands = record {
+    → AskedBy (order_of words) f g (Ok a) → TakesThreads (asks_threads (order_of words)) a → AskedDue a ended text status → Hands {T = Unit {0}} {E = Unit {0}} out after (Err tt) text
+    → Answered words ended f g out after 8
+answered_part words ended f g out after a text status by takes due hands = record {
   status_is = inr (omega arith, omega arith);
   due = λ lt. absurd (omega arith);
-  part = λ _. (text, status, due_over (order_of words) f g ended a text status by due, hands);
+  part = λ _. (text, status, due_over (order_of words) f g ended a text status by due, left_by (order_of words) f g ended a text status by takes due, hands);
   nothing = λ e. absurd (elim e [ inl p ↦ omega arith | inr p ↦ omega arith ]);
   read = λ _. reads_all (order_of words) f g a by;
   read_failed = λ e. absurd (omega arith);
@@ -179,7 +180,7 @@ answered_part words ended f g out after a text status by due hands = record {
 }
 
 -- a file that is asked for wasn't read
-pub answered_unread : (words : List (List ℕ)) (ended : Option (List Entry)) (f g : FilesSeen) (out : SinkSeen) → AskedBy (order_of words) f g (Err halt.Files) → Answered words ended f g out out 7
+pub answered_unread : (words : List (List ℕ)) (ended : Option (List Entry)) (f g : FilesSeen) (out : SinkSeen) → AskedBy (order_of words) f g (Err unanswered.File) → Answered words ended f g out out 7
 answered_unread words ended f g out by = record {
   status_is = inr (omega arith, omega arith);
   due = λ lt. absurd (omega arith);
@@ -208,7 +209,7 @@ no_memory_by words ended f g out reads some = record {
 }
 
 -- no memory was found while the files were read
-pub answered_no_memory : (words : List (List ℕ)) (ended : Option (List Entry)) (f g : FilesSeen) (out : SinkSeen) → AskedBy (order_of words) f g (Err halt.Memory) → Answered words ended f g out out 9
+pub answered_no_memory : (words : List (List ℕ)) (ended : Option (List Entry)) (f g : FilesSeen) (out : SinkSeen) → AskedBy (order_of words) f g (Err unanswered.Memory) → Answered words ended f g out out 9
 answered_no_memory words ended f g out by = no_memory_by words ended f g out (reads_front (order_of words) f g by) (no_halt (order_of words) f g by)
 
 some_words : (o : Option Order) (f g : FilesSeen) (a : Asked) → AskedBy o f g (Ok a) → IsToDo a → o ≡ None → ⊥

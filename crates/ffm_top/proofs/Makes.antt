@@ -1,7 +1,8 @@
 -- The run of a generated system, and how many bytes it moves.
-use Rattle.std.proofs.Common.{ℕ, ◌≡◌, ◌<◌, ◌+◌, List, [], ◌∷◌, length, take, ap, sym, ◌∙◌, refl, arith}
-use Rattle.std.specs.Prelude.{None, Ok, IfSome, false, slice_get}
+use Rattle.std.proofs.Common.{ℕ, ◌≡◌, ◌<◌, ◌+◌, List, [], ◌∷◌, length, take, get_or, ap, sym, ◌∙◌, refl, arith, subst}
+use Rattle.std.specs.Prelude.{None, Ok, Option, IfSome, false, slice_get}
 use Rattle.std.proofs.lemmas.List.Sums.{sum_by_more}
+use Rattle.std.proofs.lemmas.Option.{slice_get-get_or}
 use Rattle.ffm_model.specs.declared.machine.Entry.{Entry}
 use Rattle.ffm_model.specs.declared.machine.Verdict.{Verdict}
 use Rattle.ffm_model.specs.declared.scenario.Scenario.{Scenario}
@@ -16,7 +17,6 @@ use Rattle.actor_programs.specs.declared.program.Program.{Program}
 use Rattle.actor_programs.specs.Programs.{programs_of}
 use Rattle.scenario_runs.specs.Runs.{RanBy}
 use Rattle.work_orders.specs.Work.{system_in}
-use Rattle.ffm_top.proofs.Traces.{at_place}
 
 pub is_generated : (rounds : ℕ) (s : System) (c : Scenario) (programs : List Program) (held : Contents) → ((name : List ℕ) → held name ≡ None) → (system_in held system_text).gives ≡ Ok s
     → stopped (scenario_in s (scenario_text rounds)) ≡ Ok c → programs_of s c ≡ Ok programs → IsGenerated rounds s c programs
@@ -27,6 +27,10 @@ is_made rounds s c programs es v generated ran = record { system = s; scenario =
 
 pub made_due : (rounds : ℕ) (es : List Entry) (v : Verdict) (text : List ℕ) → IsMade rounds es v → text ≡ summary_line rounds (length es) (bytes_moved es) v → MadeDue rounds text 0
 made_due rounds es v text made e = record { entries = es; ended = v; made = made; text_is = e; status_is = refl }
+
+-- what is said of the item at a place
+at_place : {X : Type 0} (P : X → Type 0) (xs : List X) (i : ℕ) (d : X) → i < length xs → IfSome (slice_get xs i) P → P (get_or xs i d)
+at_place {X = X} P xs i d lt h = let Q : Option X → Type 0 = λ o. IfSome o P in subst Q (slice_get-get_or xs i d lt) h
 
 -- one event more
 pub moved_more : (es : List Entry) (i n : ℕ) → i < length es → IfSome (slice_get es i) (λ e. n ≡ moved_by e.call e.outcome) → bytes_moved (take (i + 1) es) ≡ bytes_moved (take i es) + n

@@ -1,6 +1,6 @@
 -- Which text and which status the words and the named files call for, and which files they ask for.
 -- Source: this simulator's.
-use Rattle.std.specs.Prelude.{◌≡◌, ◌≢◌, ◌⊎◌, ℕ, Bool, true, false, List, [], Option, None, Some, Result, Ok, Err, IfSome, IsOkAnd}
+use Rattle.std.specs.Prelude.{◌≡◌, ◌≢◌, ℕ, Bool, true, false, List, [], Option, None, Some, Result, Ok, Err, IfSome, IsOkAnd}
 use Rattle.ffm_model.specs.declared.machine.Entry.{Entry}
 use Rattle.ffm_model.specs.declared.machine.Verdict.{Verdict}
 use Rattle.ffm_model.specs.declared.system.System.{System}

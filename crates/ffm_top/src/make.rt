@@ -9,19 +9,17 @@ ghost use Rattle.ffm_top.specs.Makes.{IsGenerated, IsMade, moved_by, bytes_moved
 ghost use Rattle.ffm_top.specs.Report.{text_of, status_of};
 ghost use Rattle.work_orders.specs.View.{IsRun};
 ghost use Rattle.work_orders.specs.Work.{system_in};
-ghost use Rattle.ffm_model.specs.TraceText.{verdict_word};
 
 use crate::report::Report;
 use actor_programs::programs_of;
 use ffm_model::{Call, Entry, Memory, Outcome, PartsError, Scenario, System, Verdict};
 use generated_system::{scenario_text, system_text};
-use itoa::Buffer;
 use outside_io::MemoryFiles;
 use scenario_runs::{Ran, run_once};
 use spm_core::Spm;
 use std::alloc::{AllocError, Global};
 use system_json::read_scenario;
-use text_lines::{append, append_number};
+use text_lines::verdict_word;
 use work_orders::{RunWork, system_in};
 
 // The generated system, of which no file is read.
@@ -34,7 +32,8 @@ fn system_of(alloc: Global, nothing: &mut MemoryFiles) -> Result<System, PartsEr
 
 // The generated scenario, with so many requests of each client.
 fn scenario_of(alloc: Global, rounds: u32, system: &System) -> Result<Scenario, PartsError>
-    ensures given { IfOk result (λ c. stopped (scenario_in system.now (scenario_text rounds)) ≡ Ok c) }
+    ensures given { IfOk result (λ c.
+        stopped (scenario_in system.now (scenario_text rounds)) ≡ Ok c) }
     ensures kept { IfOk result (IsScenarioOf system.now) }
 {
     let text = scenario_text(alloc, rounds)?;
@@ -44,7 +43,8 @@ fn scenario_of(alloc: Global, rounds: u32, system: &System) -> Result<Scenario, 
 // What the generated texts stand for, with so many requests of each client.
 #[tactic(auto, using(crate::proofs::Makes::is_generated))]
 fn generated(alloc: Global, rounds: u32) -> Result<RunWork, PartsError>
-    ensures generated { IfOk result (λ work. IsGenerated rounds work.system work.scenario work.programs) }
+    ensures generated { IfOk result (λ work.
+        IsGenerated rounds work.system work.scenario work.programs) }
     ensures kept { IfOk result IsRun }
 {
     let mut nothing = MemoryFiles::new(alloc);
@@ -90,16 +90,6 @@ fn bytes_moved(spm: &Spm) -> u64
     moved
 }
 
-fn verdict_word(verdict: Verdict) -> &'static str
-    ensures { result.now ≡ verdict_word verdict }
-{
-    match verdict {
-        Verdict::Quiet => "quiet",
-        Verdict::Stalled => "stalled",
-        Verdict::Full => "full",
-    }
-}
-
 // The line that sums a run up.
 #[tactic(auto, unfolding(crate::specs::Makes::summary_line))]
 fn summary_line(
@@ -111,17 +101,9 @@ fn summary_line(
 ) -> Result<Vec<u8>, AllocError>
     ensures { IfOk result (λ line. line.items ≡ summary_line rounds count moved verdict) }
 {
-    let mut line = Vec::new(alloc);
-    append(&mut line, "make ")?;
-    append_number(&mut line, rounds)?;
-    append(&mut line, " entries ")?;
-    append_number(&mut line, count)?;
-    append(&mut line, " bytes ")?;
-    append(&mut line, Buffer::new().format(moved))?;
-    append(&mut line, " ")?;
-    append(&mut line, verdict_word(verdict))?;
-    append(&mut line, "\n")?;
-    Ok(line)
+    let word = verdict_word(verdict);
+    let line = format!(in alloc; "make {rounds} entries {count} bytes {moved} {word}\n")?;
+    Ok(line.into_bytes())
 }
 
 // The run of what the generated texts stand for.

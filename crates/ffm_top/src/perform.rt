@@ -42,8 +42,10 @@ fn listed(alloc: Global, system: &System) -> Result<Report, Memory>
 fn ran<T: ThreadedRuns + Drop>(alloc: Global, work: RunWork, threads: T) -> Result<Report, Memory>
     requires work { IsRun work }
     requires may { work.threads ≡ true → T.may_run threads }
-    ensures due { IfOk result (λ report. RunDue work.system work.scenario work.programs work.threads (text_of report) (status_of report)) }
-    ensures left { IfOk result (λ report. LeftBy work.threads (T.ended threads) (text_of report) (status_of report)) }
+    ensures due { IfOk result (λ report. RunDue work.system work.scenario work.programs work.threads
+        (text_of report) (status_of report)) }
+    ensures left { IfOk result (λ report.
+        LeftBy work.threads (T.ended threads) (text_of report) (status_of report)) }
 {
     Ok(Report::Ran(run(alloc, work, threads)?))
 }
@@ -52,7 +54,9 @@ fn ran<T: ThreadedRuns + Drop>(alloc: Global, work: RunWork, threads: T) -> Resu
 #[tactic(auto, unfolding(crate::specs::Report::text_of))]
 fn inspected(alloc: Global, work: &TraceWork) -> Result<Report, Memory>
     requires { IsTraceWork work.now }
-    ensures { IfOk result (λ report. TraceDue work.now.inspection work.now.system work.now.scenario work.now.trace.items (text_of report) (status_of report)) }
+    ensures { IfOk result (λ report.
+        TraceDue work.now.inspection work.now.system work.now.scenario work.now.trace.items
+        (text_of report) (status_of report)) }
 {
     Ok(Report::Inspected(judge(alloc, work)?))
 }
@@ -61,8 +65,10 @@ fn inspected(alloc: Global, work: &TraceWork) -> Result<Report, Memory>
 fn done<T: ThreadedRuns + Drop>(alloc: Global, work: Work, threads: T) -> Result<Report, Memory>
     requires work { IsWork work }
     requires may { threads_of work ≡ true → T.may_run threads }
-    ensures due { IfOk result (λ report. WorkDue (work_seen work) (text_of report) (status_of report)) }
-    ensures left { IfOk result (λ report. LeftBy (threads_of work) (T.ended threads) (text_of report) (status_of report)) }
+    ensures due { IfOk result (λ report.
+        WorkDue (work_seen work) (text_of report) (status_of report)) }
+    ensures left { IfOk result (λ report.
+        LeftBy (threads_of work) (T.ended threads) (text_of report) (status_of report)) }
 {
     match work {
         Work::Listing(system) => listed(alloc, &system),
@@ -82,7 +88,8 @@ pub fn perform<T: ThreadedRuns + Drop>(
 ) -> Result<Report, Memory>
     requires asked { IsAsked asked }
     requires may { wants_threads asked ≡ true → T.may_run threads }
-    ensures due { IfOk result (λ report. AskedDue asked (T.ended threads) (text_of report) (status_of report)) }
+    ensures due { IfOk result (λ report.
+        AskedDue asked (T.ended threads) (text_of report) (status_of report)) }
 
     // That the words are no command is told without memory.
     ensures usage { OnErr result (IsToDo asked) }

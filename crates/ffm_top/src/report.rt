@@ -1,6 +1,6 @@
 //! What is written at the end.
 
-ghost use Rattle.std.specs.Prelude.{◌≡◌, ◌<◌, ◌≤◌, ◌+◌, drop, length, map, take, true};
+ghost use Rattle.std.specs.Prelude.{◌≡◌, map, true};
 ghost use Rattle.outside_io.specs.Sink.{Hands, Writes};
 ghost use Rattle.ffm_model.specs.Actors.{counts_of};
 ghost use Rattle.ffm_model.specs.TraceText.{IsActorOf, entry_text, line, trace_text, verdict_text};
@@ -56,7 +56,8 @@ fn put_verdict<S: Sink>(out: &mut S, verdict: Verdict, count: u32) -> Result<(),
 // Puts a run's trace, line by line.
 fn put_trace<S: Sink>(out: &mut S, counts: Counts, trace: &Trace) -> Result<(), Failed>
     requires { fits_counts counts trace.now ≡ true }
-    ensures { Writes (S.seen out.old) (S.seen out.new) result (trace_text counts trace.now.entries trace.now.verdict) }
+    ensures { Writes (S.seen out.old) (S.seen out.new) result
+        (trace_text counts trace.now.entries trace.now.verdict) }
 {
     let mut room = Line::new();
     for entry in trace.entries.as_slice() {
@@ -83,7 +84,8 @@ fn restart_line(count: usize) -> Line
 // Puts the trace of the run after so many others, and the line before it.
 fn put_run<S: Sink>(out: &mut S, counts: Counts, count: usize, trace: &Trace) -> Result<(), Failed>
     requires { fits_counts counts trace.now ≡ true }
-    ensures { Writes (S.seen out.old) (S.seen out.new) result (run_text counts count (finished trace.now)) }
+    ensures { Writes (S.seen out.old) (S.seen out.new) result
+        (run_text counts count (finished trace.now)) }
 {
     let line = restart_line(count);
     put_all(out, line.as_slice())?;
@@ -92,7 +94,8 @@ fn put_run<S: Sink>(out: &mut S, counts: Counts, count: usize, trace: &Trace) ->
 
 // Puts the traces of runs, one after the other.
 fn put_runs<S: Sink>(out: &mut S, runs: &Runs) -> Result<(), Failed>
-    ensures { Writes (S.seen out.old) (S.seen out.new) result (runs_text (counts_of runs.now.system) 0 (map finished runs.now.traces.items)) }
+    ensures { Writes (S.seen out.old) (S.seen out.new) result
+        (runs_text (counts_of runs.now.system) 0 (map finished runs.now.traces.items)) }
 {
     let counts = runs.system.counts();
     for (count, trace) in runs.traces.iter().enumerate() {
@@ -101,43 +104,7 @@ fn put_runs<S: Sink>(out: &mut S, runs: &Runs) -> Result<(), Failed>
     Ok(())
 }
 
-// How many bytes the first line of a text has.
-fn line_length(text: &[u8]) -> usize
-    requires { 0 < length text.now }
-    ensures some { 0 < result }
-    ensures within { result ≤ length text.now }
-{
-    match text.iter().position(|byte| *byte == b'\n') {
-        Some(place) => place + 1,
-        None => text.len(),
-    }
-}
-
-// The line that begins at a place of a text.
-fn line_at(text: &[u8], start: usize) -> &[u8]
-    requires { start < length text.now }
-    ensures line { result.now ≡ take (length result.now) (drop start text.now) }
-    ensures some { 0 < length result.now }
-    ensures within { start + length result.now ≤ length text.now }
-{
-    let rest = &text[start..];
-    &rest[..line_length(rest)]
-}
-
-// Puts a text, line by line.
-fn put_lines<S: Sink>(out: &mut S, text: &[u8]) -> Result<(), Failed>
-    ensures { Writes (S.seen out.old) (S.seen out.new) result text.now }
-{
-    let mut start = 0;
-    while start < text.len() {
-        let line = line_at(text, start);
-        put_all(out, line)?;
-        start += line.len();
-    }
-    Ok(())
-}
-
-// Puts the lines of a report.
+// Puts the text of a report.
 #[tactic(auto, unfolding(crate::specs::Report::text_of))]
 fn put_report<S: Sink>(out: &mut S, report: &Report) -> Result<(), Failed>
     ensures { Writes (S.seen out.old) (S.seen out.new) result (text_of report.now) }
@@ -145,7 +112,7 @@ fn put_report<S: Sink>(out: &mut S, report: &Report) -> Result<(), Failed>
     match report {
         Report::Usage => put_all(out, usage_line().as_bytes()),
         Report::Refused(line) => put_all(out, line.as_slice()),
-        Report::Text(text) => put_lines(out, text.as_slice()),
+        Report::Text(text) => put_all(out, text.as_slice()),
         Report::Ran(runs) => put_runs(out, runs),
         Report::Inspected(report) => report.put(out),
     }

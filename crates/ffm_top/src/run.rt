@@ -25,7 +25,8 @@ pub trait ThreadedRuns {
         requires work { IsRun work }
         requires threads { work.threads ≡ true }
         ensures ran { IsThreadedRun work result }
-        ensures ended { IfSome (ended self) (λ es. IfOk result (λ runs. map (λ trace. trace.entries) runs.traces.items ≡ es ∷ [])) };
+        ensures ended { IfSome (ended self) (λ es. IfOk result (λ runs.
+            map (λ trace. trace.entries) runs.traces.items ≡ es ∷ [])) };
 }
 
 /// By a closure that runs it. What a thread may share is known to a function alone, and not to an
@@ -81,8 +82,10 @@ pub fn run<T: ThreadedRuns + Drop>(alloc: Global, work: RunWork, threads: T) -> 
     requires work { IsRun work }
     requires may { work.threads ≡ true → T.may_run threads }
     ensures system { IfOk result (λ runs. runs.system ≡ work.system) }
-    ensures ran { IfOk result (λ runs. AreRuns work.system work.scenario work.programs work.threads work.scenario.restarts (map finished runs.traces.items)) }
-    ensures ended { work.threads ≡ true → IfSome (T.ended threads) (λ es. IfOk result (λ runs. map (λ trace. trace.entries) runs.traces.items ≡ es ∷ [])) }
+    ensures ran { IfOk result (λ runs. AreRuns work.system work.scenario work.programs work.threads
+        work.scenario.restarts (map finished runs.traces.items)) }
+    ensures ended { work.threads ≡ true → IfSome (T.ended threads) (λ es. IfOk result (λ runs.
+        map (λ trace. trace.entries) runs.traces.items ≡ es ∷ [])) }
 {
     if work.threads {
         return threads.run(work);

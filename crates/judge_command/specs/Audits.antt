@@ -23,7 +23,8 @@ outside_word (Some address) = hexadecimal_word address
 
 -- `PLACE LOWEST COUNT OUTSIDE`
 unfoldable pub change_line : Change → List ℕ
-change_line c = line (decimal c.place ++ (spaced (hexadecimal_word c.lowest) ++ (spaced (decimal c.count) ++ spaced (outside_word c.outside))))
+change_line c = line (decimal c.place ++
+    (spaced (hexadecimal_word c.lowest) ++ (spaced (decimal c.count) ++ spaced (outside_word c.outside))))
 
 abbrev pub change_lines : List Change → List ℕ
 change_lines cs = flat_map change_line cs
@@ -40,5 +41,6 @@ pub record AuditedDue (s : System) (c : Scenario) (bytes text : List ℕ) (statu
   pub report : AuditReport
   pub read : IsTextOf s bytes entries ended
   pub audited : IsAudit s (opening_memory c.memory) c.limit entries ended report
-  pub text_is : text ≡ change_lines report.changes ++ audit_line (judgement report.result) (length entries)
+  pub text_is :
+      text ≡ change_lines report.changes ++ audit_line (judgement report.result) (length entries)
   pub status_is : status ≡ judgement_status (judgement report.result)

@@ -15,4 +15,5 @@ InspectedDue Audit s c bytes text status = AuditedDue s c bytes text status
 
 -- and of a text that is no trace's, the refusal of its first wrong line
 abbrev pub TraceDue : Inspection → System → Scenario → List ℕ → List ℕ → ℕ → Type 0
-TraceDue how s c bytes text status = InspectedDue how s c bytes text status ⊎ WrongDue s bytes text status
+TraceDue how s c bytes text status =
+    InspectedDue how s c bytes text status ⊎ WrongDue s bytes text status

@@ -58,7 +58,8 @@ fn audit_line(alloc: Global, checked: Checked, count: u32) -> Result<Vec<u8>, Al
 fn checked(alloc: Global, work: &TraceWork, trace: &Trace) -> Result<Checked, Memory>
     requires kept { IsTraceWork work.now }
     requires few { length trace.now.entries < 2 ^ 31 }
-    ensures { IfOk result (λ checked. judgement checked ≡ judgement_of work.now.system work.now.scenario trace.now.entries trace.now.verdict) }
+    ensures { IfOk result (λ checked. judgement checked ≡
+        judgement_of work.now.system work.now.scenario trace.now.entries trace.now.verdict) }
 {
     let image = opening_image(alloc, &work.system, &work.scenario)?;
     check(alloc, &work.system, &image, work.scenario.limit, trace)
@@ -68,8 +69,11 @@ fn checked(alloc: Global, work: &TraceWork, trace: &Trace) -> Result<Checked, Me
 #[tactic(auto, unfolding(crate::specs::Report::text_of), using(crate::proofs::Replays::judged_due))]
 fn judged(alloc: Global, work: &TraceWork, trace: &Trace) -> Result<TraceReport, Memory>
     requires kept { IsTraceWork work.now }
-    requires read { IsTextOf work.now.system work.now.trace.items trace.now.entries trace.now.verdict }
-    ensures { IfOk result (λ report. JudgedDue work.now.system work.now.scenario work.now.trace.items (text_of report) (status_of report)) }
+    requires read { IsTextOf work.now.system work.now.trace.items
+        trace.now.entries trace.now.verdict }
+    ensures { IfOk result (λ report.
+        JudgedDue work.now.system work.now.scenario work.now.trace.items
+        (text_of report) (status_of report)) }
 {
     let checked = checked(alloc, work, trace)?;
     let line = judgement_line(alloc, checked, trace.entries.len() as u32)?;
@@ -80,7 +84,9 @@ fn judged(alloc: Global, work: &TraceWork, trace: &Trace) -> Result<TraceReport,
 fn audited(alloc: Global, work: &TraceWork, trace: &Trace) -> Result<AuditReport, Memory>
     requires kept { IsTraceWork work.now }
     requires few { length trace.now.entries < 2 ^ 31 }
-    ensures { IfOk result (λ report. IsAudit work.now.system (opening_memory work.now.scenario.memory) work.now.scenario.limit trace.now.entries trace.now.verdict report) }
+    ensures { IfOk result (λ report.
+        IsAudit work.now.system (opening_memory work.now.scenario.memory) work.now.scenario.limit
+        trace.now.entries trace.now.verdict report) }
 {
     let image = opening_image(alloc, &work.system, &work.scenario)?;
     audit(alloc, &work.system, &image, work.scenario.limit, trace)
@@ -90,8 +96,11 @@ fn audited(alloc: Global, work: &TraceWork, trace: &Trace) -> Result<AuditReport
 #[tactic(auto, unfolding(crate::specs::Report::text_of), using(crate::proofs::Audits::audited_due))]
 fn inspected(alloc: Global, work: &TraceWork, trace: &Trace) -> Result<TraceReport, Memory>
     requires kept { IsTraceWork work.now }
-    requires read { IsTextOf work.now.system work.now.trace.items trace.now.entries trace.now.verdict }
-    ensures { IfOk result (λ report. AuditedDue work.now.system work.now.scenario work.now.trace.items (text_of report) (status_of report)) }
+    requires read { IsTextOf work.now.system work.now.trace.items
+        trace.now.entries trace.now.verdict }
+    ensures { IfOk result (λ report.
+        AuditedDue work.now.system work.now.scenario work.now.trace.items
+        (text_of report) (status_of report)) }
 {
     let report = audited(alloc, work, trace)?;
     let line = audit_line(alloc, report.result, trace.entries.len() as u32)?;
@@ -101,8 +110,11 @@ fn inspected(alloc: Global, work: &TraceWork, trace: &Trace) -> Result<TraceRepo
 // The report of a trace, by how it is to be judged.
 fn report_of(alloc: Global, work: &TraceWork, trace: &Trace) -> Result<TraceReport, Memory>
     requires kept { IsTraceWork work.now }
-    requires read { IsTextOf work.now.system work.now.trace.items trace.now.entries trace.now.verdict }
-    ensures { IfOk result (λ report. InspectedDue work.now.inspection work.now.system work.now.scenario work.now.trace.items (text_of report) (status_of report)) }
+    requires read { IsTextOf work.now.system work.now.trace.items
+        trace.now.entries trace.now.verdict }
+    ensures { IfOk result (λ report.
+        InspectedDue work.now.inspection work.now.system work.now.scenario work.now.trace.items
+        (text_of report) (status_of report)) }
 {
     match work.inspection {
         Inspection::Replay => judged(alloc, work, trace),
@@ -125,7 +137,9 @@ fn refused(alloc: Global, line: u32) -> Result<TraceReport, Memory>
 #[tactic(auto, using(crate::proofs::Replays::wrong_due))]
 pub fn judge(alloc: Global, work: &TraceWork) -> Result<TraceReport, Memory>
     requires { IsTraceWork work.now }
-    ensures { IfOk result (λ report. TraceDue work.now.inspection work.now.system work.now.scenario work.now.trace.items (text_of report) (status_of report)) }
+    ensures { IfOk result (λ report.
+        TraceDue work.now.inspection work.now.system work.now.scenario work.now.trace.items
+        (text_of report) (status_of report)) }
 {
     match read_trace(alloc, work.system.counts(), &work.trace) {
         Ok(trace) => report_of(alloc, work, &trace),

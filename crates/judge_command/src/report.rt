@@ -23,7 +23,8 @@ pub enum TraceReport {
 
 // Puts the lines of an audit, and the last one.
 fn put_audit<S: Sink>(out: &mut S, report: &AuditReport, line: &[u8]) -> Result<(), Failed>
-    ensures { Writes (S.seen out.old) (S.seen out.new) result (change_lines report.now.changes ++ line.now) }
+    ensures { Writes (S.seen out.old) (S.seen out.new) result
+        (change_lines report.now.changes ++ line.now) }
 {
     put_changes(out, report.changes.as_slice())?;
     put_all(out, line)
