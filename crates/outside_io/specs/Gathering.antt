@@ -8,17 +8,9 @@ use Rattle.outside_io.specs.declared.gathering.Gathering.{Gathering}
 abbrev pub sink_of : {S : Type 0} → Gathering S → S
 sink_of gathering = gathering.sink
 
--- the bytes that were gathered since the last time that all were handed on
-abbrev pub held_by : {S : Type 0} → Gathering S → List ℕ
-held_by gathering = gathering.held.items
-
--- how many of them were handed on
-abbrev pub at_of : {S : Type 0} → Gathering S → ℕ
-at_of gathering = gathering.at
-
 -- the bytes that were taken and not handed on yet
 abbrev pub waiting_in : {S : Type 0} → Gathering S → List ℕ
-waiting_in gathering = drop (at_of gathering) (held_by gathering)
+waiting_in gathering = drop gathering.at gathering.held.items
 
 -- what a sink tells behind which these bytes wait
 abbrev pub behind : SinkSeen → List ℕ → SinkSeen

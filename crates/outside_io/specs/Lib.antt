@@ -1,13 +1,12 @@
 pub mod Count
 pub mod Sink
 pub mod Files
-pub mod Faults
+pub mod Counted
 pub mod Opening
 pub mod MemoryFiles
 pub mod MemorySink
 pub mod Gathering
 pub mod Output
-pub mod Host
 pub mod SteadyFiles
 pub mod SteadySink
 pub mod Words

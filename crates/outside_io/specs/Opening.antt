@@ -3,15 +3,15 @@
 use Rattle.std.specs.Prelude.{ℕ, List, Option, None, Some, string_bytes}
 use Rattle.std.specs.Option.{option_map}
 use Rattle.ffm_model.specs.Reading.{Contents}
-use Rattle.outside_io.specs.Faults.{count_of}
+use Rattle.outside_io.specs.Counted.{count_of, value_of}
 use Rattle.outside_io.specs.Files.{FilesSeen}
 use Rattle.outside_io.specs.declared.opening.OpenedFiles.{OpenedFiles}
 
 abbrev pub opening_of : {O : Type 0} → OpenedFiles O → O
-opening_of files = files.opening
+opening_of files = value_of files.opening
 
 abbrev pub faults_of : {O : Type 0} → OpenedFiles O → ℕ
-faults_of files = count_of files.faults
+faults_of files = count_of files.opening
 
 -- the name of the last failed read
 abbrev pub last_failed_of : {O : Type 0} → OpenedFiles O → Option (List ℕ)

@@ -53,11 +53,12 @@ impl<'a, R: rt::Files> OpenedFiles<HostOpening<'a, R>> {
 pub type StdoutSink<'a, R> = Gathering<Output<Printer<'a, R>>>;
 
 impl<'a, R: Print> Gathering<Output<Printer<'a, R>>> {
-    ghost use Rattle.outside_io.specs.Host.{stdout_faults};
+    ghost use Rattle.outside_io.specs.Gathering.{sink_of};
+    ghost use Rattle.outside_io.specs.Output.{faults_of};
 
     /// The standard output, which didn't fail yet. It keeps the runtime value.
     pub fn new(rt: &'a R) -> Self
-        ensures no_fault { stdout_faults result ≡ 0 }
+        ensures no_fault { faults_of (sink_of result) ≡ 0 }
     {
         Gathering::of(Output::of(io::writer(rt)))
     }

@@ -2,7 +2,7 @@
 //! tell, and how often they failed.
 #![tactic(auto)]
 
-mod faults;
+mod counted;
 mod files;
 mod front;
 mod gathering;
@@ -12,13 +12,12 @@ mod memory_files;
 mod memory_sink;
 mod opening;
 mod output;
-mod room;
 mod sink;
 mod steady_files;
 mod steady_sink;
 mod words;
 
-pub use faults::Faults;
+pub use counted::Counted;
 pub use files::{FileError, Files, NamesFailed};
 pub use front::whole_of;
 pub use gathering::Gathering;

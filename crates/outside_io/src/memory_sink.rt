@@ -1,7 +1,6 @@
 //! A sink in memory, with a room, some of whose puts fail.
 
-ghost use Rattle.std.specs.Prelude.{◌≡◌, ◌↔◌, ◌<◌, ◌≤◌, IfOk, OnErr, IsErr, IsOk};
-ghost use Rattle.std.specs.Prelude.{vec_len, vec_capacity, length};
+ghost use Rattle.std.specs.Prelude.{◌≡◌, ◌↔◌, ◌<◌, ◌≤◌, IfOk, OnErr, IsErr, IsOk, vec_len, vec_capacity, length};
 ghost use Rattle.outside_io.specs.Count.{one_more};
 ghost use Rattle.outside_io.specs.Sink.{Puts};
 

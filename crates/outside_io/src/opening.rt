@@ -4,7 +4,7 @@ ghost use Rattle.std.specs.Prelude.{◌≡◌, ◌∷◌, ℕ, [], List, Option,
 ghost use Rattle.ffm_model.specs.Reading.{Contents};
 ghost use Rattle.outside_io.specs.Files.{ReadBetween, ReadsFile};
 
-use crate::faults::Faults;
+use crate::counted::Counted;
 use crate::files::{FileError, Files, NamesFailed};
 use crate::front::whole_of;
 use std::alloc::Global;
@@ -38,8 +38,7 @@ pub trait Opening {
 /// the last failed read.
 #[derive(Drop)]
 pub struct OpenedFiles<O> {
-    opening: O,
-    faults: Faults,
+    opening: Counted<O>,
     last_failed: Option<String>,
 }
 
@@ -53,19 +52,21 @@ impl<O: Opening> OpenedFiles<O> {
         ensures no_name { last_failed_of result ≡ None }
     {
         OpenedFiles {
-            opening,
-            faults: Faults::none(),
+            opening: Counted::of(opening),
             last_failed: None,
         }
     }
 
     // The bytes of the named file. The name of the last failed read stays.
     fn content(&mut self, alloc: Global, name: &str, limit: u32) -> Result<Vec<u8>, FileError>
-        ensures read { ReadsFile (seen_but_failed O.holds O.opened self.old) (seen_but_failed O.holds O.opened self.new) result limit name.now }
+        ensures read { ReadsFile (seen_but_failed O.holds O.opened self.old)
+            (seen_but_failed O.holds O.opened self.new) result limit name.now }
         ensures unnamed { last_failed_of self.new ≡ last_failed_of self.old }
     {
-        let reader = self.faults.open(&mut self.opening, name)?;
-        whole_of(alloc, &mut self.faults, reader, limit)
+        let mut reader = self.opening.open(name)?;
+        let read = whole_of(alloc, &mut reader, limit);
+        self.opening.close(reader);
+        read
     }
 }
 

@@ -5,7 +5,8 @@ ghost use Rattle.std.specs.Prelude.{◌≡◌, IsTrue, IsSome, Bool, false};
 use crate::sink::{Failed, Sink};
 use std::io::{Printer, Write};
 
-/// A writer of which it is known beforehand whether it tells its bytes.
+/// A writer that holds nothing back: each write goes where it stays. It is known beforehand whether
+/// it tells its bytes.
 pub trait Telling: Write {
     /// It tells its bytes from the start on. One that doesn't is taken to tell nothing.
     ghost tells: { Bool };

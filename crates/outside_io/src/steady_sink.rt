@@ -1,7 +1,6 @@
 //! A sink in memory, none of whose puts fails.
 
-ghost use Rattle.std.specs.Prelude.{◌≡◌, ◌+◌, ◌<◌, ◌≤◌, ◌++◌, [], Some, None, IfOk, IfSome, IsOk};
-ghost use Rattle.std.specs.Prelude.{vec_len, vec_capacity, length};
+ghost use Rattle.std.specs.Prelude.{◌≡◌, ◌+◌, ◌<◌, ◌≤◌, ◌++◌, [], Some, None, IfOk, IfSome, IsOk, vec_len, vec_capacity, length};
 ghost use Rattle.outside_io.specs.Sink.{Puts};
 
 use crate::sink::{Failed, Sink};

@@ -5,7 +5,6 @@ ghost use Rattle.std.specs.Io.{WritesAtMost};
 ghost use Rattle.std.specs.Option.{option_map};
 ghost use Rattle.outside_io.specs.Words.{AreGiven, FillsWord};
 
-use crate::room::room_of;
 use ffm_model::Memory;
 use std::alloc::Global;
 use std::env::{Env, FillError};
@@ -63,7 +62,7 @@ fn word_at<W: Words>(alloc: Global, words: &W, number: usize) -> Result<Option<V
 {
     let mut size = WORD_BYTES;
     for _ in 0..DOUBLINGS {
-        let mut room = room_of(alloc, size)?;
+        let mut room = vec![in alloc; 0; size]?;
         match words.word(number, &mut room) {
             Ok(length) => {
                 room.truncate(length);

@@ -2,7 +2,7 @@
 
 use ffm_model::List;
 use outside_io::{
-    Faults, FileError, Files, HostFiles, MemoryFiles, OpenedFiles, Opening, SteadyFiles, whole_of,
+    Counted, FileError, Files, HostFiles, MemoryFiles, OpenedFiles, Opening, SteadyFiles, whole_of,
 };
 use std::alloc::Global;
 use std::io::{ErrorKind, Read};
@@ -56,7 +56,7 @@ fn files_in_memory(rt: HostRuntime) -> Result<(), Fail> {
     Ok(())
 }
 
-// The listed calls don't fail, and a name that isn't held reads as an empty file.
+// The listed calls don't fail, and a name that isn't held reads as an empty file. Each read is told.
 #[test]
 fn steady_files(rt: HostRuntime) -> Result<(), Fail> {
     let mut files = SteadyFiles::new(failing_files(rt.alloc())?);
@@ -67,6 +67,7 @@ fn steady_files(rt: HostRuntime) -> Result<(), Fail> {
         ("six", 6, Ok(b"abcdef".as_slice())),
     ];
     assert_reads(&rt, rt.alloc(), &mut files, &reads);
+    assert!(rt; files.reads().len() == 4);
     Ok(())
 }
 
@@ -119,8 +120,8 @@ fn readers(rt: HostRuntime) {
         (Some(ErrorKind::Other), 4, Err(FileError::TooLong)),
     ];
     for (failure, limit, want) in rows {
-        let reader = Pairs::of(b"abcde", failure);
-        let answer = whole_of(rt.alloc(), &mut Faults::none(), reader, limit);
+        let mut reader = Counted::of(Pairs::of(b"abcde", failure));
+        let answer = whole_of(rt.alloc(), &mut reader, limit);
         assert!(rt; lent(&answer) == want, "up to {limit}");
     }
 }
