@@ -1,14 +1,15 @@
 #!/usr/bin/env python3
 """Makes a system file and JSON manifests from TF-M manifest lists and the YAML manifests that they name.
 
-    python3 tools/import_tfm.py tfm_manifest_list.yaml --header config_tfm.h --out tfm
-    ffm compile tfm/system.json
+    python3 tools/import_tfm.py tfm_manifest_list.yaml --header config_tfm.h --out tfm --compile
 
+Then `ffm compile tfm/system.json` lists the same system again; without --compile no program is run.
 All that is dropped or changed is told, a line each, with the file and the line where it stands. Sizes may be symbols:
 --define gives the value of one, --header takes those of a C header. A partition of the list whose `conditional` is
 defined as OFF, 0, n or false is left out. MMIO regions that --region doesn't name get 4 KiB each from 0x40000000 on.
 A file that ends in .json is read as JSON; every other one needs the Python package PyYAML. The status is 1 where a
-symbol isn't known, and then nothing is written, and 2 where a file can't be read."""
+symbol isn't known, and then nothing is written, and 2 where a file can't be read. With --compile it is that of ffm, or 2
+where no ffm is found."""
 
 import argparse
 import json
@@ -19,6 +20,7 @@ import sys
 from dataclasses import dataclass, field
 
 from c_symbols import NoNumber, defines_in, number_of
+from ffm_program import NoProgram, program, run
 
 USED_OF_LISTS = {"manifest_list", "manifest", "conditional", "pid"}
 OF_1_1 = {"model", "entry_init", "connection_based", "stateless_handle", "mm_iovec", "handling"}
@@ -351,7 +353,16 @@ def asked():
     parser.add_argument("--region", metavar="NAME=BASE,SIZE", type=region, help="where an MMIO region lies", **many)
     parser.add_argument("--client", action="append", metavar="NAME", help="a non-secure client (NS where none is named)")
     parser.add_argument("--level", type=int, default=2, choices=(1, 2, 3), help="the isolation level (2)")
+    parser.add_argument("--compile", action="store_true", help="then list what ffm makes of the system file, or its refusal")
+    parser.add_argument("--ffm", metavar="PROGRAM", help="the program; else the one that ffm_program.py finds")
     return parser.parse_args()
+
+
+def compile_system(arguments):
+    """What ffm lists of the written system file, from where the file is named, and its status."""
+    status, text = run(program(given=arguments.ffm), ["compile", arguments.out / "system.json"], None)
+    print(text, end="")
+    return status
 
 
 def main():
@@ -368,6 +379,13 @@ def main():
         sys.exit(1)
     write(arguments.out, system, manifests)
     print(f"wrote {arguments.out / 'system.json'} with {len(manifests)} manifests")
+    if not arguments.compile:
+        return
+    try:
+        sys.exit(compile_system(arguments))
+    except NoProgram as error:
+        print(error, file=sys.stderr)
+        sys.exit(2)
 
 
 if __name__ == "__main__":

@@ -107,6 +107,15 @@ class Json(unittest.TestCase):
             "wrote out/system.json with 2 manifests",
         ])
 
+    def test_compile_lists_what_ffm_lists_with_its_status(self):
+        listing = self.stand / "ffm"
+        listing.write_text(f"#!{sys.executable}\nimport sys\nprint(sys.argv[1:], end='')\nsys.exit(4)\n")
+        listing.chmod(0o755)
+        status, told, _ = self.tool("--header", "config.h", "--compile", "--ffm", str(listing))
+        self.assertEqual((status, told.splitlines()[-1]), (4, "['compile', 'out/system.json']"))
+        status, told, why = self.tool("--header", "config.h", "--compile", "--ffm", "no_such_program")
+        self.assertEqual((status, why), (2, "no_such_program: no program that can be run\n"))
+
     def test_the_system_file_names_what_was_asked_for(self):
         self.tool("--define", "SIZE=0x100", "--region", "ENGINE=0x50000000,0x20", "--client", "A", "--client", "B", "--level", "3")
         self.assertEqual(self.written("system.json"), {
@@ -147,7 +156,7 @@ class Json(unittest.TestCase):
 
 @unittest.skipUnless(importlib.util.find_spec("yaml"), "PyYAML isn't here")
 class Yaml(unittest.TestCase):
-    """The set beside this file, whose import is stored with the cases of the gate."""
+    """The set beside this file, whose import is stored with the cases of the CI."""
 
     def same_as_stored(self, case, *words):
         with tempfile.TemporaryDirectory() as folder:
