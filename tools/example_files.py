@@ -1,6 +1,6 @@
 """Where the files of the examples are, for the tools beside this one.
 
-An example stands in the data/ folder of the program with which the gate runs it. All paths begin at the top of the
+An example stands in the data/ folder of the program with which the CI runs it. All paths begin at the top of the
 repository."""
 
 import json

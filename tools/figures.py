@@ -82,13 +82,20 @@ def lines_of_audit(name):
     return lines_of(examples()[name].folder / "audit.txt") - 1
 
 
+def stored():
+    """How many cases are stored, how many commands they have, and how many lines of checksums."""
+    found = cases()
+    checksums = [command.is_checksums() for case in found for command in case.commands]
+    return [len(found), checksums.count(False), checksums.count(True)]
+
+
 # The forms in which pages state figures, with what is counted for each {}.
 FIGURES = [
     ("The CI tries {} of {} |", lambda: [edits(), edits() + further_edits()]),
     ("{} crates, {} mutants in the CI and {} beside it, {} tests",
      lambda: [len(NAMES), edits(), further_edits(), sum(map(tests_of, NAMES))]),
     ("with the figures below N is {}", lambda: [len(NAMES) + edits()]),
-    ("{} stored cases with {} commands", lambda: [len(cases()), sum(len(case.commands) for case in cases())]),
+    ("{} stored cases with {} commands, and {} lines of checksums", stored),
     ("manifest_compile and the {} below it", lambda: [len(set(stands_on("manifest_compile")) - BASE)]),
     ("the statements of {} ported crates", lambda: [len(ported_crates("ffm"))]),
     ("all {} calls", lambda: [calls()]),

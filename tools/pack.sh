@@ -1,7 +1,7 @@
 #!/bin/bash
-# Packs the programs that the CI built, so that they can be handed on: tools/pack.sh GATE_LOG [FILE]
+# Packs the programs that the CI built, so that they can be handed on: tools/pack.sh CI_LOG [FILE]
 #
-# GATE_LOG is what the CI wrote: .ci/run 2>&1 | tee gate.log. FILE is the archive, by default ffm-COMMIT.tar.gz in the
+# CI_LOG is what the CI wrote: .ci/run 2>&1 | tee ci.log. FILE is the archive, by default ffm-COMMIT.tar.gz in the
 # current folder. It holds the programs in bin/, the tools and schemas for users of them, `identity.txt` with the commit,
 # the kit's line and the CI's closing lines, and `SHA256SUMS`. Beside bin/ it has a script of each program's name, which
 # runs the program, and at --version prints identity.txt and the program's checksum; the status is 1 where that of the file

@@ -12,7 +12,7 @@ command at which N it did what. Ends with the status 1 where a command did anyth
 text or another status, and prints what the kit says of it; with 2 where nothing could be tried.
 
 Nothing is proved. The kit builds the program anew for each N, which takes a minute or two, and runs all commands on
-that build. So choose a step: the gate doesn't run this."""
+that build. So choose a step: the CI doesn't run this."""
 
 import argparse
 import pathlib

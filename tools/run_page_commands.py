@@ -7,7 +7,7 @@ Run at the top of the repository. Takes README.md, docs/*.md and the README.md o
 named. The blocks of commands of a page are run in their order on a copy of the repository: the first at its top, and
 each further one in the folder in which the one before it ended. Where the commands say ffm, the FILE of --program is
 run, and where they say ffm_view that of --view, the proved programs; with no FILE it is tools/try_ffm.sh or
-tools/try_ffm_view.sh, which takes a minute or two at its first call. The gate, what needs its libraries, and git are not
+tools/try_ffm_view.sh, which takes a minute or two at its first call. The CI, what needs its libraries, and git are not
 run, and told.
 
 What the page shows is looked for in what its commands wrote, and in the texts that stand beside the examples they

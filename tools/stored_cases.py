@@ -58,6 +58,10 @@ class Command:
     def words(self):
         return self.line.split(" ")
 
+    def is_checksums(self):
+        """Whether it writes the checksums of files, and is no command of `ffm` or `ffm_view`."""
+        return self.words()[0] == DIGESTS
+
     def files(self):
         """The files that a command of `ffm` names."""
         return [word for word in self.words()[2:] if not word.startswith("--")]
@@ -169,7 +173,7 @@ def digest_lines(names):
 
 def wrong_files(case):
     """Files without a digest, digests without a file, and other digests than the stored ones."""
-    digests = [command for command in case.commands if command.words()[0] == DIGESTS]
+    digests = [command for command in case.commands if command.is_checksums()]
     named = [name for command in digests for name in command.words()[1:]]
     if named != case.files():
         yield f"{case.name()}: the {DIGESTS} lines don't name these, in order: {set(named) ^ set(case.files()) or 'its files'}"
@@ -194,7 +198,7 @@ def wrong_written(case, has_to_be_there):
 
 def wrong_of(case, source, is_example):
     """What is wrong of a case. Its source is told, and how many texts the second readings tell."""
-    again = [(command, read_again(command)) for command in case.commands if command.words()[0] != DIGESTS]
+    again = [(command, read_again(command)) for command in case.commands if not command.is_checksums()]
     told = sum(answer is not None for _, answer in again)
     print(f"{case.name()}: {source or 'NO SOURCE'} ({told} of {len(again)} texts read again)")
     for command, answer in again:

@@ -1,4 +1,4 @@
-"""Tests of what check_evidence.py says of the wings and of the length of the pages, on this repository."""
+"""Tests of what check_evidence.py says of the wings, of the length of the pages and of their figures, on this repository."""
 
 import os
 import pathlib
@@ -39,6 +39,16 @@ class CheckEvidence(unittest.TestCase):
     def test_pages_that_are_too_long(self):
         with mock.patch.object(self.tool, "MOST_WORDS", {"README.md": 1_600, "all pages": 10}):
             self.assertRegex("\n".join(self.tool.wrong_lengths()), r"^all pages: \d+ words, and not 10 at most$")
+
+    def test_commands_without_the_lines_of_checksums(self):
+        import figures
+        from stored_cases import Case, Command
+
+        lines = ["sha256sum area/case/a.json", "ffm make 1", "ffm_view stats"]
+        found = [Case("# area/case: a case.", [Command(line, b"", 0) for line in lines])]
+        with mock.patch.object(figures, "cases", lambda: found):
+            self.assertEqual(figures.stored(), [1, 2, 1])
+            self.assertRegex("\n".join(figures.wrong_figures()), r"lines of checksums: counted 1, 2, 1")
 
 
 if __name__ == "__main__":

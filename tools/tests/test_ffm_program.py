@@ -55,7 +55,7 @@ class Repository(unittest.TestCase):
         return len(self.builds.read_text().splitlines()) if self.builds.exists() else 0
 
     def leave_proved(self):
-        """What the gate leaves."""
+        """What the CI leaves."""
         out = self.top / "crates/ffm/out"
         out.mkdir()
         shutil.copy(ECHO, out / "ffm")
@@ -126,8 +126,8 @@ class Repository(unittest.TestCase):
     # The pack
 
     def pack(self, log):
-        (self.top.parent / "gate.log").write_text(log)
-        return self.call(self.top / "tools/pack.sh", self.top.parent / "gate.log", self.top.parent / "ffm.tar.gz")
+        (self.top.parent / "ci.log").write_text(log)
+        return self.call(self.top / "tools/pack.sh", self.top.parent / "ci.log", self.top.parent / "ffm.tar.gz")
 
     def commit(self):
         for words in (["init", "-q"], ["add", "-A"], ["-c", "user.name=a", "-c", "user.email=b", "commit", "-qm", "all"]):
