@@ -15,3 +15,4 @@ pub mod RuleLemmas
 pub mod ScriptLemmas
 pub mod HeldLemmas
 pub mod BytesLemmas
+pub mod SignatureLemmas

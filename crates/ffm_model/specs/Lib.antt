@@ -55,3 +55,4 @@ pub mod Held
 pub mod HeldPlans
 pub mod Contexts
 pub mod Restarts
+pub mod Signatures
