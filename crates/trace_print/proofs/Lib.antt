@@ -6,6 +6,7 @@ pub mod Options
 pub mod DecimalDigits
 pub mod HexadecimalDigits
 pub mod Numbers
+pub mod Operands
 pub mod Again
 pub mod Plain
 pub mod Entries

@@ -1,8 +1,10 @@
 -- What is read of a line is printed so.
-use Rattle.std.proofs.Common.{append_assoc, ◌≡◌, ℕ, zero, suc, ◌+◌, ◌-◌, ◌<◌, ◌≤◌, ◌^◌, ◌==◌, Bool, true, false, ◌&&◌, nat_lt, List, [], ◌∷◌, ◌++◌, length, map, Option, None, Some, refl, sym, ap, ◌∙◌, arith, subst}
+use Rattle.std.proofs.Common.{append_assoc, ◌≡◌, ℕ, zero, suc, ◌+◌, ◌-◌, ◌<◌, ◌≤◌, ◌^◌, ◌==◌, Bool, true, false, ◌&&◌, nat_lt, List, [], ◌∷◌, ◌++◌, length, get_or, map, Option, None, Some, refl, sym, ap, ◌∙◌, arith, subst}
 use Rattle.std.specs.Prelude.{ℤ, pos, negsuc, IfSome, codes, decimal, nat_le, if◌then◌else◌}
 use Rattle.std.specs.Fmt.{signed_decimal}
-use Rattle.std.specs.List.{join_with_byte}
+use Rattle.std.specs.Int.{w32, cast_unsigned}
+use Rattle.std.specs.List.{AllByRecursion, join_with_byte}
+use Rattle.std.specs.Option.{option_map}
 use Rattle.std.specs.Str.{bytes_eq}
 use Rattle.std.proofs.lemmas.Bool.{and_parts, lt-ltb, le-ltb}
 use Rattle.std.proofs.lemmas.Bool.Decides.{nat_tests}
@@ -17,10 +19,15 @@ use Rattle.ffm_model.specs.declared.machine.Message.{Message}
 use Rattle.ffm_model.specs.declared.machine.Outcome.{Outcome}
 use Rattle.ffm_model.specs.declared.machine.Outcome.TheVariants as outcome
 use Rattle.ffm_model.specs.Binding.{◌>>=◌}
-use Rattle.ffm_model.specs.TraceText.{Word, field_word, hexadecimal_word, call_phrase, outcome_phrase, message_phrase, message_front, size_fields, actor_word, entry_text, IsU32, IsI32, IsActorOf, CallFits, OutcomeFits, MessageFits, AreFourSizes, EntryFits}
+use Rattle.ffm_model.specs.declared.signatures.OperandKind.{OperandKind}
+use Rattle.ffm_model.specs.declared.signatures.OperandKind.TheVariants.{Hexadecimal, Unsigned, Signed}
+use Rattle.ffm_model.specs.ScriptRuns.{call_of}
+use Rattle.ffm_model.specs.Signatures.{Signature, signatures, signature_in}
+use Rattle.ffm_model.specs.TraceText.{Word, FieldFits, field_word, hexadecimal_word, call_phrase, outcome_phrase, message_phrase, message_front, size_fields, actor_word, entry_text, IsU32, IsI32, IsActorOf, CallFits, OutcomeFits, MessageFits, AreFourSizes, EntryFits}
+use Rattle.ffm_model.proofs.SignatureLemmas.{IsFilled, fields_from, field_from, filled, found, signed_again as bits_again}
 use Rattle.trace_print.specs.Numbers.{unsigned_of, hexadecimal_of, signed_of, positive, negative}
 use Rattle.trace_print.specs.View.{parts}
-use Rattle.trace_print.specs.Reading.{first_by, unsigned_at, hexadecimal_at, signed_at, call_at, call_named, message_call_named, signal_call_named, event_named, version_at, connect_at, invoke_at, close_at, wait_at, get_at, set_rhandle_at, read_at, skip_at, write_at, reply_at, notify_at, eoi_at, irq_enable_at, irq_disable_at, reset_signal_at, fire_at, interrupt_call_named, load_at, store_at, raise_at, stop_at, spent_of, outcome_at, outcome_named, value_at, number_at, signals_at, message_at, sizes_at, place_of, actor_of, behind_arrow, entry_at, entry_of}
+use Rattle.trace_print.specs.Reading.{first_by, unsigned_at, hexadecimal_at, signed_at, operand_of, operands_at, call_by, call_with, call_at, event_named, stop_at, spent_of, outcome_at, outcome_named, value_at, number_at, signals_at, message_at, sizes_at, place_of, actor_of, behind_arrow, entry_at, entry_of}
 use Rattle.trace_print.proofs.Options.{Gives, done, nothing, after, either, when, weaker, given_is}
 use Rattle.trace_print.proofs.DecimalDigits.{unsigned_word}
 use Rattle.trace_print.proofs.HexadecimalDigits.{hexadecimal_number}
@@ -121,22 +128,45 @@ unfolding spent_is
 stop_said true rest = said call_words CallFits (call.Stop true) _ rest refl tt
 stop_said false rest = said call_words CallFits (call.Stop false) _ rest refl tt
 
-interrupt_call_reads : (name : Word) (ws : List Word) → Behind call_words CallFits (interrupt_call_named name ws) (name ∷ []) ws
-unfolding interrupt_call_named eoi_at irq_enable_at irq_disable_at reset_signal_at event_named load_at store_at raise_at fire_at stop_at
-interrupt_call_reads name ws = search (named, said, pair, tt, none_read, next Call hexadecimal_reads, next Call unsigned_reads, next Call spent_reads, stop_said) depth 20
+signed_operand : (w : Word) (o : Option ℤ) → Gives o (λ z. (w ≡ signed_decimal z) × IsI32 z) → Gives (option_map (cast_unsigned w32) o) (λ n. (w ≡ field_word (field_from Signed n)) × FieldFits (field_from Signed n))
+unfolding Gives
+signed_operand w (Some z) h = rw (bits_again z h.1) h
+signed_operand w None h = tt
 
-message_call_reads : (name : Word) (ws : List Word) → Behind call_words CallFits (message_call_named name ws) (name ∷ []) ws
-unfolding message_call_named wait_at get_at set_rhandle_at read_at skip_at write_at reply_at signal_call_named notify_at
-message_call_reads name ws = search (named, said, pair, tt, next Call hexadecimal_reads, next Call unsigned_reads, next Call signed_reads, interrupt_call_reads) depth 24
+operand_word : (k : OperandKind) (w : Word) → Gives (operand_of k w) (λ n. (w ≡ field_word (field_from k n)) × FieldFits (field_from k n))
+operand_word Hexadecimal w = hexadecimal_number w
+operand_word Unsigned w = unsigned_word w
+operand_word Signed w = signed_operand w (signed_of w) (signed_word w)
 
-call_named_reads : (name : Word) (ws : List Word) → Behind call_words CallFits (call_named name ws) (name ∷ []) ws
-unfolding call_named version_at connect_at invoke_at close_at
-call_named_reads name ws = search (named, said, pair, tt, next Call hexadecimal_reads, next Call unsigned_reads, next Call signed_reads, message_call_reads) depth 24
+-- the words that operands of these kinds are
+Spelled : List OperandKind → List Word → List ℕ × List Word → Type 0
+Spelled ks ws r = (ws ≡ map field_word (fields_from ks (λ i. get_or r.0 i 0)) ++ r.1) × AllByRecursion FieldFits (fields_from ks (λ i. get_or r.0 i 0))
+
+operands_words : (ks : List OperandKind) (ws : List Word) → Gives (operands_at ks ws) (Spelled ks ws)
+unfolding operands_at Spelled
+operands_words [] ws = done ([], ws) _ (refl, tt)
+operands_words (k ∷ ks) [] = nothing _
+operands_words (k ∷ ks) (w ∷ ws) =
+    after (operand_of k w >>= λ x. Some (x, ws)) _ (λ n. (w ≡ field_word (field_from k n.0)) × FieldFits (field_from k n.0) × (n.1 ≡ ws)) _ (after (operand_of k w) _ _ _ (operand_word k w) (λ n is. done (n, ws) _ (is.0, is.1, refl))) (λ n is.
+    after (operands_at ks n.1) _ _ _ (operands_words ks n.1) (λ ns are.
+    done (n.0 ∷ ns.0, ns.1) _ (rw (is.0, ← is.2) (ap (λ (v : List Word). field_word (field_from k n.0) ∷ v) are.0), (is.1, are.1))))
+
+event_reads : (name : Word) (ws : List Word) → Behind call_words CallFits (event_named name ws) (name ∷ []) ws
+unfolding event_named stop_at
+event_reads name ws = search (named, said, pair, tt, none_read, next Call spent_reads, stop_said) depth 20
+
+call_with_reads : (o : Option Signature) (name : Word) (ws : List Word) → IfSome o (λ s. (s.word ≡ name) × IsFilled s) → Behind call_words CallFits (call_with o name ws) (name ∷ []) ws
+unfolding Behind Spelled call_by
+call_with_reads None name ws h = event_reads name ws
+call_with_reads (Some s) name ws h =
+    after (operands_at s.kinds ws) _ _ _ (operands_words s.kinds ws) (λ ns are.
+    let made = h.1 (λ i. get_or ns.0 i 0) in
+    done (call_of s.name (λ i. get_or ns.0 i 0), ns.1) _ (rw (made.0, made.2, h.0) (ap (λ (v : List Word). name ∷ v) are.0), rw made.2 are.1))
 
 call_reads : (ws : List Word) → Behind call_words CallFits (call_at ws) [] ws
 unfolding Behind
 call_reads [] = nothing _
-call_reads (name ∷ ws) = call_named_reads name ws
+call_reads (name ∷ ws) = call_with_reads (signature_in signatures name) name ws (found IsFilled signatures name filled)
 
 -- ---- outcomes
 

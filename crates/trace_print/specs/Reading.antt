@@ -1,6 +1,8 @@
 -- What the words of a line say: the actor, the call and the outcome, each read word by word, in the one spelling that is printed.
 -- Source: this simulator's trace format.
-use Rattle.std.specs.Prelude.{ℕ, ℤ, ◌+◌, ◌-◌, ◌==◌, Bool, true, false, ◌&&◌, List, [], ◌∷◌, length, codes, nat_le, if◌then◌else◌, Option, None, Some}
+use Rattle.std.specs.Prelude.{ℕ, ℤ, ◌+◌, ◌-◌, ◌==◌, Bool, true, false, ◌&&◌, List, [], ◌∷◌, length, codes, get_or, nat_le, if◌then◌else◌, Option, None, Some}
+use Rattle.std.specs.Int.{w32, cast_unsigned}
+use Rattle.std.specs.Option.{option_map}
 use Rattle.std.specs.Str.{bytes_eq}
 use Rattle.ffm_model.specs.Counts.{ActorCounts}
 use Rattle.ffm_model.specs.declared.machine.Entry.{Entry}
@@ -8,7 +10,11 @@ use Rattle.ffm_model.specs.declared.machine.Call.{Call}
 use Rattle.ffm_model.specs.declared.machine.Call.TheVariants as call
 use Rattle.ffm_model.specs.declared.machine.Outcome.{Outcome}
 use Rattle.ffm_model.specs.declared.machine.Outcome.TheVariants as outcome
+use Rattle.ffm_model.specs.declared.signatures.OperandKind.{OperandKind}
+use Rattle.ffm_model.specs.declared.signatures.OperandKind.TheVariants.{Hexadecimal, Unsigned, Signed}
 use Rattle.ffm_model.specs.Binding.{◌>>=◌}
+use Rattle.ffm_model.specs.ScriptRuns.{call_of}
+use Rattle.ffm_model.specs.Signatures.{Signature, signatures, signature_in}
 use Rattle.ffm_model.specs.TraceText.{Word}
 use Rattle.trace_print.specs.Numbers.{unsigned_of, signed_of, hexadecimal_of}
 use Rattle.trace_print.specs.View.{parts}
@@ -32,127 +38,25 @@ hexadecimal_at ws = first_by hexadecimal_of ws
 abbrev pub signed_at : List Word → Option (ℤ × List Word)
 signed_at ws = first_by signed_of ws
 
-unfoldable pub version_at : List Word → Option (Call × List Word)
-version_at ws = do
-  sid ← hexadecimal_at ws
-  Some (call.Version (record { 0 = sid.0 }), sid.1)
+-- the bits of the operand that a word is
+abbrev pub operand_of : OperandKind → Word → Option ℕ
+operand_of Hexadecimal w = hexadecimal_of w
+operand_of Unsigned w = unsigned_of w
+operand_of Signed w = option_map (cast_unsigned w32) (signed_of w)
 
-unfoldable pub connect_at : List Word → Option (Call × List Word)
-connect_at ws = do
-  sid ← hexadecimal_at ws
-  version ← unsigned_at sid.1
-  Some (call.Connect (record { 0 = sid.0 }) version.0, version.1)
+-- an operand of each kind, one after the other
+unfoldable pub operands_at : List OperandKind → List Word → Option (List ℕ × List Word)
+operands_at [] ws = Some ([], ws)
+operands_at (k ∷ ks) ws = do
+  n ← first_by (operand_of k) ws
+  ns ← operands_at ks n.1
+  Some (n.0 ∷ ns.0, ns.1)
 
-unfoldable pub invoke_at : List Word → Option (Call × List Word)
-invoke_at ws = do
-  handle ← signed_at ws
-  kind ← signed_at handle.1
-  in_vec ← hexadecimal_at kind.1
-  in_len ← unsigned_at in_vec.1
-  out_vec ← hexadecimal_at in_len.1
-  out_len ← unsigned_at out_vec.1
-  Some (call.Invoke (record { 0 = handle.0 }) kind.0 in_vec.0 in_len.0 out_vec.0 out_len.0, out_len.1)
-
-unfoldable pub close_at : List Word → Option (Call × List Word)
-close_at ws = do
-  handle ← signed_at ws
-  Some (call.Close (record { 0 = handle.0 }), handle.1)
-
-unfoldable pub wait_at : List Word → Option (Call × List Word)
-wait_at ws = do
-  mask ← hexadecimal_at ws
-  timeout ← hexadecimal_at mask.1
-  Some (call.Wait mask.0 timeout.0, timeout.1)
-
-unfoldable pub get_at : List Word → Option (Call × List Word)
-get_at ws = do
-  signal ← hexadecimal_at ws
-  msg ← hexadecimal_at signal.1
-  Some (call.Get signal.0 msg.0, msg.1)
-
-unfoldable pub set_rhandle_at : List Word → Option (Call × List Word)
-set_rhandle_at ws = do
-  handle ← signed_at ws
-  rhandle ← hexadecimal_at handle.1
-  Some (call.SetRhandle (record { 0 = handle.0 }) rhandle.0, rhandle.1)
-
-unfoldable pub read_at : List Word → Option (Call × List Word)
-read_at ws = do
-  handle ← signed_at ws
-  index ← unsigned_at handle.1
-  buffer ← hexadecimal_at index.1
-  len ← unsigned_at buffer.1
-  Some (call.Read (record { 0 = handle.0 }) index.0 buffer.0 len.0, len.1)
-
-unfoldable pub skip_at : List Word → Option (Call × List Word)
-skip_at ws = do
-  handle ← signed_at ws
-  index ← unsigned_at handle.1
-  len ← unsigned_at index.1
-  Some (call.Skip (record { 0 = handle.0 }) index.0 len.0, len.1)
-
-unfoldable pub write_at : List Word → Option (Call × List Word)
-write_at ws = do
-  handle ← signed_at ws
-  index ← unsigned_at handle.1
-  buffer ← hexadecimal_at index.1
-  len ← unsigned_at buffer.1
-  Some (call.Write (record { 0 = handle.0 }) index.0 buffer.0 len.0, len.1)
-
-unfoldable pub reply_at : List Word → Option (Call × List Word)
-reply_at ws = do
-  handle ← signed_at ws
-  status ← signed_at handle.1
-  Some (call.Reply (record { 0 = handle.0 }) (record { 0 = status.0 }), status.1)
-
-unfoldable pub notify_at : List Word → Option (Call × List Word)
-notify_at ws = do
-  partition ← signed_at ws
-  Some (call.Notify partition.0, partition.1)
-
-unfoldable pub eoi_at : List Word → Option (Call × List Word)
-eoi_at ws = do
-  signal ← hexadecimal_at ws
-  Some (call.Eoi signal.0, signal.1)
-
-unfoldable pub irq_enable_at : List Word → Option (Call × List Word)
-irq_enable_at ws = do
-  signal ← hexadecimal_at ws
-  Some (call.IrqEnable signal.0, signal.1)
-
-unfoldable pub irq_disable_at : List Word → Option (Call × List Word)
-irq_disable_at ws = do
-  signal ← hexadecimal_at ws
-  Some (call.IrqDisable signal.0, signal.1)
-
-unfoldable pub reset_signal_at : List Word → Option (Call × List Word)
-reset_signal_at ws = do
-  signal ← hexadecimal_at ws
-  Some (call.ResetSignal signal.0, signal.1)
-
-unfoldable pub load_at : List Word → Option (Call × List Word)
-load_at ws = do
-  address ← hexadecimal_at ws
-  size ← unsigned_at address.1
-  Some (call.Load address.0 size.0, size.1)
-
-unfoldable pub store_at : List Word → Option (Call × List Word)
-store_at ws = do
-  address ← hexadecimal_at ws
-  size ← unsigned_at address.1
-  value ← hexadecimal_at size.1
-  Some (call.Store address.0 size.0 value.0, value.1)
-
-unfoldable pub raise_at : List Word → Option (Call × List Word)
-raise_at ws = do
-  source ← unsigned_at ws
-  Some (call.Raise source.0, source.1)
-
-unfoldable pub fire_at : List Word → Option (Call × List Word)
-fire_at ws = do
-  source ← unsigned_at ws
-  result ← unsigned_at source.1
-  Some (call.Fire source.0 result.0, result.1)
+-- the call of a signature, whose operands the words spell
+unfoldable pub call_by : Signature → List Word → Option (Call × List Word)
+call_by s ws = do
+  operands ← operands_at s.kinds ws
+  Some (call_of s.name (λ i. get_or operands.0 i 0), operands.1)
 
 abbrev pub spent_of : Word → Option Bool
 spent_of w = if bytes_eq w (codes "end") then Some false else (if bytes_eq w (codes "spent") then Some true else None)
@@ -162,59 +66,20 @@ stop_at ws = do
   spent ← first_by spent_of ws
   Some (call.Stop spent.0, spent.1)
 
--- accesses, interrupts, stops and returns
+-- a stop, or the return of a call that waited
 unfoldable pub event_named : Word → List Word → Option (Call × List Word)
 event_named name ws =
-    if bytes_eq name (codes "load") then load_at ws
-    else (if bytes_eq name (codes "store") then store_at ws
-    else (if bytes_eq name (codes "raise") then raise_at ws
-    else (if bytes_eq name (codes "fire") then fire_at ws
-    else (if bytes_eq name (codes "stop") then stop_at ws
-    else (if bytes_eq name (codes "resume") then Some (call.Resume, ws)
-    else None)))))
+    if bytes_eq name (codes "stop") then stop_at ws
+    else (if bytes_eq name (codes "resume") then Some (call.Resume, ws) else None)
 
--- calls of a partition on its interrupts, or else an event that is no call
-unfoldable pub interrupt_call_named : Word → List Word → Option (Call × List Word)
-interrupt_call_named name ws =
-    if bytes_eq name (codes "eoi") then eoi_at ws
-    else (if bytes_eq name (codes "irq_enable") then irq_enable_at ws
-    else (if bytes_eq name (codes "irq_disable") then irq_disable_at ws
-    else (if bytes_eq name (codes "reset_signal") then reset_signal_at ws
-    else event_named name ws)))
-
--- calls of a partition on its doorbell and its end, or else another call
-unfoldable pub signal_call_named : Word → List Word → Option (Call × List Word)
-signal_call_named name ws =
-    if bytes_eq name (codes "notify") then notify_at ws
-    else (if bytes_eq name (codes "clear") then Some (call.Clear, ws)
-    else (if bytes_eq name (codes "panic") then Some (call.Panic, ws)
-    else interrupt_call_named name ws))
-
--- calls of a service on its messages, or else another call
-unfoldable pub message_call_named : Word → List Word → Option (Call × List Word)
-message_call_named name ws =
-    if bytes_eq name (codes "wait") then wait_at ws
-    else (if bytes_eq name (codes "get") then get_at ws
-    else (if bytes_eq name (codes "set_rhandle") then set_rhandle_at ws
-    else (if bytes_eq name (codes "read") then read_at ws
-    else (if bytes_eq name (codes "skip") then skip_at ws
-    else (if bytes_eq name (codes "write") then write_at ws
-    else (if bytes_eq name (codes "reply") then reply_at ws
-    else signal_call_named name ws))))))
-
--- calls of a client, or else another call
-unfoldable pub call_named : Word → List Word → Option (Call × List Word)
-call_named name ws =
-    if bytes_eq name (codes "framework_version") then Some (call.FrameworkVersion, ws)
-    else (if bytes_eq name (codes "version") then version_at ws
-    else (if bytes_eq name (codes "connect") then connect_at ws
-    else (if bytes_eq name (codes "call") then invoke_at ws
-    else (if bytes_eq name (codes "close") then close_at ws
-    else message_call_named name ws))))
+-- the call of the signature, where there is one, or else an event that has none
+abbrev pub call_with : Option Signature → Word → List Word → Option (Call × List Word)
+call_with (Some s) name ws = call_by s ws
+call_with None name ws = event_named name ws
 
 abbrev pub call_at : List Word → Option (Call × List Word)
 call_at [] = None
-call_at (name ∷ ws) = call_named name ws
+call_at (name ∷ ws) = call_with (signature_in signatures name) name ws
 
 -- four numbers, as the sizes of a message
 unfoldable pub sizes_at : List Word → Option (List ℕ × List Word)
