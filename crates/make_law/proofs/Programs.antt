@@ -13,6 +13,7 @@ use Rattle.ffm_model.specs.declared.script.Operand.TheVariants.{Number}
 use Rattle.ffm_model.specs.declared.system.System.{System}
 use Rattle.ffm_model.specs.Actors.{kind_of}
 use Rattle.ffm_model.specs.Reading.{Stop}
+use Rattle.ffm_model.specs.Signatures.{line_signatures}
 use Rattle.ffm_model.specs.Texts.{hex_number, is_name}
 use Rattle.actor_programs.specs.declared.program.Program.{Program}
 use Rattle.actor_programs.specs.declared.program.Program.TheVariants.{Plain}
@@ -88,7 +89,7 @@ all-good : (ws ds : List ℕ) (n : ℕ) → words_of ws ≡ codes "set" ∷ code
     → list_all (λ own. list_all (is_good made_system own.0) own.1) (enumerate_from 0 (made_scenario ws).lines) ≡ true
 unfolding
     chars digits numbers client_base partition_base is_name hex_number
-    words_of decimal_number negative_number number_of register_of operand_of first_words head_of
+    words_of decimal_number negative_number number_of register_of operand_of first_words head_of line_signatures
     label_of line_of place_of has_line operands_of instruction_of made_of asm.made_from assembled_lines assembled
 all-good ws ds n words operand = rw (words, operand) refl
 

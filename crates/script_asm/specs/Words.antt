@@ -13,6 +13,7 @@ use Rattle.ffm_model.specs.declared.script.CallName.TheVariants as name
 use Rattle.ffm_model.specs.declared.script.MapName.TheVariants as vector
 use Rattle.script_asm.specs.declared.first_words.Head.{Head}
 use Rattle.script_asm.specs.declared.first_words.Head.TheVariants.{Change, Jump, JumpIf, Make, Map}
+use Rattle.ffm_model.specs.Signatures.{Signature, line_signatures, signature_in}
 use Rattle.ffm_model.specs.Texts.{hex_number}
 
 abbrev pub Word : Type 0
@@ -74,7 +75,7 @@ operand_of w = if slice_index w 0 == 114 then option_map Register (register_of w
 abbrev pub asks : Word → Head → Word × Head
 asks word head = (word, head)
 
--- each first word with what it asks for; a call with the number of its operands, which stand in the order of the call's fields; a line of a mapped vector with the number of its own: handle, index, length
+-- each first word that is no call's with what it asks for; a line of a mapped vector with the number of its operands: handle, index, length
 unfoldable pub first_words : List (Word × Head)
 first_words =
     asks (codes "set") (Change Set)
@@ -87,39 +88,26 @@ first_words =
     ∷ (asks (codes "jeq") (JumpIf Equal)
     ∷ (asks (codes "jne") (JumpIf Different)
     ∷ (asks (codes "jlt") (JumpIf Less)
-    ∷ (asks (codes "framework_version") (Make name.FrameworkVersion 0)
-    ∷ (asks (codes "version") (Make name.Version 1)
-    ∷ (asks (codes "connect") (Make name.Connect 2)
-    ∷ (asks (codes "call") (Make name.Invoke 6)
-    ∷ (asks (codes "close") (Make name.Close 1)
-    ∷ (asks (codes "wait") (Make name.Wait 2)
-    ∷ (asks (codes "get") (Make name.Get 2)
-    ∷ (asks (codes "set_rhandle") (Make name.SetRhandle 2)
-    ∷ (asks (codes "read") (Make name.Read 4)
-    ∷ (asks (codes "skip") (Make name.Skip 3)
-    ∷ (asks (codes "write") (Make name.Write 4)
-    ∷ (asks (codes "reply") (Make name.Reply 2)
-    ∷ (asks (codes "notify") (Make name.Notify 1)
-    ∷ (asks (codes "clear") (Make name.Clear 0)
-    ∷ (asks (codes "eoi") (Make name.Eoi 1)
-    ∷ (asks (codes "irq_enable") (Make name.IrqEnable 1)
-    ∷ (asks (codes "irq_disable") (Make name.IrqDisable 1)
-    ∷ (asks (codes "reset_signal") (Make name.ResetSignal 1)
-    ∷ (asks (codes "panic") (Make name.Panic 0)
-    ∷ (asks (codes "load") (Make name.Load 2)
-    ∷ (asks (codes "store") (Make name.Store 3)
     ∷ (asks (codes "end") (Make name.Stop 0)
     ∷ (asks (codes "map_in") (Map vector.MapIn 2)
     ∷ (asks (codes "unmap_in") (Map vector.UnmapIn 2)
     ∷ (asks (codes "map_out") (Map vector.MapOut 2)
     ∷ (asks (codes "unmap_out") (Map vector.UnmapOut 3)
-    ∷ [])))))))))))))))))))))))))))))))))))
+    ∷ []))))))))))))))
 
 -- what a word asks for by a table
 abbrev pub look_up : List (Word × Head) → Word → Option Head
 look_up [] w = None
 look_up (t ∷ ts) w = if bytes_eq t.0 w then Some t.1 else look_up ts w
 
+-- a call with the number of its operands, which stand in the order of the call's fields
+abbrev pub call_head : Signature → Head
+call_head s = Make s.name (length s.kinds)
+
+abbrev pub head_or : Option Head → Option Signature → Option Head
+head_or (Some h) call = Some h
+head_or None call = option_map call_head call
+
 -- what the first word of a line asks for
 unfoldable pub head_of : Word → Option Head
-head_of w = look_up first_words w
+head_of w = head_or (look_up first_words w) (signature_in line_signatures w)

@@ -4,7 +4,7 @@ ghost use Rattle.std.specs.List.{list_all};
 ghost use Rattle.script_asm.specs.Words.{head_of, look_up};
 ghost use Rattle.script_asm.specs.Operands.{has_room, HasRoom};
 
-use ffm_model::{CallName, Comparison, MapName, Operation};
+use ffm_model::{CallName, Comparison, MapName, Operation, SIGNATURES, signature_in};
 
 /// What the first word of a line asks for; a call, and what is done with a vector, with the number of
 /// its operands.
@@ -17,7 +17,8 @@ pub enum Head {
     Map(MapName, usize),
 }
 
-const FIRST_WORDS: [(&str, Head); 36] = [
+// All but those of calls.
+const FIRST_WORDS: [(&str, Head); 15] = [
     ("set", Head::Change(Operation::Set)),
     ("add", Head::Change(Operation::Add)),
     ("sub", Head::Change(Operation::Sub)),
@@ -28,30 +29,6 @@ const FIRST_WORDS: [(&str, Head); 36] = [
     ("jeq", Head::JumpIf(Comparison::Equal)),
     ("jne", Head::JumpIf(Comparison::Different)),
     ("jlt", Head::JumpIf(Comparison::Less)),
-    (
-        "framework_version",
-        Head::Make(CallName::FrameworkVersion, 0),
-    ),
-    ("version", Head::Make(CallName::Version, 1)),
-    ("connect", Head::Make(CallName::Connect, 2)),
-    ("call", Head::Make(CallName::Invoke, 6)),
-    ("close", Head::Make(CallName::Close, 1)),
-    ("wait", Head::Make(CallName::Wait, 2)),
-    ("get", Head::Make(CallName::Get, 2)),
-    ("set_rhandle", Head::Make(CallName::SetRhandle, 2)),
-    ("read", Head::Make(CallName::Read, 4)),
-    ("skip", Head::Make(CallName::Skip, 3)),
-    ("write", Head::Make(CallName::Write, 4)),
-    ("reply", Head::Make(CallName::Reply, 2)),
-    ("notify", Head::Make(CallName::Notify, 1)),
-    ("clear", Head::Make(CallName::Clear, 0)),
-    ("eoi", Head::Make(CallName::Eoi, 1)),
-    ("irq_enable", Head::Make(CallName::IrqEnable, 1)),
-    ("irq_disable", Head::Make(CallName::IrqDisable, 1)),
-    ("reset_signal", Head::Make(CallName::ResetSignal, 1)),
-    ("panic", Head::Make(CallName::Panic, 0)),
-    ("load", Head::Make(CallName::Load, 2)),
-    ("store", Head::Make(CallName::Store, 3)),
     ("end", Head::Make(CallName::Stop, 0)),
     ("map_in", Head::Map(MapName::MapIn, 2)),
     ("unmap_in", Head::Map(MapName::UnmapIn, 2)),
@@ -73,9 +50,14 @@ fn head_in(table: &[(&'static str, Head)], word: &[u8]) -> Option<Head>
 }
 
 /// What the first word of a line asks for; None where it is unknown.
+#[tactic(auto, unfolding(crate::specs::Words::first_words, crate::specs::Words::head_of, ffm_model::specs::Signatures::line_signatures))]
 pub fn head_of(word: &[u8]) -> Option<Head>
     ensures gives { result ≡ head_of word.now }
     ensures room { IfSome result HasRoom }
 {
-    head_in(&FIRST_WORDS, word)
+    if let Some(head) = head_in(&FIRST_WORDS, word) {
+        return Some(head);
+    }
+    let (_, name, kinds) = signature_in(&SIGNATURES, word)?;
+    Some(Head::Make(name, kinds.len()))
 }
