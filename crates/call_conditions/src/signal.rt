@@ -6,7 +6,7 @@ ghost use Rattle.machine_calls.specs.Machine.{spm_of_objects};
 use crate::condition::{Condition, marked};
 use ffm_model::{ActorId, Call, System};
 use machine_calls::Objects;
-use machine_rules::{has_flih, is_asserted, source_of_signal};
+use machine_rules::{is_asserted, source_of_signal};
 use std::alloc::{AllocError, Global};
 
 fn of_notify(system: &System, partition: i32) -> [Condition; 1]
@@ -33,21 +33,21 @@ fn of_clear(objects: &Objects, actor: ActorId) -> [Condition; 1]
 }
 
 // The place of the source with a number.
-fn source_numbered(system: &System, source: u32) -> Option<usize>
+fn source_numbered(system: &System, source: u32) -> Option<u32>
     ensures { result ≡ source_numbered system.now source }
 {
     if (source as usize) < system.sources.len() {
-        Some(source as usize)
+        Some(source)
     } else {
         None
     }
 }
 
-fn of_assertion(objects: &Objects, source: Option<usize>) -> Condition
+fn of_assertion(objects: &Objects, source: Option<u32>) -> Condition
     ensures { told result ≡ asserted_condition (spm_of_objects objects.now) source }
 {
     let is_asserted = match source {
-        Some(place) => is_asserted(objects.sources.as_slice(), place),
+        Some(place) => is_asserted(objects.sources.as_slice(), place as usize),
         None => false,
     };
     marked(
@@ -56,21 +56,21 @@ fn of_assertion(objects: &Objects, source: Option<usize>) -> Condition
     )
 }
 
-fn of_first_level(system: &System, source: Option<usize>) -> Condition
+fn of_first_level(system: &System, source: Option<u32>) -> Condition
     ensures { told result ≡ first_level_condition system.now source }
 {
     let is_first_level = match source {
-        Some(place) => has_flih(system, place),
+        Some(place) => system.has_flih(place),
         None => false,
     };
     marked("the source has a first-level handler", is_first_level)
 }
 
-fn of_second_level(system: &System, source: Option<usize>) -> Condition
+fn of_second_level(system: &System, source: Option<u32>) -> Condition
     ensures { told result ≡ second_level_condition system.now source }
 {
     let is_second_level = match source {
-        Some(place) => !has_flih(system, place),
+        Some(place) => !system.has_flih(place),
         None => false,
     };
     marked("the source has a second-level handler", is_second_level)
@@ -81,7 +81,7 @@ fn of_enable(system: &System, actor: ActorId, signal: u32) -> [Condition; 1]
 {
     [marked(
         "the word isn't the signal of one of the caller's sources",
-        source_of_signal(system, actor, signal).is_none(),
+        source_of_signal(system, actor.0, signal).is_none(),
     )]
 }
 
@@ -108,12 +108,12 @@ pub fn signal_conditions(
         Call::Notify { partition } => Ok(Vec::from_array(alloc, of_notify(system, partition))?),
         Call::Clear => Ok(Vec::from_array(alloc, of_clear(objects, actor))?),
         Call::Eoi { signal } => {
-            let source = source_of_signal(system, actor, signal);
+            let source = source_of_signal(system, actor.0, signal);
             let level = of_first_level(system, source);
             Ok(Vec::from_array(alloc, [of_assertion(objects, source), level])?)
         }
         Call::ResetSignal { signal } => {
-            let source = source_of_signal(system, actor, signal);
+            let source = source_of_signal(system, actor.0, signal);
             let level = of_second_level(system, source);
             Ok(Vec::from_array(alloc, [of_assertion(objects, source), level])?)
         }

@@ -8,10 +8,11 @@ ghost use Rattle.spm_tables.specs.Answers.{Answers};
 ghost use Rattle.slot_names.specs.Named.{KeepsNames};
 ghost use Rattle.slot_names.specs.Premises.{AreLeft, Premises, KeepsVectors, KeepsFit};
 
-use crate::sending::{NO_VECTORS, send};
+use crate::sending::send;
 use ffm_model::{
     ActorId, ActorPhase, ConnPhase, Fault, Handle, Outcome, PSA_IPC_DISCONNECT, PSA_NULL_HANDLE,
 };
+use machine_rules::NO_VECTORS;
 use spm_tables::Tables;
 
 /// `psa_close` (`psa/client.h`): closes the connection, and the actor is Blocked until the service answers. A Dead

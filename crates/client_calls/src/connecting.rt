@@ -1,41 +1,20 @@
 //! `psa_connect`.
 ghost use Rattle.std.specs.Prelude.{◌≡◌, ◌+◌, ◌≤◌};
-ghost use Rattle.ffm_model.specs.Actors.{is_stateless};
 ghost use Rattle.ffm_model.specs.State.{phase_of};
-ghost use Rattle.ffm_model.specs.ClientCalls.{takes_version, is_service_panicked, psa_connect};
+ghost use Rattle.ffm_model.specs.ClientCalls.{is_service_panicked, psa_connect};
 ghost use Rattle.counting_law.specs.Objects.{ObjectsFit};
 ghost use Rattle.spm_tables.specs.TablesView.{shape_of, spm_of};
 ghost use Rattle.spm_tables.specs.Answers.{Answers};
 ghost use Rattle.slot_names.specs.Named.{KeepsNames};
 ghost use Rattle.slot_names.specs.Premises.{LeavesTakes, Premises, KeepsVectors};
 
-use crate::sending::{NO_VECTORS, send};
+use crate::sending::send;
 use ffm_model::{
     ActorId, ActorPhase, Fault, Outcome, PSA_ERROR_CONNECTION_BUSY, PSA_ERROR_CONNECTION_REFUSED,
-    PSA_IPC_CONNECT, Policy, Sid, System,
+    PSA_IPC_CONNECT, Sid, System,
 };
+use machine_rules::{NO_VECTORS, is_stateless, takes_version};
 use spm_tables::Tables;
-
-fn takes_version(system: &System, place: u32, asked: u32) -> bool
-    ensures { result ≡ takes_version system.now place asked }
-{
-    match system.services.as_slice().get(place as usize) {
-        Some(service) => match service.policy {
-            Policy::Strict => service.version == asked,
-            Policy::Relaxed => asked <= service.version,
-        },
-        None => false,
-    }
-}
-
-fn is_stateless(system: &System, place: u32) -> bool
-    ensures { result ≡ is_stateless system.now place }
-{
-    match system.services.as_slice().get(place as usize) {
-        Some(service) => service.stateless != 0,
-        None => false,
-    }
-}
 
 pub(crate) fn is_service_panicked(system: &System, tables: &Tables, place: u32) -> bool
     ensures { result ≡ is_service_panicked system.now (spm_of tables.now) place }

@@ -9,5 +9,6 @@ mod versions;
 
 pub use closing::close;
 pub use connecting::connect;
+pub use machine_rules::version;
 pub use requests::invoke;
-pub use versions::{framework_version, version};
+pub use versions::framework_version;

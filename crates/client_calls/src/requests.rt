@@ -2,8 +2,7 @@
 ghost use Rattle.std.specs.Prelude.{◌≡◌, ◌+◌, ◌≤◌, List};
 ghost use Rattle.ffm_model.specs.declared.machine.Handle.{Handle as HandleSeen};
 ghost use Rattle.ffm_model.specs.State.{phase_of};
-ghost use Rattle.ffm_model.specs.ClientCalls.{connection_called, psa_call, refuses_requests, service_called};
-ghost use Rattle.ffm_model.specs.Panic.{is_dead};
+ghost use Rattle.ffm_model.specs.ClientCalls.{connection_called, psa_call, service_called};
 ghost use Rattle.counting_law.specs.Objects.{ObjectsFit};
 ghost use Rattle.memory_image.specs.Pieces.{byte_at};
 ghost use Rattle.spm_tables.specs.TablesView.{shape_of, spm_of};
@@ -17,22 +16,10 @@ use ffm_model::{
     ActorId, ActorPhase, ConnPhase, Fault, Handle, Outcome, PSA_ERROR_COMMUNICATION_FAILURE,
     PSA_IPC_CALL, System,
 };
-use handle_table::stateless_index;
+use machine_rules::{is_dead, refuses_requests, stateless_index};
 use memory_image::Image;
 use message_vectors::snapshot;
 use spm_tables::Tables;
-
-fn refuses_requests(phase: ConnPhase) -> bool
-    ensures { result ≡ refuses_requests phase }
-{
-    matches!(phase, ConnPhase::Busy | ConnPhase::Error)
-}
-
-fn is_dead(phase: ConnPhase) -> bool
-    ensures { result ≡ is_dead phase }
-{
-    matches!(phase, ConnPhase::Dead)
-}
 
 // A call on a connection.
 fn call_connection(

@@ -5,24 +5,10 @@ ghost use Rattle.object_pools.specs.Pool.{most_takes, free_slot, item_at, taken}
 ghost use Rattle.spm_tables.specs.TablesView.{spm_of, shape_of};
 ghost use Rattle.client_calls.specs.Sending.{item_on, message_on, request_message};
 
-use ffm_model::{ActorId, ActorPhase, Span, Vectors};
+use ffm_model::{ActorId, ActorPhase, Vectors};
 use handle_table::Connections;
 use object_pools::Slot;
 use spm_tables::{MessageItem, Tables};
-
-const NO_SPAN: Span = Span {
-    base: 0,
-    len: 0,
-    moved: 0,
-};
-
-/// The vectors of a message that no `psa_call` made.
-pub(crate) const NO_VECTORS: Vectors = Vectors {
-    input: [NO_SPAN; 4],
-    output: [NO_SPAN; 4],
-    out_vec: 0,
-    out_len: 0,
-};
 
 // A message of the connection in that slot, before its delivery.
 fn item_on(connections: &Connections, slot: Slot, kind: i32, vectors: Vectors) -> MessageItem

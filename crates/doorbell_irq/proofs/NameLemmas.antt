@@ -5,7 +5,7 @@ use Rattle.ffm_model.specs.declared.objects.SourceFlags.{SourceFlags}
 use Rattle.ffm_model.specs.declared.system.System.{System}
 use Rattle.counting_law.specs.Objects.{ObjectsFit}
 use Rattle.counting_law.proofs.CallsFit.{beside-fits}
-use Rattle.message_vectors.specs.Vectors.{AreWithin}
+use Rattle.machine_rules.specs.Vectors.{AreWithin}
 use Rattle.spm_tables.specs.TablesView.{TablesView, spm_of}
 use Rattle.slot_names.specs.Named.{KeepsNames}
 use Rattle.slot_names.specs.Premises.{KeepsFit, KeepsVectors}

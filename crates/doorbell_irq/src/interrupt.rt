@@ -1,51 +1,18 @@
 //! The interrupt sources: what the device raises, and what a partition enables, disables and ends. A source's number is its place
 //! in the system's list, counted from 0, and a signal is the source's bit.
-ghost use Rattle.std.specs.Prelude.{◌≡◌, ◌≤◌, ◌<◌, ◌==◌, ◌&&◌, true, false, length, position, slice_set, None, Some, if◌then◌else◌};
+ghost use Rattle.std.specs.Prelude.{◌≡◌, ◌≤◌, ◌<◌, true, length, slice_set, None, Some, if◌then◌else◌};
 ghost use Rattle.ffm_model.specs.declared.machine.Outcome.TheVariants as outcome;
 ghost use Rattle.ffm_model.specs.declared.system.System.{System as SystemSeen};
 ghost use Rattle.ffm_model.specs.ClientCalls.{move};
-ghost use Rattle.ffm_model.specs.SignalCalls.{forwarded, has_flih, psa_eoi, psa_irq_disable, psa_irq_enable, psa_reset_signal, source_of_signal, with_forwarded, fire, interrupted, raise};
+ghost use Rattle.ffm_model.specs.SignalCalls.{forwarded, psa_eoi, psa_irq_disable, psa_irq_enable, psa_reset_signal, with_forwarded, fire, interrupted, raise};
 ghost use Rattle.slot_names.specs.Named.{KeepsNames};
 ghost use Rattle.slot_names.specs.Premises.{KeepsVectors, KeepsFit};
 ghost use Rattle.spm_tables.specs.Answers.{Answers};
 ghost use Rattle.spm_tables.specs.TablesView.{MadeFor, handling, shape_of, spm_of};
 
-use ffm_model::{ActorId, Fault, Source, SourceFlags, System};
+use ffm_model::{ActorId, Fault, SourceFlags, System};
+use machine_rules::{forwarded, source_of_signal};
 use spm_tables::Tables;
-
-// An enabled source that is pending asserts its signal: as soon as that is clear, or in any case with a first-level handler.
-fn forwarded(flih: bool, flags: SourceFlags) -> SourceFlags
-    ensures { result ≡ forwarded flih flags }
-{
-    if flags.enabled && flags.pending && (flih || !flags.asserted) {
-        SourceFlags {
-            pending: false,
-            asserted: true,
-            ..flags
-        }
-    } else {
-        flags
-    }
-}
-
-// The place of the first source that is the partition's and has the signal.
-fn place_of(sources: &[Source], partition: ActorId, signal: u32) -> Option<usize>
-    ensures { result ≡ position (λ v. (v.owner == partition.0) && (v.signal == signal)) sources.now }
-{
-    sources
-        .iter()
-        .position(|v| v.owner == partition.0 && v.signal == signal)
-}
-
-// The interrupt source of the partition that has the signal.
-fn source_of_signal(system: &System, partition: ActorId, signal: u32) -> Option<u32>
-    ensures { result ≡ source_of_signal system.now partition.0 signal }
-{
-    match place_of(system.sources.as_slice(), partition, signal) {
-        Some(place) => Some(place as u32),
-        None => None,
-    }
-}
 
 // Sets the flags of a source, and then forwards its interrupts.
 fn put_forwarded(tables: &mut Tables, source: u32, flags: SourceFlags)
@@ -111,7 +78,7 @@ pub fn eoi(system: &System, tables: &mut Tables, actor: ActorId, signal: u32) ->
     ensures within { KeepsVectors tables.old tables.new }
     ensures takes { tables.new.messages.takes ≡ tables.old.messages.takes }
 {
-    let source = source_of_signal(system, actor, signal).ok_or(Fault)?;
+    let source = source_of_signal(system, actor.0, signal).ok_or(Fault)?;
     let flags = tables.source_flags(source);
     if !flags.asserted || system.has_flih(source) {
         return Err(Fault);
@@ -136,7 +103,7 @@ pub fn reset(system: &System, tables: &mut Tables, actor: ActorId, signal: u32) 
     ensures within { KeepsVectors tables.old tables.new }
     ensures takes { tables.new.messages.takes ≡ tables.old.messages.takes }
 {
-    let source = source_of_signal(system, actor, signal).ok_or(Fault)?;
+    let source = source_of_signal(system, actor.0, signal).ok_or(Fault)?;
     let flags = tables.source_flags(source);
     if !flags.asserted || !system.has_flih(source) {
         return Err(Fault);
@@ -166,7 +133,7 @@ pub fn enable(
     ensures within { KeepsVectors tables.old tables.new }
     ensures takes { tables.new.messages.takes ≡ tables.old.messages.takes }
 {
-    let source = source_of_signal(system, actor, signal).ok_or(Fault)?;
+    let source = source_of_signal(system, actor.0, signal).ok_or(Fault)?;
     let enabled = SourceFlags {
         enabled: true,
         ..tables.source_flags(source)
@@ -192,7 +159,7 @@ pub fn disable(
     ensures within { KeepsVectors tables.old tables.new }
     ensures takes { tables.new.messages.takes ≡ tables.old.messages.takes }
 {
-    let source = source_of_signal(system, actor, signal).ok_or(Fault)?;
+    let source = source_of_signal(system, actor.0, signal).ok_or(Fault)?;
     let flags = tables.source_flags(source);
     let disabled = SourceFlags {
         enabled: false,

@@ -9,11 +9,12 @@ use Rattle.ffm_model.specs.ClientCalls.{Move, psa_call, psa_close, psa_connect}
 use Rattle.ffm_model.specs.Panic.{panic_effect}
 use Rattle.ffm_model.specs.State.{SpmState, State}
 use Rattle.ffm_model.specs.Ranges.{ranges_of}
-use Rattle.message_vectors.specs.Vectors.{AreWithin}
-use Rattle.isolation_law.proofs.Within.{AllMeet, MovedMeets, calls, closes, connects, none-within, panics, within-kept}
+use Rattle.machine_rules.specs.Vectors.{AreWithin}
+use Rattle.machine_rules.proofs.Fitting.{none_within}
+use Rattle.isolation_law.proofs.Within.{AllMeet, MovedMeets, calls, closes, connects, panics, within-kept}
 
 pub connect-within : (ranges : List (ℕ × ℕ)) (s : System) (b : SpmState) (a : ℕ) (sid : Sid) (version : ℕ) (m : Move) → psa_connect s b a sid version ≡ Some m → AllMeet (AreWithin ranges) b → AllMeet (AreWithin ranges) m.spm
-connect-within ranges s b a sid version m e all = subst (MovedMeets (AreWithin ranges)) e (connects (AreWithin ranges) s b a sid version (none-within ranges) all)
+connect-within ranges s b a sid version m e all = subst (MovedMeets (AreWithin ranges)) e (connects (AreWithin ranges) s b a sid version (none_within ranges) all)
 
 pub call-within : (s : System) (st : State) (a : ℕ) (h : Handle) (kind : ℤ) (in_vec in_len out_vec out_len : ℕ) (m : Move) → psa_call s st a h kind in_vec in_len out_vec out_len ≡ Some m
     → AllMeet (AreWithin (ranges_of s.regions)) st.spm → AllMeet (AreWithin (ranges_of s.regions)) m.spm
@@ -22,7 +23,7 @@ call-within s st a h kind in_vec in_len out_vec out_len m e all =
     subst (MovedMeets W) e (calls W s st a h kind in_vec in_len out_vec out_len (λ v given. (within-kept s).read st.memory a in_vec in_len out_vec out_len v given) all)
 
 pub close-within : (ranges : List (ℕ × ℕ)) (b : SpmState) (a : ℕ) (h : Handle) (m : Move) → psa_close b a h ≡ Some m → AllMeet (AreWithin ranges) b → AllMeet (AreWithin ranges) m.spm
-close-within ranges b a h m e all = subst (MovedMeets (AreWithin ranges)) e (closes (AreWithin ranges) b a h (none-within ranges) all)
+close-within ranges b a h m e all = subst (MovedMeets (AreWithin ranges)) e (closes (AreWithin ranges) b a h (none_within ranges) all)
 
 pub panic-within : (ranges : List (ℕ × ℕ)) (s : System) (b : SpmState) (p : ℕ) → AllMeet (AreWithin ranges) b → AllMeet (AreWithin ranges) (panic_effect s b p)
-panic-within ranges s b p all = panics (AreWithin ranges) s b p (none-within ranges) all
+panic-within ranges s b p all = panics (AreWithin ranges) s b p (none_within ranges) all

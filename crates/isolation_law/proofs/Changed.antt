@@ -31,7 +31,7 @@ use Rattle.ffm_model.specs.Reach.{length_word_has, write_reach}
 use Rattle.byte_lanes.specs.Differences.{range_covers}
 use Rattle.memory_image.proofs.Messages.{reply_is}
 use Rattle.memory_image.proofs.Outside.{copy_bytes-outside, store_number-outside, words_stored-outside}
-use Rattle.message_vectors.proofs.Reached.{lengths_written-outside, range-part}
+use Rattle.machine_rules.proofs.Reached.{lengths_written-outside, range-part}
 use Rattle.isolation_law.specs.Vectors.{AreFour, HaveFour}
 use Rattle.isolation_law.proofs.Reached.{buffer-written, range-written, rest-inside, output-written, length_word-written, request-held, request-kind}
 use Rattle.ffm_model.proofs.StepLemmas.{step-leaves, effect-has}

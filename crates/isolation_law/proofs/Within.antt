@@ -5,7 +5,7 @@ use Rattle.std.specs.List.{filter_map, cons_option, list_all}
 use Rattle.std.specs.Option.{option_map, option_map_or, unwrap_or}
 use Rattle.std.specs.Ordering.{int_eq}
 use Rattle.std.proofs.lemmas.List.{length-append, length-set, length-take, set_past}
-use Rattle.std.proofs.lemmas.List.Elements.{All-nil, All-cons, All-replicate, All-append, All-push, All-filter}
+use Rattle.std.proofs.lemmas.List.Elements.{All-nil, All-cons, All-append, All-push, All-filter}
 use Rattle.std.proofs.lemmas.Bool.Decides.{nat_tests}
 use Rattle.std.proofs.lemmas.Bool.{and_parts, cases_lt}
 use Rattle.list_laws.proofs.Bools.{if_passes, if_fails}
@@ -42,10 +42,10 @@ use Rattle.ffm_model.specs.Calls.{call_case, error_effect, effect_of}
 use Rattle.ffm_model.specs.Step.{step, after}
 use Rattle.ffm_model.specs.Ranges.{ranges_of}
 use Rattle.ffm_model.proofs.StepLemmas.{effect-has}
-use Rattle.memory_image.specs.Pieces.{is_inside}
 use Rattle.memory_image.proofs.Messages.{delivered_has, put_has, request_has}
-use Rattle.message_vectors.specs.Vectors.{AreWithin}
-use Rattle.message_vectors.proofs.Moved.{read_within, input_within, output_within}
+use Rattle.machine_rules.specs.Vectors.{AreWithin}
+use Rattle.machine_rules.proofs.Fitting.{none_within}
+use Rattle.machine_rules.proofs.Moved.{read_within, input_within, output_within}
 use Rattle.isolation_law.specs.Vectors.{AreFour, HaveFour, LieWithin}
 use Rattle.isolation_law.proofs.Steps.{step-has, run-has}
 
@@ -317,15 +317,6 @@ run-four s m es st h = run-meets AreFour s m es st (four-kept s) h
 
 -- ---- the condition on vectors
 
-pub none-within : (ranges : List (ℕ × ℕ)) → AreWithin ranges no_vectors
-none-within ranges = record {
-  few = omega arith;
-  inputs = All-replicate (λ (v : Span). is_inside v.base v.len ranges ≡ true) 4 no_span refl;
-  outputs = All-replicate (λ (v : Span). is_inside v.base v.len ranges ≡ true) 4 no_span refl;
-  moved = record { inputs = All-replicate (λ (v : Span). v.moved ≤ v.len) 4 no_span (omega arith); outputs = All-replicate (λ (v : Span). v.moved ≤ v.len) 4 no_span (omega arith) };
-  descriptors = λ k below. absurd (omega arith);
-}
-
 -- a place after the last vector moves none
 input-kept : (s : System) (v : Vectors) (index n : ℕ) → n ≤ rest_of (input_of v index) → AreWithin (ranges_of s.regions) v → AreWithin (ranges_of s.regions) (with_input_moved v index n)
 input-kept s v index n fits within =
@@ -343,7 +334,7 @@ output-kept s v index n fits within =
 
 pub within-kept : (s : System) → IsKept s (AreWithin (ranges_of s.regions))
 within-kept s = record {
-  none = none-within (ranges_of s.regions);
+  none = none_within (ranges_of s.regions);
   read = λ m a in_vec in_len out_vec out_len v given. vectors-from s m a in_vec in_len out_vec out_len v (AreWithin (ranges_of s.regions)) given
       (λ few descriptors inputs outputs. read_within s m a in_vec in_len out_vec out_len _ _ (let fits : in_len + out_len ≤ 4 = grind (arith, nat_tests) in omega arith) descriptors refl refl inputs outputs);
   input = input-kept s;

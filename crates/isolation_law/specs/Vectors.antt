@@ -5,7 +5,7 @@ use Rattle.ffm_model.specs.declared.system.System.{System}
 use Rattle.ffm_model.specs.declared.objects.Vectors.{Vectors}
 use Rattle.ffm_model.specs.State.{SpmState}
 use Rattle.ffm_model.specs.Ranges.{ranges_of}
-use Rattle.message_vectors.specs.Vectors.{AreWithin}
+use Rattle.machine_rules.specs.Vectors.{AreWithin}
 
 -- four input and four output vectors, of which those that aren't given have length 0
 pub record AreFour (vectors : Vectors) : Type 0 where

@@ -11,14 +11,13 @@ use Rattle.ffm_model.specs.declared.machine.Message.{Message}
 use Rattle.ffm_model.specs.declared.machine.Outcome.TheVariants.{Got}
 use Rattle.ffm_model.specs.Memory.{valid_buffer, words_stored}
 use Rattle.ffm_model.specs.ClientCalls.{effect}
-use Rattle.ffm_model.specs.ServiceCalls.{get_of, input_of, message_size, message_words, output_of, psa_get, reply_to, request_held, service_of_signal, shown_message}
+use Rattle.ffm_model.specs.ServiceCalls.{get_of, message_size, message_words, psa_get, reply_to, request_held, service_of_signal, shown_message}
 use Rattle.ffm_model.specs.State.{State, delivered, has_handle, is_undelivered, with_vectors, without_message}
 use Rattle.memory_image.specs.declared.image.Image.{Image}
 use Rattle.ffm_model.specs.Ranges.{ranges_of}
 use Rattle.memory_image.specs.Pieces.{byte_at, regions_of}
 use Rattle.memory_image.proofs.Messages.{delivered_has, held_has, put_has, reply_is, request_has}
-use Rattle.machine_rules.specs.Vectors.{SpanFits, VectorsFit}
-use Rattle.machine_rules.proofs.Fitting.{span_fits}
+use Rattle.machine_rules.specs.Vectors.{AreWithin}
 use Rattle.machine_calls.specs.declared.machine.Machine.{Machine}
 use Rattle.machine_calls.specs.declared.machine.Objects.{Objects}
 use Rattle.machine_calls.specs.Machine.{spm_of_objects, state_of, IsMachineOf, MessagesFit}
@@ -57,15 +56,8 @@ deliver_none s h cs ms i same over so_far =
 -- ---- the vectors of messages
 
 -- those of a request
-pub request_fits : (regions : List (ℕ × ℕ)) (s : System) (o : Objects) (a : ℕ) (h : Handle) (index : ℕ) (m : PendingMessage) → Some m ≡ request_held s (spm_of_objects o) a h index → MessagesFit regions o → VectorsFit regions m.vectors
-request_fits regions s o a h index m is k = request_has (λ x. VectorsFit regions x.vectors) s (spm_of_objects o) a h index m (sym is) k
-
--- each of its vectors
-pub input_fits : (regions : List (ℕ × ℕ)) (s : System) (o : Objects) (a : ℕ) (h : Handle) (index : ℕ) (m : PendingMessage) → Some m ≡ request_held s (spm_of_objects o) a h index → MessagesFit regions o → SpanFits regions (input_of m.vectors index)
-input_fits regions s o a h index m is k = span_fits regions m.vectors.input index (request_fits regions s o a h index m is k).inputs
-
-pub output_fits : (regions : List (ℕ × ℕ)) (s : System) (o : Objects) (a : ℕ) (h : Handle) (index : ℕ) (m : PendingMessage) → Some m ≡ request_held s (spm_of_objects o) a h index → MessagesFit regions o → SpanFits regions (output_of m.vectors index)
-output_fits regions s o a h index m is k = span_fits regions m.vectors.output index (request_fits regions s o a h index m is k).outputs
+pub request_fits : (regions : List (ℕ × ℕ)) (s : System) (o : Objects) (a : ℕ) (h : Handle) (index : ℕ) (m : PendingMessage) → Some m ≡ request_held s (spm_of_objects o) a h index → MessagesFit regions o → AreWithin regions m.vectors
+request_fits regions s o a h index m is k = request_has (λ x. AreWithin regions x.vectors) s (spm_of_objects o) a h index m (sym is) k
 
 -- ---- the machine is still the system's
 
@@ -75,17 +67,17 @@ kept_messages s m o image k same fits = record { regions = same ∙ k.regions; m
 
 -- where the vectors of a message changed
 pub kept_vectors : (s : System) (m : Machine) (o : Objects) (image : Image) (h : Handle) (v : Vectors) → IsMachineOf s m → regions_of image ≡ regions_of m.memory
-    → spm_of_objects o ≡ with_vectors (spm_of_objects m.objects) h v → VectorsFit (ranges_of s.regions) v → IsMachineOf s (record { objects = o; memory = image })
+    → spm_of_objects o ≡ with_vectors (spm_of_objects m.objects) h v → AreWithin (ranges_of s.regions) v → IsMachineOf s (record { objects = o; memory = image })
 kept_vectors s m o image h v k same is fits =
     kept_messages s m o image k same
-    (All-same (λ x. VectorsFit (ranges_of s.regions) x.vectors) _ _ (ap (λ b. b.messages) is) (put_has (VectorsFit (ranges_of s.regions)) h v m.objects.messages.items fits k.messages))
+    (All-same (λ x. AreWithin (ranges_of s.regions) x.vectors) _ _ (ap (λ b. b.messages) is) (put_has (AreWithin (ranges_of s.regions)) h v m.objects.messages.items fits k.messages))
 
 -- where a message was delivered
 pub kept_delivered : (s : System) (m : Machine) (o : Objects) (image : Image) (service : ℕ) (h : Handle) → IsMachineOf s m → regions_of image ≡ regions_of m.memory
     → spm_of_objects o ≡ record (spm_of_objects m.objects) { messages = delivered service h m.objects.messages.items } → IsMachineOf s (record { objects = o; memory = image })
 kept_delivered s m o image service h k same is =
     kept_messages s m o image k same
-    (All-same (λ x. VectorsFit (ranges_of s.regions) x.vectors) _ _ (ap (λ b. b.messages) is) (delivered_has (VectorsFit (ranges_of s.regions)) service h m.objects.messages.items k.messages))
+    (All-same (λ x. AreWithin (ranges_of s.regions) x.vectors) _ _ (ap (λ b. b.messages) is) (delivered_has (AreWithin (ranges_of s.regions)) service h m.objects.messages.items k.messages))
 
 -- ---- what psa_get answers and leaves
 
@@ -112,8 +104,8 @@ got_due s old new given a signal msg i h x shown words at first room is words_ar
 -- the messages that are left, where no call after it changes one
 pub removed_fit : (regions : List (ℕ × ℕ)) (o n p : Objects) (h : Handle) → spm_of_objects n ≡ without_message (spm_of_objects o) h → p.messages ≡ n.messages → MessagesFit regions o → MessagesFit regions p
 removed_fit regions o n p h is same fits =
-    All-same (λ x. VectorsFit regions x.vectors) _ _ (ap (λ v. v.items) same ∙ ap (λ b. b.messages) is) (All-filter (λ m. not (has_handle m.handle h)) (λ x. VectorsFit regions x.vectors) o.messages.items fits)
+    All-same (λ x. AreWithin regions x.vectors) _ _ (ap (λ v. v.items) same ∙ ap (λ b. b.messages) is) (All-filter (λ m. not (has_handle m.handle h)) (λ x. AreWithin regions x.vectors) o.messages.items fits)
 
 -- the vectors of a message that may be answered
-pub reply_fits : (regions : List (ℕ × ℕ)) (s : System) (o : Objects) (a : ℕ) (h : Handle) (status : ℤ) (m : PendingMessage) → Some m ≡ reply_to s (spm_of_objects o) a h status → MessagesFit regions o → VectorsFit regions m.vectors
-reply_fits regions s o a h status m is k = held_has (λ x. VectorsFit regions x.vectors) s (spm_of_objects o) a h m (reply_is s (spm_of_objects o) a h status m (sym is)) k
+pub reply_fits : (regions : List (ℕ × ℕ)) (s : System) (o : Objects) (a : ℕ) (h : Handle) (status : ℤ) (m : PendingMessage) → Some m ≡ reply_to s (spm_of_objects o) a h status → MessagesFit regions o → AreWithin regions m.vectors
+reply_fits regions s o a h status m is k = held_has (λ x. AreWithin regions x.vectors) s (spm_of_objects o) a h m (reply_is s (spm_of_objects o) a h status m (sym is)) k

@@ -11,7 +11,7 @@ use Rattle.ffm_model.specs.ClientCalls.{Move, move, Effect, effect}
 use Rattle.ffm_model.specs.State.{SpmState, State}
 use Rattle.ffm_model.specs.Ranges.{ranges_of}
 use Rattle.memory_image.specs.Pieces.{byte_at, regions_of}
-use Rattle.machine_rules.specs.Vectors.{VectorsFit}
+use Rattle.machine_rules.specs.Vectors.{AreWithin}
 use Rattle.machine_calls.specs.declared.machine.Objects.{Objects}
 use Rattle.machine_calls.specs.declared.machine.Machine.{Machine}
 
@@ -46,7 +46,7 @@ Does due old (Err e) new = Unit {0}
 
 -- the vectors of all messages fit the regions
 abbrev pub MessagesFit : List (ℕ × ℕ) → Objects → Type 0
-MessagesFit regions o = All (λ m. VectorsFit regions m.vectors) o.messages.items
+MessagesFit regions o = All (λ m. AreWithin regions m.vectors) o.messages.items
 
 -- the machine has the memory of the system, and the vectors of its messages fit it
 pub record IsMachineOf (s : System) (m : Machine) : Type 0 where

@@ -6,7 +6,7 @@ ghost use Rattle.ffm_model.specs.declared.objects.ActorPhase.TheVariants as phas
 ghost use Rattle.ffm_model.specs.Actors.{budget_of};
 ghost use Rattle.ffm_model.specs.State.{with_message, with_phase};
 ghost use Rattle.ffm_model.specs.ClientCalls.{in_state, call_to, connection_called, move, psa_call, psa_close, service_called, psa_connect, is_service_panicked, connect_issued, connect_to, call_on, close_on};
-ghost use Rattle.machine_rules.specs.Vectors.{VectorsFit};
+ghost use Rattle.machine_rules.specs.Vectors.{AreWithin};
 ghost use Rattle.machine_calls.specs.Machine.{spm_of_objects, state_of, Moves, Does, MessagesFit, IsMachineOf};
 
 use crate::machine::{Machine, Objects};
@@ -16,8 +16,8 @@ use ffm_model::{
     PSA_IPC_CONNECT, PSA_IPC_DISCONNECT, PSA_NULL_HANDLE, Sid, System, Vectors,
 };
 use machine_rules::{
-    NO_VECTORS, is_busy, is_dead, is_stateless, refuses_requests, stateless_index, takes_version,
-    vectors_of,
+    NO_VECTORS, is_busy, is_dead, is_stateless, refuses_requests, snapshot, stateless_index,
+    takes_version,
 };
 
 impl Objects {
@@ -40,7 +40,7 @@ impl Objects {
     ) -> Result<(), Memory>
         ensures state { IfOk result (λ u. spm_of_objects self.new ≡ with_phase (with_message (spm_of_objects self.old) connection kind vectors) actor.0 phase.Blocked) }
         ensures made { self.new.connections_made ≡ self.old.connections_made }
-        ensures fits { (regions : prelude.List (ℕ × ℕ)) → VectorsFit regions vectors → MessagesFit regions self.old → MessagesFit regions self.new }
+        ensures fits { (regions : prelude.List (ℕ × ℕ)) → AreWithin regions vectors → MessagesFit regions self.old → MessagesFit regions self.new }
     {
         self.add_message(connection, kind, vectors)?;
         self.set_phase(actor.0, ActorPhase::Blocked);
@@ -125,7 +125,7 @@ impl Objects {
     ) -> Result<Outcome, Memory>
         ensures moves { IfOk result (λ o. call_on (spm_of_objects self.old) actor.0 connection kind vectors ≡ move o (spm_of_objects self.new)) }
         ensures made { self.new.connections_made ≡ self.old.connections_made }
-        ensures fits { (regions : prelude.List (ℕ × ℕ)) → VectorsFit regions vectors → MessagesFit regions self.old → MessagesFit regions self.new }
+        ensures fits { (regions : prelude.List (ℕ × ℕ)) → AreWithin regions vectors → MessagesFit regions self.old → MessagesFit regions self.new }
     {
         if is_dead(connection.phase) {
             return Ok(Outcome::Value(PSA_ERROR_COMMUNICATION_FAILURE));
@@ -146,7 +146,7 @@ impl Objects {
     ) -> Result<Outcome, Memory>
         ensures moves { IfOk result (λ o. call_to system.now (spm_of_objects self.old) actor.0 service kind vectors ≡ move o (spm_of_objects self.new)) }
         ensures made { self.new.connections_made ≡ self.old.connections_made }
-        ensures fits { (regions : prelude.List (ℕ × ℕ)) → VectorsFit regions vectors → MessagesFit regions self.old → MessagesFit regions self.new }
+        ensures fits { (regions : prelude.List (ℕ × ℕ)) → AreWithin regions vectors → MessagesFit regions self.old → MessagesFit regions self.new }
     {
         if self.is_service_panicked(system, service) {
             return Ok(Outcome::Value(PSA_ERROR_COMMUNICATION_FAILURE));
@@ -212,8 +212,7 @@ impl Machine {
             return Ok(None);
         };
         let memory = &self.memory;
-        let Some(vectors) = vectors_of(system, memory, actor, in_vec, in_len, out_vec, out_len)
-        else {
+        let Some(vectors) = snapshot(system, memory, actor, in_vec, in_len, out_vec, out_len) else {
             return Ok(None);
         };
         if refuses_requests(connection.phase) || kind < 0 {
@@ -244,8 +243,7 @@ impl Machine {
             return Ok(None);
         };
         let memory = &self.memory;
-        let Some(vectors) = vectors_of(system, memory, actor, in_vec, in_len, out_vec, out_len)
-        else {
+        let Some(vectors) = snapshot(system, memory, actor, in_vec, in_len, out_vec, out_len) else {
             return Ok(None);
         };
         if system.budget(actor, service).is_none() || kind < 0 {

@@ -2,7 +2,7 @@
 ghost use Rattle.std.specs.Prelude.{◌≡◌, ◌==◌, ◌&&◌, not, ℕ, IfOk, find, filter, map};
 ghost use Rattle.std.specs.Prelude as prelude;
 ghost use Rattle.ffm_model.specs.State.{has_handle, connection_held, connection_by_serial, in_use, phase_put, rhandle_put, handle_put, with_connection_handle, with_connection_phase, with_message, with_request, with_rhandle, without_connection};
-ghost use Rattle.machine_rules.specs.Vectors.{VectorsFit};
+ghost use Rattle.machine_rules.specs.Vectors.{AreWithin};
 ghost use Rattle.machine_calls.specs.Machine.{spm_of_objects, MessagesFit};
 
 use crate::machine::Objects;
@@ -152,7 +152,7 @@ impl Objects {
     ) -> Result<(), Memory>
         ensures state { IfOk result (λ u. spm_of_objects self.new ≡ with_message (spm_of_objects self.old) connection kind vectors) }
         ensures made { self.new.connections_made ≡ self.old.connections_made }
-        ensures fits { (regions : prelude.List (ℕ × ℕ)) → VectorsFit regions vectors → MessagesFit regions self.old → MessagesFit regions self.new }
+        ensures fits { (regions : prelude.List (ℕ × ℕ)) → AreWithin regions vectors → MessagesFit regions self.old → MessagesFit regions self.new }
     {
         self.messages.push(PendingMessage {
             service: connection.service,
@@ -175,7 +175,7 @@ impl Objects {
     ) -> Result<(), Memory>
         ensures state { IfOk result (λ u. spm_of_objects self.new ≡ with_request (spm_of_objects self.old) client.0 service kind vectors) }
         ensures made { self.new.connections_made ≡ self.old.connections_made }
-        ensures fits { (regions : prelude.List (ℕ × ℕ)) → VectorsFit regions vectors → MessagesFit regions self.old → MessagesFit regions self.new }
+        ensures fits { (regions : prelude.List (ℕ × ℕ)) → AreWithin regions vectors → MessagesFit regions self.old → MessagesFit regions self.new }
     {
         self.messages.push(PendingMessage {
             service,

@@ -6,7 +6,7 @@ ghost use Rattle.machine_calls.specs.Machine.{spm_of_objects, Moves};
 
 use crate::machine::Objects;
 use ffm_model::{ActorId, Outcome, SourceFlags, System};
-use machine_rules::{forwarded, has_flih, source_of_signal};
+use machine_rules::{forwarded, source_of_signal};
 
 fn put_doorbell(doorbells: &mut [bool], partition: usize, set: bool)
     ensures { doorbells.new ≡ slice_set doorbells.old partition set }
@@ -42,10 +42,10 @@ impl Objects {
         put_doorbell(self.doorbells.as_mut_slice(), partition, set);
     }
 
-    fn flags(&self, source: usize) -> SourceFlags
+    fn flags(&self, source: u32) -> SourceFlags
         ensures { result ≡ flags_at (spm_of_objects self.now) source }
     {
-        match self.sources.as_slice().get(source) {
+        match self.sources.as_slice().get(source as usize) {
             Some(flags) => *flags,
             None => SourceFlags {
                 enabled: false,
@@ -55,12 +55,12 @@ impl Objects {
         }
     }
 
-    fn set_flags(&mut self, source: usize, flags: SourceFlags)
+    fn set_flags(&mut self, source: u32, flags: SourceFlags)
         ensures state { spm_of_objects self.new ≡ with_flags (spm_of_objects self.old) source flags }
         ensures messages { self.new.messages ≡ self.old.messages }
         ensures made { self.new.connections_made ≡ self.old.connections_made }
     {
-        put_flags(self.sources.as_mut_slice(), source, flags);
+        put_flags(self.sources.as_mut_slice(), source as usize, flags);
     }
 
     /// `psa_notify` (`psa/service.h`). None where no partition has the ID.
@@ -97,16 +97,16 @@ impl Objects {
         ensures messages { self.new.messages ≡ self.old.messages }
         ensures made { self.new.connections_made ≡ self.old.connections_made }
     {
-        let source = source_of_signal(system, actor, signal)?;
+        let source = source_of_signal(system, actor.0, signal)?;
         let flags = self.flags(source);
-        if !flags.asserted || has_flih(system, source) {
+        if !flags.asserted || system.has_flih(source) {
             return None;
         }
         let ended = SourceFlags {
             asserted: false,
             ..flags
         };
-        self.set_flags(source, forwarded(has_flih(system, source), ended));
+        self.set_flags(source, forwarded(system.has_flih(source), ended));
         Some(Outcome::Done)
     }
 
@@ -116,15 +116,14 @@ impl Objects {
         ensures messages { self.new.messages ≡ self.old.messages }
         ensures made { self.new.connections_made ≡ self.old.connections_made }
     {
-        let source = source as usize;
-        if source >= system.sources.len() || has_flih(system, source) {
+        if source as usize >= system.sources.len() || system.has_flih(source) {
             return None;
         }
         let raised = SourceFlags {
             pending: true,
             ..self.flags(source)
         };
-        self.set_flags(source, forwarded(has_flih(system, source), raised));
+        self.set_flags(source, forwarded(system.has_flih(source), raised));
         Some(Outcome::Done)
     }
 
@@ -134,12 +133,12 @@ impl Objects {
         ensures messages { self.new.messages ≡ self.old.messages }
         ensures made { self.new.connections_made ≡ self.old.connections_made }
     {
-        let source = source_of_signal(system, actor, signal)?;
+        let source = source_of_signal(system, actor.0, signal)?;
         let enabled = SourceFlags {
             enabled: true,
             ..self.flags(source)
         };
-        self.set_flags(source, forwarded(has_flih(system, source), enabled));
+        self.set_flags(source, forwarded(system.has_flih(source), enabled));
         Some(Outcome::Done)
     }
 
@@ -149,7 +148,7 @@ impl Objects {
         ensures messages { self.new.messages ≡ self.old.messages }
         ensures made { self.new.connections_made ≡ self.old.connections_made }
     {
-        let source = source_of_signal(system, actor, signal)?;
+        let source = source_of_signal(system, actor.0, signal)?;
         let flags = self.flags(source);
         let disabled = SourceFlags {
             enabled: false,
@@ -165,9 +164,9 @@ impl Objects {
         ensures messages { self.new.messages ≡ self.old.messages }
         ensures made { self.new.connections_made ≡ self.old.connections_made }
     {
-        let source = source_of_signal(system, actor, signal)?;
+        let source = source_of_signal(system, actor.0, signal)?;
         let flags = self.flags(source);
-        if !flags.asserted || !has_flih(system, source) {
+        if !flags.asserted || !system.has_flih(source) {
             return None;
         }
         let reset = SourceFlags {
@@ -184,8 +183,7 @@ impl Objects {
         ensures messages { self.new.messages ≡ self.old.messages }
         ensures made { self.new.connections_made ≡ self.old.connections_made }
     {
-        let source = source as usize;
-        if source >= system.sources.len() || !has_flih(system, source) || answer > 1 {
+        if source as usize >= system.sources.len() || !system.has_flih(source) || answer > 1 {
             return None;
         }
         if answer == 1 {

@@ -112,18 +112,18 @@ impl Objects {
     }
 
     /// The oldest message of a service that waits for `psa_get`.
-    pub fn first_undelivered(&self, service: usize) -> Option<PendingMessage>
+    pub fn first_undelivered(&self, service: u32) -> Option<PendingMessage>
         ensures { result ≡ find (is_undelivered service) (spm_of_objects self.now).messages }
     {
-        undelivered(self.messages.as_slice(), service)
+        undelivered(self.messages.as_slice(), service as usize)
     }
 
     /// Delivers the oldest message of a service that waits for `psa_get`, under a handle.
-    pub fn deliver(&mut self, service: usize, handle: Handle)
+    pub fn deliver(&mut self, service: u32, handle: Handle)
         ensures state { spm_of_objects self.new ≡ record (spm_of_objects self.old) { messages = delivered service handle (spm_of_objects self.old).messages } }
         ensures made { self.new.connections_made ≡ self.old.connections_made }
     {
-        deliver(self.messages.as_mut_slice(), service, handle);
+        deliver(self.messages.as_mut_slice(), service as usize, handle);
     }
 
     /// Sets the vectors of the message with a handle.

@@ -9,7 +9,7 @@ ghost use Rattle.ffm_model.specs.Actors.{is_service_of};
 ghost use Rattle.ffm_model.specs.Memory.{no_vectors};
 ghost use Rattle.ffm_model.specs.Panic.{callers_answered, client_answered, clients_answered, without_service, without_client, disconnection, panic_effect};
 ghost use Rattle.machine_calls.specs.Leaving.{left_of, disconnection_left, Leaves};
-ghost use Rattle.machine_rules.specs.Vectors.{VectorsFit};
+ghost use Rattle.machine_rules.specs.Vectors.{AreWithin};
 ghost use Rattle.machine_calls.specs.Machine.{spm_of_objects, MessagesFit};
 
 use crate::machine::Objects;
@@ -194,7 +194,7 @@ fn send_disconnection(
     messages: &mut Vec<PendingMessage>,
 ) -> Result<(), Memory>
     ensures sent { IfOk result (λ u. messages.new.items ≡ messages.old.items ++ cons_option (disconnection_left system.now partition connection) []) }
-    ensures fits { (regions : prelude.List (ℕ × ℕ)) → All (λ m. VectorsFit regions m.vectors) messages.old.items → All (λ m. VectorsFit regions m.vectors) messages.new.items }
+    ensures fits { (regions : prelude.List (ℕ × ℕ)) → All (λ m. AreWithin regions m.vectors) messages.old.items → All (λ m. AreWithin regions m.vectors) messages.new.items }
 {
     if let Some(message) = disconnection_left(system, partition, connection) {
         messages.push(message)?;
@@ -210,7 +210,7 @@ fn send_disconnections(
     messages: &mut Vec<PendingMessage>,
 ) -> Result<(), Memory>
     ensures sent { IfOk result (λ u. messages.new.items ≡ messages.old.items ++ filter_map (disconnection_left system.now partition) connections.now) }
-    ensures fits { (regions : prelude.List (ℕ × ℕ)) → All (λ m. VectorsFit regions m.vectors) messages.old.items → All (λ m. VectorsFit regions m.vectors) messages.new.items }
+    ensures fits { (regions : prelude.List (ℕ × ℕ)) → All (λ m. AreWithin regions m.vectors) messages.old.items → All (λ m. AreWithin regions m.vectors) messages.new.items }
 {
     for connection in connections {
         send_disconnection(system, partition, *connection, messages)?;

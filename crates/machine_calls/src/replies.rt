@@ -10,7 +10,7 @@ use ffm_model::{
     ActorId, ActorPhase, ConnPhase, Handle, Memory, Outcome, PSA_ERROR_PROGRAMMER_ERROR,
     PSA_IPC_CALL, PSA_IPC_CONNECT, PSA_SUCCESS, PendingMessage, Status, System,
 };
-use machine_rules::{is_connect_status, is_partition, owes_panic, tell_lengths};
+use machine_rules::{finish, is_connect_status, is_partition, owes_panic};
 
 impl Objects {
     fn answer_connect(&mut self, serial: u32, message: PendingMessage, status: i32)
@@ -169,7 +169,7 @@ impl Machine {
         };
         self.objects.reply(system, handle, status.0, message)?;
         if message.kind >= PSA_IPC_CALL {
-            tell_lengths(&mut self.memory, &message.vectors);
+            finish(&mut self.memory, &message.vectors);
         }
         Ok(Some(Outcome::Done))
     }

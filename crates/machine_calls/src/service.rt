@@ -13,8 +13,8 @@ use ffm_model::{
     System,
 };
 use machine_rules::{
-    MESSAGE_SIZE, advance, assigned_to, client_id_of, copy_from, copy_to, service_of_signal,
-    sizes_of, skip, words_of,
+    MESSAGE_SIZE, assigned_to, client_id_of, read, service_of_signal, sizes_of, skip, words_of,
+    write,
 };
 use memory_image::valid_buffer;
 
@@ -158,10 +158,8 @@ impl Machine {
         if !valid_buffer(system, actor, buffer, len) {
             return None;
         }
-        let span = message.vectors.input[index as usize];
         let mut vectors = message.vectors;
-        let count = skip(&mut vectors, index, len);
-        copy_from(&mut self.memory, &span, buffer, count);
+        let count = read(&mut self.memory, &mut vectors, index, buffer, len);
         self.objects.set_vectors(handle, vectors);
         Some(Outcome::Number(count))
     }
@@ -185,12 +183,8 @@ impl Machine {
         if !valid_buffer(system, actor, buffer, len) {
             return None;
         }
-        let span = message.vectors.output[index as usize];
         let mut vectors = message.vectors;
-        if !advance(&mut vectors, index, len) {
-            return None;
-        }
-        copy_to(&mut self.memory, &span, buffer, len);
+        write(&mut self.memory, &mut vectors, index, buffer, len).ok()?;
         self.objects.set_vectors(handle, vectors);
         Some(Outcome::Done)
     }

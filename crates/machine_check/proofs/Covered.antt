@@ -34,7 +34,7 @@ use Rattle.ffm_model.specs.Memory.{ByteMap, copy_bytes, lengths_written, load_nu
 use Rattle.ffm_model.specs.ServiceCalls.{psa_get, psa_read, psa_write, psa_reply, request_held, service_of_signal, message_size, message_words, shown_message, get_of, read_of, write_of, reply_of, reply_to, rest_of, input_at, output_at, outputs_given}
 use Rattle.ffm_model.specs.State.{State, SpmState, phase_of, message_held, is_undelivered, with_phase}
 use Rattle.ffm_model.specs.Step.{step, may_call, handle_allowed, handle_shown, message_eq, outcome_eq}
-use Rattle.machine_rules.specs.Vectors.{SpanFits, VectorsFit}
+use Rattle.machine_rules.specs.Vectors.{IsWithin, AreWithin}
 use Rattle.ffm_model.specs.Ranges.{ranges_of}
 use Rattle.ffm_model.proofs.StepLemmas.{effect-has}
 use Rattle.ffm_model.specs.Actors.{kind_of}
@@ -43,7 +43,7 @@ use Rattle.memory_image.proofs.Messages.{held_has, reply_is, request_has}
 use Rattle.memory_image.proofs.Outside.{copy_bytes-outside, store_number-outside, words_stored-outside}
 use Rattle.memory_image.proofs.Stored.{part_inside}
 use Rattle.memory_image.proofs.Systems.{buffer_inside, writable_inside}
-use Rattle.machine_rules.proofs.Fitting.{span_fits}
+use Rattle.machine_rules.proofs.Fitting.{output_at_within}
 use Rattle.machine_check.specs.declared.written.Ranges.{Ranges}
 use Rattle.machine_check.specs.Written.{AreInside, HasFourSizes, length_words, next_bytes, nothing, one_range, ranges_from, ranges_in, written, written_by}
 
@@ -103,7 +103,7 @@ one-covered s old new first len stays inside = by_test (len == 0) refl where
 
 -- the vectors of all messages fit the system's regions
 abbrev pub AllFit : System → SpmState → Type 0
-AllFit s b = All (λ m. VectorsFit (ranges_of s.regions) m.vectors) b.messages
+AllFit s b = All (λ m. AreWithin (ranges_of s.regions) m.vectors) b.messages
 
 -- ---- calls, by what their outcome is told as
 
@@ -165,7 +165,7 @@ wrote s st a h index buffer len m held fit may told same four =
     let v : Span = output_at m index in
     let test : nat_le len (rest_of v) ≡ true = (and_parts (valid_buffer s a buffer len) _ may).1 in
     let all : len ≡ min len (rest_of v) = grind (arith, nat_tests) in
-    let span : SpanFits (ranges_of s.regions) v = span_fits (ranges_of s.regions) m.vectors.output index (request_has (λ x. VectorsFit (ranges_of s.regions) x.vectors) s st.spm a h index m held fit).outputs in
+    let span : IsWithin (ranges_of s.regions) v = output_at_within (ranges_of s.regions) m.vectors index (request_has (λ x. AreWithin (ranges_of s.regions) x.vectors) s st.spm a h index m held fit) in
     let new : ByteMap = copy_bytes st.memory buffer (v.base + v.moved) len in
     let moved : v.moved ≤ v.len = span.moved in
     let here : IsCovered s st.memory new (next_bytes v len) = one-covered s st.memory new (v.base + v.moved) (min len (rest_of v))
@@ -181,7 +181,7 @@ writes s st a h index buffer len fit =
     if_passes (TellsCovered s st a (call.Write h index buffer len)) (valid_buffer s a buffer len && nat_le len (rest_of (output_at m index))) (write_of st h index buffer len m) (wrote s st a h index buffer len m held fit))
 
 -- psa_reply
-word-inside : (regions : List (ℕ × ℕ)) (vectors : Vectors) (k : ℕ) → VectorsFit regions vectors → k < vectors.out_len → is_inside ((vectors.out_vec + 4) + 8 * k) 4 regions ≡ true
+word-inside : (regions : List (ℕ × ℕ)) (vectors : Vectors) (k : ℕ) → AreWithin regions vectors → k < vectors.out_len → is_inside ((vectors.out_vec + 4) + 8 * k) 4 regions ≡ true
 word-inside regions vectors k fit below = part_inside (vectors.out_vec + 8 * k) 8 ((vectors.out_vec + 4) + 8 * k) 4 regions (omega arith) (omega arith) (fit.descriptors k below)
 
 words-stay : (m : ByteMap) (p : PendingMessage) (x : ℕ) → ((k : ℕ) → k < p.vectors.out_len → range_covers ((p.vectors.out_vec + 4) + 8 * k, 4) x ≡ false)
@@ -190,7 +190,7 @@ words-stay m p x out =
     let few : length (outputs_given p) ≤ p.vectors.out_len = omega (arith, length-take p.vectors.out_len p.vectors.output) in
     lengths-outside m p.vectors.out_vec x (outputs_given p) (λ k below. out k (omega (arith, few)))
 
-words-covered : (s : System) (m : ByteMap) (p : PendingMessage) → VectorsFit (ranges_of s.regions) p.vectors
+words-covered : (s : System) (m : ByteMap) (p : PendingMessage) → AreWithin (ranges_of s.regions) p.vectors
     → IsCovered s m (if int_lt p.kind PSA_IPC_CALL then m else lengths_written m p.vectors.out_vec (outputs_given p)) (length_words p)
 words-covered s m p fit = by_tests (int_lt p.kind PSA_IPC_CALL) (p.vectors.out_len == 0) refl where
   by_tests : (b c : Bool) → (p.vectors.out_len == 0) ≡ c
@@ -208,7 +208,7 @@ replies s st a h status c fit is =
     each_mapped (TellsCovered s st a c) (reply_of s st h status) (reply_to s st.spm a h status) (λ m answers told same four.
     let held = reply_is s st.spm a h status m answers in
     only_done (λ o. IsCovered s st.memory (reply_of s st h status m).state.memory (written_by s st.spm a o c))
-    (subst (IsCovered s st.memory (reply_of s st h status m).state.memory) (sym (is ∙ ap (λ o. option_map_or length_words o nothing) held)) (words-covered s st.memory m (held_has (λ x. VectorsFit (ranges_of s.regions) x.vectors) s st.spm a h m held fit)))
+    (subst (IsCovered s st.memory (reply_of s st h status m).state.memory) (sym (is ∙ ap (λ o. option_map_or length_words o nothing) held)) (words-covered s st.memory m (held_has (λ x. AreWithin (ranges_of s.regions) x.vectors) s st.spm a h m held fit)))
     told same)
 
 -- a store

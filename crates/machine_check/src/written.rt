@@ -4,7 +4,7 @@ ghost use Rattle.std.specs.Option.{option_map_or};
 ghost use Rattle.ffm_model.specs.ServiceCalls.{output_at, request_held};
 ghost use Rattle.ffm_model.specs.State.{message_held};
 ghost use Rattle.machine_calls.specs.Machine.{spm_of_objects, IsMachineOf};
-ghost use Rattle.machine_rules.specs.Vectors.{SpanFits, VectorsFit};
+ghost use Rattle.machine_rules.specs.Vectors.{IsWithin, AreWithin};
 ghost use Rattle.memory_image.specs.Pieces.{regions_of};
 ghost use Rattle.machine_check.specs.Written.{by_done, by_get, by_read, length_words, next_bytes, nothing, one_range, written, HasFourSizes};
 
@@ -45,7 +45,7 @@ fn one_range(first: u32, len: u32) -> Ranges
 
 // The next bytes of an output vector, no more than its rest. After its last one there may be no address.
 fn next_bytes(memory: &Image, span: &Span, len: u32) -> Ranges
-    requires { SpanFits (regions_of memory.now) span.now }
+    requires { IsWithin (regions_of memory.now) span.now }
     ensures { result ≡ next_bytes span.now len }
 {
     memory.keeps_its_limits();
@@ -58,7 +58,7 @@ fn next_bytes(memory: &Image, span: &Span, len: u32) -> Ranges
 
 // The length words of a request's output vectors, each after its base.
 fn length_words(memory: &Image, message: &PendingMessage) -> Ranges
-    requires { VectorsFit (regions_of memory.now) message.now.vectors }
+    requires { AreWithin (regions_of memory.now) message.now.vectors }
     ensures { result ≡ length_words message.now }
 {
     let count = message.vectors.out_len;

@@ -1,8 +1,8 @@
-//! Interrupt sources: how they are handled, and their flags.
+//! The flags of interrupt sources.
 ghost use Rattle.std.specs.Prelude.{◌≡◌};
-ghost use Rattle.ffm_model.specs.SignalCalls.{forwarded, has_flih};
+ghost use Rattle.ffm_model.specs.SignalCalls.{forwarded};
 
-use ffm_model::{SourceFlags, System};
+use ffm_model::SourceFlags;
 
 /// The flags of a source after it was raised or enabled: an enabled source that is pending asserts its signal, with
 /// second-level handling as soon as that is clear, and with first-level handling (`flih`) in any case. Else they stay.
@@ -17,15 +17,5 @@ pub fn forwarded(flih: bool, flags: SourceFlags) -> SourceFlags
         }
     } else {
         flags
-    }
-}
-
-/// Whether the interrupt source at this place has a first-level handler (FF-M 1.1). False where there is no such source.
-pub fn has_flih(system: &System, source: usize) -> bool
-    ensures { result ≡ has_flih system.now source }
-{
-    match system.sources.as_slice().get(source) {
-        Some(source) => source.flih,
-        None => false,
     }
 }

@@ -7,8 +7,8 @@ use ffm_model::{
     ActorId, Handle, MAX_STATELESS, PSA_VERSION_NONE, Policy, STATELESS_BASE, Sid, System,
 };
 
-/// `psa_version` (`psa/client.h`): the version of the service with the SID, and `PSA_VERSION_NONE` where there is none or
-/// the actor may not use it.
+/// `psa_version` (`psa/client.h`): the version of the service with the SID, stateless or not, and `PSA_VERSION_NONE` where
+/// there is none or the actor may not use it.
 pub fn version(system: &System, actor: ActorId, sid: Sid) -> u32
     ensures { result ≡ version_number system.now actor.0 sid }
 {

@@ -4,30 +4,39 @@ ghost use Rattle.ffm_model.specs.ServiceCalls.{service_of_signal};
 ghost use Rattle.ffm_model.specs.SignalCalls.{source_of_signal};
 ghost use Rattle.ffm_model.specs.Signals.{assigned_to, union_of};
 
-use ffm_model::{ActorId, PSA_DOORBELL, Service, Source, System};
+use ffm_model::{PSA_DOORBELL, Service, Source, System};
 
-fn place_of(services: &[Service], partition: u32, signal: u32) -> Option<usize>
+fn service_place(services: &[Service], partition: u32, signal: u32) -> Option<usize>
     ensures { result ≡ position (λ v. (v.owner == partition) && (v.signal == signal)) services.now }
 {
-    services
-        .iter()
-        .position(|v| v.owner == partition && v.signal == signal)
+    services.iter().position(|service| service.owner == partition && service.signal == signal)
 }
 
 /// The place of the partition's service that has the signal. None exactly where the word isn't one service's signal.
-pub fn service_of_signal(system: &System, partition: u32, signal: u32) -> Option<usize>
+pub fn service_of_signal(system: &System, partition: u32, signal: u32) -> Option<u32>
     ensures { result ≡ service_of_signal system.now partition signal }
 {
-    place_of(system.services.as_slice(), partition, signal)
+    match service_place(system.services.as_slice(), partition, signal) {
+        Some(place) => Some(place as u32),
+        None => None,
+    }
+}
+
+fn source_place(sources: &[Source], partition: u32, signal: u32) -> Option<usize>
+    ensures { result ≡ position (λ v. (v.owner == partition) && (v.signal == signal)) sources.now }
+{
+    sources.iter().position(|source| source.owner == partition && source.signal == signal)
 }
 
 /// The place of the partition's interrupt source that has the signal. None exactly where the word isn't one source's
 /// signal.
-pub fn source_of_signal(system: &System, actor: ActorId, signal: u32) -> Option<usize>
-    ensures { result ≡ source_of_signal system.now actor.0 signal }
+pub fn source_of_signal(system: &System, partition: u32, signal: u32) -> Option<u32>
+    ensures { result ≡ source_of_signal system.now partition signal }
 {
-    let mut sources = system.sources.as_slice().iter();
-    sources.position(|source| source.owner == actor.0 && source.signal == signal)
+    match source_place(system.sources.as_slice(), partition, signal) {
+        Some(place) => Some(place as u32),
+        None => None,
+    }
 }
 
 // The signals of a partition's services.

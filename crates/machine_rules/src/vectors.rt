@@ -4,7 +4,7 @@ ghost use Rattle.std.specs.List.{list_all};
 ghost use Rattle.ffm_model.specs.Memory.{valid_buffer, span_at, vectors_read, vectors_of};
 ghost use Rattle.ffm_model.specs.Ranges.{ranges_of};
 ghost use Rattle.memory_image.specs.Pieces.{byte_at, regions_of, is_inside};
-ghost use Rattle.machine_rules.specs.Vectors.{VectorsFit};
+ghost use Rattle.machine_rules.specs.Vectors.{AreWithin};
 
 use ffm_model::{ActorId, PSA_MAX_IOVEC, Span, System, Vectors};
 use memory_image::{Image, valid_buffer};
@@ -24,28 +24,28 @@ pub const NO_VECTORS: Vectors = Vectors {
 };
 
 // A descriptor: a base, then a length.
-fn span_at(memory: &Image, at: u32) -> Span
-    requires { is_inside at 8 (regions_of memory.now) ≡ true }
-    ensures { result ≡ span_at (byte_at memory.now) at }
+fn span_at(image: &Image, at: u32) -> Span
+    requires { is_inside at 8 (regions_of image.now) ≡ true }
+    ensures { result ≡ span_at (byte_at image.now) at }
 {
-    memory.keeps_its_limits();
+    image.keeps_its_limits();
     Span {
-        base: memory.load(at, 4),
-        len: memory.load(at + 4, 4),
+        base: image.load(at, 4),
+        len: image.load(at + 4, 4),
         moved: 0,
     }
 }
 
 // Four vectors, of which the first ones are read from descriptors one after the other.
-fn vectors_read(memory: &Image, at: u32, count: u32) -> [Span; 4]
+fn vectors_read(image: &Image, at: u32, count: u32) -> [Span; 4]
     requires few { count ≤ PSA_MAX_IOVEC }
-    requires inside { is_inside at (8 * count) (regions_of memory.now) ≡ true }
-    ensures { result ≡ vectors_read (byte_at memory.now) at count }
+    requires inside { is_inside at (8 * count) (regions_of image.now) ≡ true }
+    ensures { result ≡ vectors_read (byte_at image.now) at count }
 {
-    memory.keeps_its_limits();
+    image.keeps_its_limits();
     let mut spans = [NO_SPAN; 4];
     for k in 0..count {
-        spans[k as usize] = span_at(memory, at + 8 * k);
+        spans[k as usize] = span_at(image, at + 8 * k);
     }
     spans
 }
@@ -65,22 +65,22 @@ fn are_valid(system: &System, actor: ActorId, spans: &[Span]) -> bool
         .all(|v| valid_buffer(system, actor, v.base, v.len))
 }
 
-/// The vectors that an actor hands to `psa_call` (`psa/client.h`), with their descriptors of eight bytes each read from
-/// memory: `in_len` at address `in_vec`, and `out_len` at `out_vec`. None exactly where there are more than four in all,
-/// or the descriptors or a vector is no valid buffer of the actor. The memory has the system's regions, and the vectors
-/// fit them, with no byte moved yet.
-pub fn vectors_of(
+/// The vectors that an actor hands to `psa_call` (`psa/client.h`), with their descriptors read from
+/// memory: `in_len` of them at `in_vec`, and `out_len` at `out_vec`, each a base and then a length. A
+/// vector that isn't given has length 0. None exactly where there are more than four, or the
+/// descriptors or a vector is no valid buffer of the actor. The image has the system's regions.
+pub fn snapshot(
     system: &System,
-    memory: &Image,
+    image: &Image,
     actor: ActorId,
     in_vec: u32,
     in_len: u32,
     out_vec: u32,
     out_len: u32,
 ) -> Option<Vectors>
-    requires { regions_of memory.now ≡ ranges_of system.now.regions }
-    ensures exact { result ≡ vectors_of system.now (byte_at memory.now) actor.0 in_vec in_len out_vec out_len }
-    ensures fits { IfSome result (λ vectors. VectorsFit (ranges_of system.now.regions) vectors) }
+    requires { regions_of image.now ≡ ranges_of system.now.regions }
+    ensures exact { result ≡ vectors_of system.now (byte_at image.now) actor.0 in_vec in_len out_vec out_len }
+    ensures within { IfSome result (λ vectors. AreWithin (regions_of image.now) vectors) }
 {
     if !are_few(in_len, out_len) {
         return None;
@@ -91,8 +91,8 @@ pub fn vectors_of(
     if !valid_buffer(system, actor, out_vec, 8 * out_len) {
         return None;
     }
-    let input = vectors_read(memory, in_vec, in_len);
-    let output = vectors_read(memory, out_vec, out_len);
+    let input = vectors_read(image, in_vec, in_len);
+    let output = vectors_read(image, out_vec, out_len);
     if are_valid(system, actor, &input) && are_valid(system, actor, &output) {
         Some(Vectors {
             input,

@@ -1,18 +1,16 @@
 -- Which bytes copies, lengths and descriptors read and change.
-use Rattle.std.proofs.Common.{ℕ, zero, suc, ◌≡◌, ◌≤◌, ◌+◌, Bool, true, false, ◌&&◌, ◌||◌, List, [], ◌∷◌, length, arith, ◌∙◌, ap, sym, refl, inl, inr, ◌*◌, ◌++◌, take}
-use Rattle.std.specs.Prelude.{nat_le, nat_lt, ◌==◌, min, replicate, if◌then◌else◌, Option, Some, None}
+use Rattle.std.proofs.Common.{ℕ, zero, suc, ◌≡◌, ◌+◌, Bool, true, false, ◌&&◌, ◌||◌, List, [], ◌∷◌, length, arith, ◌∙◌, ap, sym, refl, inl, inr, ◌*◌, ◌++◌, take}
+use Rattle.std.specs.Prelude.{nat_le, ◌==◌, min, replicate, if◌then◌else◌, Option, Some, None}
 use Rattle.std.specs.List.{list_all}
 use Rattle.std.proofs.lemmas.Bool.Decides.{nat_tests}
-use Rattle.memory_image.proofs.Outside.{store_number-outside, write_bytes-outside}
+use Rattle.memory_image.proofs.Outside.{write_bytes-outside}
 use Rattle.memory_image.proofs.Systems.{class-covers}
 use Rattle.ffm_model.specs.declared.system.System.{System}
 use Rattle.ffm_model.specs.declared.constants.TheConstants.{PSA_MAX_IOVEC}
 use Rattle.ffm_model.specs.declared.objects.Span.{Span}
 use Rattle.ffm_model.specs.declared.objects.Vectors.{Vectors}
 use Rattle.ffm_model.specs.Memory.{ByteMap, write_bytes, store_number, low_bytes, copy_bytes, bytes_at, span_at, spans_at, vectors_read, vectors_of, valid_buffer, is_ram_of, lengths_written, no_span, number_of, load_number}
-use Rattle.ffm_model.specs.Reach.{span_has, length_word_has}
 use Rattle.ffm_model.proofs.BytesLemmas.{bytes-same}
-use Rattle.ffm_model.specs.ServiceCalls.{rest_of}
 use Rattle.byte_lanes.specs.Differences.{range_covers}
 use Rattle.message_vectors.specs.Bytes.{ram_has, AgreeWhere, TellsNothingAt}
 
@@ -35,18 +33,6 @@ load_number-same one other at size same = ap number_of (bytes_at-same one other 
 pub copy_bytes-tells : (one other : ByteMap) (from to len x : ℕ) → AgreeWhere (λ y. range_covers (from, len) y) one other
     → TellsNothingAt x one other (copy_bytes one from to len) (copy_bytes other from to len)
 copy_bytes-tells one other from to len x same = rw (bytes_at-same one other from len same) (write_bytes-tells one other to (bytes_at other from len) x)
-
-or_false : (a b : Bool) {P : Type 0} → (a || b) ≡ false → (a ≡ false → b ≡ false → P) → P
-or_false true b h more = cc
-or_false false b h more = more refl h
-
--- a reply changes length words alone
-pub lengths_written-outside : (m : ByteMap) (at x : ℕ) (vs : List Span) → length_word_has x at (length vs) ≡ false → lengths_written m at vs x ≡ m x
-lengths_written-outside m at x [] out = refl
-lengths_written-outside m at x (v ∷ vs) out =
-    or_false (nat_le (at + 4) x && nat_lt x (at + 8)) (length_word_has x (at + 8) (length vs)) out
-    (λ here rest. lengths_written-outside (store_number m (at + 4) 4 v.moved) (at + 8) x vs rest
-    ∙ store_number-outside m (at + 4) 4 v.moved x (grind (arith, nat_tests)))
 
 pub tells-then : (x : ℕ) (one other one_next other_next one_after other_after : ByteMap) → TellsNothingAt x one other one_next other_next
     → TellsNothingAt x one_next other_next one_after other_after → TellsNothingAt x one other one_after other_after
@@ -128,10 +114,3 @@ vectors_of-same s one other a in_vec in_len out_vec out_len same = by_tests _ _ 
       let outputs : vectors_read one out_vec out_len ≡ vectors_read other out_vec out_len =
       vectors_read-same one other out_vec out_len (λ x inside. same x (buffer-ram s a out_vec (8 * out_len) x second inside)) in
       ap (λ vs. vectors_with vs (vectors_read one out_vec out_len)) inputs ∙ ap (λ vs. vectors_with (vectors_read other in_vec in_len) vs) outputs
-
--- fewer bytes at the same address
-pub range-part : (x base len n : ℕ) → n ≤ len → range_covers (base, len) x ≡ false → range_covers (base, n) x ≡ false
-range-part x base len n fewer out = grind (arith, nat_tests)
-
-pub rest-outside : (v : Span) (at n x : ℕ) → at ≡ v.base + v.moved → n ≤ rest_of v → v.moved ≤ v.len → span_has x v ≡ false → range_covers (at, n) x ≡ false
-rest-outside v at n x is fits moved out = grind (arith, nat_tests)

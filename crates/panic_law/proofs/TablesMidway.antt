@@ -15,7 +15,7 @@ use Rattle.object_pools.specs.declared.slot.Held.{Held}
 use Rattle.counting_law.specs.Objects.{ObjectsFit}
 use Rattle.counting_law.proofs.Owed.{set-twice}
 use Rattle.counting_law.proofs.Parts.{phase_same}
-use Rattle.message_vectors.specs.Vectors.{AreWithin}
+use Rattle.machine_rules.specs.Vectors.{AreWithin}
 use Rattle.spm_tables.specs.declared.item.QueuedMessage.{QueuedMessage}
 use Rattle.spm_tables.specs.TablesView.{MadeFor, Shape, TablesView, held_message, spm_of}
 use Rattle.panic_state.specs.Losses.{as_client, held_without_service, in_slot}

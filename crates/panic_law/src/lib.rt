@@ -9,7 +9,7 @@ ghost use Rattle.ffm_model.specs.declared.objects.ActorPhase.TheVariants.{Runnin
 ghost use Rattle.ffm_model.specs.declared.system.System.{System};
 ghost use Rattle.ffm_model.specs.State.{with_phase};
 ghost use Rattle.counting_law.specs.Objects.{ObjectsFit};
-ghost use Rattle.message_vectors.specs.Vectors.{AreWithin};
+ghost use Rattle.machine_rules.specs.Vectors.{AreWithin};
 ghost use Rattle.panic_state.specs.Losses.{as_client};
 ghost use Rattle.spm_tables.specs.TablesView.{MadeFor, TablesView, spm_of};
 

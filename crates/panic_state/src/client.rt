@@ -1,7 +1,7 @@
 //! A partition that panicked, as a client.
 
 ghost use Rattle.std.specs.Prelude.{◌≡◌, ◌<◌, ◌≤◌, ◌+◌, ◌++◌, List, length, false, All, Some};
-ghost use Rattle.ffm_model.specs.Panic.{disconnect_message, is_dead};
+ghost use Rattle.ffm_model.specs.Panic.{disconnect_message};
 ghost use Rattle.ffm_model.specs.Names.{SlotName};
 ghost use Rattle.object_pools.specs.Pool.{most_takes};
 ghost use Rattle.spm_tables.specs.TablesView.{TablesView, spm_of, fresh_message, queued_as};
@@ -10,7 +10,8 @@ ghost use Rattle.slot_names.specs.Named.{KeepsGiven};
 ghost use Rattle.panic_state.specs.Losses.{left_by, held_without_client, disconnect_messages};
 
 use crate::places::connection_at;
-use ffm_model::{ActorId, ConnPhase, OpenConnection, PSA_IPC_DISCONNECT, Span, Vectors};
+use ffm_model::{ActorId, ConnPhase, OpenConnection, PSA_IPC_DISCONNECT};
+use machine_rules::{NO_VECTORS, is_dead};
 use object_pools::Held;
 use spm_tables::{MessageItem, Tables};
 
@@ -20,26 +21,14 @@ fn disconnect_message(held: Held<OpenConnection>) -> MessageItem
     ensures connection { result.connection ≡ Some held.slot }
     ensures undelivered { result.delivered ≡ false }
 {
-    let none = Span::default();
     MessageItem {
         service: held.item.service,
         client: held.item.client,
         connection: Some(held.slot),
         kind: PSA_IPC_DISCONNECT,
-        vectors: Vectors {
-            input: [none; 4],
-            output: [none; 4],
-            out_vec: 0,
-            out_len: 0,
-        },
+        vectors: NO_VECTORS,
         delivered: false,
     }
-}
-
-fn is_dead(phase: ConnPhase) -> bool
-    ensures { result ≡ is_dead phase }
-{
-    matches!(phase, ConnPhase::Dead)
 }
 
 // The partition's own connections, in the order of their making: a Dead one is freed; of any other a disconnection goes last, and it is Closing.

@@ -1,7 +1,6 @@
 //! The services of a partition that panicked.
 
 ghost use Rattle.std.specs.Prelude.{◌≡◌, is_some, Some};
-ghost use Rattle.ffm_model.specs.Actors.{is_service_of};
 ghost use Rattle.ffm_model.specs.Panic.{client_answered, lost};
 ghost use Rattle.object_pools.specs.Pool.{item_at};
 ghost use Rattle.panic_state.specs.Losses.{caller_answered, with_dropped, with_lost, without_services, without_messages};
@@ -11,17 +10,9 @@ use ffm_model::{
     ActorId, ActorPhase, ConnPhase, OpenConnection, Outcome, PSA_ERROR_COMMUNICATION_FAILURE,
     PSA_ERROR_CONNECTION_REFUSED, System,
 };
+use machine_rules::is_service_of;
 use object_pools::Held;
 use spm_tables::{QueuedMessage, Tables};
-
-fn is_service_of(system: &System, partition: ActorId, service: u32) -> bool
-    ensures { result ≡ is_service_of system.now partition.0 service }
-{
-    match system.services.as_slice().get(service as usize) {
-        Some(found) => found.owner == partition.0,
-        None => false,
-    }
-}
 
 // Answers the client of a lost connection, where it waits.
 fn answer_client(tables: &mut Tables, connection: &OpenConnection)
@@ -73,7 +64,7 @@ pub(crate) fn lose_services(system: &System, tables: &mut Tables, partition: Act
     let mut place = 0;
     while place < tables.connections().live() {
         let held = connection_at(tables, place);
-        if !is_service_of(system, partition, held.item.service) || lose(tables, held) {
+        if !is_service_of(system, partition.0, held.item.service) || lose(tables, held) {
             place += 1;
         }
     }
@@ -105,7 +96,7 @@ pub(crate) fn drop_messages(system: &System, tables: &mut Tables, partition: Act
     let mut place = 0;
     while place < tables.messages().live() {
         let held = message_at(tables, place);
-        if is_service_of(system, partition, held.item.service) {
+        if is_service_of(system, partition.0, held.item.service) {
             drop_message(tables, held);
         } else {
             place += 1;

@@ -32,7 +32,7 @@ use Rattle.ffm_model.proofs.WellFormedLemmas.{models_hold, regions_hold}
 use Rattle.isolation_law.proofs.Within.{run-four, run-vectors}
 use Rattle.isolation_law.specs.Vectors.{AreFour}
 use Rattle.memory_image.specs.Pieces.{is_inside}
-use Rattle.message_vectors.specs.Vectors.{AreWithin}
+use Rattle.machine_rules.specs.Vectors.{AreWithin}
 use Rattle.sfn_calls.specs.Partitions.{is_sfn}
 use Rattle.range_law.specs.Ranges.{FunctionsFit}
 use Rattle.range_law.proofs.Machine.{SizesFit}

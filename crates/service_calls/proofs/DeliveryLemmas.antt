@@ -20,7 +20,7 @@ use Rattle.memory_image.specs.Pieces.{byte_at}
 use Rattle.object_pools.specs.declared.slot.Slot.{Slot}
 use Rattle.object_pools.specs.declared.slot.Held.{Held}
 use Rattle.object_pools.specs.Pool.{IsKept, has_slot, item_at, item_put, with_item}
-use Rattle.message_vectors.specs.Vectors.{AreWithin}
+use Rattle.machine_rules.specs.Vectors.{AreWithin}
 use Rattle.handle_table.specs.declared.handles.Family.TheVariants.{Message}
 use Rattle.handle_table.specs.Handles.{handle_at}
 use Rattle.handle_table.proofs.SlotLemmas.{slot-is}

@@ -1,6 +1,6 @@
 //! The delivery of messages.
 
-ghost use Rattle.std.specs.Prelude.{◌≡◌, true, ◌<◌, ◌==◌, ◌&&◌, ◌++◌, length, List, IfOk, IfSome, IsSome, Some, option_and_then, position, if◌then◌else◌};
+ghost use Rattle.std.specs.Prelude.{◌≡◌, true, ◌<◌, List, IfOk, IfSome, IsSome, Some, option_and_then, if◌then◌else◌};
 ghost use Rattle.std.specs.Option.{option_map_or};
 ghost use Rattle.std.specs.Ordering.{int_eq};
 ghost use Rattle.counting_law.specs.Objects.{ObjectsFit};
@@ -8,7 +8,7 @@ ghost use Rattle.ffm_model.specs.declared.machine.Handle.{Handle as HandleSeen};
 ghost use Rattle.ffm_model.specs.Actors.{actor_count};
 ghost use Rattle.ffm_model.specs.declared.machine.Call.TheVariants.{Get};
 ghost use Rattle.ffm_model.specs.Names.{NamesSoFar, name_due};
-ghost use Rattle.ffm_model.specs.ServiceCalls.{message_words, service_of_signal, shown_message, sizes_of};
+ghost use Rattle.ffm_model.specs.ServiceCalls.{shown_message};
 ghost use Rattle.ffm_model.specs.State.{State as StateSeen, connection_by_serial, fresh};
 ghost use Rattle.handle_table.specs.declared.handles.Family.TheVariants as family;
 ghost use Rattle.handle_table.specs.Handles.{handle_at};
@@ -22,67 +22,12 @@ ghost use Rattle.spm_tables.specs.Answers.{state_with};
 ghost use Rattle.spm_tables.specs.TablesView.{message_of, shape_of, spm_of};
 
 use crate::connection::connection_of;
-use ffm_model::{ActorId, Fault, Message, PSA_IPC_CONNECT, Service, Span, System};
+use ffm_model::{ActorId, Fault, Message, PSA_IPC_CONNECT, System};
 use handle_table::{Family, handle_of};
+use machine_rules::{MESSAGE_SIZE, service_of_signal, sizes_of, words_of};
 use memory_image::{Image, valid_buffer};
 use object_pools::Slot;
 use spm_tables::{QueuedMessage, Tables};
-
-// How many bytes a `psa_msg_t` takes.
-const MESSAGE_SIZE: u32 = 48;
-
-fn place_of(services: &[Service], partition: ActorId, signal: u32) -> Option<usize>
-    ensures { result ≡ position (λ v. (v.owner == partition.0) && (v.signal == signal)) services.now }
-{
-    services
-        .iter()
-        .position(|v| v.owner == partition.0 && v.signal == signal)
-}
-
-// The service of the partition that has the signal.
-fn service_of_signal(system: &System, partition: ActorId, signal: u32) -> Option<u32>
-    ensures { result ≡ service_of_signal system.now partition.0 signal }
-{
-    match place_of(system.services.as_slice(), partition, signal) {
-        Some(place) => Some(place as u32),
-        None => None,
-    }
-}
-
-fn sizes_of(vectors: [Span; 4]) -> [u32; 4]
-    ensures { result ≡ sizes_of vectors }
-{
-    [
-        vectors[0].len,
-        vectors[1].len,
-        vectors[2].len,
-        vectors[3].len,
-    ]
-}
-
-// Three times four words, one after the other.
-fn joined(head: [u32; 4], input: [u32; 4], output: [u32; 4]) -> [u32; 12]
-    ensures { result ≡ head ++ (input ++ output) }
-{
-    [
-        head[0], head[1], head[2], head[3], input[0], input[1], input[2], input[3], output[0],
-        output[1], output[2], output[3],
-    ]
-}
-
-// The twelve words of a `psa_msg_t`.
-fn words_of(message: Message) -> [u32; 12]
-    ensures words { result ≡ message_words message }
-    ensures count { length result ≡ 12 }
-{
-    let head = [
-        message.kind.cast_unsigned(),
-        message.handle.0.cast_unsigned(),
-        message.client_id.cast_unsigned(),
-        message.rhandle,
-    ];
-    joined(head, message.in_size, message.out_size)
-}
 
 // The rhandle that a message carries: 0 for that of a `psa_connect` or of no connection, else its connection's.
 fn rhandle_of(tables: &Tables, slot: Slot, message: QueuedMessage) -> u32
@@ -141,7 +86,7 @@ pub fn get(
     ensures names { KeepsNames system.now tables.old tables.new }
 {
     tables.law();
-    let Some(service) = service_of_signal(system, actor, signal) else {
+    let Some(service) = service_of_signal(system, actor.0, signal) else {
         return Err(Fault);
     };
     if !valid_buffer(system, actor, msg, MESSAGE_SIZE) {

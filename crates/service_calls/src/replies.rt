@@ -10,11 +10,11 @@ ghost use Rattle.ffm_model.specs.declared.system.System.{System as SystemSeen};
 ghost use Rattle.ffm_model.specs.Actors.{is_partition, kind_of};
 ghost use Rattle.ffm_model.specs.ClientCalls.{effect};
 ghost use Rattle.ffm_model.specs.Memory.{lengths_written};
-ghost use Rattle.ffm_model.specs.ServiceCalls.{answered, close_answered, connect_answered, is_connect_status, owes_panic, psa_reply, psa_set_rhandle, reply_to, request_answered, with_request_phase};
+ghost use Rattle.ffm_model.specs.ServiceCalls.{answered, close_answered, connect_answered, owes_panic, psa_reply, psa_set_rhandle, reply_to, request_answered, with_request_phase};
 ghost use Rattle.slot_names.specs.Replies.{reply_on};
 ghost use Rattle.ffm_model.specs.State.{with_phase};
 ghost use Rattle.memory_image.specs.Pieces.{byte_at, regions_of};
-ghost use Rattle.message_vectors.specs.Vectors.{AreWithin};
+ghost use Rattle.machine_rules.specs.Vectors.{AreWithin};
 ghost use Rattle.object_pools.specs.Pool.{item_at};
 ghost use Rattle.service_calls.specs.Answers.{LeavesReply, once_panicked};
 ghost use Rattle.service_calls.specs.Connections.{ChangesAt, ChangesWhere, IsConnectionOf, IsLinkOf};
@@ -26,10 +26,10 @@ ghost use Rattle.spm_tables.specs.TablesView.{MadeFor, fresh_message, message_at
 
 use crate::connection::connection_of;
 use ffm_model::{
-    ActorId, ActorPhase, ConnPhase, Fault, Handle, Outcome, PSA_ERROR_CONNECTION_BUSY,
-    PSA_ERROR_CONNECTION_REFUSED, PSA_ERROR_PROGRAMMER_ERROR, PSA_IPC_CALL, PSA_IPC_CONNECT,
-    PSA_SUCCESS, Status, System,
+    ActorId, ActorPhase, ConnPhase, Fault, Handle, Outcome, PSA_ERROR_PROGRAMMER_ERROR,
+    PSA_IPC_CALL, PSA_IPC_CONNECT, PSA_SUCCESS, Status, System,
 };
+use machine_rules::{is_connect_status, is_partition};
 use memory_image::Image;
 use object_pools::Slot;
 use spm_tables::{QueuedMessage, Tables};
@@ -62,21 +62,6 @@ pub fn set_rhandle(
     Ok(())
 }
 
-// What a service may answer to `psa_connect`.
-fn is_connect_status(status: Status) -> bool
-    ensures { result ≡ is_connect_status status.0 }
-{
-    status.0 == PSA_SUCCESS
-        || status.0 == PSA_ERROR_CONNECTION_REFUSED
-        || status.0 == PSA_ERROR_CONNECTION_BUSY
-}
-
-fn is_partition(system: &System, actor: ActorId) -> bool
-    ensures { result ≡ is_partition (kind_of system.now actor.0) }
-{
-    (actor.0 as usize) < system.partitions.len()
-}
-
 // The message that the partition holds by the handle, where it may be answered so.
 fn answerable(tables: &Tables, actor: ActorId, handle: Handle, status: Status) -> Option<Slot>
     ensures message { (s : SystemSeen) → MadeFor tables.now s → option_and_then (message_at tables.now) result ≡ reply_to s (spm_of tables.now) actor.0 handle status.0 }
@@ -85,7 +70,7 @@ fn answerable(tables: &Tables, actor: ActorId, handle: Handle, status: Status) -
     let Some(slot) = tables.find_message(actor, handle) else {
         return None;
     };
-    if tables.queued(slot).kind == PSA_IPC_CONNECT && !is_connect_status(status) {
+    if tables.queued(slot).kind == PSA_IPC_CONNECT && !is_connect_status(status.0) {
         None
     } else {
         Some(slot)
@@ -167,7 +152,7 @@ fn answer_request(
         return None;
     }
     set_request_phase(tables, connection, ConnPhase::Error);
-    if is_partition(system, message.client) {
+    if is_partition(system, message.client.0) {
         return Some(message.client);
     }
     tables.set_phase(

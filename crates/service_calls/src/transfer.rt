@@ -10,7 +10,7 @@ ghost use Rattle.ffm_model.specs.State.{with_vectors};
 ghost use Rattle.handle_table.specs.declared.handles.Family.TheVariants as family;
 ghost use Rattle.handle_table.specs.Handles.{handle_at};
 ghost use Rattle.memory_image.specs.Pieces.{byte_at, regions_of};
-ghost use Rattle.message_vectors.specs.Vectors.{AreMovedWithin, AreWithin};
+ghost use Rattle.machine_rules.specs.Vectors.{AreMovedWithin, AreWithin};
 ghost use Rattle.object_pools.specs.Pool.{item_at};
 ghost use Rattle.service_calls.specs.Answers.{AnswersOver};
 ghost use Rattle.slot_names.specs.Named.{KeepsNames};

@@ -1,8 +1,7 @@
 //! Waiting for signals.
 
-ghost use Rattle.std.specs.Prelude.{◌≡◌, map, filter, ◌==◌};
+ghost use Rattle.std.specs.Prelude.{◌≡◌};
 ghost use Rattle.ffm_model.specs.ServiceCalls.{psa_wait};
-ghost use Rattle.ffm_model.specs.Signals.{assigned_to, union_of};
 ghost use Rattle.counting_law.specs.Objects.{ObjectsFit};
 ghost use Rattle.ffm_model.specs.State.{phase_of};
 ghost use Rattle.slot_names.specs.Named.{KeepsNames};
@@ -10,41 +9,9 @@ ghost use Rattle.slot_names.specs.Premises.{KeepsVectors};
 ghost use Rattle.spm_tables.specs.Answers.{Answers};
 ghost use Rattle.spm_tables.specs.TablesView.{MadeFor, shape_of, spm_of};
 
-use ffm_model::{
-    ActorId, ActorPhase, Fault, Outcome, PSA_BLOCK, PSA_DOORBELL, Service, Source, System,
-};
+use ffm_model::{ActorId, ActorPhase, Fault, Outcome, PSA_BLOCK, System};
+use machine_rules::assigned_to;
 use spm_tables::Tables;
-
-// The signals of a partition's services.
-fn service_signals(services: &[Service], partition: ActorId) -> u32
-    ensures { result ≡ union_of (map (λ v. v.signal) (filter (λ v. v.owner == partition.0) services.now)) }
-{
-    services
-        .iter()
-        .filter(|v| v.owner == partition.0)
-        .map(|v| v.signal)
-        .fold(0, |word, signal| word | signal)
-}
-
-// The signals of a partition's interrupt sources.
-fn source_signals(sources: &[Source], partition: ActorId) -> u32
-    ensures { result ≡ union_of (map (λ v. v.signal) (filter (λ v. v.owner == partition.0) sources.now)) }
-{
-    sources
-        .iter()
-        .filter(|v| v.owner == partition.0)
-        .map(|v| v.signal)
-        .fold(0, |word, signal| word | signal)
-}
-
-// The signals that a partition has at all.
-fn assigned_to(system: &System, partition: ActorId) -> u32
-    ensures { result ≡ assigned_to system.now partition.0 }
-{
-    let services = service_signals(system.services.as_slice(), partition);
-    let sources = source_signals(system.sources.as_slice(), partition);
-    PSA_DOORBELL | (services | sources)
-}
 
 /// `psa_wait`: which signals of the mask are asserted, if the time-out doesn't say to block; else the partition waits for one of
 /// them. `Fault` exactly where the mask has no signal of the partition; then nothing changed.
@@ -63,7 +30,7 @@ pub fn wait(
     ensures within { KeepsVectors tables.old tables.new }
     ensures takes { tables.new.messages.takes ≡ tables.old.messages.takes }
 {
-    if assigned_to(system, actor) & mask == 0 {
+    if assigned_to(system, actor.0) & mask == 0 {
         return Err(Fault);
     }
     if timeout < PSA_BLOCK {

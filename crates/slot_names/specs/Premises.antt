@@ -7,7 +7,7 @@ use Rattle.counting_law.specs.Objects.{ObjectsFit}
 use Rattle.counting_law.specs.Takes.{last_generation}
 use Rattle.ffm_model.specs.Ranges.{ranges_of}
 use Rattle.memory_image.specs.Pieces.{regions_of}
-use Rattle.message_vectors.specs.Vectors.{AreWithin}
+use Rattle.machine_rules.specs.Vectors.{AreWithin}
 use Rattle.spm_tables.specs.TablesView.{MadeFor, TablesView, spm_of}
 
 -- what a call that touches no memory rests on

@@ -41,7 +41,7 @@ use Rattle.isolation_law.proofs.Changed.{effect-outside}
 use Rattle.isolation_law.proofs.Within.{run-four, run-vectors}
 use Rattle.ffm_model.specs.Ranges.{ranges_of}
 use Rattle.memory_image.specs.Pieces.{byte_at, regions_of}
-use Rattle.message_vectors.specs.Vectors.{AreWithin}
+use Rattle.machine_rules.specs.Vectors.{AreWithin}
 use Rattle.slot_names.specs.Named.{NamesAre}
 use Rattle.slot_names.specs.Premises.{LeavesTakes, PremisesWithMemory}
 use Rattle.slot_names.proofs.Due.{names-begin}

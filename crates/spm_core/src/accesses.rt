@@ -1,19 +1,14 @@
 //! Loads and stores of an actor.
 ghost use Rattle.std.specs.Prelude.{◌≡◌};
 ghost use Rattle.ffm_model.specs.declared.machine.Outcome.TheVariants as outcome;
-ghost use Rattle.ffm_model.specs.Accesses.{is_access_size, load, store};
+ghost use Rattle.ffm_model.specs.Accesses.{load, store};
 ghost use Rattle.memory_image.specs.Pieces.{regions_of};
 ghost use Rattle.spm_core.specs.Performed.{Loads, Stores};
 ghost use Rattle.slot_names.specs.Premises.{HasRegions};
 
 use ffm_model::{ActorId, Fault, System};
+use machine_rules::is_access_size;
 use memory_image::{Image, may_read, may_write};
-
-fn is_access_size(size: u32) -> bool
-    ensures { result ≡ is_access_size size }
-{
-    matches!(size, 1 | 2 | 4)
-}
 
 /// The number at an address, the lowest byte first.
 pub(crate) fn load(

@@ -7,11 +7,12 @@ ghost use Rattle.spm_tables.specs.TablesView.{is_signal_of};
 ghost use Rattle.spm_tables.specs.Words.{opening_inputs, owner_at, with_word, word_of};
 
 use crate::signals::{
-    OwnedSignal, doorbell_word, flags_at, opening_flags, owner_at, service_signals, service_word,
-    source_signals, source_word,
+    OwnedSignal, flags_at, opening_flags, owner_at, service_signals, service_word, source_signals,
+    source_word,
 };
 use crate::slices::put;
 use ffm_model::{ActorId, Memory, SourceFlags, System};
+use machine_rules::doorbell_word;
 use std::alloc::Global;
 use std::boxed::BoxedSlice;
 use std::marker::Model;

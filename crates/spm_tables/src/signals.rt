@@ -5,10 +5,10 @@ ghost use Rattle.std.specs.Box.{boxed_slice_items};
 ghost use Rattle.ffm_model.specs.Signals.{union_of};
 ghost use Rattle.spm_tables.specs.TablesView.{asserted, service_signal, source_signal};
 ghost use Rattle.ffm_model.specs.State.{no_flags};
-ghost use Rattle.std.specs.Prelude.{get_or, false, if◌then◌else◌};
+ghost use Rattle.std.specs.Prelude.{get_or, false};
 ghost use Rattle.spm_tables.specs.Words.{first_flags, owner_at};
 
-use ffm_model::{Memory, PSA_DOORBELL, Service, Source, SourceFlags};
+use ffm_model::{Memory, Service, Source, SourceFlags};
 use std::alloc::Global;
 use std::boxed::BoxedSlice;
 
@@ -120,16 +120,6 @@ pub(crate) fn source_word(sources: &[OwnedSignal], flags: &[SourceFlags], partit
         }
     }
     word
-}
-
-// The doorbell's signal, where that rang.
-pub(crate) fn doorbell_word(doorbells: &[bool], partition: u32) -> u32
-    ensures { result ≡ (if get_or doorbells.now partition false then PSA_DOORBELL else 0) }
-{
-    match doorbells.get(partition as usize) {
-        Some(true) => PSA_DOORBELL,
-        _ => 0,
-    }
 }
 
 // The partition that has the signal of that place.

@@ -5,7 +5,7 @@ use Rattle.ffm_model.specs.declared.scenario.Bytes.{Bytes}
 use Rattle.ffm_model.specs.declared.system.System.{System}
 use Rattle.counting_law.specs.Objects.{ObjectsFit}
 use Rattle.memory_image.specs.Pieces.{regions_of}
-use Rattle.message_vectors.specs.Vectors.{AreWithin}
+use Rattle.machine_rules.specs.Vectors.{AreWithin}
 use Rattle.slot_names.specs.Premises.{PremisesWithMemory, VectorsLie}
 use Rattle.spm_tables.specs.TablesView.{TablesView, shape_of, spm_of}
 

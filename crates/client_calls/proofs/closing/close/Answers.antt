@@ -15,7 +15,7 @@ use Rattle.std.proofs.Common.{subst}
 use Rattle.std.specs.Prelude.{All}
 use Rattle.ffm_model.specs.declared.machine.Outcome.TheVariants.{Done}
 use Rattle.ffm_model.specs.ClientCalls.{psa_close}
-use Rattle.message_vectors.specs.Vectors.{AreWithin}
+use Rattle.machine_rules.specs.Vectors.{AreWithin}
 use Rattle.spm_tables.specs.TablesView.{TablesView}
 use Rattle.counting_law.proofs.CallsFit.{close-fits-after}
 use Rattle.isolation_law.proofs.CallsWithin.{close-within}

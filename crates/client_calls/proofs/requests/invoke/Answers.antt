@@ -16,7 +16,7 @@ use Rattle.ffm_model.specs.State.{SpmState}
 use Rattle.counting_law.specs.Objects.{ObjectsFit}
 use Rattle.counting_law.proofs.CallsFit.{call-keeps}
 use Rattle.isolation_law.proofs.CallsWithin.{call-within}
-use Rattle.message_vectors.specs.Vectors.{AreWithin}
+use Rattle.machine_rules.specs.Vectors.{AreWithin}
 use Rattle.spm_tables.specs.TablesView.{spm_of}
 use Rattle.client_calls.proofs.RequestLemmas.{answers-keep}
 

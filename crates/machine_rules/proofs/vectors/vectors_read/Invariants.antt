@@ -5,4 +5,4 @@ use Rattle.machine_rules.proofs.vectors.vectors_read.Given as goal
 
 -- the vectors so far are read
 abbrev pub invariant-loop-k : goal.invariant-loop-k
-invariant-loop-k l = l.spans ≡ vectors_read (byte_at l.memory) l.at l.k
+invariant-loop-k l = l.spans ≡ vectors_read (byte_at l.image) l.at l.k

@@ -7,7 +7,7 @@ use Rattle.panic_state.proofs.effect.panic.Goals as goal
 use Rattle.counting_law.specs.Objects.{ObjectsFit}
 use Rattle.ffm_model.specs.State.{SpmState}
 use Rattle.isolation_law.proofs.CallsWithin.{panic-within}
-use Rattle.message_vectors.specs.Vectors.{AreWithin}
+use Rattle.machine_rules.specs.Vectors.{AreWithin}
 use Rattle.spm_tables.specs.TablesView.{spm_of}
 use Rattle.panic_state.proofs.EffectLemmas.{panicked-fits}
 

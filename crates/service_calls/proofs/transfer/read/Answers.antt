@@ -1,7 +1,7 @@
 use Rattle.std.proofs.Common.{sym}
 use Rattle.memory_image.specs.Pieces.{regions_of}
 use Rattle.memory_image.proofs.Systems.{buffer_inside}
-use Rattle.message_vectors.specs.Vectors.{AreWithin}
+use Rattle.machine_rules.specs.Vectors.{AreWithin}
 use Rattle.service_calls.proofs.Held.{holds-at, message-is}
 use Rattle.service_calls.proofs.TransferLemmas.{read-due}
 use Rattle.service_calls.proofs.Kept.{unchanged-names}

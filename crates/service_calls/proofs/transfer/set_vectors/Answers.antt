@@ -1,4 +1,4 @@
-use Rattle.message_vectors.specs.Vectors.{AreMovedWithin, AreWithin}
+use Rattle.machine_rules.specs.Vectors.{AreMovedWithin, AreWithin}
 use Rattle.service_calls.proofs.Kept.{IsMoved, was-moved, moved-all, moved-names}
 use Rattle.service_calls.proofs.transfer.set_vectors.Goals as goal
 

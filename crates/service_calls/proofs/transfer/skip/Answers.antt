@@ -1,9 +1,9 @@
-use Rattle.message_vectors.specs.Vectors.{AreMovedWithin}
+use Rattle.machine_rules.specs.Vectors.{AreMovedWithin}
 use Rattle.service_calls.proofs.Held.{holds-at, message-is}
 use Rattle.service_calls.proofs.TransferLemmas.{skip-due}
 use Rattle.service_calls.proofs.Kept.{unchanged-names}
 use Rattle.std.proofs.Common.{refl}
-use Rattle.message_vectors.specs.Vectors.{AreWithin}
+use Rattle.machine_rules.specs.Vectors.{AreWithin}
 use Rattle.service_calls.proofs.transfer.skip.Goals as goal
 use Rattle.ffm_model.specs.declared.machine.Outcome.TheVariants.{Number}
 use Rattle.ffm_model.specs.ClientCalls.{move}

@@ -6,7 +6,7 @@ use Rattle.std.specs.Prelude.{All}
 use Rattle.ffm_model.specs.State.{SpmState}
 use Rattle.counting_law.specs.Objects.{ObjectsFit}
 use Rattle.counting_law.proofs.CallsFit.{wait-fits}
-use Rattle.message_vectors.specs.Vectors.{AreWithin}
+use Rattle.machine_rules.specs.Vectors.{AreWithin}
 use Rattle.spm_tables.specs.TablesView.{spm_of}
 
 pub returns-then-assigned_to-mask-eq0-clause-names : goal.returns-then-assigned_to-mask-eq0-clause-names

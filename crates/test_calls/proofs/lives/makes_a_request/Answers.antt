@@ -3,7 +3,7 @@ use Rattle.std.specs.Prelude.{All}
 use Rattle.std.proofs.lemmas.List.Elements.{All-nil}
 use Rattle.ffm_model.specs.State.{SpmState}
 use Rattle.memory_image.specs.Pieces.{regions_of}
-use Rattle.message_vectors.specs.Vectors.{AreWithin}
+use Rattle.machine_rules.specs.Vectors.{AreWithin}
 use Rattle.test_calls.proofs.lives.makes_a_request.Goals as goal
 
 pub assert_request_served-requires-clause-premises : goal.assert_request_served-requires-clause-premises

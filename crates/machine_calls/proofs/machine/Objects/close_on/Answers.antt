@@ -1,5 +1,5 @@
-use Rattle.machine_calls.proofs.Fitting.{none_fit, still_fit}
+use Rattle.machine_calls.proofs.Fitting.{none_within, still_fit}
 use Rattle.machine_calls.proofs.machine.Objects.close_on.Goals as goal
 
 pub returns-in_err-send-clause-fits : goal.returns-in_err-send-clause-fits
-returns-in_err-send-clause-fits c = λ regions fit. c.send.ensures.fits regions (none_fit regions) (still_fit regions c.args.self.now c.set_connection_phase.new.self c.set_connection_phase.ensures.messages fit)
+returns-in_err-send-clause-fits c = λ regions fit. c.send.ensures.fits regions (none_within regions) (still_fit regions c.args.self.now c.set_connection_phase.new.self c.set_connection_phase.ensures.messages fit)

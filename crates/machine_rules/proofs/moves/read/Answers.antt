@@ -4,8 +4,8 @@ use Rattle.memory_image.proofs.Stored.{part_inside}
 use Rattle.ffm_model.specs.ServiceCalls.{input_of}
 use Rattle.memory_image.proofs.Outside.{copy_bytes-outside}
 use Rattle.memory_image.proofs.Vectors.{next_inside}
-use Rattle.message_vectors.proofs.Reached.{range-part}
-use Rattle.message_vectors.proofs.moves.read.Goals as goal
+use Rattle.machine_rules.proofs.Reached.{range-part}
+use Rattle.machine_rules.proofs.moves.read.Goals as goal
 
 pub copy-requires-clause-from : goal.copy-requires-clause-from
 copy-requires-clause-from c =

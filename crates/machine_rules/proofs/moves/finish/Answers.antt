@@ -1,7 +1,7 @@
 use Rattle.std.proofs.Common.{◌≡◌, length, take, rules, ap, ◌∙◌, false}
 use Rattle.ffm_model.specs.Reach.{length_word_has}
-use Rattle.message_vectors.proofs.Reached.{lengths_written-outside}
-use Rattle.message_vectors.proofs.moves.finish.Goals as goal
+use Rattle.machine_rules.proofs.Reached.{lengths_written-outside}
+use Rattle.machine_rules.proofs.moves.finish.Goals as goal
 
 pub returns-clause-changed : goal.returns-clause-changed
 returns-clause-changed c = λ x out.

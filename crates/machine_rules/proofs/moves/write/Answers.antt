@@ -5,8 +5,8 @@ use Rattle.ffm_model.specs.ServiceCalls.{rest_of, output_of}
 use Rattle.ffm_model.specs.Memory.{no_span}
 use Rattle.memory_image.proofs.Outside.{copy_bytes-outside}
 use Rattle.memory_image.proofs.Vectors.{next_inside}
-use Rattle.message_vectors.proofs.Reached.{rest-outside}
-use Rattle.message_vectors.proofs.moves.write.Goals as goal
+use Rattle.machine_rules.proofs.Reached.{rest-outside}
+use Rattle.machine_rules.proofs.moves.write.Goals as goal
 
 pub copy-requires-clause-to : goal.copy-requires-clause-to
 copy-requires-clause-to c =

@@ -12,7 +12,7 @@ use Rattle.ffm_model.specs.Ranges.{ranges_of}
 use Rattle.memory_image.specs.Pieces.{is_inside}
 use Rattle.memory_image.proofs.Systems.{buffer_inside}
 use Rattle.memory_image.proofs.Vectors.{descriptor_inside, vectors_inside, vectors_unmoved}
-use Rattle.message_vectors.specs.Vectors.{AreWithin}
+use Rattle.machine_rules.specs.Vectors.{AreWithin}
 
 -- vectors that were read meet the condition
 pub read_within : (s : System) (m : ByteMap) (a in_vec in_len out_vec out_len : ℕ) (input output : List Span) → out_len ≤ 4 → valid_buffer s a out_vec (8 * out_len) ≡ true
