@@ -19,7 +19,7 @@ use scenario_runs::{Ran, run_once};
 use spm_core::Spm;
 use std::alloc::{AllocError, Global};
 use system_json::read_scenario;
-use text_lines::verdict_word;
+use trace_print::verdict_word;
 use work_orders::{RunWork, system_in};
 
 // The generated system, of which no file is read.

@@ -10,4 +10,4 @@ mod words;
 pub use problems::{NO_MEMORY, UNREAD, UNWRITTEN, say_problem};
 pub use refusals::{refusal_line, wrong_line};
 pub use usage::usage_line;
-pub use words::{Word, append, append_number, append_word, append_words, verdict_word};
+pub use words::{Word, append, append_number, append_word, append_words};

@@ -3,10 +3,8 @@
 ghost use Rattle.std.specs.Prelude.{◌≡◌, ◌++◌, OnOk, map};
 ghost use Rattle.std.specs.Fmt.{decimal};
 ghost use Rattle.std.specs.List.{flat_map};
-ghost use Rattle.ffm_model.specs.TraceText.{verdict_word};
 ghost use Rattle.text_lines.specs.Words.{word_text};
 
-use ffm_model::Verdict;
 use itoa::Buffer;
 use std::alloc::AllocError;
 use trace_print::hexadecimal;
@@ -60,15 +58,4 @@ pub fn append_words(text: &mut Vec<u8>, words: &[Word<'_>]) -> Result<(), AllocE
         append_word(text, *word)?;
     }
     Ok(())
-}
-
-/// The word of a verdict in a trace.
-pub fn verdict_word(verdict: Verdict) -> &'static str
-    ensures { result.now ≡ verdict_word verdict }
-{
-    match verdict {
-        Verdict::Quiet => "quiet",
-        Verdict::Stalled => "stalled",
-        Verdict::Full => "full",
-    }
 }

@@ -8,7 +8,7 @@ use ffm_model::{
 };
 use machine_check::Checked;
 use std::alloc::{AllocError, Global};
-use text_lines::verdict_word;
+use trace_print::verdict_word;
 use trace_words::service_name;
 
 fn signal_name(system: &System, source: u32) -> &str {

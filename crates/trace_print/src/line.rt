@@ -293,14 +293,15 @@ pub fn print(counts: Counts, entry: &Entry) -> Line
     line
 }
 
-fn verdict_word(verdict: Verdict) -> &'static [u8]
+/// The word of a verdict in a trace.
+pub fn verdict_word(verdict: Verdict) -> &'static str
     ensures word { result.now ≡ verdict_word verdict }
     ensures short { length result.now ≤ 7 }
 {
     match verdict {
-        Verdict::Quiet => b"quiet",
-        Verdict::Stalled => b"stalled",
-        Verdict::Full => b"full",
+        Verdict::Quiet => "quiet",
+        Verdict::Stalled => "stalled",
+        Verdict::Full => "full",
     }
 }
 
@@ -311,7 +312,7 @@ pub fn verdict_text(verdict: Verdict, count: u32) -> Line
     ensures short { line_len result ≤ 18 }
 {
     let mut line = Line::new();
-    append(&mut line, verdict_word(verdict));
+    append(&mut line, verdict_word(verdict).as_bytes());
     append(&mut line, b" ");
     append_unsigned(&mut line, count);
     line
