@@ -12,11 +12,11 @@ ghost use Rattle.judge_command.specs.Report.{text_of, status_of};
 ghost use Rattle.text_lines.specs.Refusals.{refusal_line, wrong_line};
 ghost use Rattle.work_orders.specs.View.{IsTraceWork};
 
-use crate::opening::opening_image;
 use crate::report::TraceReport;
 use command_words::Inspection;
 use ffm_model::{Memory, Trace};
 use machine_check::{AuditReport, Checked, audit, check};
+use memory_image::opening_image;
 use std::alloc::{AllocError, Global};
 use text_lines::{append, append_number, refusal_line, wrong_line};
 use trace_print::{TraceError, read_trace};

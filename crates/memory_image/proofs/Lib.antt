@@ -1,6 +1,7 @@
 pub mod Stored
 pub mod Opened
 pub mod Systems
+pub mod Tested
 pub mod Copied
 pub mod Numbers
 pub mod Words

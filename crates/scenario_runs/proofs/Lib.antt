@@ -3,6 +3,5 @@ pub mod Crossing
 pub mod Ends
 pub mod Programs
 pub mod RunsLemmas
-pub mod Tested
 pub mod Threaded
 pub mod Unmapped

@@ -8,6 +8,6 @@ mod starts;
 mod threads;
 
 pub use restarting::{Runs, run_in_turns};
-pub use scheduled::{Ran, opening_image, run_once};
+pub use scheduled::{Ran, run_once};
 pub use starts::{EveryStart, Starts};
 pub use threads::run_in_threads;

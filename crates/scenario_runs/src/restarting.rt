@@ -16,11 +16,11 @@ ghost use Rattle.restart_policy.specs.Policy.{runs_again};
 ghost use Rattle.scenario_runs.specs.Restarting.{AreRuns, finished, fits_counts};
 ghost use Rattle.scenario_runs.specs.Runs.{RanBy};
 
-use crate::scheduled::{Ran, opening_image, run_from};
+use crate::scheduled::{Ran, run_from};
 use actor_plans::scripts_that_map_nothing;
 use actor_programs::{Program, scripts_of};
 use ffm_model::{List, MAX_ENTRIES, Memory, Scenario, Script, System, Trace};
-use memory_image::Image;
+use memory_image::{Image, opening_image};
 use restart_policy::next_opening;
 use std::alloc::{AllocError, Global};
 

@@ -15,7 +15,7 @@ ghost use Rattle.scenario_runs.specs.Runs.{RanBy};
 use actor_plans::scripts_that_map_nothing;
 use actor_programs::{Program, scripts_of};
 use ffm_model::{List, Memory, Scenario, Script, System, Verdict};
-use memory_image::Image;
+use memory_image::{Image, opening_image};
 use partition_sim::drive_scheduled;
 use spm_core::Spm;
 use std::alloc::Global;
@@ -25,16 +25,6 @@ use std::alloc::Global;
 pub struct Ran {
     pub spm: Spm,
     pub verdict: Verdict,
-}
-
-/// The memory that a run begins with. Err where no memory was found.
-#[tactic(auto, using(memory_image::proofs::Systems::system_fits, ffm_model::proofs::RangeLemmas::regions_few))]
-pub fn opening_image(alloc: Global, system: &System, scenario: &Scenario) -> Result<Image, Memory>
-    requires { IsScenarioOf system.now scenario.now }
-    ensures regions { IfOk result (λ image. regions_of image ≡ ranges_of system.now.regions) }
-    ensures bytes { IfOk result (λ image. byte_at image ≡ opening_memory scenario.now.memory) }
-{
-    Image::new(alloc, system.regions.list(), &scenario.memory)
 }
 
 /// The run of scripts, one for each actor, over a system from this memory, in the turns of the

@@ -17,11 +17,12 @@ ghost use Rattle.scenario_runs.specs.Runs.{RanBy};
 ghost use Rattle.scenario_runs.specs.Threads.{AllFresh, AllFinished, AreNewCrews, AreDoneBy, AreSeats, AreUnused, CrewedBy, IsDoneBy, IsNewCrew, IsSeat, IsStart, IsTrip, Crew as Workers, SameWorkers, StartsFrom, crews_in, left_of, waiting};
 
 use crate::restarting::{Runs, alone};
-use crate::scheduled::{Ran, opening_image};
+use crate::scheduled::Ran;
 use crate::starts::Starts;
 use actor_plans::scripts_that_map_nothing;
 use actor_programs::{Program, scripts_of};
 use ffm_model::{ActorId, Gate, List, Memory, Scenario, Script, System};
+use memory_image::opening_image;
 use partition_sim::{Runner, Worker, drive};
 use spm_core::Spm;
 use spm_lock::{Pass, Shared};

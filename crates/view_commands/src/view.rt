@@ -9,8 +9,7 @@ ghost use Rattle.view_commands.specs.Views.{IsView, IsViewText, memory_of, no_pl
 use crate::diagrams::{format_of, part_asked, place_beyond};
 use crate::files::TraceFiles;
 use ffm_model::{Memory, System};
-use judge_command::opening_image;
-use memory_image::Image;
+use memory_image::{Image, opening_image};
 use std::alloc::{AllocError, Global};
 use trace_counts::{TraceCounts, stats, stats_text};
 use trace_diagram::{SequenceDiagram, diagram};

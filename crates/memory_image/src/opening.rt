@@ -6,12 +6,13 @@ ghost use Rattle.ffm_model.specs.Ranges.{ranges_of};
 ghost use Rattle.ffm_model.specs.Scenarios.{IsScenarioOf};
 ghost use Rattle.memory_image.specs.Pieces.{byte_at, regions_of};
 
+use crate::image::Image;
 use ffm_model::{Memory, Scenario, System};
-use memory_image::Image;
 use std::alloc::Global;
 
-/// The memory that each trace of a scenario over a system begins with. The only error is want of memory.
-#[tactic(auto, using(memory_image::proofs::Systems::system_fits))]
+/// The memory that each run and each trace of a scenario over a system begins with. The only error
+/// is out of memory.
+#[tactic(auto, using(crate::proofs::Systems::system_fits))]
 pub fn opening_image(alloc: Global, system: &System, scenario: &Scenario) -> Result<Image, Memory>
     requires { IsScenarioOf system.now scenario.now }
     ensures regions { IfOk result (λ image. regions_of image ≡ ranges_of system.now.regions) }

@@ -3,8 +3,8 @@ use Rattle.std.proofs.Common.{length}
 use Rattle.std.specs.List.{list_any}
 use Rattle.ffm_model.specs.Memory.{lies_in}
 use Rattle.ffm_model.proofs.RangeLemmas.{regions_few}
-use Rattle.scenario_runs.proofs.Tested.{list_all-each}
-use Rattle.scenario_runs.proofs.scheduled.opening_image.Goals as goal
+use Rattle.memory_image.proofs.Tested.{list_all-each}
+use Rattle.memory_image.proofs.opening.opening_image.Goals as goal
 
 pub new-requires-clause-few : goal.new-requires-clause-few
 new-requires-clause-few c = rw c.list.ensures (regions_few c.args.system.now)
