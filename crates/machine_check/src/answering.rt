@@ -11,7 +11,7 @@ use crate::step::{LAST_HANDLE, gave_handle, may_call, perform};
 use ffm_model::{ActorId, Call, Handle, Memory, Outcome, System};
 use std::collections::BTreeSet;
 
-// The least handle that isn't among those given. None where all are.
+// A handle that isn't among those given: the body takes the least, the clause any. None where all are.
 fn least_left(given: &BTreeSet<i32>) -> Option<Handle>
     ensures { MatchOption result ((h : HandleSeen) → is_left given.now h ≡ false) (λ h. is_left given.now h ≡ true) }
 {

@@ -33,6 +33,9 @@ fn end_services(system: &System, tables: &mut Tables, partition: ActorId)
 ///
 /// The partition awaits no answer itself: its connections have to fit it as one that runs. The disconnections take at most
 /// 256 messages in.
+///
+/// The body passes through the state in the middle, the services gone and the partition still there as a client, of which
+/// `panics_fit_midway` of panic_law speaks. No clause says so.
 pub fn panic(system: &System, tables: &mut Tables, partition: ActorId)
     requires made { MadeFor tables.old system.now }
     requires partition { partition.0 < length system.now.partitions }

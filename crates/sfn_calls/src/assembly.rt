@@ -165,7 +165,8 @@ fn limited(
 /// above, what is wrong in a partition's script, a register or operand `r14` or `r15`, and the calls
 /// `wait`, `get`, `reply`, `clear`, `eoi`, `irq_enable`, `irq_disable`, `reset_signal` and `end`, the
 /// lines `map_in`, `unmap_in`, `map_out` and `unmap_out`, and the line at place 4,096, since a script
-/// has at most so many lines. Memory where no memory was found.
+/// has at most so many lines. A scenario file never has more: its reader refuses them.
+/// Memory where no memory was found.
 pub fn assemble_sfn(
     alloc: Global,
     lines: &Lines,
