@@ -5,6 +5,7 @@ use call_conditions::Condition;
 use ffm_model::{Call, Entry, Outcome, System, Verdict};
 use std::alloc::{AllocError, Global};
 use text_lines::{Word, append, append_words};
+use trace_print::verdict_word;
 use trace_words::{actor_name, call_name, put_actor_word, put_entry};
 
 fn rule_words(rule: Rule) -> &'static str {
