@@ -7,14 +7,14 @@ use crate::system::{Policy, Priority, RotType};
 use std::marker::Model;
 
 /// Where an MMIO region lies: by the name of a region of the system file, or by its addresses.
-#[derive(Debug, Drop)]
+#[derive(Drop)]
 pub enum Location {
     Named(Name),
     Numbered { base: u32, size: u32 },
 }
 
 /// An MMIO region of a partition. Its range has at least one byte and ends by 2^32.
-#[derive(Debug, Drop)]
+#[derive(Drop)]
 pub struct MmioItem {
     pub location: Location,
     pub writable: bool,
@@ -31,7 +31,7 @@ impl Model for MmioItem {
 }
 
 /// A service of a partition. Its version is not 0, and where clients connect to it, it states no index.
-#[derive(Debug, Drop)]
+#[derive(Drop)]
 pub struct ServiceItem {
     pub name: Name,
     pub sid: Sid,
@@ -58,7 +58,7 @@ impl Model for ServiceItem {
 }
 
 /// An interrupt of a partition. Its source is a name, or the decimal text of a number.
-#[derive(Debug, Drop)]
+#[derive(Drop)]
 pub struct IrqItem {
     pub source: Name,
     pub signal: Name,
@@ -78,7 +78,7 @@ impl Model for IrqItem {
 
 /// A partition's manifest, with its defaults filled in. Each list has every item of the file, in
 /// the file's order.
-#[derive(Debug, Drop)]
+#[derive(Drop)]
 pub struct Manifest {
     /// The version of the framework that it is written for: 256 for 1.0, 257 for 1.1.
     pub framework: u32,

@@ -11,7 +11,7 @@ pub struct Span {
 }
 
 /// The vectors of a request; one that isn't given has length 0.
-#[derive(Clone, Copy, Debug, PartialEq, Eq)]
+#[derive(Clone, Copy)]
 pub struct Vectors {
     pub input: [Span; 4],
     pub output: [Span; 4],
@@ -38,7 +38,7 @@ pub enum ConnPhase {
 }
 
 /// A connection of a state.
-#[derive(Clone, Copy, Debug, PartialEq, Eq)]
+#[derive(Clone, Copy)]
 pub struct OpenConnection {
     /// The number of connections that were made before it.
     pub serial: u32,
@@ -51,7 +51,7 @@ pub struct OpenConnection {
 }
 
 /// A message of a state, from the call that made it to the reply.
-#[derive(Clone, Copy, Debug, PartialEq, Eq)]
+#[derive(Clone, Copy)]
 pub struct PendingMessage {
     pub service: u32,
     pub client: ActorId,

@@ -6,7 +6,7 @@ use crate::name::Name;
 use std::marker::Model;
 
 /// A region that manifests may name. It has at least one byte and ends by 2^32.
-#[derive(Debug, Drop)]
+#[derive(Drop)]
 pub struct RegionItem {
     pub name: Name,
     pub base: u32,
@@ -24,7 +24,7 @@ impl Model for RegionItem {
 }
 
 /// How many connections a client may have to a service: at most 256.
-#[derive(Debug, Drop)]
+#[derive(Drop)]
 pub struct ConnectionItem {
     pub client: Name,
     pub service: Name,
@@ -43,7 +43,7 @@ impl Model for ConnectionItem {
 
 /// What a system file and its manifests say, with their defaults filled in. Each list has every
 /// item of the file, in the file's order.
-#[derive(Debug, Drop)]
+#[derive(Drop)]
 pub struct Parts {
     /// The isolation level: 1 to 3.
     pub level: u32,

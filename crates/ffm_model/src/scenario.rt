@@ -7,7 +7,7 @@ use std::alloc::Global;
 use std::marker::Model;
 
 /// The lines of one script: fewer than 2^31. Contracts see the list of them.
-#[derive(Debug, Drop)]
+#[derive(Drop)]
 pub struct Lines {
     texts: List<Name>,
 }
@@ -69,14 +69,14 @@ impl Lines {
 }
 
 /// Bytes at an address and after it.
-#[derive(Debug, Drop)]
+#[derive(Drop)]
 pub struct Bytes {
     pub address: u32,
     pub content: List<u8>,
 }
 
 /// An interrupt that the device makes, by the place of its source.
-#[derive(Clone, Copy, Debug, PartialEq, Eq)]
+#[derive(Clone, Copy)]
 pub struct RaiseItem {
     pub source: u32,
     /// What the source's first-level handler answers: 1 asks for its signal, 0 doesn't. None for a
@@ -85,7 +85,7 @@ pub struct RaiseItem {
 }
 
 /// What a scenario file says.
-#[derive(Debug, Drop)]
+#[derive(Drop)]
 pub struct Scenario {
     /// The most entries of the run: 1 to 262,144.
     pub limit: u32,

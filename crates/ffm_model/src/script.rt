@@ -6,7 +6,7 @@ use std::alloc::Global;
 use std::marker::Model;
 
 /// A register, or a number that stands for itself.
-#[derive(Clone, Copy, Debug, PartialEq, Eq)]
+#[derive(Clone, Copy)]
 pub enum Operand {
     Register(u32),
     Number(u32),
@@ -70,7 +70,7 @@ pub enum MapName {
 }
 
 /// One instruction. A target is the place of an instruction of the same part, or their number.
-#[derive(Clone, Copy, Debug, PartialEq, Eq)]
+#[derive(Clone, Copy)]
 pub enum Instruction {
     Change {
         operation: Operation,
@@ -164,7 +164,7 @@ impl Script {
 }
 
 /// A line of a function: an instruction, or the return of a value to the function's caller.
-#[derive(Clone, Copy, Debug, PartialEq, Eq)]
+#[derive(Clone, Copy)]
 pub enum SfnInstruction {
     Plain(Instruction),
     Return { operand: Operand },

@@ -4,7 +4,7 @@ use crate::machine::ActorId;
 use crate::scenario::Lines;
 
 /// The script that a scenario file gives an actor.
-#[derive(Debug, Drop)]
+#[derive(Drop)]
 pub struct ScriptItem {
     pub actor: ActorId,
     pub lines: Lines,

@@ -5,7 +5,7 @@ use crate::machine::{Entry, Verdict};
 use std::marker::Model;
 
 /// The entries of a run and how it ended.
-#[derive(Debug, Drop)]
+#[derive(Drop)]
 pub struct Trace {
     pub entries: List<Entry>,
     pub verdict: Verdict,

@@ -4,7 +4,7 @@ use ffm_model::{Call, Handle};
 
 /// A line of a partition's script that concerns a vector of a message. `index` is the vector's, from 0
 /// to 3; `buffer` is an address, and `len` counts bytes.
-#[derive(Clone, Copy, Debug, PartialEq, Eq)]
+#[derive(Clone, Copy)]
 pub enum MmLine {
     /// Maps an input vector: its bytes are copied into its window.
     MapIn {
@@ -50,7 +50,7 @@ pub enum MmLine {
 }
 
 /// What a line does.
-#[derive(Clone, Copy, Debug, PartialEq, Eq)]
+#[derive(Clone, Copy)]
 pub enum MmStep {
     /// It makes this call.
     Calls(Call),

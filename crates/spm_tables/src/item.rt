@@ -12,7 +12,7 @@ use handle_table::Connections;
 use object_pools::{Held, Pool, Slot};
 
 /// A message, from the call that made it to the reply.
-#[derive(Clone, Copy, Debug)]
+#[derive(Clone, Copy)]
 pub struct MessageItem {
     /// The place of its service.
     pub service: u32,
@@ -26,7 +26,7 @@ pub struct MessageItem {
 }
 
 /// A message as the tables hold it: beside the slot of its connection there is the connection's serial number.
-#[derive(Clone, Copy, Debug)]
+#[derive(Clone, Copy)]
 pub struct QueuedMessage {
     /// The place of its service.
     pub service: u32,
