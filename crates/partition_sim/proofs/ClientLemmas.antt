@@ -1,5 +1,5 @@
 -- A runner, before and after the outcomes of its calls.
-use Rattle.std.proofs.Common.{ℕ, zero, suc, ◌<◌, ◌≡◌, Bool, true, false, List, [], ◌∷◌, ◌++◌, length, get_or, refl, ap, ap₂, sym, ◌∙◌, subst, arith}
+use Rattle.std.proofs.Common.{ℕ, zero, suc, ◌<◌, ◌≡◌, Bool, true, false, List, [], ◌∷◌, ◌++◌, length, get_or, refl, ap, ap₂, sym, ◌∙◌, subst, arith, true≢false}
 use Rattle.std.specs.Prelude.{Option, if◌then◌else◌, slice_set, map, replicate}
 use Rattle.std.specs.Option.{option_map_or, unwrap_or}
 use Rattle.std.specs.List.{list_any}
@@ -47,8 +47,7 @@ points-long scripts os = after-long scripts os (opening_contexts scripts) ∙ le
 -- ---- a new runner
 
 first-reaches : (script : List Instruction) → Reaches script start first_context
-unfolding arrived
-first-reaches script = record { way = refl }
+first-reaches script = record { begins = λ e. refl; stands = λ e. absurd (true≢false (sym e)) }
 
 pub opened : (scripts : List (List Instruction)) (n : ℕ) (r : ClientStanding) → r.waiting ≡ false → r.desk ≡ record { count = length scripts; turn = 0 } → r.contexts ≡ replicate n first_context
     → FollowsAll scripts [] r

@@ -1,19 +1,19 @@
 -- The lines of a partition's script, and a runner before and after the outcomes of its calls.
-use Rattle.std.proofs.Common.{length, get_or, ℕ, zero, suc, ◌≡◌, ◌<◌, ◌-◌, ◌+◌, Bool, true, false, List, [], ◌∷◌, ◌++◌, refl, ap, ap₂, sym, ◌∙◌, arith, subst}
-use Rattle.std.specs.Prelude.{Option, Some, None, IfSome, IfNone, slice_get, if◌then◌else◌}
-use Rattle.std.proofs.lemmas.Option.{slice_get-get_or}
+use Rattle.std.proofs.Common.{ℕ, zero, suc, ◌≡◌, ◌<◌, ◌-◌, Bool, true, false, List, [], ◌∷◌, ◌++◌, refl, ap, ap₂, sym, ◌∙◌, arith, true≢false}
+use Rattle.std.specs.Prelude.{Option, Some, None, option_and_then, slice_get, if◌then◌else◌}
 use Rattle.ffm_model.proofs.RecordLemmas.{ends_blocked-push, engine_after-push}
 use Rattle.ffm_model.specs.declared.machine.Handle.{Handle}
 use Rattle.ffm_model.specs.declared.machine.Call.{Call}
 use Rattle.ffm_model.specs.declared.machine.Call.TheVariants as call
 use Rattle.ffm_model.specs.declared.machine.Outcome.{Outcome}
 use Rattle.ffm_model.specs.declared.script.Instruction.{Instruction}
+use Rattle.ffm_model.specs.declared.script.Instruction.TheVariants as line
 use Rattle.ffm_model.specs.Held.{Holder, HeldMessage}
-use Rattle.ffm_model.specs.HeldPlans.{Holding, call_made, led_to, line_step, held_step, held_steps, held_arrived, held_call, held_behind, held_engine, held_plan, holding_none, registers_noted, table_noted}
+use Rattle.ffm_model.specs.HeldPlans.{Holding, call_made, led_to, line_step, other_line, held_step, held_steps, held_arrived, held_call, held_behind, held_engine, held_plan, holding_none, registers_noted, table_noted}
 use Rattle.ffm_model.specs.HeldPlans.LineStep.{leads, makes}
 use Rattle.ffm_model.specs.Plans.{engine_after, plan_of}
 use Rattle.ffm_model.specs.Records.{ends_blocked, is_blocked_outcome}
-use Rattle.ffm_model.specs.ScriptRuns.{most_lines, place_behind}
+use Rattle.ffm_model.specs.ScriptRuns.{Point, line_effect, local_step, most_lines, place_behind}
 use Rattle.mm_iovec.specs.declared.line.MmLine.{MmLine}
 use Rattle.mm_iovec.specs.declared.line.MmLine.TheVariants.{UnmapIn, MapOut}
 use Rattle.mm_iovec.specs.declared.line.MmStep.TheVariants.{Calls, Fault}
@@ -22,18 +22,12 @@ use Rattle.partition_sim.specs.Partitions.{PartitionStanding, FollowsHeld, Asked
 
 -- ---- lines, one after another
 
-held-one : (p : Holder) (script : List Instruction) (n : ℕ) (x y : Holding) → 0 < n → held_step p script x ≡ Some y → held_steps p script n x ≡ held_steps p script (n - 1) y
+pub held-one : (p : Holder) (script : List Instruction) (n : ℕ) (x y : Holding) → 0 < n → held_step p script x ≡ Some y → held_steps p script n x ≡ held_steps p script (n - 1) y
 unfolding held_steps
 held-one p script zero x y h e = absurd (omega arith)
 held-one p script (suc n) x y h e =
     let less : suc n - 1 ≡ n = omega arith in
     rw (e, less) refl
-
-pub held-more : (p : Holder) (script : List Instruction) (most ran : ℕ) (x y : Holding) → ran < most → held_step p script x ≡ Some y
-    → held_steps p script (most - (ran + 1)) y ≡ held_steps p script (most - ran) x
-held-more p script most ran x y h e =
-    let less : most - ran - 1 ≡ most - (ran + 1) = omega arith in
-    sym (ap (λ n. held_steps p script n y) less) ∙ sym (held-one p script (most - ran) x y (omega arith) e)
 
 pub held-none : (p : Holder) (script : List Instruction) (n : ℕ) (x : Holding) → held_step p script x ≡ None → held_steps p script n x ≡ x
 unfolding held_steps
@@ -44,22 +38,28 @@ pub held-zero : (p : Holder) (script : List Instruction) (n : ℕ) (x : Holding)
 unfolding held_steps
 held-zero p script n x e = rw e refl
 
-held-at : (p : Holder) (script : List Instruction) (x : Holding) (i : Instruction) → slice_get script x.at.place ≡ Some i → held_step p script x ≡ led_to (line_step p x i)
-unfolding held_step
-held-at p script x i e = rw e refl
+pub held-begins : (p : Holder) (script : List Instruction) (x : Holding) → held_steps p script most_lines x ≡ held_arrived p script x
+unfolding held_arrived
+held-begins p script x = refl
 
-held-within : (p : Holder) (script : List Instruction) (x : Holding) (d : Instruction) → x.at.place < length script → held_step p script x ≡ led_to (line_step p x (get_or script x.at.place d))
-held-within p script x d inside = held-at p script x _ (slice_get-get_or script x.at.place d inside)
+-- ---- a local line does the same where messages are held
 
-pub held-found : (p : Holder) (script : List Instruction) (x : Holding) (d : Instruction) (r : Option ℕ) (y : ℕ → Holding) → x.at.place < length script
-    → IfSome r (λ to. led_to (line_step p x (get_or script x.at.place d)) ≡ Some (y to)) → IfSome r (λ to. held_step p script x ≡ Some (y to))
-held-found p script x d None y inside h = h
-held-found p script x d (Some to) y inside h = held-within p script x d inside ∙ h
+leads-local : (p : Holder) (t : List HeldMessage) (x y : Point) (i : Instruction) → line_effect x i ≡ Some y → led_to (line_step p (record { at = x; table = t }) i) ≡ Some (record { at = y; table = t })
+leads-local p t x y (line.Make n operands) e = cc
+leads-local p t x y (line.Map n operands) e = cc
+leads-local p t x y (line.Change o r v) e = ap (λ (q : Option Point). led_to (other_line (record { at = x; table = t }) (line.Change o r v) q)) e
+leads-local p t x y (line.Jump target) e = ap (λ (q : Option Point). led_to (other_line (record { at = x; table = t }) (line.Jump target) q)) e
+leads-local p t x y (line.JumpIf c r v target) e = ap (λ (q : Option Point). led_to (other_line (record { at = x; table = t }) (line.JumpIf c r v target) q)) e
 
-pub held-nothing : (p : Holder) (script : List Instruction) (x : Holding) (d : Instruction) (r : Option ℕ) → x.at.place < length script
-    → IfNone r (led_to (line_step p x (get_or script x.at.place d)) ≡ None) → IfNone r (held_step p script x ≡ None)
-held-nothing p script x d None inside h = held-within p script x d inside ∙ h
-held-nothing p script x d (Some to) inside h = h
+local-by : (p : Holder) (t : List HeldMessage) (x y : Point) (o : Option Instruction) → option_and_then (line_effect x) o ≡ Some y
+    → option_and_then (λ i. led_to (line_step p (record { at = x; table = t }) i)) o ≡ Some (record { at = y; table = t })
+local-by p t x y None e = cc
+local-by p t x y (Some i) e = leads-local p t x y i e
+
+pub held-local : (p : Holder) (script : List Instruction) (t : List HeldMessage) (x y : Point) → local_step script x ≡ Some y
+    → held_step p script (record { at = x; table = t }) ≡ Some (record { at = y; table = t })
+unfolding local_step held_step
+held-local p script t x y e = local-by p t x y (slice_get script x.place) e
 
 -- ---- one line
 
@@ -93,21 +93,21 @@ map-out-call p x t h i e =
 
 -- ---- by the outcomes
 
-pub opened : (p : Holder) (script : List Instruction) (r : PartitionStanding) → r.holder ≡ p → r.waiting ≡ false → r.at ≡ holding_none → r.ran ≡ 0 → FollowsHeld p script [] r
-unfolding held_arrived engine_after ends_blocked
-opened p script r h w a n = record { holder_is = h; waits = w; way = ap₂ (λ (k : ℕ) (x : Holding). held_steps p script (most_lines - k) x) n a }
+pub opened : (p : Holder) (script : List Instruction) (r : PartitionStanding) → r.holder ≡ p → r.waiting ≡ false → r.ready ≡ false → r.at ≡ holding_none → FollowsHeld p script [] r
+unfolding engine_after ends_blocked
+opened p script r h w off at = record { holder_is = h; waits = w; begins = λ e. at; stands = λ e. absurd (true≢false (sym e ∙ off)) }
 
 pub asked-follows : (p : Holder) (script : List Instruction) (os : List Outcome) (r : PartitionStanding) → AskedHeld p script os r → FollowsHeld p script os r
-asked-follows p script os r a = record { holder_is = a.holder_is; waits = a.waits; way = a.stays ∙ a.here }
+asked-follows p script os r a = record { holder_is = a.holder_is; waits = a.waits; begins = λ e. absurd (true≢false (sym a.is_ready ∙ e)); stands = λ e. a }
 
-pub asked : (p : Holder) (script : List Instruction) (os : List Outcome) (old new : PartitionStanding) → FollowsHeld p script os old → new.holder ≡ old.holder → new.waiting ≡ old.waiting
-    → new.at ≡ held_steps old.holder script (most_lines - old.ran) old.at → held_steps old.holder script (most_lines - new.ran) new.at ≡ new.at
-    → new.line ≡ slice_get script new.at.at.place → new.call ≡ held_call old.holder script new.at → new.after ≡ place_behind script new.at.at.place → AskedHeld p script os new
-asked p script os old new f h w e s l c a = record {
+pub asked : (p : Holder) (script : List Instruction) (os : List Outcome) (old new : PartitionStanding) → old.ready ≡ false → new.holder ≡ old.holder → new.waiting ≡ old.waiting → new.ready ≡ true
+    → new.at ≡ held_arrived old.holder script old.at → new.line ≡ slice_get script new.at.at.place → new.call ≡ held_call old.holder script new.at → new.after ≡ place_behind script new.at.at.place
+    → FollowsHeld p script os old → AskedHeld p script os new
+asked p script os old new off h w on e l c a f = record {
   holder_is = h ∙ f.holder_is;
   waits = w ∙ f.waits;
-  here = e ∙ (ap (λ (q : Holder). held_steps q script (most_lines - old.ran) old.at) f.holder_is ∙ f.way);
-  stays = subst (λ (q : Holder). held_steps q script (most_lines - new.ran) new.at ≡ new.at) f.holder_is s;
+  is_ready = on;
+  here = e ∙ ap₂ (λ (q : Holder) (x : Holding). held_arrived q script x) f.holder_is (f.begins off);
   line_is = l;
   call_is = c ∙ ap (λ (q : Holder). held_call q script new.at) f.holder_is;
   after_is = a;
@@ -119,37 +119,40 @@ unfolding plan_of
 planned p script os r b c a w e =
     e ∙ (ap₂ (λ (t : Bool) (x : Call). if t then call.Resume else x) (w ∙ a.waits) (a.call_is ∙ ap (held_call p script) a.here))
 
-pub behind-blocked : (p : Holder) (script : List Instruction) (os : List Outcome) (o : Outcome) (old new : PartitionStanding) → is_blocked_outcome o ≡ true → new.waiting ≡ true → new.holder ≡ old.holder
-    → new.at ≡ old.at → new.ran ≡ old.ran → AskedHeld p script os old → FollowsHeld p script (os ++ o ∷ []) new
-behind-blocked p script os o old new b w h at n a =
+pub behind-blocked : (p : Holder) (script : List Instruction) (os : List Outcome) (o : Outcome) (old : PartitionStanding) → is_blocked_outcome o ≡ true
+    → AskedHeld p script os old → FollowsHeld p script (os ++ o ∷ []) (record old { waiting = true })
+behind-blocked p script os o old b a =
     let x : Holding = holding_after p script os in
     let same : holding_after p script (os ++ o ∷ []) ≡ x =
     engine_after-push (held_engine p script) holding_none os o ∙ ap (λ (t : Bool). if t then x else held_behind p script o (held_arrived p script x)) b in
-    record {
-      holder_is = h ∙ a.holder_is;
-      waits = w ∙ sym (ends_blocked-push os o ∙ b);
-      way = ap₂ (λ (k : ℕ) (y : Holding). held_steps p script (most_lines - k) y) n at ∙ (a.stays ∙ (a.here ∙ ap (held_arrived p script) (sym same)));
-    }
+    asked-follows p script (os ++ o ∷ []) (record old { waiting = true }) (record {
+      holder_is = a.holder_is;
+      waits = sym (ends_blocked-push os o ∙ b);
+      is_ready = a.is_ready;
+      here = a.here ∙ ap (held_arrived p script) (sym same);
+      line_is = a.line_is;
+      call_is = a.call_is;
+      after_is = a.after_is;
+    })
 
 behind-is : (p : Holder) (script : List Instruction) (o : Outcome) (x : Holding) (line : Option Instruction) (c : Call) (after : ℕ) → line ≡ slice_get script x.at.place → c ≡ held_call p script x
     → after ≡ place_behind script x.at.place → held_behind p script o x ≡ holding (registers_noted line c o x.at.registers) after (table_noted p line c o x.table)
 unfolding held_behind
 behind-is p script o x line c after l e a = rw (l, e, a) refl
 
-pub behind-answer : (p : Holder) (script : List Instruction) (os : List Outcome) (o : Outcome) (old new : PartitionStanding) → is_blocked_outcome o ≡ false → new.waiting ≡ false → new.holder ≡ old.holder
-    → new.at ≡ holding (registers_noted old.line old.call o old.at.at.registers) old.after (table_noted old.holder old.line old.call o old.at.table) → new.ran ≡ 0
+pub behind-answer : (p : Holder) (script : List Instruction) (os : List Outcome) (o : Outcome) (old new : PartitionStanding) → is_blocked_outcome o ≡ false → new.waiting ≡ false → new.ready ≡ false
+    → new.holder ≡ old.holder → new.at ≡ holding (registers_noted old.line old.call o old.at.at.registers) old.after (table_noted old.holder old.line old.call o old.at.table)
     → AskedHeld p script os old → FollowsHeld p script (os ++ o ∷ []) new
-unfolding held_arrived
-behind-answer p script os o old new b w h at n a =
+behind-answer p script os o old new b w off h at a =
     let x : Holding = holding_after p script os in
     let same : holding_after p script (os ++ o ∷ []) ≡ held_behind p script o (held_arrived p script x) =
     engine_after-push (held_engine p script) holding_none os o ∙ ap (λ (t : Bool). if t then x else held_behind p script o (held_arrived p script x)) b in
     let moved : new.at ≡ held_behind p script o old.at =
     at ∙ (ap (λ (q : Holder). holding (registers_noted old.line old.call o old.at.at.registers) old.after (table_noted q old.line old.call o old.at.table)) a.holder_is
     ∙ sym (behind-is p script o old.at old.line old.call old.after a.line_is a.call_is a.after_is)) in
-    let here : new.at ≡ holding_after p script (os ++ o ∷ []) = moved ∙ (ap (held_behind p script o) a.here ∙ sym same) in
     record {
       holder_is = h ∙ a.holder_is;
       waits = w ∙ sym (ends_blocked-push os o ∙ b);
-      way = ap₂ (λ (k : ℕ) (y : Holding). held_steps p script (most_lines - k) y) n here;
+      begins = λ e. moved ∙ (ap (held_behind p script o) a.here ∙ sym same);
+      stands = λ e. absurd (true≢false (sym e ∙ off));
     }

@@ -1,5 +1,5 @@
 -- Local lines, one after another.
-use Rattle.std.proofs.Common.{length, get_or, ℕ, zero, suc, ◌≡◌, ◌<◌, ◌-◌, ◌+◌, List, refl, ap, ap₂, sym, ◌∙◌, arith}
+use Rattle.std.proofs.Common.{length, get_or, ℕ, zero, suc, ◌≡◌, ◌<◌, ◌-◌, List, true, false, refl, ap, ap₂, sym, ◌∙◌, arith, true≢false}
 use Rattle.std.specs.Prelude.{Option, Some, None}
 use Rattle.std.specs.Prelude.{IfSome, IfNone}
 use Rattle.std.proofs.lemmas.Option.{slice_get-get_or}
@@ -7,7 +7,7 @@ use Rattle.list_laws.proofs.Lists.{AllByRecursion-at}
 use Rattle.ffm_model.specs.declared.machine.Outcome.{Outcome}
 use Rattle.ffm_model.specs.declared.script.Instruction.{Instruction}
 use Rattle.ffm_model.specs.Scripts.{FitsIn, IsPart}
-use Rattle.ffm_model.specs.ScriptRuns.{Point, line_effect, local_step, local_steps, arrived, most_lines, point, noted, behind, place_behind}
+use Rattle.ffm_model.specs.ScriptRuns.{Point, line_effect, local_step, local_steps, arrived, most_lines, call_at, point, noted, behind, place_behind}
 use Rattle.partition_sim.specs.declared.context.Context.{Context}
 use Rattle.partition_sim.specs.Clients.{Reaches, AtCall}
 use Rattle.ffm_model.proofs.ScriptLemmas.{local_step-at}
@@ -18,11 +18,6 @@ steps-one script zero p q h e = absurd (omega arith)
 steps-one script (suc n) p q h e =
     let less : suc n - 1 ≡ n = omega arith in
     rw (e, less) refl
-
-pub steps-more : (script : List Instruction) (most ran : ℕ) (p q : Point) → ran < most → local_step script p ≡ Some q → local_steps script (most - (ran + 1)) q ≡ local_steps script (most - ran) p
-steps-more script most ran p q h e =
-    let less : most - ran - 1 ≡ most - (ran + 1) = omega arith in
-    sym (ap (λ n. local_steps script n q) less) ∙ sym (steps-one script (most - ran) p q (omega arith) e)
 
 pub steps-zero : (script : List Instruction) (n : ℕ) (p : Point) → n ≡ 0 → local_steps script n p ≡ p
 unfolding local_steps
@@ -46,11 +41,21 @@ local-none script p d (Some to) inside h = h
 
 -- ---- by the point
 
--- a context that stands at a call is on the way to it
+-- a context that stands at its call
 pub still : (script : List Instruction) (p : Point) (c : Context) → AtCall script p c → Reaches script p c
-still script p c a = record { way = a.stays ∙ a.here }
+still script p c a = record { begins = λ e. absurd (true≢false (sym a.is_ready ∙ e)); stands = λ e. a }
 
-pub taken : (script : List Instruction) (p here : Point) (o : Outcome) (registers : List ℕ) (after : ℕ) → here ≡ arrived script p → after ≡ place_behind script here.place
-    → registers ≡ noted o here.registers → local_steps script most_lines (point registers after) ≡ arrived script (behind script o (arrived script p))
+pub settled : (script : List Instruction) (p : Point) (old new : Context) → old.ready ≡ false → new.ready ≡ true
+    → point new.registers new.place ≡ local_steps script most_lines (point old.registers old.place)
+    → new.call ≡ call_at script (point new.registers new.place) → new.after ≡ place_behind script new.place → Reaches script p old → AtCall script p new
 unfolding arrived
-taken script p here o registers after at e is = ap (local_steps script most_lines) (ap₂ point is e ∙ ap (behind script o) at)
+settled script p old new off on here call after r =
+    let at : point new.registers new.place ≡ local_steps script most_lines p = here ∙ ap (local_steps script most_lines) (r.begins off) in
+    record { is_ready = on; here = at; call_is = call ∙ ap (call_at script) at; after_is = after }
+
+pub taken : (script : List Instruction) (p : Point) (o : Outcome) (old new : Context) → new.registers ≡ noted o old.registers → new.place ≡ old.after → new.ready ≡ false
+    → AtCall script p old → Reaches script (behind script o (arrived script p)) new
+taken script p o old new registers place off a = record {
+  begins = λ e. ap₂ point registers (place ∙ a.after_is) ∙ ap (behind script o) a.here;
+  stands = λ e. absurd (true≢false (sym e ∙ off));
+}

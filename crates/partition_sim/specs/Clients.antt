@@ -1,23 +1,20 @@
 -- Where the contexts of a client stand, and when they are in step with its scripts.
 -- Source: this simulator's.
-use Rattle.std.specs.Prelude.{ℕ, ◌≡◌, ◌-◌, ◌<◌, Bool, List, length, get_or, replicate}
+use Rattle.std.specs.Prelude.{ℕ, ◌≡◌, ◌<◌, Bool, true, false, List, length, get_or, replicate}
 use Rattle.ffm_model.specs.declared.machine.Call.{Call}
+use Rattle.ffm_model.specs.declared.machine.Call.TheVariants as call
 use Rattle.ffm_model.specs.declared.machine.Outcome.{Outcome}
 use Rattle.ffm_model.specs.declared.script.Instruction.{Instruction}
 use Rattle.ffm_model.specs.Contexts.{Contexts, DeskView, caller, context_engine, opening_contexts, script_of}
 use Rattle.ffm_model.specs.Plans.{engine_after}
 use Rattle.ffm_model.specs.Records.{ends_blocked}
-use Rattle.ffm_model.specs.ScriptRuns.{Point, arrived, call_at, local_steps, most_lines, place_behind, point, start}
+use Rattle.ffm_model.specs.ScriptRuns.{Point, arrived, call_at, place_behind, point, start}
 use Rattle.partition_sim.specs.declared.context.Context.{Context}
 
 -- ---- one context, told by the point where its script goes on after its last event
 
 abbrev pub first_context : Context
-first_context = record { registers = replicate 16 0; place = 0; ran = 0; after = 0 }
-
--- the context is on the way from there to its next call
-pub record Reaches (script : List Instruction) (p : Point) (c : Context) : Type 0 where
-  pub way : local_steps script (most_lines - c.ran) (point c.registers c.place) ≡ arrived script p
+first_context = record { registers = replicate 16 0; place = 0; ready = false; call = call.Resume; after = 0 }
 
 -- the call that a script makes from a point on
 abbrev pub call_from : List Instruction → Point → Call
@@ -25,13 +22,19 @@ call_from script p = call_at script (arrived script p)
 
 -- the context stands at that call
 pub record AtCall (script : List Instruction) (p : Point) (c : Context) : Type 0 where
+  pub is_ready : c.ready ≡ true
   pub here : point c.registers c.place ≡ arrived script p
-  pub stays : local_steps script (most_lines - c.ran) (point c.registers c.place) ≡ point c.registers c.place
-  pub after : c.after ≡ place_behind script c.place
+  pub call_is : c.call ≡ call_from script p
+  pub after_is : c.after ≡ place_behind script c.place
+
+-- the context stands at the point, or at its call already
+pub record Reaches (script : List Instruction) (p : Point) (c : Context) : Type 0 where
+  pub begins : c.ready ≡ false → point c.registers c.place ≡ p
+  pub stands : c.ready ≡ true → AtCall script p c
 
 -- ---- the contexts of a client
 
--- each is on the way from its point
+-- each stands at its point, or at its next call already
 abbrev pub EachReaches : List (List Instruction) → List Point → List Context → Type 0
 EachReaches scripts ps cs = (k : ℕ) → k < length scripts → Reaches (script_of scripts k) (get_or ps k start) (get_or cs k first_context)
 
@@ -55,7 +58,7 @@ contexts_after scripts os = engine_after (context_engine scripts) (opening_conte
 abbrev pub desk_of : List (List Instruction) → Contexts → DeskView
 desk_of scripts x = record { count = length scripts; turn = x.turn }
 
--- the runner has seen these outcomes, and its contexts run to their next calls
+-- the runner has seen these outcomes
 pub record FollowsAll (scripts : List (List Instruction)) (outcomes : List Outcome) (r : ClientStanding) : Type 0 where
   pub waits : r.waiting ≡ ends_blocked outcomes
   pub desk_is : r.desk ≡ desk_of scripts (contexts_after scripts outcomes)

@@ -46,13 +46,11 @@ fn settle_all(contexts: &mut [Context; 8], parts: &[Part])
 }
 
 // The next call of one context.
-fn call_of(contexts: &[Context; 8], parts: &[Part], k: usize) -> Call
-    requires here { k < length parts.now }
-    requires few { length parts.now ≤ 8 }
-    ensures { (p : Point) → AtCall (script_of parts.now k) p (get_or contexts.now k first_context) → result ≡ call_from (script_of parts.now k) p }
+fn call_of(contexts: &[Context; 8], k: usize) -> Call
+    requires { k < 8 }
+    ensures { (script : List Instruction) (p : Point) → AtCall script p (get_or contexts.now k first_context) → result ≡ call_from script p }
 {
-    let part = &parts[k];
-    contexts[k].call(part.instructions.as_slice())
+    contexts[k].call
 }
 
 // Which contexts have ended: their next call is Stop.
@@ -62,7 +60,7 @@ fn ended_contexts(contexts: &[Context; 8], parts: &[Part]) -> [bool; 8]
 {
     let mut ended = [false; 8];
     for k in 0..parts.len() {
-        ended[k] = is_stop(call_of(contexts, parts, k));
+        ended[k] = is_stop(call_of(contexts, k));
     }
     ended
 }
@@ -73,7 +71,7 @@ fn any_spent(contexts: &[Context; 8], parts: &[Part]) -> bool
     ensures { (ps : List Point) → length ps ≡ length parts.now → EachAtCall parts.now ps contexts.now → result ≡ list_any is_spent (next_calls parts.now ps) }
 {
     for k in 0..parts.len() {
-        if is_spent(call_of(contexts, parts, k)) {
+        if is_spent(call_of(contexts, k)) {
             return true;
         }
     }
@@ -91,7 +89,7 @@ fn call_due(waiting: bool, contexts: &[Context; 8], parts: &[Part], picked: Opti
         return Call::Resume;
     }
     match picked {
-        Some(k) => call_of(contexts, parts, k as usize),
+        Some(k) => call_of(contexts, k as usize),
         None => Call::Stop {
             spent: any_spent(contexts, parts),
         },

@@ -1,7 +1,10 @@
 //! One context: where its script stands.
-ghost use Rattle.std.specs.Prelude.{◌≡◌, ◌-◌, IfNone, IfSome, None, Some};
-ghost use Rattle.ffm_model.specs.ScriptRuns.{call_at, local_step, local_steps, most_lines, point};
+ghost use Rattle.std.specs.Prelude.{◌≡◌, ◌≤◌, ◌<◌, ℕ, IfNone, IfSome, List, None, Some};
+ghost use Rattle.ffm_model.specs.Held.{HeldMessage, Holder};
+ghost use Rattle.ffm_model.specs.HeldPlans.{held_steps};
+ghost use Rattle.ffm_model.specs.ScriptRuns.{call_at, local_step, local_steps, point};
 ghost use Rattle.ffm_model.specs.Scripts.{IsPart};
+ghost use Rattle.partition_sim.specs.Partitions.{holding};
 
 use crate::calls::{call_of, note};
 use crate::lines::{MOST_LINES, line_effect, place_behind};
@@ -21,30 +24,33 @@ fn local_step(script: &[Instruction], registers: &mut [u32; 16], place: usize) -
     line_effect(registers, place, &script[place])
 }
 
-// Runs local lines up to the next call: the place there, and how many ran since the last event.
-fn run_lines(
+/// Runs local lines up to the first other line, and at most `left`: the place there, and how many more
+/// may run. In the script of a partition that holds messages they do the same.
+pub fn run_lines(
     script: &[Instruction],
     registers: &mut [u32; 16],
     place: usize,
-    ran: u32,
+    left: u32,
 ) -> (usize, u32)
     requires { IsPart script.now }
-    ensures point { point registers.new result.0 ≡ local_steps script.now (most_lines - ran) (point registers.old place) }
-    ensures stays { local_steps script.now (most_lines - result.1) (point registers.new result.0) ≡ point registers.new result.0 }
+    ensures point { point registers.new result.0 ≡ local_steps script.now left (point registers.old place) }
+    ensures left { result.1 ≤ left }
+    ensures ended { 0 < result.1 → local_step script.now (point registers.new result.0) ≡ None }
+    ensures held { (p : Holder) (t : List HeldMessage) → held_steps p script.now result.1 (holding registers.new result.0 t) ≡ held_steps p script.now left (holding registers.old place t) }
 {
     let mut place = place;
-    let mut ran = ran;
-    while ran < MOST_LINES {
+    let mut left = left;
+    while left > 0 {
         let Some(to) = local_step(script, registers, place) else {
-            return (place, ran);
+            return (place, left);
         };
         place = to;
-        ran += 1;
+        left -= 1;
     }
-    (place, ran)
+    (place, left)
 }
 
-// The call that is made at a point.
+// The call that is made at a place.
 #[tactic(auto, unfolding(ffm_model::specs::ScriptRuns::call_at))]
 fn call_at(script: &[Instruction], registers: &[u32; 16], place: usize) -> Call
     ensures { result ≡ call_at script.now (point registers.now place) }
@@ -57,14 +63,15 @@ fn call_at(script: &[Instruction], registers: &[u32; 16], place: usize) -> Call
     }
 }
 
-/// Where one script of a client stands: sixteen registers, and a place in the script.
+/// Where one script stands that holds no messages: sixteen registers, and a place in the script.
 #[derive(Clone, Copy)]
 pub struct Context {
     pub registers: [u32; 16],
     pub place: usize,
-    // How many local lines ran since the context's last event.
-    pub ran: u32,
-    // Where the script goes on after the call at which the context stands.
+    // The context stands at its next call.
+    pub ready: bool,
+    // That call, and where the script goes on after it.
+    pub call: Call,
     pub after: usize,
 }
 
@@ -72,7 +79,7 @@ impl Context {
     ghost use Rattle.std.specs.Prelude.{◌≡◌, List};
     ghost use Rattle.ffm_model.specs.declared.script.Instruction.{Instruction};
     ghost use Rattle.ffm_model.specs.ScriptRuns.{Point, arrived, behind};
-    ghost use Rattle.partition_sim.specs.Clients.{AtCall, Reaches, call_from, first_context};
+    ghost use Rattle.partition_sim.specs.Clients.{AtCall, Reaches, first_context};
 
     /// A context at the start of its script.
     pub fn new() -> Context
@@ -81,27 +88,25 @@ impl Context {
         Context {
             registers: [0; 16],
             place: 0,
-            ran: 0,
+            ready: false,
+            call: Call::Resume,
             after: 0,
         }
     }
 
-    /// Runs local lines up to the context's next call.
+    /// Runs local lines up to the context's next call, unless it stands there.
     pub fn settle(&mut self, script: &[Instruction])
         requires { IsPart script.now }
         ensures { (p : Point) → Reaches script.now p self.old → AtCall script.now p self.new }
     {
-        let (place, ran) = run_lines(script, &mut self.registers, self.place, self.ran);
+        if self.ready {
+            return;
+        }
+        let (place, _) = run_lines(script, &mut self.registers, self.place, MOST_LINES);
         self.place = place;
-        self.ran = ran;
+        self.call = call_at(script, &self.registers, place);
         self.after = place_behind(script, place);
-    }
-
-    /// The call at which the context stands.
-    pub fn call(&self, script: &[Instruction]) -> Call
-        ensures { (p : Point) → AtCall script.now p self.now → result ≡ call_from script.now p }
-    {
-        call_at(script, &self.registers, self.place)
+        self.ready = true;
     }
 
     /// Takes the outcome of the call at which the context stands, which isn't Blocked.
@@ -110,6 +115,6 @@ impl Context {
     {
         note(&mut self.registers, outcome);
         self.place = self.after;
-        self.ran = 0;
+        self.ready = false;
     }
 }

@@ -3,12 +3,10 @@ ghost use Rattle.std.specs.Prelude.{◌≡◌, ◌<◌, ℕ, IfNone, IfSome, Non
 ghost use Rattle.ffm_model.specs.declared.script.Instruction.TheVariants as instruction;
 ghost use Rattle.ffm_model.specs.Held.{Holder, is_refused};
 ghost use Rattle.ffm_model.specs.HeldPlans.{Holding, call_made, handle_operand, led_to, line_step, number_operand, registers_noted};
-ghost use Rattle.ffm_model.specs.Scripts.{FitsIn};
 ghost use Rattle.mm_iovec.specs.Lines.{can_do, engine_line, maps_in, table_of};
 ghost use Rattle.partition_sim.specs.Partitions.{holding, with_window};
 
-use crate::calls::{call_of, note, put, value_of};
-use crate::lines::line_effect;
+use crate::calls::{note, put, value_of};
 use ffm_model::{Call, Handle, Instruction, MapName, Operand, Outcome};
 use mm_iovec::{Held, MmLine, MmStep};
 
@@ -48,7 +46,7 @@ fn mm_line(name: MapName, registers: &[u32; 16], operands: &[Operand; 3]) -> MmL
 
 // Does a line about a vector, which stands at a place, and says where it leads. None where it makes a
 // call or breaks a rule.
-fn map_effect(
+fn mm_effect(
     held: &mut Held,
     registers: &mut [u32; 16],
     place: usize,
@@ -71,29 +69,24 @@ fn map_effect(
     }
 }
 
-/// Does a line that makes no call, which stands at a place, and says where it leads. None where the line
-/// makes a call, or may not be done; nothing changes then.
-pub fn held_effect(
+/// Does a line that maps or unmaps, which stands at a place, and says where it leads. None where it makes
+/// a call, or may not be done; nothing changes then.
+pub fn map_effect(
     held: &mut Held,
     registers: &mut [u32; 16],
     place: usize,
-    line: &Instruction,
+    name: MapName,
+    operands: &[Operand; 3],
 ) -> Option<usize>
-    requires room { place < usize.MAX }
-    requires fits { (count : ℕ) × FitsIn count line.now }
-    ensures leads { IfSome result (λ to. led_to (line_step held.old.holder (holding registers.old place held.old.table) line.now) ≡ Some (holding registers.new to held.new.table)) }
-    ensures makes { IfNone result (led_to (line_step held.old.holder (holding registers.old place held.old.table) line.now) ≡ None) }
+    requires { place < usize.MAX }
+    ensures leads { IfSome result (λ to. led_to (line_step held.old.holder (holding registers.old place held.old.table) (instruction.Map name operands.now)) ≡ Some (holding registers.new to held.new.table)) }
+    ensures makes { IfNone result (led_to (line_step held.old.holder (holding registers.old place held.old.table) (instruction.Map name operands.now)) ≡ None) }
     ensures kept { IfNone result (registers.new ≡ registers.old) }
     ensures held { IfNone result (held.new ≡ held.old) }
     ensures holder { held.new.holder ≡ held.old.holder }
 {
-    match line {
-        Instruction::Map { name, operands } => {
-            let line = mm_line(*name, registers, operands);
-            map_effect(held, registers, place, line)
-        }
-        _ => line_effect(registers, place, line),
-    }
+    let line = mm_line(name, registers, operands);
+    mm_effect(held, registers, place, line)
 }
 
 // ---- lines with a call
@@ -124,7 +117,7 @@ fn end_unless_fault(held: &Held, line: MmLine) -> Call
 }
 
 // The call of a line about a vector. The table stays as it is.
-fn map_call(held: &mut Held, line: MmLine) -> Call
+fn mm_call(held: &mut Held, line: MmLine) -> Call
     ensures call { (x : Holding) → x.table ≡ held.old.table → result ≡ call_made (engine_line held.old.holder x line) }
     ensures held { held.new ≡ held.old }
 {
@@ -166,28 +159,29 @@ fn is_refused(held: &Held, call: Call) -> bool
     }
 }
 
-/// The call of a line. Panic where the line may not be done; a line that would lead on ends the
-/// script, since its local lines are spent. Nothing changes.
-pub fn held_call(held: &mut Held, registers: &[u32; 16], line: &Instruction) -> Call
-    ensures call { (place : ℕ) → result ≡ call_made (line_step held.old.holder (holding registers.now place held.old.table) line.now) }
+/// The call of a line that maps or unmaps. Panic where the line may not be done; one that would lead on
+/// ends the script, since its local lines are spent. Nothing changes.
+pub fn map_call(
+    held: &mut Held,
+    registers: &[u32; 16],
+    name: MapName,
+    operands: &[Operand; 3],
+) -> Call
+    ensures call { (place : ℕ) → result ≡ call_made (line_step held.old.holder (holding registers.now place held.old.table) (instruction.Map name operands.now)) }
     ensures held { held.new ≡ held.old }
 {
-    match line {
-        Instruction::Make { name, operands } => {
-            let call = call_of(*name, registers, operands);
-            if is_refused(held, call) {
-                Call::Panic
-            } else {
-                call
-            }
-        }
-        Instruction::Map { name, operands } => {
-            let line = mm_line(*name, registers, operands);
-            map_call(held, line)
-        }
-        Instruction::Change { .. } | Instruction::Jump { .. } | Instruction::JumpIf { .. } => {
-            Call::Stop { spent: true }
-        }
+    let line = mm_line(name, registers, operands);
+    mm_call(held, line)
+}
+
+/// A call of another line. Panic where it names a vector that is or was mapped.
+pub fn unless_refused(held: &Held, call: Call) -> Call
+    ensures { result ≡ (if is_refused held.now.table call then Call.Panic else call) }
+{
+    if is_refused(held, call) {
+        Call::Panic
+    } else {
+        call
     }
 }
 

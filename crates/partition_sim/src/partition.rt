@@ -1,61 +1,64 @@
 //! The runner of a partition's script.
-ghost use Rattle.std.specs.Prelude.{◌≡◌, ◌-◌, IfNone, IfSome, None, Some, if◌then◌else◌, slice_get};
-ghost use Rattle.ffm_model.specs.HeldPlans.{held_call, held_step, held_steps};
-ghost use Rattle.ffm_model.specs.ScriptRuns.{most_lines};
+ghost use Rattle.std.specs.Prelude.{◌≡◌, IfNone, IfSome, None, Some, if◌then◌else◌, slice_get};
+ghost use Rattle.ffm_model.specs.HeldPlans.{held_arrived, held_call, held_step};
+ghost use Rattle.ffm_model.specs.ScriptRuns.{local_step, point};
 ghost use Rattle.ffm_model.specs.Scripts.{IsPart};
 ghost use Rattle.partition_sim.specs.Partitions.{holding};
 
-use crate::calls::is_blocked;
-use crate::held_lines::{held_call, held_effect, note_held};
+use crate::calls::{call_of, is_blocked};
+use crate::context::run_lines;
+use crate::held_lines::{map_call, map_effect, note_held, unless_refused};
 use crate::lines::{MOST_LINES, place_behind};
 use ffm_model::{Call, Instruction, Outcome, System};
 use mm_iovec::Held;
 use std::marker::Model;
 
-// Does the line at a place where it makes no call, and says where it leads.
-#[tactic(auto, unfolding(ffm_model::specs::HeldPlans::held_step))]
-fn held_step(
+// Does the line at a place where it maps or unmaps and makes no call, and says where it leads.
+#[tactic(auto, unfolding(ffm_model::specs::HeldPlans::held_step, ffm_model::specs::ScriptRuns::local_step))]
+fn map_step(
     held: &mut Held,
     registers: &mut [u32; 16],
     script: &[Instruction],
     place: usize,
 ) -> Option<usize>
-    requires { IsPart script.now }
     ensures leads { IfSome result (λ to. held_step held.old.holder script.now (holding registers.old place held.old.table) ≡ Some (holding registers.new to held.new.table)) }
-    ensures makes { IfNone result (held_step held.old.holder script.now (holding registers.old place held.old.table) ≡ None) }
+    ensures makes { local_step script.now (point registers.old place) ≡ None → IfNone result (held_step held.old.holder script.now (holding registers.old place held.old.table) ≡ None) }
     ensures kept { IfNone result (registers.new ≡ registers.old) }
     ensures held { IfNone result (held.new ≡ held.old) }
     ensures holder { held.new.holder ≡ held.old.holder }
 {
-    if place >= script.len() {
-        return None;
+    match script.get(place) {
+        Some(Instruction::Map { name, operands }) => {
+            map_effect(held, registers, place, *name, operands)
+        }
+        _ => None,
     }
-    held_effect(held, registers, place, &script[place])
 }
 
-// Does lines up to the next call: the place there, and how many ran since the last event.
-fn run_lines(
+// Does lines up to the next call, and says where it is.
+fn run_held(
     held: &mut Held,
     registers: &mut [u32; 16],
     script: &[Instruction],
     place: usize,
-    ran: u32,
-) -> (usize, u32)
+) -> usize
     requires { IsPart script.now }
-    ensures point { holding registers.new result.0 held.new.table ≡ held_steps held.old.holder script.now (most_lines - ran) (holding registers.old place held.old.table) }
-    ensures stays { held_steps held.old.holder script.now (most_lines - result.1) (holding registers.new result.0 held.new.table) ≡ holding registers.new result.0 held.new.table }
+    ensures arrived { holding registers.new result held.new.table ≡ held_arrived held.old.holder script.now (holding registers.old place held.old.table) }
     ensures holder { held.new.holder ≡ held.old.holder }
 {
     let mut place = place;
-    let mut ran = ran;
-    while ran < MOST_LINES {
-        let Some(to) = held_step(held, registers, script, place) else {
-            return (place, ran);
+    let mut left = MOST_LINES;
+    loop {
+        let (at, more) = run_lines(script, registers, place, left);
+        if more == 0 {
+            return at;
+        }
+        let Some(to) = map_step(held, registers, script, at) else {
+            return at;
         };
         place = to;
-        ran += 1;
+        left = more - 1;
     }
-    (place, ran)
 }
 
 #[tactic(auto, using(std::proofs::lemmas::Option::slice_get_cases))]
@@ -67,12 +70,16 @@ fn line_at(script: &[Instruction], place: usize) -> Option<Instruction>
 
 // The call that is made at a place.
 #[tactic(auto, unfolding(ffm_model::specs::HeldPlans::held_call))]
-fn call_at(held: &mut Held, registers: &[u32; 16], script: &[Instruction], place: usize) -> Call
+fn held_call(held: &mut Held, registers: &[u32; 16], script: &[Instruction], place: usize) -> Call
     ensures call { result ≡ held_call held.old.holder script.now (holding registers.now place held.old.table) }
     ensures held { held.new ≡ held.old }
 {
     match script.get(place) {
-        Some(line) => held_call(held, registers, line),
+        Some(Instruction::Map { name, operands }) => map_call(held, registers, *name, operands),
+        Some(Instruction::Make { name, operands }) => {
+            unless_refused(held, call_of(*name, registers, operands))
+        }
+        Some(_) => Call::Stop { spent: true },
         None => Call::Stop { spent: false },
     }
 }
@@ -95,14 +102,13 @@ pub struct PartitionRunner {
     held: Held,
     registers: [u32; 16],
     place: usize,
-    // How many lines without a call ran since the last event.
-    ran: u32,
     // The last outcome is Blocked.
     waiting: bool,
-    // The line that made the call which was asked for.
-    line: Option<Instruction>,
+    // The script stands at its next call.
+    ready: bool,
+    // That call, the line that makes it, and where the script goes on after it.
     call: Call,
-    // Where the script goes on after that call.
+    line: Option<Instruction>,
     after: usize,
 }
 
@@ -111,7 +117,7 @@ impl Model for PartitionRunner {
 
     ghost Value = { PartitionStanding };
 
-    ghost view = { λ r. record { holder = r.held.holder; at = holding r.registers r.place r.held.table; ran = r.ran; waiting = r.waiting; line = r.line; call = r.call; after = r.after } };
+    ghost view = { λ r. record { holder = r.held.holder; at = holding r.registers r.place r.held.table; waiting = r.waiting; ready = r.ready; line = r.line; call = r.call; after = r.after } };
 }
 
 impl PartitionRunner {
@@ -131,12 +137,28 @@ impl PartitionRunner {
             held: Held::new(system, partition),
             registers: [0; 16],
             place: 0,
-            ran: 0,
             waiting: false,
-            line: None,
+            ready: false,
             call: Call::Resume,
+            line: None,
             after: 0,
         }
+    }
+
+    // Does lines up to the next call, unless the script stands there.
+    fn settle(&mut self, script: &[Instruction])
+        requires { IsPart script.now }
+        ensures { (p : Holder) (outcomes : List Outcome) → FollowsHeld p script.now outcomes self.old → AskedHeld p script.now outcomes self.new }
+    {
+        if self.ready {
+            return;
+        }
+        let place = run_held(&mut self.held, &mut self.registers, script, self.place);
+        self.place = place;
+        self.line = line_at(script, place);
+        self.call = held_call(&mut self.held, &self.registers, script, place);
+        self.after = place_behind(script, place);
+        self.ready = true;
     }
 
     /// The call that the partition makes next. Asked again before `after`, it is the same call.
@@ -146,18 +168,7 @@ impl PartitionRunner {
         ensures asked { (p : Holder) (outcomes : List Outcome) → FollowsHeld p script.now outcomes self.old → AskedHeld p script.now outcomes self.new }
         ensures again { (p : Holder) (outcomes : List Outcome) → FollowsHeld p script.now outcomes self.old → FollowsHeld p script.now outcomes self.new }
     {
-        let (place, ran) = run_lines(
-            &mut self.held,
-            &mut self.registers,
-            script,
-            self.place,
-            self.ran,
-        );
-        self.place = place;
-        self.ran = ran;
-        self.line = line_at(script, place);
-        self.call = call_at(&mut self.held, &self.registers, script, place);
-        self.after = place_behind(script, place);
+        self.settle(script);
         call_due(self.waiting, self.call)
     }
 
@@ -172,7 +183,7 @@ impl PartitionRunner {
         self.held.noted(self.line, self.call, *outcome);
         note_held(&mut self.registers, self.line, self.call, outcome);
         self.place = self.after;
-        self.ran = 0;
+        self.ready = false;
         self.waiting = false;
     }
 }

@@ -14,4 +14,4 @@ returns-in-Some c = λ ps long a.
     let low : k < length c.args.parts.now = subst (λ (o : Option ℕ). IfSome o (λ i. i < length c.args.parts.now)) c.in-Some.is c.requires.within in
     let calls : List Call = next_calls c.args.parts.now ps in
     let due : Bool → Option ℕ → Call = λ b o. if b then call.Resume else option_map_or (λ i. get_or calls i (call.Stop false)) o (call.Stop (list_any is_spent calls)) in
-    c.call_of.ensures _ (a k low) ∙ (sym (calls-get c.args.parts.now ps k (call.Stop false) long low) ∙ (ap (due false) (sym c.in-Some.is) ∙ ap (λ (b : Bool). due b c.args.picked) (sym c.if-waiting.false)))
+    c.call_of.ensures _ _ (a k low) ∙ (sym (calls-get c.args.parts.now ps k (call.Stop false) long low) ∙ (ap (due false) (sym c.in-Some.is) ∙ ap (λ (b : Bool). due b c.args.picked) (sym c.if-waiting.false)))

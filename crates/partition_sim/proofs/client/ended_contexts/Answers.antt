@@ -16,7 +16,7 @@ loop-k-preserved c =
       long = length-set c.loop-k.ended k c.is_stop.result ∙ c.loop-k.invariant.long;
       ended = λ ps a j low. elim (below-or-at j k low) [
         | inl same ↦ ap (λ (i : ℕ). get_or (slice_set c.loop-k.ended k c.is_stop.result) i false) same
-            ∙ (get_or-set_same c.loop-k.ended k c.is_stop.result false inside ∙ (c.is_stop.ensures ∙ (ap is_stop (c.call_of.ensures _ (a k c.loop-k-test.true))
+            ∙ (get_or-set_same c.loop-k.ended k c.is_stop.result false inside ∙ (c.is_stop.ensures ∙ (ap is_stop (c.call_of.ensures _ _ (a k c.loop-k-test.true))
             ∙ ap (λ (i : ℕ). is_stop (call_from (script_of c.args.parts.now i) (get_or ps i start))) (sym same))))
         | inr below ↦ let ne : j ≢ k = omega arith in get_or-set_other c.loop-k.ended k j c.is_stop.result false ne ∙ c.loop-k.invariant.ended ps a j below
       ];

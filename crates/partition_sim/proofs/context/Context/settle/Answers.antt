@@ -1,0 +1,9 @@
+use Rattle.std.proofs.Common.{refl}
+use Rattle.partition_sim.proofs.StepLemmas.{settled}
+use Rattle.partition_sim.proofs.context.Context.settle.Goals as goal
+
+pub returns-then-self : goal.returns-then-self
+returns-then-self c = λ p r. r.stands c.if-self.true
+
+pub returns : goal.returns
+returns c = λ p r. settled c.args.script.now p _ _ c.if-self.false refl c.run_lines-place.ensures.point c.call_at-self.ensures c.place_behind-self.ensures r
