@@ -1,6 +1,6 @@
 -- Turn after turn.
 use Rattle.std.proofs.Common.{ℕ, zero, suc, ◌≡◌, ◌<◌, ◌≤◌, ◌+◌, ◌-◌, ◌*◌, Bool, true, false, List, [], ◌∷◌, ◌++◌, length, refl, ap, sym, ◌∙◌, arith, subst, get_or, inl, inr, add_assoc, true≢false, length-append, below_more}
-use Rattle.std.specs.Prelude.{Option, Some, None, option_and_then, IsSome, nat_lt, Ok, ◌||◌, fold, ◌==◌, ◌⊎◌}
+use Rattle.std.specs.Prelude.{Option, Some, None, option_and_then, IsSome, nat_lt, Ok, ◌||◌, fold, ◌==◌}
 use Rattle.std.specs.List.{list_any, range_with_len}
 use Rattle.std.proofs.lemmas.Bool.{cases_lt}
 use Rattle.std.proofs.lemmas.List.{get_or_default, get_or_append_left}
@@ -14,9 +14,13 @@ use Rattle.ffm_model.specs.declared.machine.ActorId.{ActorId}
 use Rattle.ffm_model.specs.declared.machine.Entry.{Entry}
 use Rattle.ffm_model.specs.declared.script.Instruction.{Instruction}
 use Rattle.ffm_model.specs.Actors.{actor_count, kind_of}
-use Rattle.ffm_model.specs.Held.{holder_of}
+use Rattle.ffm_model.specs.declared.machine.Outcome.{Outcome}
+use Rattle.ffm_model.specs.Contexts.{context_plan}
+use Rattle.ffm_model.specs.Held.{Holder, holder_of}
+use Rattle.ffm_model.specs.HeldPlans.{held_plan}
 use Rattle.ffm_model.specs.Schedule.{turn_at, enabled_in, IsNext, Turns}
-use Rattle.ffm_model.specs.ScriptRuns.{only_part}
+use Rattle.ffm_model.specs.ScriptRuns.{only_part, script_plan}
+use Rattle.ffm_model.specs.Scripts.{MapsNothing, maps}
 use Rattle.ffm_model.specs.Signals.{enabled}
 use Rattle.ffm_model.specs.State.{State, opening}
 use Rattle.ffm_model.specs.Step.{step_on}
@@ -25,11 +29,11 @@ use Rattle.memory_image.specs.Pieces.{byte_at}
 use Rattle.spm_core.specs.Manager.{Opening, Managed, state_after, state_of}
 use Rattle.partition_sim.specs.declared.runner.Runner.{Runner}
 use Rattle.partition_sim.specs.declared.runner.Runner.TheVariants as runner
-use Rattle.partition_sim.specs.ActorPlans.{parts_at, role_at, role_of_kind}
+use Rattle.partition_sim.specs.ActorPlans.{needs_messages, parts_at, plan_of_role, role_of_kind}
+use Rattle.partition_sim.specs.ActorPlans.Role.{holds, takes_turns}
 use Rattle.partition_sim.specs.Clients.{ClientStanding, FollowsAll}
 use Rattle.partition_sim.specs.Partitions.{PartitionStanding, FollowsHeld}
-use Rattle.partition_sim.specs.Standing.{Follows}
-use Rattle.partition_sim.specs.Driving.{Driving, MadeOne, PassedOne, Turned, InOrder, Underway, IsDriven, AreNew, no_runner}
+use Rattle.partition_sim.specs.Driving.{Driving, MadeOne, PassedOne, Turned, InOrder, Underway, IsDriven, AreNew, Serves, no_runner}
 
 Turns-push : (s : System) (schedule : List ActorId) (st : Option State) (t : ℕ) (es : List Entry) (end u : ℕ) (e : Entry) → Turns s schedule st t es end
     → IsNext s schedule (fold (step_on s) st es) end u → e.actor.0 ≡ turn_at s schedule u → Turns s schedule st t (es ++ e ∷ []) (u + 1)
@@ -226,29 +230,69 @@ next-at scripts schedule o began m rs false a e k i = absurd (true≢false (sym 
 
 -- ---- the start
 
--- the first runner of a partition, and of an actor of another kind
-pub new-partition : (s : System) (scripts : List (List (List Instruction))) (a : ℕ) (r : PartitionStanding) → length (parts_at scripts a) ≡ 1 → kind_of s a ≡ kind.Partition
-    → ((script : List Instruction) → FollowsHeld (holder_of s a) script [] r) → Follows (role_at s a) (parts_at scripts a) [] (runner.Partition r)
-new-partition s scripts a r one is new =
-    subst (λ (k : ActorKind). Follows (role_of_kind k (holder_of s a)) (parts_at scripts a) [] (runner.Partition r)) (sym is) (one, new (only_part (parts_at scripts a)))
+none-by : (a b : Bool) → (a || b) ≡ false → (a ≡ false) × (b ≡ false)
+none-by true b e = absurd (true≢false e)
+none-by false b e = (refl, e)
 
-pub new-other : (s : System) (scripts : List (List (List Instruction))) (a : ℕ) (r : ClientStanding) → (kind_of s a ≡ kind.Client) ⊎ (kind_of s a ≡ kind.Device)
-    → FollowsAll (parts_at scripts a) [] r → Follows (role_at s a) (parts_at scripts a) [] (runner.Client r)
-new-other s scripts a r is new =
-    let P : ActorKind → Type 0 = λ k. Follows (role_of_kind k (holder_of s a)) (parts_at scripts a) [] (runner.Client r) in
-    elim is [ inl client ↦ subst P (sym client) new | inr device ↦ subst P (sym device) new ]
+-- a script that maps nothing, as the flag says
+maps-nothing : (is : List Instruction) → list_any maps is ≡ false → MapsNothing is
+maps-nothing [] e = tt
+maps-nothing (i ∷ is) e = let h = none-by (maps i) (list_any maps is) e in (h.0, maps-nothing is h.1)
 
-pub new-push : (s : System) (scripts : List (List (List Instruction))) (count : ℕ) (rs : List Runner) (r : Runner) → Follows (role_at s count) (parts_at scripts count) [] r
+-- what the laws of plans say of a partition whose script maps nothing: one context calls as it does
+abbrev pub OneContext : Type 0
+OneContext = (script : List Instruction) (os : List Outcome) → context_plan (script ∷ []) os ≡ script_plan script os
+
+abbrev pub Unmapped : Type 0
+Unmapped = (p : Holder) (script : List Instruction) (os : List Outcome) → MapsNothing script → held_plan p script os ≡ script_plan script os
+
+plain-plan : OneContext → Unmapped → (p : Holder) (parts : List (List Instruction)) (os : List Outcome) → length parts ≡ 1 → list_any maps (only_part parts) ≡ false → context_plan parts os ≡ held_plan p (only_part parts) os
+plain-plan one unmapped p [] os long e = absurd (omega arith)
+plain-plan one unmapped p (script ∷ []) os long e = one script os ∙ sym (unmapped p script os (maps-nothing script e))
+plain-plan one unmapped p (script ∷ next ∷ parts) os long e = absurd (omega arith)
+
+turns-plan : OneContext → Unmapped → (k : ActorKind) (p : Holder) (parts : List (List Instruction)) (os : List Outcome) → (k ≡ kind.Partition → length parts ≡ 1) → needs_messages k parts ≡ false
+    → context_plan parts os ≡ plan_of_role (role_of_kind k p) parts os
+turns-plan one unmapped kind.Partition p parts os long e = plain-plan one unmapped p parts os (long refl) e
+turns-plan one unmapped kind.Client p parts os long e = refl
+turns-plan one unmapped kind.Device p parts os long e = refl
+
+-- the first runner of an actor whose contexts take turns
+pub new-turns : (s : System) (scripts : List (List (List Instruction))) (a : ℕ) (r : ClientStanding) → OneContext → Unmapped → (kind_of s a ≡ kind.Partition → length (parts_at scripts a) ≡ 1)
+    → needs_messages (kind_of s a) (parts_at scripts a) ≡ false → FollowsAll (parts_at scripts a) [] r → Serves s scripts a [] (runner.Client r)
+new-turns s scripts a r one unmapped long e new = record {
+  role = takes_turns;
+  plan = λ os. turns-plan one unmapped (kind_of s a) (holder_of s a) (parts_at scripts a) os long e;
+  follows = new;
+}
+
+needs-partition : (k : ActorKind) (parts : List (List Instruction)) → needs_messages k parts ≡ true → k ≡ kind.Partition
+needs-partition kind.Partition parts e = refl
+needs-partition kind.Client parts e = absurd (true≢false (sym e))
+needs-partition kind.Device parts e = absurd (true≢false (sym e))
+
+-- and of a partition whose script maps
+pub new-partition : (s : System) (scripts : List (List (List Instruction))) (a : ℕ) (r : PartitionStanding) → (kind_of s a ≡ kind.Partition → length (parts_at scripts a) ≡ 1)
+    → needs_messages (kind_of s a) (parts_at scripts a) ≡ true → ((script : List Instruction) → FollowsHeld (holder_of s a) script [] r) → Serves s scripts a [] (runner.Partition r)
+new-partition s scripts a r long e new =
+    let is : kind_of s a ≡ kind.Partition = needs-partition (kind_of s a) (parts_at scripts a) e in
+    record {
+      role = holds (holder_of s a);
+      plan = λ os. ap (λ (k : ActorKind). plan_of_role (role_of_kind k (holder_of s a)) (parts_at scripts a) os) (sym is);
+      follows = (long is, new (only_part (parts_at scripts a)));
+    }
+
+pub new-push : (s : System) (scripts : List (List (List Instruction))) (count : ℕ) (rs : List Runner) (r : Runner) → Serves s scripts count [] r
     → AreNew s scripts count rs → AreNew s scripts (count + 1) (rs ++ r ∷ [])
 new-push s scripts count rs r new all = record {
   long = length-append rs (r ∷ []) ∙ ap (λ n. n + 1) all.long;
   each = λ a below. elim (cases_lt a count) [
     | inl less ↦ (
-        let P : Runner → Type 0 = λ x. Follows (role_at s a) (parts_at scripts a) [] x in
+        let P : Runner → Type 0 = λ x. Serves s scripts a [] x in
         subst P (sym (get_or_append_left rs (r ∷ []) no_runner a (omega (arith, all.long)))) (all.each a less))
     | inr more ↦ (
-        let P : Runner → Type 0 = λ x. Follows (role_at s a) (parts_at scripts a) [] x in
-        let Q : ℕ → Type 0 = λ i. Follows (role_at s i) (parts_at scripts i) [] r in
+        let P : Runner → Type 0 = λ x. Serves s scripts a [] x in
+        let Q : ℕ → Type 0 = λ i. Serves s scripts i [] r in
         let here : count ≡ a = omega arith in
         let same : a ≡ length rs = omega (arith, all.long) in
         subst P (sym (ap (λ i. get_or (rs ++ r ∷ []) i no_runner) same ∙ get_or-append_seam rs r [] no_runner)) (subst Q here new))
@@ -262,7 +306,7 @@ underway-start scripts schedule m rs long empty new = record {
   driving = record {
     scripts_long = long;
     runners_long = new.long;
-    follows = λ a below. rw empty (new.each a below);
+    serves = λ a below. rw empty (new.each a below);
     runs = λ a below. rw empty tt;
   };
   in_order = in_order-start schedule m.opening m.history empty;

@@ -26,7 +26,7 @@ use Rattle.partition_sim.specs.declared.runner.Runner.TheVariants as runner
 use Rattle.partition_sim.specs.ActorPlans.{Role, parts_at, plan_at, plan_of_role, role_at}
 use Rattle.partition_sim.specs.ActorPlans.Role.{holds, takes_turns}
 use Rattle.partition_sim.specs.Standing.{Follows, Asked, contexts_of, role_of}
-use Rattle.partition_sim.specs.Driving.{Driving, MadeOne, PassedOne, IsOver, runner_at, outcomes_at, no_runner}
+use Rattle.partition_sim.specs.Driving.{Driving, MadeOne, PassedOne, IsOver, Serves, runner_at, outcomes_at, no_runner}
 use Rattle.partition_sim.proofs.ClientLemmas as client
 use Rattle.partition_sim.proofs.HeldLemmas as held
 use Rattle.partition_sim.proofs.PlanLemmas.{RunFrom-push, HeldResumes, ContextsResume, plan-resume}
@@ -69,22 +69,22 @@ put-at P runners a b r below here there (inr n) =
 
 -- the same runs, with another value of one runner
 driving-asked : (scripts : List (List (List Instruction))) (o : Opening) (history : List Entry) (runners : List Runner) (a : ℕ) (r : Runner) → a < actor_count o.system
-    → Driving scripts o history runners → Asked (role_at o.system a) (parts_at scripts a) (outcomes_at history a) r → Driving scripts o history (slice_set runners a r)
+    → Driving scripts o history runners → Serves o.system scripts a (outcomes_at history a) r → Driving scripts o history (slice_set runners a r)
 driving-asked scripts o history runners a r below d asked =
-    let P : ℕ → Runner → Type 0 = λ b x. Follows (role_at o.system b) (parts_at scripts b) (outcomes_at history b) x in
+    let P : ℕ → Runner → Type 0 = λ b x. Serves o.system scripts b (outcomes_at history b) x in
     let inside : a < length runners = omega (arith, d.runners_long) in
     record {
       scripts_long = d.scripts_long;
       runners_long = length-set runners a r ∙ d.runners_long;
-      follows = λ b h. put-at P runners a b r inside (asked-follows _ _ _ _ asked) (d.follows b h) (same_or_not a b);
+      serves = λ b h. put-at P runners a b r inside asked (d.serves b h) (same_or_not a b);
       runs = d.runs;
     }
 
-follows-made : (role : Role) (parts : List (List Instruction)) (es : List Entry) (e : Entry) (b : ℕ) (x : Runner) → (e.actor.0 ≡ b) ⊎ (e.actor.0 ≢ b)
-    → (e.actor.0 ≢ b → Follows role parts (outcomes_of (entries_of b es)) x) → (e.actor.0 ≡ b → Follows role parts (outcomes_of (entries_of b es) ++ e.outcome ∷ []) x)
-    → Follows role parts (outcomes_of (entries_of b (es ++ e ∷ []))) x
-follows-made role parts es e b x (inl h) other own = rw (entries_of-same b es e h, outcomes_of-push (entries_of b es) e) (own h)
-follows-made role parts es e b x (inr n) other own = rw (entries_of-apart b es e n) (other n)
+serves-made : (s : System) (scripts : List (List (List Instruction))) (es : List Entry) (e : Entry) (b : ℕ) (x : Runner) → (e.actor.0 ≡ b) ⊎ (e.actor.0 ≢ b)
+    → (e.actor.0 ≢ b → Serves s scripts b (outcomes_of (entries_of b es)) x) → (e.actor.0 ≡ b → Serves s scripts b (outcomes_of (entries_of b es) ++ e.outcome ∷ []) x)
+    → Serves s scripts b (outcomes_of (entries_of b (es ++ e ∷ []))) x
+serves-made s scripts es e b x (inl h) other own = rw (entries_of-same b es e h, outcomes_of-push (entries_of b es) e) (own h)
+serves-made s scripts es e b x (inr n) other own = rw (entries_of-apart b es e n) (other n)
 
 runs-made : (plan : Plan) (es : List Entry) (e : Entry) (b : ℕ) → (e.actor.0 ≡ b) ⊎ (e.actor.0 ≢ b) → PlanRun plan (entries_of b es)
     → (e.actor.0 ≡ b → e.call ≡ plan (outcomes_of (entries_of b es))) → PlanRun plan (entries_of b (es ++ e ∷ []))
@@ -94,21 +94,21 @@ runs-made plan es e b (inr n) run own = rw (entries_of-apart b es e n) run
 -- an entry more
 driving-made : (scripts : List (List (List Instruction))) (o : Opening) (history : List Entry) (runners : List Runner) (a : ℕ) (r : Runner) (e : Entry) → a < actor_count o.system
     → Driving scripts o history runners → e.actor.0 ≡ a → e.call ≡ plan_at o.system scripts a (outcomes_at history a)
-    → Follows (role_at o.system a) (parts_at scripts a) (outcomes_at history a ++ e.outcome ∷ []) r
+    → Serves o.system scripts a (outcomes_at history a ++ e.outcome ∷ []) r
     → Driving scripts o (history ++ e ∷ []) (slice_set runners a r)
-driving-made scripts o history runners a r e below d actor call follows =
+driving-made scripts o history runners a r e below d actor call serves =
     let inside : a < length runners = omega (arith, d.runners_long) in
     record {
       scripts_long = d.scripts_long;
       runners_long = length-set runners a r ∙ d.runners_long;
-      follows = λ b h. follows-made (role_at o.system b) (parts_at scripts b) history e b (runner_at (slice_set runners a r) b) (same_or_not e.actor.0 b)
+      serves = λ b h. serves-made o.system scripts history e b (runner_at (slice_set runners a r) b) (same_or_not e.actor.0 b)
           (λ n.
           let other : b ≢ a = λ q. n (actor ∙ sym q) in
-          rw (get_or-set_other runners a b r no_runner other) (d.follows b h))
+          rw (get_or-set_other runners a b r no_runner other) (d.serves b h))
           (λ q.
           let same : a ≡ b = sym actor ∙ q in
-          let R : ℕ → Type 0 = λ n. Follows (role_at o.system n) (parts_at scripts n) (outcomes_at history n ++ e.outcome ∷ []) (runner_at (slice_set runners a r) n) in
-          subst R same (rw (get_or-set_same runners a r no_runner inside) follows));
+          let R : ℕ → Type 0 = λ n. Serves o.system scripts n (outcomes_at history n ++ e.outcome ∷ []) (runner_at (slice_set runners a r) n) in
+          subst R same (rw (get_or-set_same runners a r no_runner inside) serves));
       runs = λ b h. runs-made (plan_at o.system scripts b) history e b (same_or_not e.actor.0 b) (d.runs b h)
           (λ q.
           let same : a ≡ b = sym actor ∙ q in
@@ -158,18 +158,21 @@ made-one o old new a c place e m =
 
 -- it is the one of the actor's plan after its outcomes
 pub record IsNextOf (s : System) (scripts : List (List (List Instruction))) (history : List Entry) (a : ℕ) (c : Call) (r : Runner) : Type 0 where
+  pub role : Role
+  pub plan : (os : List Outcome) → plan_of_role role (parts_at scripts a) os ≡ plan_at s scripts a os
   pub call : c ≡ plan_at s scripts a (outcomes_at history a)
-  pub asked : Asked (role_at s a) (parts_at scripts a) (outcomes_at history a) r
+  pub asked : Asked role (parts_at scripts a) (outcomes_at history a) r
 
 -- the actor's runner follows the script that was found at its place
 pub follows-in : (scripts : List (List (List Instruction))) (o : Opening) (history : List Entry) (runners : List Runner) (a : ℕ) (parts : List (List Instruction)) (old : Runner)
-    → a < actor_count o.system → Driving scripts o history runners → parts ≡ get_or scripts a parts → Follows (role_at o.system a) parts (outcomes_at history a) (get_or runners a old)
+    → (below : a < actor_count o.system) → (d : Driving scripts o history runners) → parts ≡ get_or scripts a parts → Follows (d.serves a below).role parts (outcomes_at history a) (get_or runners a old)
 follows-in scripts o history runners a parts old below d is =
+    let role : Role = (d.serves a below).role in
     let script : parts ≡ parts_at scripts a = get_or_read scripts a parts (omega (arith, d.scripts_long)) is [] in
     let runner : runner_at runners a ≡ get_or runners a old = get_or_default runners a no_runner old (omega (arith, d.runners_long)) in
-    let Q : List (List Instruction) → Type 0 = λ x. Follows (role_at o.system a) x (outcomes_at history a) (get_or runners a old) in
-    let R : Runner → Type 0 = λ x. Follows (role_at o.system a) (parts_at scripts a) (outcomes_at history a) x in
-    subst Q (sym script) (subst R runner (d.follows a below))
+    let Q : List (List Instruction) → Type 0 = λ x. Follows role x (outcomes_at history a) (get_or runners a old) in
+    let R : Runner → Type 0 = λ x. Follows role (parts_at scripts a) (outcomes_at history a) x in
+    subst Q (sym script) (subst R runner (d.serves a below).follows)
 
 pub asked-in : (scripts : List (List (List Instruction))) (o : Opening) (history : List Entry) (runners : List Runner) (a : ℕ) (parts : List (List Instruction)) (old new : Runner) (c : Call)
     → a < actor_count o.system → Driving scripts o history runners → parts ≡ get_or scripts a parts
@@ -177,12 +180,18 @@ pub asked-in : (scripts : List (List (List Instruction))) (o : Opening) (history
     → ((role : Role) (os : List Outcome) → Follows role parts os (get_or runners a old) → Asked role parts os new)
     → IsNextOf o.system scripts history a c new
 asked-in scripts o history runners a parts old new c below d is calls asks =
-    let role : Role = role_at o.system a in
+    let serves : Serves o.system scripts a (outcomes_at history a) (runner_at runners a) = d.serves a below in
+    let role : Role = serves.role in
     let script : parts ≡ parts_at scripts a = get_or_read scripts a parts (omega (arith, d.scripts_long)) is [] in
     let P : List (List Instruction) → Type 0 = λ x. c ≡ plan_of_role role x (outcomes_at history a) in
     let A : List (List Instruction) → Type 0 = λ x. Asked role x (outcomes_at history a) new in
     let follows : Follows role parts (outcomes_at history a) (get_or runners a old) = follows-in scripts o history runners a parts old below d is in
-    record { call = subst P script (calls role (outcomes_at history a) follows); asked = subst A script (asks role (outcomes_at history a) follows) }
+    record {
+      role = role;
+      plan = serves.plan;
+      call = subst P script (calls role (outcomes_at history a) follows) ∙ serves.plan (outcomes_at history a);
+      asked = subst A script (asks role (outcomes_at history a) follows);
+    }
 
 pub call-is-due : (scripts : List (List (List Instruction))) (o : Opening) (history : List Entry) (a : ℕ) (c : Call) (r : Runner) → HeldResumes → ContextsResume → IsNextOf o.system scripts history a c r → CallDue o history a c
 call-is-due scripts o history a c r held contexts n = inl (ap is_resume n.call ∙ plan-resume held contexts (role_at o.system a) (parts_at scripts a) (outcomes_at history a))
@@ -190,9 +199,11 @@ call-is-due scripts o history a c r held contexts n = inl (ap is_resume n.call �
 -- a turn that changes nothing
 pub driving-still : (scripts : List (List (List Instruction))) (o : Opening) (old new : List Entry) (runners : List Runner) (a : ℕ) (c : Call) (r : Runner) → a < actor_count o.system
     → Driving scripts o old runners → IsNextOf o.system scripts old a c r → new ≡ old → Driving scripts o new (slice_set runners a r)
-driving-still scripts o old new runners a c r below d n e = rw e (driving-asked scripts o old runners a r below d n.asked)
+driving-still scripts o old new runners a c r below d n e =
+    rw e (driving-asked scripts o old runners a r below d (record { role = n.role; plan = n.plan; follows = asked-follows _ _ _ _ n.asked }))
 
 pub driving-step : (scripts : List (List (List Instruction))) (o : Opening) (old new : List Entry) (runners : List Runner) (a : ℕ) (c : Call) (asked r : Runner) (place : ℕ) (e : Entry)
-    → a < actor_count o.system → Driving scripts o old runners → IsNextOf o.system scripts old a c asked → IsMade o old a c place e new
-    → Follows (role_at o.system a) (parts_at scripts a) (outcomes_at old a ++ e.outcome ∷ []) r → Driving scripts o new (slice_set runners a r)
-driving-step scripts o old new runners a c asked r place e below d n m follows = rw m.added (driving-made scripts o old runners a r e below d m.actor (m.called ∙ n.call) follows)
+    → a < actor_count o.system → Driving scripts o old runners → (n : IsNextOf o.system scripts old a c asked) → IsMade o old a c place e new
+    → Follows n.role (parts_at scripts a) (outcomes_at old a ++ e.outcome ∷ []) r → Driving scripts o new (slice_set runners a r)
+driving-step scripts o old new runners a c asked r place e below d n m follows =
+    rw m.added (driving-made scripts o old runners a r e below d m.actor (m.called ∙ n.call) (record { role = n.role; plan = n.plan; follows = follows }))

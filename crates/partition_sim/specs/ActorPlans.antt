@@ -1,6 +1,7 @@
 -- What each actor of a system calls next.
 -- Source: this simulator's.
-use Rattle.std.specs.Prelude.{ℕ, List, [], get_or}
+use Rattle.std.specs.Prelude.{ℕ, Bool, false, List, [], get_or}
+use Rattle.std.specs.List.{list_any}
 use Rattle.ffm_model.specs.declared.script.Instruction.{Instruction}
 use Rattle.ffm_model.specs.declared.system.ActorKind.{ActorKind}
 use Rattle.ffm_model.specs.declared.system.ActorKind.TheVariants.{Partition, Client, Device}
@@ -11,6 +12,7 @@ use Rattle.ffm_model.specs.Held.{Holder, holder_of}
 use Rattle.ffm_model.specs.HeldPlans.{held_plan}
 use Rattle.ffm_model.specs.Plans.{Plan}
 use Rattle.ffm_model.specs.ScriptRuns.{only_part}
+use Rattle.ffm_model.specs.Scripts.{maps}
 
 -- what an actor is to its script: a partition, which holds messages and may map their vectors, or one whose contexts take turns
 pub data Role : Type 0 where
@@ -30,6 +32,12 @@ role_of_kind Device p = takes_turns
 
 abbrev pub role_at : System → ℕ → Role
 role_at s a = role_of_kind (kind_of s a) (holder_of s a)
+
+-- it is a partition, and its script maps vectors: it calls by the messages that it holds
+abbrev pub needs_messages : ActorKind → List (List Instruction) → Bool
+needs_messages Partition parts = list_any maps (only_part parts)
+needs_messages Client parts = false
+needs_messages Device parts = false
 
 abbrev pub parts_at : List (List (List Instruction)) → ℕ → List (List Instruction)
 parts_at scripts a = get_or scripts a []

@@ -18,7 +18,7 @@ use Rattle.spm_core.specs.Manager.{Opening, Managed, state_after}
 use Rattle.partition_sim.specs.declared.scheduled.Over.{Over}
 use Rattle.partition_sim.specs.declared.runner.Runner.{Runner}
 use Rattle.partition_sim.specs.declared.runner.Runner.TheVariants.{Client}
-use Rattle.partition_sim.specs.ActorPlans.{parts_at, plan_at, role_at}
+use Rattle.partition_sim.specs.ActorPlans.{Role, parts_at, plan_at, plan_of_role}
 use Rattle.partition_sim.specs.Standing.{Follows}
 
 -- only a non-secure client has several contexts
@@ -36,10 +36,16 @@ runner_at runners a = get_or runners a no_runner
 abbrev pub outcomes_at : List Entry → ℕ → List Outcome
 outcomes_at history a = outcomes_of (entries_of a history)
 
+-- the runner has seen these outcomes of an actor of a system, in a role in which it calls as the actor's plan says
+pub record Serves (s : System) (scripts : List (List (List Instruction))) (a : ℕ) (outcomes : List Outcome) (r : Runner) : Type 0 where
+  pub role : Role
+  pub plan : (os : List Outcome) → plan_of_role role (parts_at scripts a) os ≡ plan_at s scripts a os
+  pub follows : Follows role (parts_at scripts a) outcomes r
+
 -- runners of the first actors, that have seen nothing
 pub record AreNew (s : System) (scripts : List (List (List Instruction))) (count : ℕ) (runners : List Runner) : Type 0 where
   pub long : length runners ≡ count
-  pub each : (a : ℕ) → a < count → Follows (role_at s a) (parts_at scripts a) [] (runner_at runners a)
+  pub each : (a : ℕ) → a < count → Serves s scripts a [] (runner_at runners a)
 
 -- ---- one turn
 
@@ -47,7 +53,7 @@ pub record AreNew (s : System) (scripts : List (List (List Instruction))) (count
 pub record Driving (scripts : List (List (List Instruction))) (o : Opening) (history : List Entry) (runners : List Runner) : Type 0 where
   pub scripts_long : length scripts ≡ actor_count o.system
   pub runners_long : length runners ≡ actor_count o.system
-  pub follows : (a : ℕ) → a < actor_count o.system → Follows (role_at o.system a) (parts_at scripts a) (outcomes_at history a) (runner_at runners a)
+  pub serves : (a : ℕ) → a < actor_count o.system → Serves o.system scripts a (outcomes_at history a) (runner_at runners a)
   pub runs : (a : ℕ) → a < actor_count o.system → PlanRun (plan_at o.system scripts a) (entries_of a history)
 
 -- an enabled actor made an entry

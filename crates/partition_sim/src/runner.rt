@@ -11,7 +11,8 @@ use ffm_model::{ActorId, ActorKind, Call, Outcome, Script, System};
 /// after the outcomes so far.
 #[derive(Drop)]
 pub enum Runner {
-    /// A non-secure client, whose contexts take turns, or the device, which has one context.
+    /// A non-secure client, whose contexts take turns, or an actor with one context: the device, or a
+    /// partition whose script maps nothing.
     Client(ClientRunner),
     /// A partition, which may map the vectors of the messages that it holds.
     Partition(PartitionRunner),

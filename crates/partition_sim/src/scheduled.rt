@@ -1,20 +1,22 @@
 //! Runs all scripts in turns.
 ghost use Rattle.std.specs.Prelude.{◌≡◌, ◌<◌, ◌≤◌, ℕ, [], IfOk, IsSome, OnErr, OnOk, length};
-ghost use Rattle.std.specs.List.{All};
-ghost use Rattle.ffm_model.specs.Actors.{actor_count};
+ghost use Rattle.std.specs.List.{All, list_any};
+ghost use Rattle.ffm_model.specs.Actors.{actor_count, kind_of};
 ghost use Rattle.ffm_model.specs.Plans.{PlanRun};
 ghost use Rattle.ffm_model.specs.Records.{entries_of};
 ghost use Rattle.ffm_model.specs.Schedule.{Scheduled};
+ghost use Rattle.ffm_model.specs.ScriptRuns.{only_part};
+ghost use Rattle.ffm_model.specs.Scripts.{maps};
 ghost use Rattle.ffm_model.specs.Verdicts.{verdict_of};
 ghost use Rattle.memory_image.specs.Pieces.{byte_at};
-ghost use Rattle.partition_sim.specs.ActorPlans.{plan_at};
+ghost use Rattle.partition_sim.specs.ActorPlans.{needs_messages, plan_at};
 ghost use Rattle.partition_sim.specs.Driving.{AreNew, Driving, HaveContexts, IsDriven, Turned, Underway};
 
 use crate::client::ClientRunner;
 use crate::partition::PartitionRunner;
 use crate::runner::Runner;
-use actor_plans::plans_resume_behind_blocked;
-use ffm_model::{ActorId, ActorKind, Answer, List, Memory, Script, System};
+use actor_plans::{one_context_is_a_script, plans_resume_behind_blocked, scripts_that_map_nothing};
+use ffm_model::{ActorId, ActorKind, Answer, Instruction, List, Memory, Script, System};
 use spm_core::Spm;
 use std::alloc::Global;
 
@@ -86,26 +88,46 @@ fn run_turns(
     }
 }
 
-// A runner for each actor, with as many contexts as its script has parts. A runner is large, since it has
-// room for all messages that a partition may hold; so the vector doesn't grow, and each runner is built
-// here as its kind, which saves the moves out of `Runner::new`.
+// Whether some line of a script of one part maps or unmaps a vector.
+fn maps(script: &Script) -> bool
+    ensures { result ≡ list_any maps (only_part script.now) }
+{
+    script
+        .instructions()
+        .iter()
+        .any(|line| matches!(line, Instruction::Map { .. }))
+}
+
+// Whether an actor is a partition whose script needs the messages that it holds.
+fn holds_messages(system: &System, actor: ActorId, script: &Script) -> bool
+    requires { actor.0 < actor_count system.now }
+    ensures { result ≡ needs_messages (kind_of system.now actor.0) script.now }
+{
+    match system.actor_kind(actor) {
+        ActorKind::Partition => maps(script),
+        ActorKind::Client | ActorKind::Device => false,
+    }
+}
+
+// A runner for each actor, with as many contexts as its script has parts. One with room for all messages
+// that a partition may hold is large, so only a script that maps has it. The vector doesn't grow, and each
+// runner is built here as its kind, which saves the moves out of `Runner::new`.
 fn new_runners(alloc: Global, system: &System, scripts: &[Script]) -> Result<Vec<Runner>, Memory>
     requires count { length scripts.now ≡ actor_count system.now }
     requires contexts { HaveContexts system.now scripts.now }
     ensures { IfOk result (λ v. AreNew system.now scripts.now (actor_count system.now) v.items) }
 {
+    one_context_is_a_script();
+    scripts_that_map_nothing();
     let count = system.actor_count();
     let mut runners = Vec::with_capacity(alloc, count as usize)?;
     for a in 0..count {
-        match system.actor_kind(ActorId(a)) {
-            ActorKind::Partition => {
-                runners.push_reserved(Runner::Partition(PartitionRunner::new(system, a)));
-            }
-            ActorKind::Client | ActorKind::Device => {
-                let script = &scripts[a as usize];
-                let contexts = script.parts.len() as u32;
-                runners.push_reserved(Runner::Client(ClientRunner::new(contexts)));
-            }
+        let script = &scripts[a as usize];
+        if holds_messages(system, ActorId(a), script) {
+            runners.push_reserved(Runner::Partition(PartitionRunner::new(system, a)));
+        } else {
+            let contexts = script.parts.len() as u32;
+            runners.push_reserved(Runner::Client(ClientRunner::new(contexts)));
         }
     }
     Ok(runners)

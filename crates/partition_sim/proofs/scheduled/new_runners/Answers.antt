@@ -1,12 +1,12 @@
 use Rattle.std.proofs.Common.{◌≡◌, ◌<◌, [], length, ap, sym, ◌∙◌, arith}
 use Rattle.std.proofs.lemmas.List.{get_or_read}
 use Rattle.ffm_model.specs.declared.system.ActorKind.TheVariants as kind
-use Rattle.ffm_model.specs.Actors.{kind_of}
+use Rattle.ffm_model.specs.Actors.{actor_count, kind_of}
 use Rattle.partition_sim.specs.declared.runner.Runner.TheVariants as runner
-use Rattle.partition_sim.specs.ActorPlans.{parts_at}
-use Rattle.partition_sim.proofs.ScheduleLemmas.{new-other, new-partition, new-push}
+use Rattle.partition_sim.specs.ActorPlans.{needs_messages, parts_at}
+use Rattle.partition_sim.proofs.ScheduleLemmas.{new-turns, new-partition, new-push}
 use Rattle.partition_sim.proofs.scheduled.new_runners.Goals as goal
-use Rattle.partition_sim.proofs.scheduled.new_runners.Goals.{in-Partition, in-Client}
+use Rattle.partition_sim.proofs.scheduled.new_runners.Goals.{then-holds_messages, else-holds_messages}
 
 pub loop-a-preserved : goal.loop-a-preserved
 loop-a-preserved c =
@@ -14,23 +14,25 @@ loop-a-preserved c =
     let scripts = c.args.scripts.now in
     let a = c.loop-a.a in
     let i = c.loop-a.invariant in
-    elim c.match-actor_kind.branch [
-      | in-Partition w ↦ (
-          let is : kind_of s a ≡ kind.Partition = sym c.actor_kind.ensures ∙ w.in-Partition.is in
-          let one : length (parts_at scripts a) ≡ 1 = c.requires.contexts a (omega (arith, c.loop-a-test.true, c.actor_count-count.ensures)) (λ client. cc (is, client)) in
-          rw w.runners-is
+    let below : a < actor_count s = omega (arith, c.loop-a-test.true, c.actor_count-count.ensures) in
+    let inside : a < length scripts = omega (arith, below, c.requires.count) in
+    let script : c.index-scripts-a.result ≡ parts_at scripts a = get_or_read scripts a c.index-scripts-a.result inside c.index-scripts-a.is [] in
+    let one : kind_of s a ≡ kind.Partition → length (parts_at scripts a) ≡ 1 = λ is. c.requires.contexts a below (λ client. cc (is, client)) in
+    let needs : c.holds_messages.result ≡ needs_messages (kind_of s a) (parts_at scripts a) = rw script at c.holds_messages.ensures in
+    elim c.if-holds_messages.branch [
+      | then-holds_messages w ↦ rw w.runners-is
           (record {
-            made = rw w.push_reserved.ensures.items (new-push s scripts a _ (runner.Partition w.new.result) (new-partition s scripts a w.new.result one is w.new.ensures) i.made);
+            made = rw w.push_reserved.ensures.items
+                (new-push s scripts a _ (runner.Partition w.new.result) (new-partition s scripts a w.new.result one (sym needs ∙ w.if-holds_messages.true) w.new.ensures) i.made);
             room = omega (arith, i.room, w.push_reserved.ensures.capacity);
-          }))
-      | in-Client w ↦ (
-          let inside : a < length scripts = omega (arith, c.loop-a-test.true, c.actor_count-count.ensures, c.requires.count) in
-          let script : w.index-scripts-a.result ≡ parts_at scripts a = get_or_read scripts a w.index-scripts-a.result inside w.index-scripts-a.is [] in
-          let long : length (parts_at scripts a) ≡ w.len-contexts.result = sym (w.len-contexts.ensures ∙ ap length (w.script.view_is ∙ script)) in
+          })
+      | else-holds_messages w ↦ (
+          let long : length (parts_at scripts a) ≡ w.len-contexts.result = sym (w.len-contexts.ensures ∙ ap length (c.script.view_is ∙ script)) in
           rw w.runners-is
           (record {
-            made = rw w.push_reserved-in-Client.ensures.items
-                (new-push s scripts a _ (runner.Client w.new-in-Client.result) (new-other s scripts a w.new-in-Client.result (rw c.actor_kind.ensures at w.in-Client.is) (w.new-in-Client.ensures.follows (parts_at scripts a) long)) i.made);
-            room = omega (arith, i.room, w.push_reserved-in-Client.ensures.capacity);
+            made = rw w.push_reserved-else-holds_messages.ensures.items
+                (new-push s scripts a _ (runner.Client w.new-else-holds_messages.result)
+                (new-turns s scripts a w.new-else-holds_messages.result c.one_context_is_a_script.ensures.call c.scripts_that_map_nothing.ensures.call one (sym needs ∙ w.if-holds_messages.false) (w.new-else-holds_messages.ensures.follows (parts_at scripts a) long)) i.made);
+            room = omega (arith, i.room, w.push_reserved-else-holds_messages.ensures.capacity);
           }))
     ]
