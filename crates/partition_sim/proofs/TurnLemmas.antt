@@ -1,6 +1,7 @@
 -- One turn.
-use Rattle.std.proofs.Common.{ℕ, ◌≡◌, ◌≢◌, ◌<◌, ◌≤◌, true, false, List, [], ◌∷◌, ◌++◌, length, refl, ap, sym, ◌∙◌, arith, subst, get_or, get_or-set_same, get_or-set_other, length-set, inl, inr, true≢false}
+use Rattle.std.proofs.Common.{ℕ, ◌≡◌, ◌≢◌, ◌<◌, ◌≤◌, Bool, true, false, List, [], ◌∷◌, ◌++◌, length, refl, ap, sym, ◌∙◌, arith, subst, get_or, get_or-set_same, get_or-set_other, length-set, inl, inr, true≢false}
 use Rattle.std.specs.Prelude.{Option, Some, None, option_and_then, slice_set, nat_le, IsSome, ◌⊎◌}
+use Rattle.std.specs.Option.{option_map}
 use Rattle.std.proofs.lemmas.Bool.Decides.{eqb_tells}
 use Rattle.std.proofs.lemmas.List.{get_or_read, get_or_default}
 use Rattle.spm_core.proofs.Refusals.{by_tests, full_has_verdict, gone_is, gone_off, none_is, not_yet_is, over_has_verdict}
@@ -134,6 +135,14 @@ on-made : (s : System) (limit count a : ℕ) (st : Option State) (f : State → 
 unfolding by_tests
 on-made s limit count a None f h k = absurd (true≢false (sym k))
 on-made s limit count a (Some x) f h k = none_is (is_gone (phase_of x.spm a)) (some_enabled s x.spm) (nat_le limit count) (enabled s x.spm a) h
+
+-- an actor that isn't enabled is passed
+off-by : (s : System) (a : ℕ) (b : Bool) (st : Option State) → option_map (λ x. enabled s x.spm a) st ≡ Some b → enabled_in s st a ≡ b
+off-by s a b None e = cc
+off-by s a b (Some x) e = cc
+
+pub passed-off : (o : Opening) (old : List Entry) (a : ℕ) (b : Bool) → option_map (λ x. enabled o.system x.spm a) (state_after o old) ≡ Some b → b ≡ false → PassedOne o old a old
+passed-off o old a b e off = record { off = off-by o.system a b (state_after o old) e ∙ off; unchanged = refl }
 
 pub passed-gone : (o : Opening) (old new : List Entry) (a : ℕ) → IsRefused o old a answer.Gone new → PassedOne o old a new
 passed-gone o old new a r = record { off = off-gone o.system o.limit (length old) a (state_after o old) r.due; unchanged = r.unchanged }

@@ -38,6 +38,9 @@ fn take_turn(
     ensures driving { Driving scripts.now spm.old.opening spm.new.history runners.new }
     ensures turned { Turned spm.old.opening spm.old.history actor.0 result spm.new.history }
 {
+    if !spm.enabled(actor) {
+        return Ok(false);
+    }
     plans_resume_behind_blocked();
     let at = actor.0 as usize;
     let runner = &mut runners[at];

@@ -1,4 +1,4 @@
-use Rattle.partition_sim.proofs.TurnLemmas.{call-is-due, follows-in, parts-long, asked-in, driving-still, driving-step, passed-gone, passed-not_yet, over-over, over-full, made-one}
+use Rattle.partition_sim.proofs.TurnLemmas.{call-is-due, follows-in, parts-long, asked-in, driving-still, driving-step, passed-gone, passed-not_yet, over-over, over-full, made-one, passed-off}
 use Rattle.partition_sim.proofs.scheduled.take_turn.Goals as goal
 
 pub next-call-requires : goal.next-call-requires
@@ -48,3 +48,6 @@ returns-in-Full-clause-driving c =
 
 pub returns-in-Full-clause-turned : goal.returns-in-Full-clause-turned
 returns-in-Full-clause-turned c = over-full _ _ _ _ c.requires.short c.in-Full.ensures.answer
+
+pub returns-then-not-enabled-clause-turned : goal.returns-then-not-enabled-clause-turned
+returns-then-not-enabled-clause-turned c = passed-off _ _ _ _ c.enabled.ensures c.if-not-enabled.true
