@@ -1,4 +1,5 @@
-use Rattle.machine_calls.proofs.Fitting.{none_within, still_fit}
+use Rattle.machine_rules.proofs.Fitting.{none_within}
+use Rattle.machine_calls.proofs.Fitting.{still_fit}
 use Rattle.machine_calls.proofs.machine.Objects.close_on.Goals as goal
 
 pub returns-in_err-send-clause-fits : goal.returns-in_err-send-clause-fits
