@@ -14,7 +14,7 @@ NAMES = {path.parent.name for path in CRATES.glob("*/src")}
 README = pathlib.Path("README.md")
 PAGES = [README, *sorted(pathlib.Path("docs").glob("*.md")), pathlib.Path("examples/README.md")]
 MACHINE = CRATES / "ffm_model" / "src" / "machine.rt"
-BASE = {"ffm_model", "list_laws"}
+BASE = {"ffm_model", "law_lists"}
 WORDS = """no one two three four five six seven eight nine ten eleven twelve thirteen fourteen fifteen sixteen seventeen
 eighteen nineteen twenty""".split()
 

@@ -34,7 +34,7 @@ class CheckEvidence(unittest.TestCase):
         self.assertEqual(self.wings_changed(lambda wings: wings["laws"][0].append("no_crate")), ["no_crate is in 1 wings"])
 
     def test_a_wing_that_stands_on_another(self):
-        self.assertIn("restart_policy of runs stands on spm_core of manager", self.wings_changed(lambda wings: wings["runs"][1].remove("manager")))
+        self.assertIn("scenario_runs of runs stands on spm_core of manager", self.wings_changed(lambda wings: wings["runs"][1].remove("manager")))
 
     def test_pages_that_are_too_long(self):
         with mock.patch.object(self.tool, "MOST_WORDS", {"README.md": 1_600, "all pages": 10}):

@@ -5,7 +5,7 @@ use Rattle.std.specs.List.{AllByRecursion}
 use Rattle.std.proofs.lemmas.Bool.{cases_eq, cases_lt}
 use Rattle.std.proofs.lemmas.List.{append-nil, drop_more, drop_all, get_or_append_left, get_or_default, get_or_past, get_or-replicate, get_or-set_other, get_or-set_same, length-append, length-replicate, length-set, set-set}
 use Rattle.std.proofs.Math.Seq.{get_or-append_seam}
-use Rattle.list_laws.proofs.Lists.{AllByRecursion-push}
+use Rattle.law_lists.proofs.Lists.{AllByRecursion-push}
 use Rattle.ffm_model.specs.declared.machine.ActorId.{ActorId}
 use Rattle.ffm_model.specs.declared.place.ReadError.{ReadError}
 use Rattle.ffm_model.specs.declared.place.ReadError.TheVariants as read_error

@@ -10,8 +10,8 @@ use Rattle.ffm_model.specs.Actors.{budget_of, is_stateless, service_at}
 use Rattle.ffm_model.specs.State.{SpmState, in_use, phase_of}
 use Rattle.ffm_model.specs.ClientCalls.{connect_issued, is_service_panicked, move, psa_connect, takes_version}
 use Rattle.ffm_model.specs.Names.{capacity, message_capacity}
-use Rattle.counting_law.specs.Objects.{ObjectsFit, allowed}
-use Rattle.counting_law.proofs.Rooms.{connect-room}
+use Rattle.law_counting.specs.Objects.{ObjectsFit, allowed}
+use Rattle.law_counting.proofs.Rooms.{connect-room}
 
 -- the budget isn't used up
 below-budget : (s : System) (b : SpmState) (a v n : ℕ) → budget_of s a v ≡ Some n → (in_use b a v ≡ n → ⊥) → (in_use b a v == allowed s a v) ≡ false

@@ -2,7 +2,7 @@
 use Rattle.std.proofs.Common.{ℕ, ◌≡◌, ◌<◌, ◌==◌, false, ◌&&◌, length, arith, ◌∙◌, ap, sym, refl, subst}
 use Rattle.std.specs.Prelude.{ℤ, pos, int_lt, Option, Some, None, IsSome, IsSomeAnd, IfSome}
 use Rattle.std.specs.Ordering.{int_eq}
-use Rattle.list_laws.proofs.Options.{some-and, if-some}
+use Rattle.law_lists.proofs.Options.{some-and, if-some}
 use Rattle.ffm_model.specs.declared.constants.TheConstants.{PSA_NULL_HANDLE, PSA_IPC_DISCONNECT}
 use Rattle.ffm_model.specs.declared.system.System.{System}
 use Rattle.ffm_model.specs.declared.machine.Handle.{Handle}
@@ -20,13 +20,13 @@ use Rattle.object_pools.specs.declared.slot.Slot.{Slot}
 use Rattle.object_pools.specs.Pool.{Places, item_at, with_item}
 use Rattle.handle_table.specs.declared.connections.Connection.{Connection as TheConnection}
 use Rattle.handle_table.specs.Table as table
-use Rattle.counting_law.specs.Objects.{ObjectsFit}
-use Rattle.counting_law.proofs.Rooms.{request-room}
+use Rattle.law_counting.specs.Objects.{ObjectsFit}
+use Rattle.law_counting.proofs.Rooms.{request-room}
 use Rattle.spm_tables.specs.TablesView.{TablesView, MadeFor, spm_of}
 use Rattle.spm_tables.proofs.PoolLemmas.{item-put}
 use Rattle.client_calls.proofs.ServiceLemmas.{connection-service, made-services}
 use Rattle.client_calls.proofs.SendLemmas.{room-for-message}
-use Rattle.counting_law.proofs.Owners.{held-client}
+use Rattle.law_counting.proofs.Owners.{held-client}
 
 -- the connection that the actor holds, in its slot
 pub record IsHeld (d : TablesView) (a : ℕ) (k : Handle) (s : Slot) (c : OpenConnection) : Type 0 where

@@ -6,14 +6,14 @@ use Rattle.ffm_model.specs.declared.machine.Handle.{Handle}
 use Rattle.ffm_model.specs.declared.objects.Vectors.{Vectors}
 use Rattle.ffm_model.specs.declared.objects.OpenConnection.{OpenConnection}
 use Rattle.ffm_model.specs.declared.objects.ConnPhase.{ConnPhase}
-use Rattle.list_laws.proofs.Options.{if-some}
+use Rattle.law_lists.proofs.Options.{if-some}
 use Rattle.object_pools.specs.declared.slot.Slot.{Slot}
 use Rattle.object_pools.specs.Pool.{Places, IsKept, free_slot, item_at, taken, with_item, without}
 use Rattle.handle_table.specs.Table.{IsTable}
 use Rattle.spm_tables.specs.declared.item.QueuedMessage.{QueuedMessage}
 use Rattle.spm_tables.specs.TablesView.{TablesView, MadeFor}
-use Rattle.slot_names.specs.Named.{KeepsNames}
-use Rattle.slot_names.proofs.Changes.{names-added, names-freed, names-asked, names-connected}
+use Rattle.law_calls.specs.Named.{KeepsNames}
+use Rattle.law_calls.proofs.Changes.{names-added, names-freed, names-asked, names-connected}
 use Rattle.client_calls.specs.Sending.{message_on}
 use Rattle.spm_tables.proofs.PoolLemmas.{item-taken}
 use Rattle.client_calls.proofs.HeldLemmas.{IsHeld, Phased, after-phase, item-phased}

@@ -5,8 +5,8 @@ use Rattle.std.specs.Option.{option_map, option_map_or, unwrap_or}
 use Rattle.std.proofs.lemmas.List.{length-map}
 use Rattle.std.proofs.lemmas.Option.{slice_get_within}
 use Rattle.std.proofs.lemmas.Bool.{and_parts, eqb-true}
-use Rattle.list_laws.proofs.Counts.{bit, count-found}
-use Rattle.list_laws.proofs.Tests.{find-list_all, find-passes}
+use Rattle.law_lists.proofs.Counts.{bit, count-found}
+use Rattle.law_lists.proofs.Tests.{find-list_all, find-passes}
 use Rattle.ffm_model.specs.declared.system.Budget.{Budget}
 use Rattle.ffm_model.specs.declared.system.Service.{Service}
 use Rattle.ffm_model.specs.declared.system.System.{System}
@@ -15,7 +15,7 @@ use Rattle.ffm_model.specs.Actors.{is_stateless, version_fits}
 use Rattle.ffm_model.specs.ClientCalls.{takes_version}
 use Rattle.ffm_model.specs.State.{SpmState, in_use}
 use Rattle.ffm_model.proofs.WellFormedLemmas.{is_between_actors, budgets_between_actors}
-use Rattle.counting_law.specs.Objects.{ObjectsFit, allowed}
+use Rattle.law_counting.specs.Objects.{ObjectsFit, allowed}
 use Rattle.spm_tables.specs.TablesView.{TablesView, MadeFor, Shape, service_signal}
 
 there : (s : System) (b : Budget) → is_between_actors s b ≡ true → b.service < length s.services

@@ -5,8 +5,8 @@ ghost use Rattle.ffm_model.specs.State.{phase_of};
 ghost use Rattle.ffm_model.specs.ClientCalls.{psa_close};
 ghost use Rattle.spm_tables.specs.TablesView.{MadeFor, shape_of, spm_of};
 ghost use Rattle.spm_tables.specs.Answers.{Answers};
-ghost use Rattle.slot_names.specs.Named.{KeepsNames};
-ghost use Rattle.slot_names.specs.Premises.{AreLeft, Premises, KeepsVectors, KeepsFit};
+ghost use Rattle.law_calls.specs.Named.{KeepsNames};
+ghost use Rattle.law_calls.specs.Premises.{AreLeft, Premises, KeepsVectors, KeepsFit};
 
 use crate::sending::send;
 use ffm_model::{

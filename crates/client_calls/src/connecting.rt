@@ -2,11 +2,11 @@
 ghost use Rattle.std.specs.Prelude.{◌≡◌, ◌+◌, ◌≤◌};
 ghost use Rattle.ffm_model.specs.State.{phase_of};
 ghost use Rattle.ffm_model.specs.ClientCalls.{is_service_panicked, psa_connect};
-ghost use Rattle.counting_law.specs.Objects.{ObjectsFit};
+ghost use Rattle.law_counting.specs.Objects.{ObjectsFit};
 ghost use Rattle.spm_tables.specs.TablesView.{shape_of, spm_of};
 ghost use Rattle.spm_tables.specs.Answers.{Answers};
-ghost use Rattle.slot_names.specs.Named.{KeepsNames};
-ghost use Rattle.slot_names.specs.Premises.{LeavesTakes, Premises, KeepsVectors};
+ghost use Rattle.law_calls.specs.Named.{KeepsNames};
+ghost use Rattle.law_calls.specs.Premises.{LeavesTakes, Premises, KeepsVectors};
 
 use crate::sending::send;
 use ffm_model::{

@@ -3,12 +3,12 @@ ghost use Rattle.std.specs.Prelude.{◌≡◌, ◌+◌, ◌≤◌, List};
 ghost use Rattle.ffm_model.specs.declared.machine.Handle.{Handle as HandleSeen};
 ghost use Rattle.ffm_model.specs.State.{phase_of};
 ghost use Rattle.ffm_model.specs.ClientCalls.{connection_called, psa_call, service_called};
-ghost use Rattle.counting_law.specs.Objects.{ObjectsFit};
+ghost use Rattle.law_counting.specs.Objects.{ObjectsFit};
 ghost use Rattle.memory_image.specs.Pieces.{byte_at};
 ghost use Rattle.spm_tables.specs.TablesView.{shape_of, spm_of};
 ghost use Rattle.spm_tables.specs.Answers.{Answers, state_with};
-ghost use Rattle.slot_names.specs.Named.{KeepsNames};
-ghost use Rattle.slot_names.specs.Premises.{AreLeft, PremisesWithImage, VectorsLie};
+ghost use Rattle.law_calls.specs.Named.{KeepsNames};
+ghost use Rattle.law_calls.specs.Premises.{AreLeft, PremisesWithImage, VectorsLie};
 
 use crate::connecting::is_service_panicked;
 use crate::sending::{send, send_request};

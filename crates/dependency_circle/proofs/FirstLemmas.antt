@@ -6,7 +6,7 @@ use Rattle.std.specs.Option.{option_or}
 use Rattle.std.proofs.lemmas.Bool.{cases_eq, and_parts, and_from}
 use Rattle.std.proofs.lemmas.Bool.Decides.{nat_tests}
 use Rattle.std.proofs.lemmas.List.Folds.{find-append}
-use Rattle.list_laws.proofs.Tests.{find-map, find-passes}
+use Rattle.law_lists.proofs.Tests.{find-map, find-passes}
 use Rattle.ffm_model.specs.Circles.{is_circle, is_way, are_different, lists_up_to, first_circle}
 use Rattle.dependency_circle.specs.Circles.{is_not_after, IsFirstCircle, AnswersCircle}
 use Rattle.dependency_circle.proofs.Lists.{circle_fits}

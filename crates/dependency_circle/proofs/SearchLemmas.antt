@@ -7,7 +7,7 @@ use Rattle.std.proofs.lemmas.List.{take_all, take_more, take-append-le, get_or_d
 use Rattle.std.proofs.lemmas.List.Folds.{list_any-append}
 use Rattle.std.proofs.lemmas.Map.Steps.{length-le_from_distinct_below}
 use Rattle.std.proofs.lemmas.Bool.{and_from, and_parts, cases_Bool, or_left, or_right, eqb-true}
-use Rattle.list_laws.proofs.Bools.{or_rest}
+use Rattle.law_lists.proofs.Bools.{or_rest}
 use Rattle.ffm_model.specs.Circles.{is_new, are_different}
 use Rattle.dependency_circle.specs.Ways.{marked, are_apart, is_unmarked_before, IsMarked, MarksMore, TellsWays}
 use Rattle.dependency_circle.proofs.Lists.{distinct}

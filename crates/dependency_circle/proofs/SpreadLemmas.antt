@@ -7,7 +7,7 @@ use Rattle.std.proofs.lemmas.List.{append-nil, get_or-set_same, get_or-set_other
 use Rattle.std.proofs.lemmas.List.Folds.{list_any-append}
 use Rattle.std.proofs.lemmas.List.Elements.{filter-append}
 use Rattle.std.proofs.lemmas.Bool.Decides.{nat_tests}
-use Rattle.list_laws.proofs.Lists.{range_with_len-more}
+use Rattle.law_lists.proofs.Lists.{range_with_len-more}
 use Rattle.ffm_model.specs.Circles.{is_new}
 use Rattle.dependency_circle.specs.Ways.{marked, is_unmarked_before, IsMarked, MarksMore}
 

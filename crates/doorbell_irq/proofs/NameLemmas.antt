@@ -3,13 +3,13 @@ use Rattle.std.proofs.Common.{◌≡◌, Bool, List, ap, sym, subst}
 use Rattle.std.specs.Prelude.{All}
 use Rattle.ffm_model.specs.declared.objects.SourceFlags.{SourceFlags}
 use Rattle.ffm_model.specs.declared.system.System.{System}
-use Rattle.counting_law.specs.Objects.{ObjectsFit}
-use Rattle.counting_law.proofs.CallsFit.{beside-fits}
+use Rattle.law_counting.specs.Objects.{ObjectsFit}
+use Rattle.law_counting.proofs.CallsFit.{beside-fits}
 use Rattle.machine_rules.specs.Vectors.{AreWithin}
 use Rattle.spm_tables.specs.TablesView.{TablesView, spm_of}
-use Rattle.slot_names.specs.Named.{KeepsNames}
-use Rattle.slot_names.specs.Premises.{KeepsFit, KeepsVectors}
-use Rattle.slot_names.proofs.Changes.{names-same}
+use Rattle.law_calls.specs.Named.{KeepsNames}
+use Rattle.law_calls.specs.Premises.{KeepsFit, KeepsVectors}
+use Rattle.law_calls.proofs.Changes.{names-same}
 
 pub names-beside : (s : System) (old new : TablesView) (doorbells : List Bool) (flags : List SourceFlags) → new ≡ record old { doorbells = doorbells; flags = flags } → KeepsNames s old new
 names-beside s old new doorbells flags e = names-same s old new (ap (λ (d : TablesView). d.connections) e) (ap (λ (d : TablesView). d.messages) e)

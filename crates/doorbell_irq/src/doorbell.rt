@@ -3,8 +3,8 @@ ghost use Rattle.std.specs.Prelude.{◌≡◌, pos, length, int_le, true, ◌&&�
 ghost use Rattle.ffm_model.specs.declared.machine.Outcome.TheVariants as outcome;
 ghost use Rattle.ffm_model.specs.declared.system.System.{System as SystemSeen};
 ghost use Rattle.ffm_model.specs.SignalCalls.{place_of_id, psa_clear, psa_notify};
-ghost use Rattle.slot_names.specs.Named.{KeepsNames};
-ghost use Rattle.slot_names.specs.Premises.{KeepsVectors, KeepsFit};
+ghost use Rattle.law_calls.specs.Named.{KeepsNames};
+ghost use Rattle.law_calls.specs.Premises.{KeepsVectors, KeepsFit};
 ghost use Rattle.spm_tables.specs.Answers.{Answers};
 ghost use Rattle.spm_tables.specs.TablesView.{MadeFor, shape_of, spm_of};
 

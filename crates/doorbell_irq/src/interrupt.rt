@@ -5,8 +5,8 @@ ghost use Rattle.ffm_model.specs.declared.machine.Outcome.TheVariants as outcome
 ghost use Rattle.ffm_model.specs.declared.system.System.{System as SystemSeen};
 ghost use Rattle.ffm_model.specs.ClientCalls.{move};
 ghost use Rattle.ffm_model.specs.SignalCalls.{forwarded, psa_eoi, psa_irq_disable, psa_irq_enable, psa_reset_signal, with_forwarded, fire, interrupted, raise};
-ghost use Rattle.slot_names.specs.Named.{KeepsNames};
-ghost use Rattle.slot_names.specs.Premises.{KeepsVectors, KeepsFit};
+ghost use Rattle.law_calls.specs.Named.{KeepsNames};
+ghost use Rattle.law_calls.specs.Premises.{KeepsVectors, KeepsFit};
 ghost use Rattle.spm_tables.specs.Answers.{Answers};
 ghost use Rattle.spm_tables.specs.TablesView.{MadeFor, handling, shape_of, spm_of};
 

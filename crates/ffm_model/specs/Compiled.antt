@@ -110,7 +110,7 @@ system_parts p = record {
   budgets = budgets_of p;
 }
 
--- where no rule is broken these parts fit each other (a law of crate admitted_systems), so the last case never comes
+-- where no rule is broken these parts fit each other (a law of crate law_systems), so the last case never comes
 abbrev pub compiled_by : List Refusal → Option System → Result System Stop
 compiled_by (r ∷ rs) s = Err (refused r)
 compiled_by [] (Some s) = Ok s

@@ -11,7 +11,7 @@ use Rattle.ffm_model.specs.Memory.{opening_memory}
 use Rattle.ffm_model.specs.Reading.{Contents}
 use Rattle.ffm_model.specs.Scenarios.{scenario_in}
 use Rattle.ffm_model.specs.Systems.{stopped}
-use Rattle.generated_system.specs.Texts.{system_text, scenario_text}
+use Rattle.system_texts.specs.Texts.{system_text, scenario_text}
 use Rattle.ffm_top.specs.Makes.{IsGenerated, IsMade, MadeDue, moved_by, bytes_moved, summary_line}
 use Rattle.actor_programs.specs.declared.program.Program.{Program}
 use Rattle.actor_programs.specs.Programs.{programs_of}

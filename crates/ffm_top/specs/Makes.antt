@@ -19,7 +19,7 @@ use Rattle.actor_programs.specs.declared.program.Program.{Program}
 use Rattle.actor_programs.specs.Programs.{programs_of}
 use Rattle.scenario_runs.specs.Runs.{RanBy}
 use Rattle.work_orders.specs.Work.{system_in}
-use Rattle.generated_system.specs.Texts.{system_text, scenario_text}
+use Rattle.system_texts.specs.Texts.{system_text, scenario_text}
 
 -- what the generated texts stand for, with no file at hand
 pub record IsGenerated (rounds : ℕ) (s : System) (c : Scenario) (programs : List Program) : Type 0 where

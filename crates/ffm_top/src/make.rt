@@ -3,7 +3,7 @@
 ghost use Rattle.std.specs.Prelude.{◌≡◌, ◌<◌, ◌≤◌, ◌*◌, Ok, IfOk, IfSome, length, slice_get, take};
 ghost use Rattle.ffm_model.specs.Scenarios.{scenario_in, IsScenarioOf};
 ghost use Rattle.ffm_model.specs.Systems.{stopped};
-ghost use Rattle.generated_system.specs.Texts.{system_text, scenario_text};
+ghost use Rattle.system_texts.specs.Texts.{system_text, scenario_text};
 ghost use Rattle.outside_io.specs.MemoryFiles.{held_by};
 ghost use Rattle.ffm_top.specs.Makes.{IsGenerated, IsMade, moved_by, bytes_moved, summary_line, MadeDue};
 ghost use Rattle.ffm_top.specs.Report.{text_of, status_of};
@@ -13,12 +13,12 @@ ghost use Rattle.work_orders.specs.Work.{system_in};
 use crate::report::Report;
 use actor_programs::programs_of;
 use ffm_model::{Call, Entry, Memory, Outcome, PartsError, Scenario, System, Verdict};
-use generated_system::{scenario_text, system_text};
 use outside_io::MemoryFiles;
 use scenario_runs::{Ran, run_once};
 use spm_core::Spm;
 use std::alloc::{AllocError, Global};
 use system_json::read_scenario;
+use system_texts::{scenario_text, system_text};
 use trace_print::verdict_word;
 use work_orders::{RunWork, system_in};
 

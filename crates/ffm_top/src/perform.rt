@@ -16,7 +16,7 @@ use crate::run::{ThreadedRuns, run};
 use ffm_model::{Memory, Refusal, System};
 use judge_command::judge;
 use std::alloc::Global;
-use system_listing::listing;
+use system_texts::listing;
 use text_lines::refusal_line;
 use work_orders::{RunWork, TraceWork, Work};
 

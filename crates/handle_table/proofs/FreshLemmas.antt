@@ -18,7 +18,7 @@ use Rattle.handle_table.specs.Handles.{base_of, index_limit, indices_of, handle_
 use Rattle.handle_table.proofs.NameLemmas.{free-parts}
 use Rattle.handle_table.proofs.SlotLemmas.{held-of, slot-is, named-at, All-put}
 use Rattle.std.proofs.lemmas.List.Folds.{list_any-append}
-use Rattle.list_laws.proofs.Tests.{find-all}
+use Rattle.law_lists.proofs.Tests.{find-all}
 
 any-push : {X : Type 0} (q : X → Bool) (xs : List X) (x : X) → list_any q xs ≡ false → q x ≡ false → list_any q (xs ++ x ∷ []) ≡ false
 any-push q xs x e f = list_any-append q xs (x ∷ []) ∙ (ap (λ (b : Bool). b || (q x || false)) e ∙ ap (λ (b : Bool). b || false) f)

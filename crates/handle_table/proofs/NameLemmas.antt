@@ -9,9 +9,9 @@ use Rattle.ffm_model.specs.Names.{SlotName, has_index, next_slot}
 use Rattle.object_pools.specs.declared.slot.Slot.{Slot}
 use Rattle.object_pools.specs.declared.slot.Held.{Held}
 use Rattle.object_pools.specs.Pool.{Places, is_at, free_index, free_slot, taken, empty}
-use Rattle.list_laws.proofs.Counts.{count-push}
-use Rattle.list_laws.proofs.Tests.{find-same}
-use Rattle.list_laws.proofs.Lists.{get_or-replicate_same}
+use Rattle.law_lists.proofs.Counts.{count-push}
+use Rattle.law_lists.proofs.Tests.{find-same}
+use Rattle.law_lists.proofs.Lists.{get_or-replicate_same}
 use Rattle.object_pools.proofs.Orders.{other_number, same_bit, other_bit}
 use Rattle.object_pools.proofs.Pigeons.{index-below}
 use Rattle.handle_table.specs.Handles.{slot_name, live_names, IsPast, TakesNextName}

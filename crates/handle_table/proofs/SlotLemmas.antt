@@ -4,14 +4,14 @@ use Rattle.std.specs.Prelude.{count_by, find, Option, Some, None, All, slice_get
 use Rattle.std.specs.Option.{option_map}
 use Rattle.std.proofs.lemmas.List.Elements.{All-head, All-tail, All-weaker, All-nil, All-cons}
 use Rattle.std.proofs.lemmas.Bool.{and_parts, eqb-true}
-use Rattle.list_laws.proofs.Counts.{both-le-left, count-le, count-nth, bit, count-cons}
+use Rattle.law_lists.proofs.Counts.{both-le-left, count-le, count-nth, bit, count-cons}
 use Rattle.object_pools.specs.declared.slot.Slot.{Slot}
 use Rattle.object_pools.specs.declared.slot.Held.{Held}
 use Rattle.object_pools.specs.Pool.{Places, IsKept, IsNamed, has_slot, is_at, item_at, item_put}
 use Rattle.object_pools.proofs.Stores.{has_own}
 use Rattle.handle_table.specs.declared.handles.Family.{Family}
 use Rattle.handle_table.specs.Handles.{IsNameable, indices_of}
-use Rattle.list_laws.proofs.Tests.{find-passes, find-all}
+use Rattle.law_lists.proofs.Tests.{find-passes, find-all}
 
 find-nth : {X : Type 0} (p : X → Bool) (xs : List X) (n : ℕ) (x : X) → slice_get xs n ≡ Some x → p x ≡ true → count_by p xs ≤ 1 → find p xs ≡ Some x
 find-nth p [] n x e passes one = cc

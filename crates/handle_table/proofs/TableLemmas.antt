@@ -21,7 +21,7 @@ use Rattle.handle_table.specs.Handles.{handle_at, IsNameable}
 use Rattle.handle_table.specs.Table.{connections, spm_of_connections, IsTable, with_started}
 use Rattle.handle_table.proofs.SlotLemmas.{one_slot, slot-is, held-of, nameable, All-put}
 use Rattle.handle_table.proofs.Twins.{count-map, twin-put, twin-out, twin-find, find-all_fail, find-first, find-more}
-use Rattle.list_laws.proofs.Tests.{find-all}
+use Rattle.law_lists.proofs.Tests.{find-all}
 
 -- ---- serial numbers
 

@@ -2,7 +2,7 @@
 use Rattle.std.proofs.Common.{ℕ, zero, suc, take, ◌≡◌, ◌≤◌, ◌+◌, Bool, true, false, cond, not, List, [], ◌∷◌, arith, ◌∙◌, ap, sym, refl}
 use Rattle.std.specs.Prelude.{count_by, find, Some, None, map, filter, if◌then◌else◌, All, slice_get, option_and_then}
 use Rattle.std.proofs.lemmas.List.Elements.{All-head, All-tail}
-use Rattle.list_laws.proofs.Counts.{filter-none, map-none, bit, count-cons, count-found}
+use Rattle.law_lists.proofs.Counts.{filter-none, map-none, bit, count-cons, count-found}
 
 pub count-map : {X Y : Type 0} (v : X → Y) (r : Y → Bool) (xs : List X) → count_by r (map v xs) ≡ count_by (λ x. r (v x)) xs
 count-map v r [] = refl

@@ -17,11 +17,11 @@ use Rattle.ffm_model.specs.Step.{Run, step}
 use Rattle.ffm_model.specs.Verdicts.{Legal, judged}
 use Rattle.actor_programs.specs.declared.program.Program.{Program}
 use Rattle.actor_programs.specs.declared.program.Program.TheVariants.{Plain}
-use Rattle.machine_examples.specs.Systems.{vault_system}
-use Rattle.machine_examples.specs.Writing.{zeros}
-use Rattle.range_law.specs.Ranges.{HasBytes, ProgramFits, ProgramsFit, VersionsFit}
+use Rattle.law_examples.specs.Systems.{vault_system}
+use Rattle.law_examples.specs.Writing.{zeros}
+use Rattle.law_scenarios.specs.Ranges.{HasBytes, ProgramFits, ProgramsFit, VersionsFit}
 use Rattle.scenario_runs.specs.Runs.{ProgramRun, RanBy}
-use Rattle.single_run.proofs.Ends.{end_as_runs}
+use Rattle.law_scenarios.proofs.Ends.{end_as_runs}
 use Rattle.law_examples.specs.Connecting.{client_first, other_handle, programs, scenario_with_turns, vault_first}
 use Rattle.law_examples.specs.Ranges.{Misfits, loading_program, wide_call, wide_load, wide_memory, wide_program}
 use Rattle.law_examples.specs.Wrong.{AreProgrammed, FollowWithoutNames, HasOneRunInAnyTurns, RunsWhereLegal}

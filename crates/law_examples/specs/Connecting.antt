@@ -10,10 +10,10 @@ use Rattle.ffm_model.specs.declared.script.CallName.TheVariants as name
 use Rattle.ffm_model.specs.Signed.{minus}
 use Rattle.actor_programs.specs.declared.program.Program.{Program}
 use Rattle.actor_programs.specs.declared.program.Program.TheVariants.{Plain}
-use Rattle.machine_examples.specs.ScriptLines.{call, number, register}
-use Rattle.machine_examples.specs.Systems.{client, vault}
-use Rattle.machine_examples.specs.Writing.{entry, handle, message, sid, status}
-use Rattle.single_run.specs.Interleavings.{schedule_of}
+use Rattle.law_examples.specs.ScriptLines.{call, number, register}
+use Rattle.law_examples.specs.Systems.{client, vault}
+use Rattle.law_examples.specs.Writing.{entry, handle, message, sid, status}
+use Rattle.law_scenarios.specs.Interleavings.{schedule_of}
 
 -- the partition waits for a message, and answers it with 0
 abbrev vault_program : Program

@@ -1,3 +1,17 @@
+pub mod Writing
+pub mod Systems
+pub mod Requests
+pub mod Connections
+pub mod Panics
+pub mod Asserted
+pub mod Isolation
+pub mod Handling
+pub mod Stateless
+pub mod ScriptLines
+pub mod Functions
+pub mod Mapping
+pub mod Contexts
+pub mod Restarts
 pub mod Connecting
 pub mod Ranges
 pub mod Wrong

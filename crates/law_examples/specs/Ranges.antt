@@ -14,9 +14,9 @@ use Rattle.ffm_model.specs.Memory.{ByteMap}
 use Rattle.ffm_model.specs.TraceText.{EntryFits}
 use Rattle.actor_programs.specs.declared.program.Program.{Program}
 use Rattle.actor_programs.specs.declared.program.Program.TheVariants.{Plain}
-use Rattle.machine_examples.specs.ScriptLines.{call, number}
-use Rattle.machine_examples.specs.Systems.{client, vault}
-use Rattle.machine_examples.specs.Writing.{entry, sid}
+use Rattle.law_examples.specs.ScriptLines.{call, number}
+use Rattle.law_examples.specs.Systems.{client, vault}
+use Rattle.law_examples.specs.Writing.{entry, sid}
 
 -- some entry has a number that isn't a value of its field's type
 abbrev pub Misfits : System → List Entry → Type 0

@@ -13,7 +13,7 @@ use Rattle.ffm_model.specs.Verdicts.{Legal, judged}
 use Rattle.actor_programs.specs.declared.program.Program.{Program}
 use Rattle.actor_programs.specs.declared.program.Program.TheVariants.{Plain}
 use Rattle.scenario_runs.specs.Runs.{ProgramRun, RanBy}
-use Rattle.single_run.specs.Interleavings.{actors_of}
+use Rattle.law_scenarios.specs.Interleavings.{actors_of}
 
 -- each actor's entries are a run of its program
 abbrev pub AreProgrammed : System → List Program → List Entry → Type 0

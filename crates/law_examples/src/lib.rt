@@ -1,47 +1,45 @@
-//! Worked runs for the laws of single runs, of ranges and of replays, checked by computing with the
-//! definitions: that each law speaks of something, and that without one of its conditions it is wrong.
-//! No function here does anything.
+//! Worked runs, checked by computing with the definitions. No function here does anything. Most say of the
+//! machine that written traces are runs with their verdict, and most of these that the handles are the
+//! names, and many that the machine refuses single wrong entries; others say which addresses an actor
+//! reaches, which vectors a request may have, how traces are judged, and which traces follow each other
+//! after a reset. Those of `scenarios` say that the laws of runs, ranges and replays speak of something,
+//! and that without one of its conditions each is wrong.
 #![tactic(auto)]
 
-ghost use Rattle.std.specs.Prelude.{◌≡◌, true, false};
-ghost use Rattle.ffm_model.specs.declared.machine.Verdict.TheVariants.{Quiet};
-ghost use Rattle.ffm_model.specs.Names.{names};
-ghost use Rattle.ffm_model.specs.Verdicts.{Legal, judged};
-ghost use Rattle.machine_examples.specs.Systems.{vault_system};
-ghost use Rattle.machine_examples.specs.Writing.{zeros};
-ghost use Rattle.range_law.specs.Ranges.{ProgramsFit, VersionsFit, HasBytes};
-ghost use Rattle.scenario_runs.specs.Runs.{RanBy};
-ghost use Rattle.law_examples.specs.Connecting.{client_first, other_handle, programs, scenario_with_turns, vault_first};
-ghost use Rattle.law_examples.specs.Ranges.{Misfits, loading_program, wide_call, wide_load, wide_memory, wide_program};
-ghost use Rattle.law_examples.specs.Wrong.{FollowWithoutNames, HasOneRunInAnyTurns, RunsWhereLegal};
+mod connections;
+mod contexts;
+mod functions;
+mod handling;
+mod isolation;
+mod judgements;
+mod mapping;
+mod panics;
+mod requests;
+mod restarts;
+mod scenarios;
+mod signals;
+mod stateless;
 
-/// A client and a service, each with its program, have a run in each of two orders, with threads and by
-/// a schedule that tells the order. So it is wrong that a scenario has one run whatever the turns are.
-pub fn turns_are_the_freedom()
-    ensures scheduled { RanBy vault_system zeros (scenario_with_turns client_first) programs false client_first Quiet }
-    ensures first_order { RanBy vault_system zeros (scenario_with_turns client_first) programs true client_first Quiet }
-    ensures second_order { RanBy vault_system zeros (scenario_with_turns client_first) programs true vault_first Quiet }
-    ensures one_in_any_turns { HasOneRunInAnyTurns → ⊥ }
-{}
-
-/// The machine takes any fresh handle, and the programs call with it. So it is wrong, without the names of
-/// handles, that the order of the actors fixes a run, and that a legal trace of the programs' calls is one.
-pub fn names_fix_handles()
-    ensures named { names vault_system zeros client_first ≡ true }
-    ensures unnamed { names vault_system zeros other_handle ≡ false }
-    ensures legal { judged vault_system zeros 4096 other_handle Quiet ≡ Legal }
-    ensures follow_without_names { FollowWithoutNames → ⊥ }
-    ensures run_where_legal { RunsWhereLegal → ⊥ }
-{}
-
-/// The programs of that client and that service are in range. A line that states 2^32 makes a call that
-/// has no text, and a memory with 256 in place of a byte is loaded as a number that has none.
-pub fn ranges_are_needed()
-    ensures versions { VersionsFit vault_system }
-    ensures programs { ProgramsFit vault_system programs }
-    ensures bytes { HasBytes zeros }
-    ensures wide_line { RanBy vault_system zeros (scenario_with_turns wide_call) wide_program true wide_call Quiet }
-    ensures wide_line_misfits { Misfits vault_system wide_call }
-    ensures wide_byte { RanBy vault_system wide_memory (scenario_with_turns wide_load) loading_program true wide_load Quiet }
-    ensures wide_byte_misfits { Misfits vault_system wide_load }
-{}
+pub use connections::{
+    budget_of_two_connections, closed_handle_of_a_partition, closed_handle_used_again,
+    handle_of_another_client, turned_away_by_the_service, version_policies, versions_of_services,
+};
+pub use contexts::{blocked_thread_keeps_the_turn, threads_take_turns};
+pub use functions::{answered_by_a_function, connection_answered_by_a_function};
+pub use handling::{handled_at_first_level, interrupt_while_disabled};
+pub use isolation::isolation_levels;
+pub use judgements::{first_wrong_entry, runs_without_end};
+pub use mapping::{mapped_vector_read, vectors_mapped};
+pub use panics::{
+    clients_of_a_panicked_service, disconnections_in_order,
+    programmer_error_answered_to_a_partition,
+};
+pub use requests::{
+    bytes_moved_in_order, descriptor_changed_behind_the_call, one_request_served,
+    reach_of_a_partition, request_answered_with_programmer_error, rhandle_of_a_connection,
+    vectors_of_a_request, written_past_the_end,
+};
+pub use restarts::runs_again_after_a_panic;
+pub use scenarios::{names_fix_handles, ranges_are_needed, turns_are_the_freedom};
+pub use signals::{doorbell_rung_twice, interrupt_raised_while_asserted, two_messages_one_signal};
+pub use stateless::{called_without_connection, caller_panics, panicked_without_connection};

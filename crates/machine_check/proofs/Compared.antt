@@ -4,9 +4,9 @@ use Rattle.std.specs.Prelude.{nat_le, nat_lt, slice_index, if◌then◌else◌}
 use Rattle.std.specs.List.{range_with_len}
 use Rattle.std.proofs.Math.Path.{fun_ext}
 use Rattle.std.proofs.lemmas.List.Sums.{sum_by-cons}
-use Rattle.list_laws.proofs.Bools.{or_false}
-use Rattle.byte_lanes.specs.Differences.{any_covers, count_in, differs, lesser, range_covers, IsLeast}
-use Rattle.byte_lanes.proofs.Ranges.{least_same, lesser_of}
+use Rattle.law_lists.proofs.Bools.{or_false}
+use Rattle.memory_image.specs.Differences.{any_covers, count_in, differs, lesser, range_covers, IsLeast}
+use Rattle.memory_image.proofs.LaneRanges.{least_same, lesser_of}
 use Rattle.ffm_model.specs.declared.system.System.{System}
 use Rattle.ffm_model.specs.Memory.{ByteMap, bytes_at, write_bytes}
 use Rattle.ffm_model.specs.Ranges.{ranges_of}

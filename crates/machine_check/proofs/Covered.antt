@@ -8,9 +8,9 @@ use Rattle.std.proofs.lemmas.Bool.Decides.{nat_tests}
 use Rattle.std.proofs.lemmas.List.{length-append, length-take}
 use Rattle.std.proofs.lemmas.Slice.Eq.{bytes_eq-Decides}
 use Rattle.std.proofs.lemmas.Option.{cond_some}
-use Rattle.list_laws.proofs.Bools.{if_passes}
-use Rattle.list_laws.proofs.Options.{each_made, each_mapped}
-use Rattle.byte_lanes.specs.Differences.{any_covers, range_covers}
+use Rattle.law_lists.proofs.Bools.{if_passes}
+use Rattle.law_lists.proofs.Options.{each_made, each_mapped}
+use Rattle.memory_image.specs.Differences.{any_covers, range_covers}
 use Rattle.ffm_model.specs.declared.constants.TheConstants.{PSA_ERROR_PROGRAMMER_ERROR, PSA_FRAMEWORK_VERSION, PSA_IPC_CALL}
 use Rattle.ffm_model.specs.declared.system.System.{System}
 use Rattle.ffm_model.specs.declared.system.ActorKind.{ActorKind}

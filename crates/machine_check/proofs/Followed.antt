@@ -15,7 +15,7 @@ use Rattle.ffm_model.specs.State.{State, opening}
 use Rattle.ffm_model.specs.Step.{step, step_on, after}
 use Rattle.ffm_model.specs.Verdicts.{IllegalAt, judged, judged_from}
 use Rattle.ffm_model.proofs.StepLemmas.{after-push}
-use Rattle.list_laws.proofs.Options.{some-value}
+use Rattle.law_lists.proofs.Options.{some-value}
 use Rattle.machine_calls.specs.Machine.{state_of}
 use Rattle.machine_check.specs.declared.judging.Checker.{Checker}
 use Rattle.machine_check.specs.Checking.{Accepts, ChecksTo, IsAccepted, Starts, Stops}

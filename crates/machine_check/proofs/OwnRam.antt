@@ -7,8 +7,8 @@ use Rattle.std.proofs.lemmas.Bool.{and_parts}
 use Rattle.std.proofs.lemmas.Bool.Decides.{nat_tests}
 use Rattle.std.proofs.lemmas.List.Elements.{All-cons, All-head, All-nil, All-tail}
 use Rattle.std.proofs.lemmas.Option.{slice_get_cases}
-use Rattle.byte_lanes.specs.Differences.{range_covers}
-use Rattle.list_laws.proofs.Bools.{or_rest}
+use Rattle.memory_image.specs.Differences.{range_covers}
+use Rattle.law_lists.proofs.Bools.{or_rest}
 use Rattle.ffm_model.specs.declared.system.Partition.{Partition}
 use Rattle.ffm_model.specs.declared.system.Region.{Region}
 use Rattle.ffm_model.specs.declared.system.System.{System}

@@ -4,7 +4,7 @@ use Rattle.std.specs.Prelude.{nat_le, nat_lt}
 use Rattle.std.specs.List.{cons_option}
 use Rattle.std.proofs.lemmas.Bool.Decides.{nat_tests}
 use Rattle.std.proofs.lemmas.Bool.{and_left}
-use Rattle.byte_lanes.specs.Differences.{differs, IsLeast}
+use Rattle.memory_image.specs.Differences.{differs, IsLeast}
 use Rattle.ffm_model.specs.Memory.{ByteMap, store_number}
 use Rattle.machine_check.specs.declared.auditing.Change.{Change}
 use Rattle.machine_check.specs.Auditing.{own_ram, IsChange}

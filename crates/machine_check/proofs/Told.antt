@@ -5,8 +5,8 @@ use Rattle.std.specs.List.{list_all}
 use Rattle.std.specs.Option.{option_map}
 use Rattle.std.proofs.lemmas.Bool.{and_parts, or_from, and_left}
 use Rattle.std.proofs.lemmas.Bool.Decides.{nat_tests}
-use Rattle.byte_lanes.specs.Differences.{any_covers, count_in, differs, range_covers, AreApart, IsLeast}
-use Rattle.byte_lanes.proofs.Ranges.{count_in_ranges, covered, least_same}
+use Rattle.memory_image.specs.Differences.{any_covers, count_in, differs, range_covers, AreApart, IsLeast}
+use Rattle.memory_image.proofs.LaneRanges.{count_in_ranges, covered, least_same}
 use Rattle.ffm_model.specs.declared.constants.TheConstants.{MAX_IMAGE_BYTES}
 use Rattle.ffm_model.specs.declared.scenario.Bytes.{Bytes}
 use Rattle.ffm_model.specs.declared.system.System.{System}

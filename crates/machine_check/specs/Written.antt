@@ -2,7 +2,7 @@
 -- Source: FF-M 1.0, `psa/service.h`, psa_get, psa_read, psa_write and psa_reply. These serve the audit's own proof; no public contract cites them.
 use Rattle.std.specs.Prelude.{ℕ, zero, suc, ◌+◌, ◌*◌, ◌<◌, ◌≤◌, ◌≡◌, ◌==◌, ◌⊎◌, min, int_lt, true, not, ◌&&◌, ◌||◌, if◌then◌else◌, List, [], ◌∷◌, length}
 use Rattle.std.specs.Option.{option_map_or}
-use Rattle.byte_lanes.specs.Differences.{differs, any_covers, count_in, IsLeast}
+use Rattle.memory_image.specs.Differences.{differs, any_covers, count_in, IsLeast}
 use Rattle.ffm_model.specs.declared.constants.TheConstants.{PSA_IPC_CALL}
 use Rattle.ffm_model.specs.declared.system.System.{System}
 use Rattle.ffm_model.specs.declared.machine.Call.{Call}

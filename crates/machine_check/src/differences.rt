@@ -1,6 +1,6 @@
 //! What differs between two memories in some ranges.
 ghost use Rattle.std.specs.Prelude.{◌≡◌, ◌+◌, ◌<◌, ◌≤◌, ◌^◌, ◌∷◌, [], true};
-ghost use Rattle.byte_lanes.specs.Differences.{lesser};
+ghost use Rattle.memory_image.specs.Differences.{lesser};
 ghost use Rattle.ffm_model.specs.Reach.{covers};
 ghost use Rattle.ffm_model.specs.Ranges.{ranges_of};
 ghost use Rattle.memory_image.specs.Pieces.{byte_at, is_inside, regions_of};
@@ -8,9 +8,8 @@ ghost use Rattle.machine_check.specs.Auditing.{own_ram};
 ghost use Rattle.machine_check.specs.Written.{taken_from, ranges_in, AreDifferences, AreInside};
 
 use crate::written::Ranges;
-use byte_lanes::lesser;
 use ffm_model::{ActorId, Region, System};
-use memory_image::{Image, valid_buffer};
+use memory_image::{Image, lesser, valid_buffer};
 
 /// What differs between two memories in some ranges.
 #[derive(Clone, Copy)]

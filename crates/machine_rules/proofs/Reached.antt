@@ -7,7 +7,7 @@ use Rattle.ffm_model.specs.Memory.{ByteMap, lengths_written, store_number}
 use Rattle.ffm_model.specs.Reach.{span_has, length_word_has}
 use Rattle.ffm_model.specs.ServiceCalls.{rest_of}
 use Rattle.memory_image.proofs.Outside.{store_number-outside}
-use Rattle.byte_lanes.specs.Differences.{range_covers}
+use Rattle.memory_image.specs.Differences.{range_covers}
 
 or_false : (a b : Bool) {P : Type 0} → (a || b) ≡ false → (a ≡ false → b ≡ false → P) → P
 or_false true b h more = cc

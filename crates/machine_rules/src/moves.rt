@@ -4,7 +4,7 @@ ghost use Rattle.ffm_model.specs.Memory.{copy_bytes, lengths_written};
 ghost use Rattle.ffm_model.specs.Reach.{span_has, length_word_has};
 ghost use Rattle.ffm_model.specs.ServiceCalls.{rest_of, input_of, output_of, with_input_moved, with_output_moved};
 ghost use Rattle.memory_image.specs.Pieces.{byte_at, regions_of, is_inside};
-ghost use Rattle.byte_lanes.specs.Differences.{range_covers};
+ghost use Rattle.memory_image.specs.Differences.{range_covers};
 ghost use Rattle.machine_rules.specs.Vectors.{AreMovedWithin, AreWithin};
 
 use ffm_model::{Fault, PSA_MAX_IOVEC, Span, Vectors};

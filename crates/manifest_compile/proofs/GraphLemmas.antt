@@ -9,13 +9,13 @@ use Rattle.std.specs.Str.{bytes_eq}
 use Rattle.std.proofs.lemmas.Bool.{or_cases, and_parts, and_right}
 use Rattle.std.proofs.lemmas.List.Folds.{list_any_more}
 use denote.Ref.{Bor}
-use Rattle.list_laws.proofs.Lists.{AllByRecursion-weaker, get_or-replicate_same}
+use Rattle.law_lists.proofs.Lists.{AllByRecursion-weaker, get_or-replicate_same}
 use Rattle.ffm_model.specs.Layout.{Located, located_from}
 use Rattle.ffm_model.specs.ManifestItems.{ManifestRecord}
 use Rattle.ffm_model.specs.PartsItems.{PartsRecord}
 use Rattle.ffm_model.specs.Permissions.{services_in}
 use Rattle.ffm_model.specs.Rules.{dependencies_in, has_service, depends}
-use Rattle.admitted_systems.proofs.Located.{items_below}
+use Rattle.law_systems.proofs.Located.{items_below}
 use Rattle.manifest_compile.specs.Owners.{Owns, owner_of, is_owner, is_marked}
 
 pub some_below : (o : Option ℕ) (k : ℕ) → Some k ≡ o → IfSome o (λ x. x < 256) → k < 256

@@ -4,12 +4,12 @@ use Rattle.std.specs.List.{list_any, range_with_len}
 use Rattle.std.specs.Option.{option_map_or}
 use Rattle.std.proofs.lemmas.List.Folds.{list_any-append}
 use Rattle.std.proofs.lemmas.List.Sums.{count_by_more_yes, count_by_more_no}
-use Rattle.list_laws.proofs.Tests.{list_any-false}
+use Rattle.law_lists.proofs.Tests.{list_any-false}
 use Rattle.ffm_model.specs.declared.system.Service.{Service}
 use Rattle.ffm_model.specs.ManifestItems.{ServiceRecord}
 use Rattle.ffm_model.specs.Layout.{Located}
 use Rattle.ffm_model.specs.Compiled.{free_index, index_for, service_of, services_from}
-use Rattle.admitted_systems.proofs.Stateless.{is_taken}
+use Rattle.law_systems.proofs.Stateless.{is_taken}
 
 -- ---- the least free index
 

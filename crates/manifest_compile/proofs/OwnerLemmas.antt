@@ -11,12 +11,12 @@ use Rattle.std.proofs.lemmas.Bool.{or_from, and_right}
 use Rattle.std.proofs.lemmas.Bool.Decides.{same_from_decides, Decides-like}
 use Rattle.std.proofs.lemmas.Slice.Eq.{bytes_eq-Decides}
 use Rattle.std.proofs.lemmas.List.Sums.{fold_more}
-use Rattle.list_laws.proofs.Lists.{map_nil, AllByRecursion-weaker}
+use Rattle.law_lists.proofs.Lists.{map_nil, AllByRecursion-weaker}
 use denote.Ref.{Bor}
 use Rattle.ffm_model.specs.PartsItems.{PartsRecord}
 use Rattle.ffm_model.specs.Permissions.{services_in}
 use Rattle.ffm_model.specs.Rules.{duplicate_services}
-use Rattle.admitted_systems.proofs.Lists.{Pairs, repeated_nil}
+use Rattle.law_systems.proofs.Lists.{Pairs, repeated_nil}
 use Rattle.manifest_compile.specs.Owners.{Owns, owner_of}
 
 -- the service has the name

@@ -6,7 +6,7 @@ use Rattle.ffm_model.specs.ManifestItems.{ManifestRecord, ServiceRecord}
 use Rattle.ffm_model.specs.PartsItems.{PartsRecord}
 use Rattle.ffm_model.specs.Permissions.{Permitted, services_in, permitted, permitted_to_partition, permitted_to_client}
 use Rattle.ffm_model.specs.Rules.{too_many_signals, too_many_partitions}
-use Rattle.admitted_systems.proofs.Services.{few_items}
+use Rattle.law_systems.proofs.Services.{few_items}
 use Rattle.ffm_model.proofs.RuleLemmas.{only_if_nil}
 
 -- ---- how many services there are

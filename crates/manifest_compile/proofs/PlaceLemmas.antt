@@ -1,7 +1,7 @@
 -- Where the services of manifests stand.
 use Rattle.std.proofs.Common.{ℕ, ◌≡◌, ◌<◌, ◌+◌, List, [], ◌∷◌, ◌++◌, length, get_or, length-append, append_assoc, refl, subst, sym, arith}
 use Rattle.std.specs.List.{AllByRecursion as Each}
-use Rattle.list_laws.proofs.Lists.{AllByRecursion-weaker, AllByRecursion-append}
+use Rattle.law_lists.proofs.Lists.{AllByRecursion-weaker, AllByRecursion-append}
 use Rattle.ffm_model.specs.Layout.{Located, located_in, located_from}
 use Rattle.ffm_model.specs.ManifestItems.{ManifestRecord, ServiceRecord}
 use Rattle.manifest_compile.proofs.GraphLemmas.{each_at}

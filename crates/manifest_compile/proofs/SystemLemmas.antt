@@ -1,7 +1,7 @@
 -- The parts of a system, where no rule is broken.
 use Rattle.std.proofs.Common.{ℕ, ◌≡◌, ◌≤◌, ◌+◌, List, [], ◌∷◌, Option, Some, Err, length, map, flat_map, All, ap, sym, ◌∙◌, subst}
 use Rattle.std.specs.List.{enumerate_from}
-use Rattle.list_laws.proofs.Lists.{append_nil}
+use Rattle.law_lists.proofs.Lists.{append_nil}
 use Rattle.ffm_model.specs.declared.system.Budget.{Budget}
 use Rattle.ffm_model.specs.declared.system.Partition.{Partition}
 use Rattle.ffm_model.specs.declared.system.Region.{Region}
@@ -18,9 +18,9 @@ use Rattle.ffm_model.specs.Repeats.{first}
 use Rattle.ffm_model.specs.declared.place.Refusal.{Refusal}
 use Rattle.ffm_model.specs.declared.system.System.{System}
 use Rattle.ffm_model.specs.Rules.{broken, duplicate_partitions, duplicate_services, duplicate_sids, unknown_dependencies, self_dependencies, dependency_cycle, too_many_signals}
-use Rattle.admitted_systems.proofs.Fit.{after}
-use Rattle.admitted_systems.proofs.Numbered.{each_unnumbered}
-use Rattle.admitted_systems.proofs.Signals.{few_signals}
+use Rattle.law_systems.proofs.Fit.{after}
+use Rattle.law_systems.proofs.Numbered.{each_unnumbered}
+use Rattle.law_systems.proofs.Signals.{few_signals}
 use Rattle.manifest_compile.proofs.GraphLemmas.{each_at}
 
 signals_are_few : (p : PartsRecord) → broken p ≡ [] → too_many_signals p ≡ []

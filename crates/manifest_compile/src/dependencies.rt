@@ -4,7 +4,7 @@ ghost use Rattle.std.specs.List.{list_any, AllByRecursion as Each};
 ghost use Rattle.ffm_model.specs.Circles.{first_circle};
 ghost use Rattle.ffm_model.specs.Repeats.{first};
 ghost use Rattle.ffm_model.specs.Rules.{dependencies_in, is_known, has_service, depends, duplicate_services, unknown_dependencies, self_dependencies, dependency_cycle, cycle_refusal};
-ghost use Rattle.manifest_items.specs.Seen.{seen, spot};
+ghost use Rattle.region_map.specs.Seen.{seen, spot};
 ghost use Rattle.manifest_compile.specs.Keeps.{Keeps, IsRefused};
 ghost use Rattle.manifest_compile.specs.Owners.{Owns, owner_of, is_owner, is_marked};
 
@@ -14,7 +14,7 @@ use ffm_model::{
     DEPENDENCY_CYCLE, Key, List, Name, Parts, PathStep, ReadError, Refusal, SELF_DEPENDENCY,
     UNKNOWN_DEPENDENCY,
 };
-use manifest_items::{At, Dependencies, Named, Services, located};
+use region_map::{At, Dependencies, Named, Services, located};
 use std::alloc::{AllocError, Global};
 use std::collections::BTreeMap;
 

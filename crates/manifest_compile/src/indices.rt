@@ -4,7 +4,7 @@ ghost use Rattle.std.specs.List.{list_any};
 ghost use Rattle.ffm_model.specs.Compiled.{free_index, index_for};
 ghost use Rattle.ffm_model.specs.Repeats.{first, repeated};
 ghost use Rattle.ffm_model.specs.Rules.{duplicate_indices, too_many_stateless};
-ghost use Rattle.manifest_items.specs.Seen.{seen, spot};
+ghost use Rattle.region_map.specs.Seen.{seen, spot};
 ghost use Rattle.manifest_compile.specs.Keeps.{Keeps};
 
 use crate::refusals::{at_part, refused};
@@ -12,7 +12,7 @@ use ffm_model::{
     DUPLICATE_STATELESS_INDEX, Key, MAX_STATELESS, Parts, PathStep, ReadError, ServiceItem,
     TOO_MANY_STATELESS,
 };
-use manifest_items::{At, Services, located};
+use region_map::{At, Services, located};
 use std::alloc::{AllocError, Global};
 use std::collections::BTreeSet;
 

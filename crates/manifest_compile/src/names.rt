@@ -4,7 +4,7 @@ ghost use Rattle.std.specs.List.{enumerate_from};
 ghost use Rattle.std.specs.Str.{bytes_eq};
 ghost use Rattle.ffm_model.specs.Repeats.{first, repeated};
 ghost use Rattle.ffm_model.specs.Rules.{titles, partition_title, client_title, duplicate_partitions, duplicate_services, duplicate_sids, duplicate_sources};
-ghost use Rattle.manifest_items.specs.Seen.{seen, spot};
+ghost use Rattle.region_map.specs.Seen.{seen, spot};
 ghost use Rattle.manifest_compile.specs.Keeps.{Keeps};
 ghost use Rattle.manifest_compile.specs.Names.{steps_of, title_seen};
 
@@ -13,7 +13,7 @@ use ffm_model::{
     DUPLICATE_IRQ_SOURCE, DUPLICATE_PARTITION, DUPLICATE_SERVICE, DUPLICATE_SID, Key, Manifest,
     Name, Parts, PathStep, ReadError, ServiceItem,
 };
-use manifest_items::{At, Irqs, Services, located, repeated_name};
+use region_map::{At, Irqs, Services, located, repeated_name};
 use std::alloc::{AllocError, Global};
 use std::collections::BTreeSet;
 

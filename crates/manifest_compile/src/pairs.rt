@@ -3,11 +3,11 @@ ghost use Rattle.std.specs.Prelude.{◌≡◌, ◌++◌, ◌≤◌, [], length, 
 ghost use Rattle.std.specs.List.{enumerate_from, flat_map};
 ghost use Rattle.ffm_model.specs.Permissions.{permitted, permitted_to_partition, permitted_to_client};
 ghost use Rattle.ffm_model.specs.Rules.{too_many_signals, too_many_partitions};
-ghost use Rattle.manifest_items.specs.Seen.{seen};
+ghost use Rattle.region_map.specs.Seen.{seen};
 ghost use Rattle.manifest_compile.specs.Pairs.{pair_seen, HasNames};
 
 use ffm_model::{Manifest, Name, Parts, ServiceItem};
-use manifest_items::{At, Named, Services, located};
+use region_map::{At, Named, Services, located};
 use std::alloc::{AllocError, Global};
 use std::collections::BTreeSet;
 

@@ -7,15 +7,14 @@ ghost use Rattle.ffm_model.specs.Parts.{parts_of_system};
 ghost use Rattle.ffm_model.specs.PartsItems.{PartsRecord};
 ghost use Rattle.ffm_model.specs.Permissions.{budgets_of};
 ghost use Rattle.ffm_model.specs.Rules.{broken};
-ghost use Rattle.manifest_items.specs.Seen.{seen};
+ghost use Rattle.region_map.specs.Seen.{seen};
 
 use crate::indices::{index_for, stated_indices};
 use ffm_model::{
     Budget, FRAMEWORK_1_0, IrqItem, List, Manifest, Name, Partition, Parts, Region, Regions,
     RotType, Service, ServiceItem, Source, System,
 };
-use manifest_items::{At, Services, located};
-use region_map::domain_at;
+use region_map::{At, Services, domain_at, located};
 use signal_alloc::{SignalMap, signal_of};
 use std::alloc::{AllocError, Global};
 

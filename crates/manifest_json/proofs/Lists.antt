@@ -10,7 +10,7 @@ use Rattle.ffm_model.specs.Attributes.{within, items_after}
 use Rattle.manifest_json.specs.declared.error.PartError.{PartError}
 use Rattle.manifest_json.specs.declared.error.PartError.TheVariants as part_error
 use Rattle.manifest_json.specs.Gives.{Fails}
-use Rattle.list_laws.proofs.Lists.{drop-item}
+use Rattle.law_lists.proofs.Lists.{drop-item}
 
 pub goes_on : {A : Type 0} (read : List A → Data → Result A PartRefusal) (front : List A) (vs : List Value) (i : ℕ) (v : Value) (x : A) (total : Result (List A) PartRefusal) → i < length vs → v ≡ get_or vs i v
     → within (step.Index i) (read front (view v)) ≡ Ok x → items_after read front i (items_view (drop i vs)) ≡ total

@@ -6,9 +6,9 @@ use Rattle.std.proofs.lemmas.List.FromFn.{length-range_with_len}
 use Rattle.std.proofs.lemmas.Slice.Zip.{length-zip}
 use Rattle.std.specs.List.{zip, position, position_or_len, range_with_len}
 use Rattle.std.proofs.lemmas.Bool.{and_from}
-use Rattle.byte_lanes.specs.Unequal.{are_unequal}
-use Rattle.byte_lanes.specs.Differences.{differs, range_covers, IsLeast}
-use Rattle.byte_lanes.proofs.Blocks.{told}
+use Rattle.memory_image.specs.Unequal.{are_unequal}
+use Rattle.memory_image.specs.Differences.{differs, range_covers, IsLeast}
+use Rattle.memory_image.proofs.Blocks.{told}
 use Rattle.ffm_model.specs.Memory.{ByteMap, bytes_at}
 use Rattle.ffm_model.proofs.BytesLemmas.{bytes-length}
 

@@ -7,8 +7,8 @@ use Rattle.std.proofs.lemmas.List.{get_or-map, length-map, take_all}
 use Rattle.std.proofs.lemmas.List.Folds.{list_any_more, list_any_at}
 use Rattle.std.proofs.lemmas.List.Sums.{sum_by_more, sum_by_more_le, sum_by-le-sum_by}
 use Rattle.std.proofs.lemmas.Bool.{and_left, and_parts, or_parts, or_right}
-use Rattle.byte_lanes.specs.Differences.{differs, range_covers, any_covers, count_in, IsLeast, lesser}
-use Rattle.byte_lanes.proofs.Ranges.{covered, lesser_of, least_same}
+use Rattle.memory_image.specs.Differences.{differs, range_covers, any_covers, count_in, IsLeast, lesser}
+use Rattle.memory_image.proofs.LaneRanges.{covered, lesser_of, least_same}
 use Rattle.ffm_model.specs.declared.scenario.Bytes.{Bytes}
 use Rattle.ffm_model.specs.declared.constants.TheConstants.{MAX_IMAGE_BYTES}
 use Rattle.ffm_model.specs.Memory.{ByteMap}

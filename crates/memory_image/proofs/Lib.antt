@@ -1,3 +1,6 @@
+pub mod Blocks
+pub mod LaneRanges
+mod Zips
 pub mod Stored
 pub mod Opened
 pub mod Systems

@@ -4,7 +4,7 @@ use Rattle.std.specs.Prelude.{All, Some, None, int_le, if◌then◌else◌}
 use Rattle.std.proofs.lemmas.Bool.{and_parts}
 use Rattle.std.proofs.lemmas.List.Elements.{All-cons, All-head, All-map, All-tail, All-weaker}
 use Rattle.std.proofs.lemmas.Option.{cond_some, option_and_then_some}
-use Rattle.list_laws.proofs.Tests.{find-all}
+use Rattle.law_lists.proofs.Tests.{find-all}
 use Rattle.ffm_model.specs.declared.constants.TheConstants.{PSA_IPC_CALL}
 use Rattle.ffm_model.specs.declared.machine.Handle.{Handle}
 use Rattle.ffm_model.specs.declared.objects.PendingMessage.{PendingMessage}

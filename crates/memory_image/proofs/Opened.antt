@@ -4,11 +4,11 @@ use Rattle.std.specs.Prelude.{◌==◌, map, if◌then◌else◌}
 use Rattle.std.specs.List.{list_any}
 use Rattle.std.proofs.lemmas.List.{length-replicate}
 use Rattle.std.proofs.Math.Path.{fun_ext}
-use Rattle.list_laws.proofs.Lists.{get_or-replicate_same}
+use Rattle.law_lists.proofs.Lists.{get_or-replicate_same}
 use Rattle.ffm_model.specs.declared.scenario.Bytes.{Bytes}
 use Rattle.ffm_model.specs.declared.system.Region.{Region}
 use Rattle.ffm_model.specs.Memory.{opening_memory, lies_in}
-use Rattle.byte_lanes.specs.Differences.{range_covers}
+use Rattle.memory_image.specs.Differences.{range_covers}
 use Rattle.ffm_model.specs.Ranges.{has_range, ranges_of}
 use Rattle.memory_image.specs.Pieces.{byte_at, range_of, regions_of, zero_piece, is_inside, open_within}
 use Rattle.ffm_model.proofs.TestLemmas.{holds_at}

@@ -1,7 +1,7 @@
 -- What is put into the memory changes its own bytes alone.
 use Rattle.std.proofs.Common.{ℕ, zero, suc, ◌≡◌, ◌+◌, ◌*◌, ◌/◌, false, List, [], ◌∷◌, length, arith, ◌∙◌, ap, refl}
 use Rattle.std.proofs.lemmas.Bool.Decides.{nat_tests}
-use Rattle.byte_lanes.specs.Differences.{range_covers}
+use Rattle.memory_image.specs.Differences.{range_covers}
 use Rattle.ffm_model.specs.Memory.{ByteMap, bytes_at, copy_bytes, low_bytes, store_number, words_stored, write_bytes}
 use Rattle.ffm_model.proofs.BytesLemmas.{bytes-length}
 

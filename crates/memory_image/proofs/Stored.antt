@@ -12,8 +12,8 @@ use Rattle.ffm_model.specs.Ranges.{has_range, share_no_byte}
 use Rattle.memory_image.specs.Pieces.{byte_at, range_of, IsPut, regions_of, fit_an_image, is_inside}
 use Rattle.std.proofs.lemmas.List.Folds.{list_all-map}
 use Rattle.std.proofs.lemmas.Bool.{and_parts, or_right}
-use Rattle.list_laws.proofs.Tests.{list_any-more}
-use Rattle.list_laws.proofs.Bools.{or_rest}
+use Rattle.law_lists.proofs.Tests.{list_any-more}
+use Rattle.law_lists.proofs.Bools.{or_rest}
 use Rattle.ffm_model.proofs.TestLemmas.{holds_at}
 
 or_then : (a b : Bool) (P : Type 0) → (a || b) ≡ true → (a ≡ true → P) → (b ≡ true → P) → P

@@ -2,7 +2,7 @@
 -- Source: FF-M 1.0, memory isolation of partitions; the limits of a system's memory are this profile's.
 use Rattle.std.specs.Prelude.{ℕ, ◌+◌, ◌-◌, ◌==◌, nat_le, Bool, true, ◌&&◌, ◌||◌, if◌then◌else◌, ◌≡◌, List, [], ◌∷◌, length, slice_index, slice_index_or, slice_get, ◌<◌, IsSomeAnd, map, sum_by, replicate}
 use Rattle.std.specs.List.{list_any, list_all}
-use Rattle.byte_lanes.specs.Differences.{range_covers}
+use Rattle.memory_image.specs.Differences.{range_covers}
 use Rattle.ffm_model.specs.declared.constants.TheConstants.{MAX_IMAGE_BYTES}
 use Rattle.ffm_model.specs.declared.scenario.Bytes.{Bytes}
 use Rattle.ffm_model.specs.declared.system.Region.{Region}

@@ -1,12 +1,12 @@
 //! Where two images differ, and in how many places. Bytes are compared 32 at a time.
 ghost use Rattle.std.specs.Prelude.{◌≡◌, true, not, ◌&&◌, count_by};
 ghost use Rattle.std.specs.List.{range_with_len};
-ghost use Rattle.byte_lanes.specs.Differences.{differs, range_covers, count_in, IsLeast};
+ghost use Rattle.memory_image.specs.Differences.{differs, range_covers, count_in, IsLeast};
 ghost use Rattle.ffm_model.specs.Reach.{covers};
 ghost use Rattle.memory_image.specs.Pieces.{byte_at, regions_of, is_inside};
 
 use crate::image::Image;
-use byte_lanes::{count_unequal, first_unequal, lesser};
+use crate::lanes::{count_unequal, first_unequal, lesser};
 use ffm_model::Region;
 
 impl Image {

@@ -11,7 +11,7 @@ use Rattle.ffm_model.specs.declared.objects.Span.{Span}
 use Rattle.ffm_model.specs.declared.objects.Vectors.{Vectors}
 use Rattle.ffm_model.specs.Memory.{ByteMap, write_bytes, store_number, low_bytes, copy_bytes, bytes_at, span_at, spans_at, vectors_read, vectors_of, valid_buffer, is_ram_of, lengths_written, no_span, number_of, load_number}
 use Rattle.ffm_model.proofs.BytesLemmas.{bytes-same}
-use Rattle.byte_lanes.specs.Differences.{range_covers}
+use Rattle.memory_image.specs.Differences.{range_covers}
 use Rattle.message_vectors.specs.Bytes.{ram_has, AgreeWhere, TellsNothingAt}
 
 -- where the same bytes are put

@@ -4,7 +4,7 @@ ghost use Rattle.ffm_model.specs.declared.objects.Span.{Span as SpanSeen};
 ghost use Rattle.ffm_model.specs.declared.system.System.{System as SystemSeen};
 ghost use Rattle.ffm_model.specs.Memory.{ByteMap, valid_buffer, vectors_of, copy_bytes, lengths_written, load_number, store_number, words_stored};
 ghost use Rattle.ffm_model.specs.Reach.{span_has, length_word_has};
-ghost use Rattle.byte_lanes.specs.Differences.{range_covers};
+ghost use Rattle.memory_image.specs.Differences.{range_covers};
 ghost use Rattle.message_vectors.specs.Bytes.{ram_has, AgreeWhere, TellsNothingAt};
 
 /// Each byte of a buffer that an actor may hand to a call lies in RAM of its domain.

@@ -7,7 +7,7 @@ use Rattle.std.proofs.lemmas.List.Elements.{All-nil, All-cons}
 use Rattle.std.proofs.lemmas.Bool.{eqb-true}
 use Rattle.object_pools.specs.declared.slot.Held.{Held}
 use Rattle.object_pools.specs.Pool.{is_at}
-use Rattle.list_laws.proofs.Counts.{bit, count-cons}
+use Rattle.law_lists.proofs.Counts.{bit, count-cons}
 
 -- how often an index stands in a list
 abbrev pub times : ℕ → List ℕ → ℕ

@@ -4,7 +4,7 @@ use Rattle.std.specs.Prelude.{count_by, sum_by, find, Some, None}
 use Rattle.std.specs.List.{range_with_len}
 use Rattle.std.proofs.lemmas.List.FromFn.{length-range_with_len}
 use Rattle.std.proofs.lemmas.List.Sums.{sum_by-cons}
-use Rattle.list_laws.proofs.Counts.{bit, bit-le, count-cons}
+use Rattle.law_lists.proofs.Counts.{bit, bit-le, count-cons}
 use Rattle.object_pools.proofs.Orders.{times, same_bit}
 
 -- each index stands in the list once where it isn't free, and else not at all

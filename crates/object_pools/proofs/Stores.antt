@@ -12,8 +12,8 @@ use Rattle.object_pools.specs.declared.slot.Held.{Held}
 use Rattle.object_pools.specs.declared.cells.Cell.{Cell}
 use Rattle.object_pools.specs.Pool.{is_at, has_slot, item_at, free_index}
 use Rattle.object_pools.specs.Cells.{under_slot, held_in, held_at, item_in, generations_of, places_of, Stored}
-use Rattle.list_laws.proofs.Counts.{bit, any-count, none-count}
-use Rattle.list_laws.proofs.Tests.{find-same}
+use Rattle.law_lists.proofs.Counts.{bit, any-count, none-count}
+use Rattle.law_lists.proofs.Tests.{find-same}
 use Rattle.object_pools.proofs.Orders.{times, Owns, Narrow, Filled, count-held, find-here, find-none, length-held, nth-held}
 
 -- ---- a list with one element written

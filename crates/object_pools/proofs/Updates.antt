@@ -16,12 +16,12 @@ use Rattle.object_pools.specs.declared.slot.Held.{Held}
 use Rattle.object_pools.specs.declared.cells.Cell.{Cell}
 use Rattle.object_pools.specs.Pool.{most_takes, has_slot, item_put, item_at, free_slot, taken, without, with_item, IsNamed, IsKept}
 use Rattle.object_pools.specs.Cells.{under_slot, held_in, held_at, item_in, generations_of, generation_at, places_of, Stored}
-use Rattle.list_laws.proofs.Counts.{bit, bit-le, count-cons, count-push}
+use Rattle.law_lists.proofs.Counts.{bit, bit-le, count-cons, count-push}
 use Rattle.object_pools.proofs.Orders.{times, same-else, filter-out, map-put, all-held, other_number, same_bit, other_bit}
 use Rattle.object_pools.proofs.Pigeons.{Once, Below, fits, has_room, is_full, index-below}
 use Rattle.object_pools.proofs.Stores.{Owns-held, Narrow-slot, Filled-order, live-length, count-at, free-is, held-set_same, held-set_other, live-cell, slot_of, at-slot, at-place, has_own}
-use Rattle.list_laws.proofs.Tests.{find-passes}
-use Rattle.list_laws.proofs.Lists.{get_or-replicate_same}
+use Rattle.law_lists.proofs.Tests.{find-passes}
+use Rattle.law_lists.proofs.Lists.{get_or-replicate_same}
 
 -- one index, and all others
 pub at_each : (P : ℕ → Type 0) (i : ℕ) → P i → ((j : ℕ) → j ≢ i → P j) → (j : ℕ) → P j

@@ -24,23 +24,23 @@ use Rattle.ffm_model.proofs.WellFormedLemmas.{few_connections}
 use Rattle.object_pools.specs.declared.slot.Held.{Held}
 use Rattle.object_pools.specs.Pool.{Places}
 use Rattle.handle_table.specs.Table.{connections}
-use Rattle.counting_law.specs.Objects.{ObjectsFit}
-use Rattle.counting_law.proofs.Parts.{phase_same}
-use Rattle.counting_law.proofs.Bounds.{few-connections}
-use Rattle.counting_law.proofs.Rooms.{panic-room}
+use Rattle.law_counting.specs.Objects.{ObjectsFit}
+use Rattle.law_counting.proofs.Parts.{phase_same}
+use Rattle.law_counting.proofs.Bounds.{few-connections}
+use Rattle.law_counting.proofs.Rooms.{panic-room}
 use Rattle.spm_tables.specs.TablesView.{TablesView, Shape, MadeFor, spm_of, shape_of, held_message, service_signal}
-use Rattle.slot_names.specs.Named.{KeepsGiven, KeepsNames}
-use Rattle.slot_names.specs.Changes.{PairsOff, KeepsConnectionNames, TakesOn, names_of}
-use Rattle.slot_names.proofs.Given.{All-left, given-filter, given-on, given-some}
-use Rattle.slot_names.proofs.Moves.{connection-names-some}
-use Rattle.slot_names.proofs.Panics.{follows-panicked, takes-first}
-use Rattle.slot_names.proofs.Removals.{fitting-pairs-off}
+use Rattle.law_calls.specs.Named.{KeepsGiven, KeepsNames}
+use Rattle.law_calls.specs.PoolChanges.{PairsOff, KeepsConnectionNames, TakesOn, names_of}
+use Rattle.law_calls.proofs.Given.{All-left, given-filter, given-on, given-some}
+use Rattle.law_calls.proofs.Moves.{connection-names-some}
+use Rattle.law_calls.proofs.Panics.{follows-panicked, takes-first}
+use Rattle.law_calls.proofs.Removals.{fitting-pairs-off}
 use Rattle.panic_state.specs.Losses.{left_by, in_slot, held_without_service, held_without_client, as_client, disconnect_messages}
 use Rattle.panic_state.proofs.Lists.{map-left, map-kept}
 use Rattle.panic_state.proofs.ServiceLemmas.{services-known}
 use Rattle.panic_state.proofs.Walks.{items}
-use Rattle.counting_law.proofs.Owed.{set-twice}
-use Rattle.counting_law.proofs.Rooms.{panic-fits}
+use Rattle.law_counting.proofs.Owed.{set-twice}
+use Rattle.law_counting.proofs.Rooms.{panic-fits}
 
 seen-left : (h : Held OpenConnection) (o : Option OpenConnection) → option_map (λ (x : Held OpenConnection). x.item) (in_slot h o) ≡ o
 seen-left h None = refl

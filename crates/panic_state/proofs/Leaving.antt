@@ -15,11 +15,11 @@ use Rattle.object_pools.specs.declared.slot.Held.{Held}
 use Rattle.object_pools.specs.Pool.{most_takes, Places, IsKept, free_slot, item_at, item_put, with_item, without, taken}
 use Rattle.spm_tables.specs.declared.item.QueuedMessage.{QueuedMessage}
 use Rattle.spm_tables.specs.TablesView.{TablesView, held_message}
-use Rattle.slot_names.specs.Changes.{TakesOn}
-use Rattle.slot_names.specs.Named.{KeepsGiven}
-use Rattle.slot_names.proofs.Given.{given-freed, given-on, given-put, given-same, given-taken}
-use Rattle.slot_names.proofs.Moves.{connection-names-item, connection-names-without}
-use Rattle.slot_names.proofs.Panics.{takes-more, takes-connections}
+use Rattle.law_calls.specs.PoolChanges.{TakesOn}
+use Rattle.law_calls.specs.Named.{KeepsGiven}
+use Rattle.law_calls.proofs.Given.{given-freed, given-on, given-put, given-same, given-taken}
+use Rattle.law_calls.proofs.Moves.{connection-names-item, connection-names-without}
+use Rattle.law_calls.proofs.Panics.{takes-more, takes-connections}
 use Rattle.panic_state.specs.Losses.{in_slot, left_by, held_without_client, disconnect_messages}
 use Rattle.panic_state.proofs.Lists.{left_from, left_from-same, left_from-set, left_from-out, left_from-all, length-out, drop-nth, drop-set, drop-out, drop-all}
 use Rattle.panic_state.proofs.PlaceLemmas.{with_item-at, without-at}

@@ -3,7 +3,7 @@ use Rattle.std.proofs.Common.{ℕ, zero, suc, ◌≡◌, ◌≤◌, ◌+◌, Boo
 use Rattle.std.specs.Prelude.{count_by, Option, Some, None, if◌then◌else◌, slice_get}
 use Rattle.std.specs.List.{filter_map, cons_option}
 use Rattle.std.specs.Option.{option_map}
-use Rattle.list_laws.proofs.Counts.{count-nth, filter-none, map-none, bit, count-cons}
+use Rattle.law_lists.proofs.Counts.{count-nth, filter-none, map-none, bit, count-cons}
 
 -- the item at a place is gone
 abbrev pub out_at : {X : Type 0} → List X → ℕ → List X

@@ -5,15 +5,15 @@ use Rattle.std.specs.List.{list_all}
 use Rattle.std.specs.Option.{option_map, option_map_or, unwrap_or}
 use Rattle.std.proofs.lemmas.Option.{slice_get_within}
 use Rattle.std.proofs.lemmas.Bool.{eqb-true, and_parts}
-use Rattle.list_laws.proofs.Counts.{bit}
+use Rattle.law_lists.proofs.Counts.{bit}
 use Rattle.ffm_model.specs.declared.system.System.{System}
 use Rattle.ffm_model.specs.declared.system.Service.{Service}
 use Rattle.ffm_model.specs.declared.system.Budget.{Budget}
 use Rattle.ffm_model.specs.declared.objects.OpenConnection.{OpenConnection}
 use Rattle.ffm_model.proofs.WellFormedLemmas.{is_between_actors, budgets_between_actors}
 use Rattle.ffm_model.specs.State.{SpmState, in_use}
-use Rattle.counting_law.specs.Objects.{allowed}
-use Rattle.counting_law.proofs.Pairs.{member-counts}
+use Rattle.law_counting.specs.Objects.{allowed}
+use Rattle.law_counting.proofs.Pairs.{member-counts}
 
 found-service : (services : List Service) (v owner : ℕ) → option_map_or (λ (x : Service). not (x.owner == owner)) (slice_get services v) false ≡ true → v < length services
 found-service services v owner e =

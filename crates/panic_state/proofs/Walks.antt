@@ -19,7 +19,7 @@ use Rattle.spm_tables.specs.TablesView.{TablesView}
 use Rattle.panic_state.specs.Losses.{caller_answered, with_dropped, with_left, in_slot, in_phase, held_without_service, with_lost, without_messages}
 use Rattle.panic_state.proofs.Lists.{left_from, left_from-same, left_from-set, left_from-out, left_from-all, length-out, drop-nth, drop-set, drop-out, drop-all}
 use Rattle.panic_state.proofs.PlaceLemmas.{with_item-at, without-at}
-use Rattle.slot_names.proofs.Kept.{message_list}
+use Rattle.law_calls.proofs.KeptSlots.{message_list}
 
 abbrev pub items : List (Held OpenConnection) → List OpenConnection
 items hs = map (λ h. h.item) hs

@@ -5,8 +5,8 @@ ghost use Rattle.ffm_model.specs.Panic.{disconnect_message};
 ghost use Rattle.ffm_model.specs.Names.{SlotName};
 ghost use Rattle.object_pools.specs.Pool.{most_takes};
 ghost use Rattle.spm_tables.specs.TablesView.{TablesView, spm_of, fresh_message, queued_as};
-ghost use Rattle.slot_names.specs.Changes.{TakesOn};
-ghost use Rattle.slot_names.specs.Named.{KeepsGiven};
+ghost use Rattle.law_calls.specs.PoolChanges.{TakesOn};
+ghost use Rattle.law_calls.specs.Named.{KeepsGiven};
 ghost use Rattle.panic_state.specs.Losses.{left_by, held_without_client, disconnect_messages};
 
 use crate::places::connection_at;

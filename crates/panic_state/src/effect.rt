@@ -4,10 +4,10 @@ ghost use Rattle.std.specs.Prelude.{◌≡◌, ◌<◌, ◌≤◌, ◌+◌, leng
 ghost use Rattle.ffm_model.specs.declared.objects.ActorPhase.TheVariants as phase;
 ghost use Rattle.ffm_model.specs.State.{with_phase};
 ghost use Rattle.ffm_model.specs.Panic.{panic_effect};
-ghost use Rattle.counting_law.specs.Objects.{ObjectsFit};
+ghost use Rattle.law_counting.specs.Objects.{ObjectsFit};
 ghost use Rattle.spm_tables.specs.TablesView.{spm_of, shape_of, MadeFor};
-ghost use Rattle.slot_names.specs.Named.{KeepsNames};
-ghost use Rattle.slot_names.specs.Premises.{AreLeft, KeepsVectors};
+ghost use Rattle.law_calls.specs.Named.{KeepsNames};
+ghost use Rattle.law_calls.specs.Premises.{AreLeft, KeepsVectors};
 ghost use Rattle.panic_state.specs.Losses.{as_client};
 
 use crate::client::leave_services;

@@ -4,7 +4,7 @@ use Rattle.std.specs.Prelude.{Option, if◌then◌else◌, slice_set, map, repli
 use Rattle.std.specs.Option.{option_map_or, unwrap_or}
 use Rattle.std.specs.List.{list_any}
 use Rattle.std.proofs.lemmas.List.{length-set, length-map}
-use Rattle.list_laws.proofs.Lists.{get_or-replicate_same}
+use Rattle.law_lists.proofs.Lists.{get_or-replicate_same}
 use Rattle.ffm_model.proofs.RecordLemmas.{ends_blocked-push, engine_after-push}
 use Rattle.ffm_model.specs.declared.machine.Call.{Call}
 use Rattle.ffm_model.specs.declared.machine.Call.TheVariants as call

@@ -1,7 +1,7 @@
 -- The plans of actors: what a run in turns needs of them.
 use Rattle.std.proofs.Common.{◌≡◌, Bool, true, false, List, [], ◌∷◌, ◌++◌, refl, ap, sym, ◌∙◌, append-nil, append_assoc, true≢false}
 use Rattle.std.specs.Prelude.{◌↔◌}
-use Rattle.actor_plans.specs.Resuming.{ResumesBehindBlocked}
+use Rattle.partition_sim.specs.Resuming.{ResumesBehindBlocked}
 use Rattle.ffm_model.specs.declared.machine.Call.{Call}
 use Rattle.ffm_model.specs.declared.machine.Call.TheVariants as call
 use Rattle.ffm_model.specs.declared.machine.Entry.{Entry}

@@ -1,3 +1,4 @@
+pub mod Resuming
 pub mod ActorPlans
 pub mod Clients
 pub mod Partitions

@@ -1,17 +1,19 @@
 //! Runs scripts: what each actor calls next, all of them in turns over a manager, and some of them
-//! by workers over a manager that is shared.
+//! by workers over a manager that is shared. With laws of the plans by which they call.
 #![tactic(auto)]
 
 mod calls;
 mod client;
 mod context;
 mod held_lines;
+mod laws;
 mod lines;
 mod partition;
 mod runner;
 mod scheduled;
 mod workers;
 
+pub use laws::{one_context_is_a_script, plans_resume_behind_blocked, scripts_that_map_nothing};
 pub use runner::Runner;
 pub use scheduled::drive_scheduled;
 pub use workers::{Worker, drive};

@@ -13,9 +13,9 @@ ghost use Rattle.partition_sim.specs.ActorPlans.{needs_messages, plan_at};
 ghost use Rattle.partition_sim.specs.Driving.{AreNew, Driving, HaveContexts, IsDriven, Turned, Underway};
 
 use crate::client::ClientRunner;
+use crate::laws::{one_context_is_a_script, plans_resume_behind_blocked, scripts_that_map_nothing};
 use crate::partition::PartitionRunner;
 use crate::runner::Runner;
-use actor_plans::{one_context_is_a_script, plans_resume_behind_blocked, scripts_that_map_nothing};
 use ffm_model::{ActorId, ActorKind, Answer, Instruction, List, Memory, Script, System};
 use spm_core::Spm;
 use std::alloc::Global;

@@ -8,8 +8,8 @@ ghost use Rattle.partition_sim.specs.Standing.{role_of};
 ghost use Rattle.partition_sim.specs.Workers.{IsFinished, IsFresh, IsGood, actors_of, roles_of, scripts_of};
 
 use crate::calls::is_stop;
+use crate::laws::plans_resume_behind_blocked;
 use crate::runner::Runner;
-use actor_plans::plans_resume_behind_blocked;
 use ffm_model::{Answer, Api, Call, Gate, List, Script};
 use std::sync::Wait;
 

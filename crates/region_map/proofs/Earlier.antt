@@ -7,10 +7,10 @@ use Rattle.std.specs.BTreeMap.{BTreeMap, get, Updates}
 use Rattle.std.proofs.lemmas.Bool.Decides.{nat_tests}
 use Rattle.std.proofs.lemmas.List.Folds.{list_any-append}
 use Rattle.std.proofs.lemmas.Bool.{eq-eqb}
-use Rattle.list_laws.proofs.Tests.{list_any-more}
+use Rattle.law_lists.proofs.Tests.{list_any-more}
 use Rattle.ffm_model.specs.declared.system.Region.{Region}
 use Rattle.ffm_model.specs.WellFormed.{apart}
-use Rattle.manifest_items.proofs.RepeatLemmas.{is_at_number}
+use Rattle.region_map.proofs.RepeatLemmas.{is_at_number}
 use Rattle.region_map.specs.Overlaps.{IsDisjoint, MeetsSome, MeetsNone}
 
 -- each region's size stands at its base

@@ -2,7 +2,7 @@
 use Rattle.std.proofs.Common.{ℕ, ◌≡◌, ◌≤◌, List, [], map, arith, false}
 use Rattle.std.specs.Prelude.{nat_lt, sum_by}
 use Rattle.std.proofs.lemmas.Bool.Decides.{nat_tests}
-use Rattle.list_laws.proofs.Lists.{append_nil}
+use Rattle.law_lists.proofs.Lists.{append_nil}
 use Rattle.ffm_model.specs.declared.constants.TheConstants.{MAX_REGION_BYTES, MAX_IMAGE_BYTES}
 use Rattle.ffm_model.specs.PartsItems.{PartsRecord}
 use Rattle.ffm_model.specs.Repeats.{only_if}

@@ -7,7 +7,7 @@ use Rattle.ffm_model.specs.ManifestItems.{MmioRecord}
 use Rattle.ffm_model.specs.PartsItems.{PartsRecord, RegionRecord}
 use Rattle.ffm_model.specs.Repeats.{first}
 use Rattle.ffm_model.specs.Layout.{Located, mmio_items, mmio_of, mmio_placed, unknown_items, overlaps, too_large, TooLarge as Large, partition_ram, mmio_item, non_secure_ram, all_regions}
-use Rattle.manifest_items.specs.Seen.{spot}
+use Rattle.region_map.specs.Seen.{spot}
 use Rattle.region_map.specs.declared.error.LayoutError.{LayoutError}
 use Rattle.region_map.specs.declared.error.LayoutError.TheVariants.{Unknown, Overlap, TooLarge, Memory}
 use Rattle.region_map.specs.Layouts.{LaysOut, large_error}

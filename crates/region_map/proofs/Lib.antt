@@ -1,3 +1,4 @@
+pub mod RepeatLemmas
 pub mod DirectoryLemmas
 pub mod Earlier
 pub mod Numbers

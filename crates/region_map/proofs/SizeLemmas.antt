@@ -15,7 +15,7 @@ use Rattle.ffm_model.specs.ManifestItems.{ManifestRecord, MmioRecord}
 use Rattle.ffm_model.specs.PartsItems.{PartsRecord, RegionRecord}
 use Rattle.ffm_model.specs.Repeats.{first, only_if}
 use Rattle.ffm_model.specs.Layout.{Located, domain_at, located_in, located_from, range_named, mmio_placed, mmio_of, rams_from, rams_of, non_secure_of, regions_laid_out, ram_needed, rounded, is_large, is_large_item, large_from, too_large, TooLarge, partition_ram, mmio_item, non_secure_ram, all_regions}
-use Rattle.manifest_items.specs.Seen.{spot}
+use Rattle.region_map.specs.Seen.{spot}
 use Rattle.region_map.specs.declared.place.Placed.{Placed}
 use Rattle.region_map.specs.declared.error.LayoutError.{LayoutError}
 use Rattle.region_map.specs.Layouts.{large_error}

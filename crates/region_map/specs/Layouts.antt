@@ -5,7 +5,7 @@ use Rattle.ffm_model.specs.declared.system.Region.{Region}
 use Rattle.ffm_model.specs.PartsItems.{PartsRecord}
 use Rattle.ffm_model.specs.Repeats.{first}
 use Rattle.ffm_model.specs.Layout.{regions_laid_out, unknown_items, overlaps, too_large, TooLarge as Large, partition_ram, mmio_item, non_secure_ram, all_regions}
-use Rattle.manifest_items.specs.Seen.{spot}
+use Rattle.region_map.specs.Seen.{spot}
 use Rattle.region_map.specs.declared.error.LayoutError.{LayoutError}
 use Rattle.region_map.specs.declared.error.LayoutError.TheVariants.{Unknown, Overlap, TooLarge, Memory}
 

@@ -1,3 +1,4 @@
+pub mod Seen
 pub mod Directories
 pub mod Layouts
 pub mod Overlaps

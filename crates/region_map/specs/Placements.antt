@@ -8,7 +8,7 @@ use Rattle.ffm_model.specs.Repeats.{first}
 use Rattle.ffm_model.specs.Layout.{Located, range_named}
 use Rattle.region_map.specs.declared.error.LayoutError.{LayoutError}
 use Rattle.region_map.specs.declared.error.LayoutError.TheVariants.{Unknown, Overlap, TooLarge, Memory}
-use Rattle.manifest_items.specs.Seen.{spot}
+use Rattle.region_map.specs.Seen.{spot}
 use Rattle.region_map.specs.declared.place.Placed.{Placed}
 
 -- the region, at its item's place

@@ -3,7 +3,7 @@ ghost use Rattle.std.specs.Prelude.{◌≡◌, ◌+◌, ◌≤◌, length, map, 
 ghost use Rattle.std.specs.List.{position_from};
 ghost use Rattle.ffm_model.specs.Layout.{is_large, mmio_of, too_large};
 ghost use Rattle.ffm_model.specs.Repeats.{first};
-ghost use Rattle.manifest_items.specs.Seen.{spot};
+ghost use Rattle.region_map.specs.Seen.{spot};
 ghost use Rattle.region_map.specs.Layouts.{large_error};
 ghost use Rattle.region_map.specs.Placements.{located_of};
 ghost use Rattle.region_map.specs.Sizes.{has_large_ram, is_large_region, earlier_of};

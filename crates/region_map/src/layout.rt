@@ -4,6 +4,7 @@ ghost use Rattle.ffm_model.specs.Layout.{mmio_of, regions_laid_out, too_large};
 ghost use Rattle.region_map.specs.Layouts.{LaysOut};
 ghost use Rattle.region_map.specs.Placements.{located_of};
 
+use crate::at::{MmioRegions, located};
 use crate::directory::Directory;
 use crate::error::LayoutError;
 use crate::large::first_too_large;
@@ -12,7 +13,6 @@ use crate::place::Placed;
 use crate::placed::place_all;
 use crate::ram::{add_rams, non_secure_ram};
 use ffm_model::{List, Parts, Region};
-use manifest_items::{MmioRegions, located};
 use std::alloc::{AllocError, Global};
 
 // Adds the MMIO regions.

@@ -3,7 +3,7 @@ ghost use Rattle.std.specs.Prelude.{◌≡◌, ◌∷◌, [], ◌++◌, ◌≤�
 ghost use Rattle.ffm_model.specs.Layout.{rams_of, non_secure_of, overlapping};
 ghost use Rattle.ffm_model.specs.Repeats.{first};
 ghost use Rattle.ffm_model.specs.WellFormed.{apart};
-ghost use Rattle.manifest_items.specs.Seen.{spot};
+ghost use Rattle.region_map.specs.Seen.{spot};
 ghost use Rattle.region_map.specs.Directories.{IsRange};
 ghost use Rattle.region_map.specs.Placements.{located_of};
 ghost use Rattle.region_map.specs.Overlaps.{extent, meets_ram, IsDisjoint, MeetsSome, MeetsNone};

@@ -2,14 +2,14 @@
 ghost use Rattle.std.specs.Prelude.{◌≡◌, [], map, option_map, IfOk, IfErr};
 ghost use Rattle.std.specs.List.{filter_map};
 ghost use Rattle.ffm_model.specs.Layout.{mmio_placed};
-ghost use Rattle.manifest_items.specs.Seen.{seen};
+ghost use Rattle.region_map.specs.Seen.{seen};
 ghost use Rattle.region_map.specs.Placements.{located_of, unknown_in, IsUnknown};
 
+use crate::at::At;
 use crate::directory::Directory;
 use crate::error::LayoutError;
 use crate::place::Placed;
 use ffm_model::{Class, MmioItem, Region};
-use manifest_items::At;
 use std::alloc::Global;
 
 // The region of an item. None exactly where it names no region.

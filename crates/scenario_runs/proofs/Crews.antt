@@ -20,7 +20,7 @@ use Rattle.scenario_runs.specs.declared.threads.Seat.{Seat}
 use Rattle.scenario_runs.specs.declared.threads.Start.{Start}
 use Rattle.scenario_runs.specs.Threads.{Crew, IsStart, StartsFrom, actors_in, AllFresh, AllFinished, AreNewCrews, AreUnused, CrewedBy, SameWorkers, IsDoneBy, AreDoneBy, IsSeat, crews_in, left_of, waiting}
 use Rattle.actor_programs.specs.Programs.{Parts}
-use Rattle.list_laws.proofs.Lists.{append_none}
+use Rattle.law_lists.proofs.Lists.{append_none}
 
 -- ---- new crews
 

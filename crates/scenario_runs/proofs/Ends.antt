@@ -21,13 +21,13 @@ use Rattle.ffm_model.specs.Signals.{enabled, signals_of}
 use Rattle.ffm_model.specs.Step.{step, step_on, after, returns_when_due}
 use Rattle.ffm_model.specs.Verdicts.{all_actors, some_enabled, some_blocked, verdict_at, verdict_of}
 use Rattle.memory_image.specs.Pieces.{byte_at}
-use Rattle.counting_law.proofs.Balance.{Balanced}
-use Rattle.counting_law.proofs.Parts.{same_or_not}
-use Rattle.counting_law.proofs.Resume.{times}
-use Rattle.counting_law.proofs.Steps.{step-is, step-kind}
-use Rattle.counting_law.proofs.Runs.{step-keeps, run-has, opening-balanced}
-use Rattle.counting_law.proofs.Returns.{open-phase, turned-sound}
-use Rattle.counting_law.proofs.Turns.{Turned, Turns, is_sound, kinds-turn}
+use Rattle.law_counting.proofs.Balance.{Balanced}
+use Rattle.law_counting.proofs.Parts.{same_or_not}
+use Rattle.law_counting.proofs.Resume.{times}
+use Rattle.law_counting.proofs.Steps.{step-is, step-kind}
+use Rattle.law_counting.proofs.Runs.{step-keeps, run-has, opening-balanced}
+use Rattle.law_counting.proofs.Returns.{open-phase, turned-sound}
+use Rattle.law_counting.proofs.Turns.{Turned, Turns, is_sound, kinds-turn}
 use Rattle.spm_core.specs.Manager.{Opening, is_gone, is_actor_gone, state_after}
 use Rattle.spm_core.proofs.Kept.{some-enabled}
 use Rattle.spm_lock.specs.Histories.{IsRun, Begins}

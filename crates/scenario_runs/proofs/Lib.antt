@@ -1,3 +1,5 @@
+pub mod Panics
+pub mod Resets
 pub mod Crews
 pub mod Crossing
 pub mod Ends

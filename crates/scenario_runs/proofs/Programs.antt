@@ -24,8 +24,8 @@ use Rattle.ffm_model.specs.Step.{Run}
 use Rattle.ffm_model.specs.Verdicts.{verdict_of}
 use Rattle.memory_image.specs.Pieces.{byte_at}
 use Rattle.spm_core.specs.Manager.{Managed, Opening}
-use Rattle.headline_law.proofs.Kept.{run_keeps}
-use Rattle.mapped_runs.proofs.Events.{runs-keep-windows}
+use Rattle.law_calls.proofs.KeptPromises.{run_keeps}
+use Rattle.law_programs.proofs.Events.{runs-keep-windows}
 use Rattle.actor_programs.specs.declared.program.Program.{Program}
 use Rattle.actor_programs.specs.declared.program.Program.TheVariants.{Plain, Functions}
 use Rattle.actor_programs.specs.Programs.{Parts, ArePrograms, AreScriptsOf, IsProgramOf, script_of}
@@ -36,7 +36,7 @@ use Rattle.partition_sim.specs.ActorPlans.{Role, plan_at, plan_of_role, role_at}
 use Rattle.partition_sim.specs.ActorPlans.Role.{holds}
 use Rattle.partition_sim.specs.Driving.{HaveContexts}
 use Rattle.scenario_runs.proofs.Unmapped.{UnmappedRuns, expanded-maps-nothing}
-use Rattle.sfn_runs.proofs.Answered.{loops-are-rounds}
+use Rattle.law_programs.proofs.Answered.{loops-are-rounds}
 use Rattle.scenario_runs.specs.declared.scheduled.Ran.{Ran}
 use Rattle.scenario_runs.specs.Runs.{KeepsMapped, ProgramRun, RanBy}
 

@@ -21,7 +21,7 @@ use Rattle.actor_programs.specs.declared.program.Program.TheVariants.{Plain}
 use Rattle.actor_programs.specs.Programs.{Parts, ArePrograms, AreScriptsOf}
 use Rattle.memory_image.specs.Pieces.{byte_at}
 use Rattle.spm_core.specs.Manager.{Managed, Opening}
-use Rattle.restart_policy.specs.Policy.{runs_again}
+use Rattle.scenario_runs.specs.Policy.{runs_again}
 use Rattle.scenario_runs.specs.declared.restarting.Runs.{Runs}
 use Rattle.scenario_runs.specs.Restarting.{AreRuns, finished, fits_counts}
 use Rattle.scenario_runs.specs.Runs.{RanBy}

@@ -1,3 +1,4 @@
+pub mod Policy
 pub mod Restarting
 pub mod Runs
 pub mod Threads

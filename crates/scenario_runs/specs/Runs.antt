@@ -18,8 +18,8 @@ use Rattle.ffm_model.specs.Verdicts.{verdict_of}
 use Rattle.actor_programs.specs.declared.program.Program.{Program}
 use Rattle.actor_programs.specs.declared.program.Program.TheVariants.{Plain, Functions}
 use Rattle.partition_sim.specs.ActorPlans.{plan_of_role, role_at}
-use Rattle.headline_law.specs.Promises.{KeepsHeadline}
-use Rattle.mapped_runs.specs.Windows.{KeepsWindows}
+use Rattle.law_calls.specs.Promises.{KeepsHeadline}
+use Rattle.law_programs.specs.Windows.{KeepsWindows}
 
 -- an actor's entries are a run of its program: the calls of the plan that its script gives, or rounds of its functions
 abbrev pub ProgramRun : System → ℕ → Program → List Entry → Type 0

@@ -12,16 +12,16 @@ ghost use Rattle.memory_image.specs.Pieces.{byte_at, regions_of};
 ghost use Rattle.actor_programs.specs.Programs.{ArePrograms};
 ghost use Rattle.actor_programs.specs.declared.program.Program.TheVariants.{Plain};
 ghost use Rattle.partition_sim.specs.Driving.{HaveContexts};
-ghost use Rattle.restart_policy.specs.Policy.{runs_again};
+ghost use Rattle.scenario_runs.specs.Policy.{runs_again};
 ghost use Rattle.scenario_runs.specs.Restarting.{AreRuns, finished, fits_counts};
 ghost use Rattle.scenario_runs.specs.Runs.{RanBy};
 
+use crate::opening::next_opening;
 use crate::scheduled::{Ran, run_from};
-use actor_plans::scripts_that_map_nothing;
 use actor_programs::{Program, scripts_of};
 use ffm_model::{List, MAX_ENTRIES, Memory, Scenario, Script, System, Trace};
 use memory_image::{Image, opening_image};
-use restart_policy::next_opening;
+use partition_sim::scripts_that_map_nothing;
 use std::alloc::{AllocError, Global};
 
 /// The runs of a scenario over a system, from the first to the last. Each has at most 262,144 events,

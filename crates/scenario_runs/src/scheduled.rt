@@ -12,11 +12,10 @@ ghost use Rattle.actor_programs.specs.declared.program.Program.TheVariants.{Plai
 ghost use Rattle.partition_sim.specs.Driving.{HaveContexts};
 ghost use Rattle.scenario_runs.specs.Runs.{RanBy};
 
-use actor_plans::scripts_that_map_nothing;
 use actor_programs::{Program, scripts_of};
 use ffm_model::{List, Memory, Scenario, Script, System, Verdict};
 use memory_image::{Image, opening_image};
-use partition_sim::drive_scheduled;
+use partition_sim::{drive_scheduled, scripts_that_map_nothing};
 use spm_core::Spm;
 use std::alloc::Global;
 

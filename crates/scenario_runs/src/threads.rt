@@ -19,11 +19,10 @@ ghost use Rattle.scenario_runs.specs.Threads.{AllFresh, AllFinished, AreNewCrews
 use crate::restarting::{Runs, alone};
 use crate::scheduled::Ran;
 use crate::starts::Starts;
-use actor_plans::scripts_that_map_nothing;
 use actor_programs::{Program, scripts_of};
 use ffm_model::{ActorId, Gate, List, Memory, Scenario, Script, System};
 use memory_image::opening_image;
-use partition_sim::{Runner, Worker, drive};
+use partition_sim::{Runner, Worker, drive, scripts_that_map_nothing};
 use spm_core::Spm;
 use spm_lock::{Pass, Shared};
 use std::alloc::Global;

@@ -3,7 +3,7 @@ use Rattle.std.proofs.Common.{ℕ, ◌≡◌, Bool, true, cond, List, [], ◌∷
 use Rattle.std.specs.Prelude.{find, is_none, All, if◌then◌else◌, Option, Some, None, IsSome, IfSome, option_and_then}
 use Rattle.std.specs.Option.{option_map}
 use Rattle.std.proofs.lemmas.Bool.{and_parts}
-use Rattle.list_laws.proofs.Tests.{find-passes, find-map}
+use Rattle.law_lists.proofs.Tests.{find-passes, find-map}
 use Rattle.ffm_model.specs.declared.machine.Handle.{Handle}
 use Rattle.ffm_model.specs.declared.machine.Message.{Message as ShownMessage}
 use Rattle.ffm_model.specs.declared.machine.Outcome.TheVariants.{Got}
@@ -24,9 +24,9 @@ use Rattle.machine_rules.specs.Vectors.{AreWithin}
 use Rattle.handle_table.specs.declared.handles.Family.TheVariants.{Message}
 use Rattle.handle_table.specs.Handles.{handle_at}
 use Rattle.handle_table.proofs.SlotLemmas.{slot-is}
-use Rattle.slot_names.specs.Named.{KeepsNames, NamesAre}
-use Rattle.slot_names.proofs.Changes.{names-message}
-use Rattle.slot_names.proofs.Due.{due-at-get}
+use Rattle.law_calls.specs.Named.{KeepsNames, NamesAre}
+use Rattle.law_calls.proofs.Changes.{names-message}
+use Rattle.law_calls.proofs.Due.{due-at-get}
 use Rattle.spm_tables.specs.declared.item.QueuedMessage.{QueuedMessage}
 use Rattle.spm_tables.specs.Answers.{state_with}
 use Rattle.spm_tables.specs.TablesView.{TablesView, held_message, message_at, message_of, spm_of, waits_for}

@@ -18,7 +18,7 @@ use Rattle.object_pools.specs.Pool.{has_slot, item_at}
 use Rattle.handle_table.specs.declared.handles.Family.TheVariants.{Message}
 use Rattle.handle_table.specs.Handles.{handle_at}
 use Rattle.handle_table.proofs.SlotLemmas.{held-of}
-use Rattle.list_laws.proofs.Tests.{find-passes, find-all}
+use Rattle.law_lists.proofs.Tests.{find-passes, find-all}
 use Rattle.spm_tables.specs.declared.item.QueuedMessage.{QueuedMessage}
 use Rattle.spm_tables.specs.TablesView.{TablesView, spm_of, message_of, message_at, held_message, shown_handle}
 

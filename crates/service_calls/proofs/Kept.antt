@@ -8,17 +8,17 @@ use Rattle.ffm_model.specs.declared.objects.PendingMessage.{PendingMessage}
 use Rattle.ffm_model.specs.declared.objects.Vectors.{Vectors}
 use Rattle.ffm_model.specs.declared.system.System.{System}
 use Rattle.ffm_model.specs.State.{SpmState, with_rhandle}
-use Rattle.counting_law.specs.Objects.{ObjectsFit}
-use Rattle.counting_law.proofs.CallsFit.{rhandle-fits}
+use Rattle.law_counting.specs.Objects.{ObjectsFit}
+use Rattle.law_counting.proofs.CallsFit.{rhandle-fits}
 use Rattle.machine_rules.specs.Vectors.{AreWithin}
 use Rattle.object_pools.specs.declared.slot.Slot.{Slot}
 use Rattle.object_pools.specs.declared.slot.Held.{Held}
 use Rattle.object_pools.specs.Pool.{Places, IsKept, has_slot, item_at, item_put, with_item, without}
 use Rattle.handle_table.specs.Table.{connections}
-use Rattle.slot_names.specs.Changes.{OneMessageEach}
-use Rattle.slot_names.specs.Named.{KeepsNames}
-use Rattle.slot_names.proofs.Changes.{names-same, names-connection, names-message}
-use Rattle.slot_names.proofs.Removals.{fitting-messages, names-answered, names-ended, names-replied}
+use Rattle.law_calls.specs.PoolChanges.{OneMessageEach}
+use Rattle.law_calls.specs.Named.{KeepsNames}
+use Rattle.law_calls.proofs.Changes.{names-same, names-connection, names-message}
+use Rattle.law_calls.proofs.Removals.{fitting-messages, names-answered, names-ended, names-replied}
 use Rattle.spm_tables.specs.declared.item.QueuedMessage.{QueuedMessage}
 use Rattle.spm_tables.specs.TablesView.{TablesView, held_message, spm_of}
 use Rattle.service_calls.specs.Connections.{ChangesAt, ChangesWhere, IsConnectionOf}

@@ -2,7 +2,7 @@
 use Rattle.std.proofs.Common.{ℕ, ◌≡◌, ◌<◌, ◌≤◌, ◌==◌, Bool, true, length, arith, ◌∙◌, ap, sym, refl, subst}
 use Rattle.std.specs.Prelude.{find, Option, Some, None, IfSome, IsSome, IsSomeAnd, count_by}
 use Rattle.std.proofs.lemmas.Bool.{eqb-true}
-use Rattle.list_laws.proofs.Counts.{bit, count-found}
+use Rattle.law_lists.proofs.Counts.{bit, count-found}
 use Rattle.ffm_model.specs.declared.system.System.{System}
 use Rattle.ffm_model.specs.declared.objects.OpenConnection.{OpenConnection}
 use Rattle.ffm_model.specs.declared.objects.PendingMessage.{PendingMessage}
@@ -10,14 +10,14 @@ use Rattle.ffm_model.specs.declared.objects.ActorPhase.{ActorPhase}
 use Rattle.ffm_model.specs.declared.objects.ActorPhase.TheVariants.{Blocked, Ended}
 use Rattle.ffm_model.specs.Actors.{actor_count}
 use Rattle.ffm_model.specs.State.{SpmState, connection_by_serial, phase_of}
-use Rattle.counting_law.specs.Objects.{ObjectsFit, PhaseFits, is_awaited, accepted_as, awaited_by, awaited_of}
-use Rattle.counting_law.proofs.Balance.{one, fit-balanced}
-use Rattle.counting_law.proofs.Parts.{is_there, is_itself, on_left}
-use Rattle.counting_law.proofs.Reply.{caller-blocked, partner}
+use Rattle.law_counting.specs.Objects.{ObjectsFit, PhaseFits, is_awaited, accepted_as, awaited_by, awaited_of}
+use Rattle.law_counting.proofs.Balance.{one, fit-balanced}
+use Rattle.law_counting.proofs.Parts.{is_there, is_itself, on_left}
+use Rattle.law_counting.proofs.Reply.{caller-blocked, partner}
 use Rattle.object_pools.specs.declared.slot.Slot.{Slot}
 use Rattle.object_pools.specs.Pool.{IsKept, item_at}
 use Rattle.handle_table.specs.Table.{connections}
-use Rattle.list_laws.proofs.Tests.{find-passes}
+use Rattle.law_lists.proofs.Tests.{find-passes}
 use Rattle.spm_tables.specs.declared.item.QueuedMessage.{QueuedMessage}
 use Rattle.spm_tables.specs.TablesView.{TablesView, MadeFor, Shape, spm_of}
 use Rattle.spm_tables.specs.Slots.{KeepSlots}

@@ -19,14 +19,14 @@ use Rattle.ffm_model.specs.Memory.{lengths_written}
 use Rattle.ffm_model.specs.Panic.{panic_effect}
 use Rattle.ffm_model.specs.State.{SpmState, message_held, phase_of, with_phase, without_message}
 use Rattle.ffm_model.specs.ServiceCalls.{answered, owes_panic, psa_reply, replied, reply_of, reply_to, request_answered, with_request_phase}
-use Rattle.slot_names.specs.Replies.{Answered, reply_on}
-use Rattle.counting_law.specs.Objects.{ObjectsFit, accepted_as, is_joining}
-use Rattle.counting_law.proofs.Balance.{Balanced, balanced-fit, fit-balanced, one}
-use Rattle.counting_law.proofs.Keeps.{ready-quiet, request-ready}
-use Rattle.counting_law.proofs.Owed.{owed-request, owed-same, set-twice}
-use Rattle.counting_law.proofs.Parts.{is_there}
-use Rattle.counting_law.proofs.Reply.{settled, settled-keeps}
-use Rattle.counting_law.proofs.Updates.{phased-keeps}
+use Rattle.law_calls.specs.Replies.{Answered, reply_on}
+use Rattle.law_counting.specs.Objects.{ObjectsFit, accepted_as, is_joining}
+use Rattle.law_counting.proofs.Balance.{Balanced, balanced-fit, fit-balanced, one}
+use Rattle.law_counting.proofs.Keeps.{ready-quiet, request-ready}
+use Rattle.law_counting.proofs.Owed.{owed-request, owed-same, set-twice}
+use Rattle.law_counting.proofs.Parts.{is_there}
+use Rattle.law_counting.proofs.Reply.{settled, settled-keeps}
+use Rattle.law_counting.proofs.Updates.{phased-keeps}
 use Rattle.memory_image.specs.Pieces.{byte_at}
 use Rattle.object_pools.specs.declared.slot.Slot.{Slot}
 use Rattle.handle_table.specs.declared.handles.Family.TheVariants.{Message}
@@ -36,7 +36,7 @@ use Rattle.spm_tables.specs.Answers.{state_with}
 use Rattle.spm_tables.specs.TablesView.{TablesView, fresh_message, message_of, spm_of}
 use Rattle.service_calls.specs.Answers.{once_panicked}
 use Rattle.service_calls.proofs.Held.{IsTold, held-told}
-use Rattle.counting_law.proofs.Rooms.{reply-fits}
+use Rattle.law_counting.proofs.Rooms.{reply-fits}
 use Rattle.memory_image.proofs.Messages.{reply_is}
 
 -- ---- what is left

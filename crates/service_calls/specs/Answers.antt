@@ -12,7 +12,7 @@ use Rattle.ffm_model.specs.declared.machine.Outcome.{Outcome}
 use Rattle.ffm_model.specs.declared.machine.Outcome.TheVariants.{Got}
 use Rattle.ffm_model.specs.ClientCalls.{Effect, effect}
 use Rattle.ffm_model.specs.ServiceCalls.{psa_get}
-use Rattle.slot_names.specs.Replies.{Answered}
+use Rattle.law_calls.specs.Replies.{Answered}
 use Rattle.ffm_model.specs.Panic.{panic_effect}
 use Rattle.ffm_model.specs.State.{SpmState}
 use Rattle.memory_image.specs.Pieces.{byte_at}

@@ -3,7 +3,7 @@
 ghost use Rattle.std.specs.Prelude.{◌≡◌, true, ◌<◌, List, IfOk, IfSome, IsSome, Some, option_and_then, if◌then◌else◌};
 ghost use Rattle.std.specs.Option.{option_map_or};
 ghost use Rattle.std.specs.Ordering.{int_eq};
-ghost use Rattle.counting_law.specs.Objects.{ObjectsFit};
+ghost use Rattle.law_counting.specs.Objects.{ObjectsFit};
 ghost use Rattle.ffm_model.specs.declared.machine.Handle.{Handle as HandleSeen};
 ghost use Rattle.ffm_model.specs.Actors.{actor_count};
 ghost use Rattle.ffm_model.specs.declared.machine.Call.TheVariants.{Get};
@@ -15,9 +15,9 @@ ghost use Rattle.handle_table.specs.Handles.{handle_at};
 ghost use Rattle.memory_image.specs.Pieces.{byte_at, regions_of};
 ghost use Rattle.object_pools.specs.Pool.{item_at};
 ghost use Rattle.service_calls.specs.Answers.{IsGot};
-ghost use Rattle.slot_names.specs.Named.{KeepsNames, NamesAre};
-ghost use Rattle.slot_names.specs.Premises.{PremisesWithImage, KeepsVectors};
-ghost use Rattle.slot_names.specs.Stands.{Stands};
+ghost use Rattle.law_calls.specs.Named.{KeepsNames, NamesAre};
+ghost use Rattle.law_calls.specs.Premises.{PremisesWithImage, KeepsVectors};
+ghost use Rattle.law_calls.specs.Stands.{Stands};
 ghost use Rattle.spm_tables.specs.Answers.{state_with};
 ghost use Rattle.spm_tables.specs.TablesView.{message_of, shape_of, spm_of};
 

@@ -2,10 +2,10 @@
 
 ghost use Rattle.std.specs.Prelude.{◌≡◌};
 ghost use Rattle.ffm_model.specs.ServiceCalls.{psa_wait};
-ghost use Rattle.counting_law.specs.Objects.{ObjectsFit};
+ghost use Rattle.law_counting.specs.Objects.{ObjectsFit};
 ghost use Rattle.ffm_model.specs.State.{phase_of};
-ghost use Rattle.slot_names.specs.Named.{KeepsNames};
-ghost use Rattle.slot_names.specs.Premises.{KeepsVectors};
+ghost use Rattle.law_calls.specs.Named.{KeepsNames};
+ghost use Rattle.law_calls.specs.Premises.{KeepsVectors};
 ghost use Rattle.spm_tables.specs.Answers.{Answers};
 ghost use Rattle.spm_tables.specs.TablesView.{MadeFor, shape_of, spm_of};
 

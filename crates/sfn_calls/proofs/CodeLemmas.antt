@@ -23,7 +23,7 @@ use Rattle.sfn_calls.specs.Loop.{call_line, width, place_in, moved, reply_code, 
 use Rattle.ffm_model.specs.SfnRuns.{lines_for, sfn_service_at, sfn_services_from, sfn_partition}
 use Rattle.sfn_calls.proofs.Places.{place-first}
 use Rattle.sfn_calls.proofs.Dispatch.{service_code-length}
-use Rattle.list_laws.proofs.Lists.{AllByRecursion-append}
+use Rattle.law_lists.proofs.Lists.{AllByRecursion-append}
 
 -- ---- places
 

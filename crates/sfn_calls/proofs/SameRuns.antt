@@ -23,7 +23,7 @@ use Rattle.sfn_calls.specs.Answers.{IsHandle, IsBlockedWait, IsReturn, AreAnswer
 use Rattle.sfn_calls.proofs.Rounds.{answered, due, RunAt, run-to, run-from}
 use Rattle.sfn_calls.proofs.Stages.{AtWait, wait-call, wait-line, AfterWait, after-signals, to-get, get-call, AtWork, work-call, to-work, stays-open, goes-on, goes-back, return-call}
 use Rattle.ffm_model.proofs.ScriptLemmas.{local_step-at, steps-none}
-use Rattle.list_laws.proofs.Options.{some-value}
+use Rattle.law_lists.proofs.Options.{some-value}
 
 -- ---- the machine's answers, of fewer entries
 

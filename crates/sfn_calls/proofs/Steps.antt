@@ -5,7 +5,7 @@ use Rattle.std.specs.Prelude.{Option, Some, None, slice_get, slice_set, option_a
 use Rattle.std.specs.Option.{option_map, option_map_or}
 use Rattle.std.specs.Int.{w32, cast_unsigned, cast_signed}
 use Rattle.std.proofs.lemmas.List.{length-set}
-use Rattle.list_laws.proofs.Lists.{AllByRecursion-at}
+use Rattle.law_lists.proofs.Lists.{AllByRecursion-at}
 use Rattle.ffm_model.specs.declared.machine.Handle.{Handle}
 use Rattle.ffm_model.specs.declared.machine.Call.TheVariants as call
 use Rattle.ffm_model.specs.declared.script.Operand.TheVariants.{Number}

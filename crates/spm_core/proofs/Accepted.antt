@@ -15,18 +15,18 @@ use Rattle.ffm_model.specs.ClientCalls.{returned}
 use Rattle.ffm_model.specs.Names.{name_at_return}
 use Rattle.ffm_model.specs.Signals.{signals_of}
 use Rattle.ffm_model.specs.State.{phase_of, with_phase}
-use Rattle.counting_law.specs.Objects.{ObjectsFit, PhaseFits, accepted_as, awaited_by, asked_by}
+use Rattle.law_counting.specs.Objects.{ObjectsFit, PhaseFits, accepted_as, awaited_by, asked_by}
 use Rattle.ffm_model.specs.Names.{NamesSoFar, name_of, no_slot}
 use Rattle.handle_table.specs.Handles.{IsNameable, handle_at}
 use Rattle.handle_table.specs.declared.handles.Family.TheVariants.{Connection}
-use Rattle.slot_names.specs.Named.{NamesAre, KeepsNames}
-use Rattle.slot_names.proofs.Changes.{names-connection}
-use Rattle.slot_names.proofs.Due.{named-connection}
+use Rattle.law_calls.specs.Named.{NamesAre, KeepsNames}
+use Rattle.law_calls.proofs.Changes.{names-connection}
+use Rattle.law_calls.proofs.Due.{named-connection}
 use Rattle.handle_table.specs.Table.{is_owned_from}
 use Rattle.handle_table.proofs.SlotLemmas.{nameable-at}
 use Rattle.std.proofs.lemmas.Bool.{and_from, and_parts, eqb-true}
-use Rattle.list_laws.proofs.Counts.{some-found}
-use Rattle.list_laws.proofs.Tests.{find-all, find-passes}
+use Rattle.law_lists.proofs.Counts.{some-found}
+use Rattle.law_lists.proofs.Tests.{find-all, find-passes}
 use Rattle.object_pools.specs.declared.slot.Slot.{Slot}
 use Rattle.object_pools.specs.Pool.{Places, IsKept, item_at, with_item}
 use Rattle.spm_tables.specs.Answers.{state_with}

@@ -3,7 +3,7 @@ use Rattle.std.proofs.Common.{ℕ, ◌≡◌, Bool, true, false, List, [], refl,
 use Rattle.std.specs.Prelude.{Option, Some, None, Result, Ok, Err, IsSomeAnd, IfOk, IsErr, if◌then◌else◌}
 use Rattle.std.specs.Option.{option_map}
 use Rattle.std.proofs.lemmas.Bool.{or_right}
-use Rattle.list_laws.proofs.Options.{some-and}
+use Rattle.law_lists.proofs.Options.{some-and}
 use Rattle.ffm_model.specs.declared.system.System.{System}
 use Rattle.ffm_model.specs.declared.system.ActorKind.{ActorKind}
 use Rattle.ffm_model.specs.declared.scenario.Bytes.{Bytes}
@@ -22,7 +22,7 @@ use Rattle.ffm_model.specs.Calls.{call_case, case_of, effect_or_error, has_call,
 use Rattle.ffm_model.specs.Names.{NamesSoFar, name_due}
 use Rattle.ffm_model.specs.Step.{handle_shown}
 use Rattle.memory_image.specs.Pieces.{byte_at}
-use Rattle.slot_names.specs.Named.{NamesAre}
+use Rattle.law_calls.specs.Named.{NamesAre}
 use Rattle.spm_tables.specs.Answers.{Answers, state_with}
 use Rattle.spm_tables.specs.TablesView.{TablesView, spm_of}
 use Rattle.spm_core.specs.Performed.{Attempts, Does, IsEffect, IsRefusedCall, IsReturned, ShowsName}

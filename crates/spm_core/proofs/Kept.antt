@@ -29,22 +29,22 @@ use Rattle.ffm_model.specs.Step.{step, after, may_call, returns_when_due, handle
 use Rattle.ffm_model.specs.Verdicts.{some_enabled, all_actors, verdict_at, verdict_of}
 use Rattle.ffm_model.specs.Names.{NamedState, named_step, named_after, first_named, NamesSoFar, names}
 use Rattle.ffm_model.proofs.StepLemmas.{after-push}
-use Rattle.counting_law.specs.Objects.{ObjectsFit}
-use Rattle.counting_law.specs.Takes.{TakesFew}
-use Rattle.counting_law.specs.Pending.{ReturnsDue, answers_to, ends_panicked, is_pending}
-use Rattle.counting_law.proofs.Fresh.{run-takes}
-use Rattle.counting_law.proofs.Returns.{run-returns}
-use Rattle.counting_law.proofs.Runs.{folds-keep, run-objects}
-use Rattle.counting_law.proofs.Slots.{named-step-is}
-use Rattle.isolation_law.specs.Vectors.{HaveFour}
-use Rattle.isolation_law.proofs.Changed.{effect-outside}
-use Rattle.isolation_law.proofs.Within.{run-four, run-vectors}
+use Rattle.law_counting.specs.Objects.{ObjectsFit}
+use Rattle.law_counting.specs.Takes.{TakesFew}
+use Rattle.law_counting.specs.Pending.{ReturnsDue, answers_to, ends_panicked, is_pending}
+use Rattle.law_counting.proofs.Fresh.{run-takes}
+use Rattle.law_counting.proofs.Returns.{run-returns}
+use Rattle.law_counting.proofs.Runs.{folds-keep, run-objects}
+use Rattle.law_counting.proofs.Slots.{named-step-is}
+use Rattle.law_calls.specs.Vectors.{HaveFour}
+use Rattle.law_calls.proofs.Changed.{effect-outside}
+use Rattle.law_calls.proofs.Within.{run-four, run-vectors}
 use Rattle.ffm_model.specs.Ranges.{ranges_of}
 use Rattle.memory_image.specs.Pieces.{byte_at, regions_of}
 use Rattle.machine_rules.specs.Vectors.{AreWithin}
-use Rattle.slot_names.specs.Named.{NamesAre}
-use Rattle.slot_names.specs.Premises.{LeavesTakes, PremisesWithMemory}
-use Rattle.slot_names.proofs.Due.{names-begin}
+use Rattle.law_calls.specs.Named.{NamesAre}
+use Rattle.law_calls.specs.Premises.{LeavesTakes, PremisesWithMemory}
+use Rattle.law_calls.proofs.Due.{names-begin}
 use Rattle.object_pools.specs.Pool.{IsKept}
 use Rattle.spm_tables.specs.Answers.{state_with}
 use Rattle.spm_tables.specs.TablesView.{TablesView, spm_of, shape_of, MadeFor}

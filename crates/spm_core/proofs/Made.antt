@@ -23,12 +23,12 @@ use Rattle.ffm_model.specs.Calls.{programmer_error, effect_of, has_call}
 use Rattle.ffm_model.specs.Step.{step, after, may_call, handle_allowed, handle_shown, gives_handle}
 use Rattle.ffm_model.specs.Names.{NamedState, NamesSoFar, named_step, named_after, name_due, name_of, name_at_return, shows_name, names_after, no_slot}
 use Rattle.ffm_model.proofs.StepLemmas.{named_after-push, step-fits, Fits}
-use Rattle.counting_law.specs.Fresh.{NamesFit}
-use Rattle.counting_law.proofs.Walk.{handle-same, place-found}
-use Rattle.counting_law.proofs.Fresh.{run-named, run-names}
+use Rattle.law_counting.specs.Fresh.{NamesFit}
+use Rattle.law_counting.proofs.Walk.{handle-same, place-found}
+use Rattle.law_counting.proofs.Fresh.{run-named, run-names}
 use Rattle.memory_image.specs.Pieces.{byte_at}
-use Rattle.slot_names.specs.Named.{NamesAre, KeepsNames}
-use Rattle.slot_names.proofs.Standing.{stands}
+use Rattle.law_calls.specs.Named.{NamesAre, KeepsNames}
+use Rattle.law_calls.proofs.Standing.{stands}
 use Rattle.spm_tables.specs.Answers.{state_with}
 use Rattle.spm_tables.specs.TablesView.{TablesView, spm_of}
 use Rattle.spm_core.specs.Performed.{Does, IsEffect, ShowsName, Holds, entry_of}

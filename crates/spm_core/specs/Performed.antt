@@ -20,8 +20,8 @@ use Rattle.ffm_model.specs.Step.{handle_shown}
 use Rattle.ffm_model.specs.Names.{NamedState, NamesSoFar, named_after, shows_name}
 use Rattle.ffm_model.specs.Ranges.{ranges_of}
 use Rattle.memory_image.specs.Pieces.{byte_at, regions_of}
-use Rattle.slot_names.specs.Named.{NamesAre}
-use Rattle.slot_names.specs.Stands.{Stands}
+use Rattle.law_calls.specs.Named.{NamesAre}
+use Rattle.law_calls.specs.Stands.{Stands}
 use Rattle.spm_tables.specs.Answers.{state_with}
 use Rattle.spm_tables.specs.TablesView.{TablesView, spm_of, MadeFor}
 use Rattle.spm_core.specs.Manager.{Opening}

@@ -11,7 +11,7 @@ use Rattle.ffm_model.specs.Memory.{ByteMap}
 use Rattle.ffm_model.specs.State.{phase_of}
 use Rattle.ffm_model.specs.Signals.{enabled}
 use Rattle.ffm_model.specs.Names.{NamesSoFar, named_after, name_of, no_slot}
-use Rattle.counting_law.specs.Pending.{is_pending}
+use Rattle.law_counting.specs.Pending.{is_pending}
 use Rattle.memory_image.specs.Pieces.{byte_at}
 use Rattle.spm_core.specs.Manager.{Managed, state_of}
 

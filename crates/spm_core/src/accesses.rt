@@ -4,7 +4,7 @@ ghost use Rattle.ffm_model.specs.declared.machine.Outcome.TheVariants as outcome
 ghost use Rattle.ffm_model.specs.Accesses.{load, store};
 ghost use Rattle.memory_image.specs.Pieces.{regions_of};
 ghost use Rattle.spm_core.specs.Performed.{Loads, Stores};
-ghost use Rattle.slot_names.specs.Premises.{HasRegions};
+ghost use Rattle.law_calls.specs.Premises.{HasRegions};
 
 use ffm_model::{ActorId, Fault, System};
 use machine_rules::is_access_size;

@@ -7,8 +7,8 @@ ghost use Rattle.ffm_model.specs.declared.objects.ActorPhase.{ActorPhase as Phas
 ghost use Rattle.ffm_model.specs.Groups.{group_of};
 ghost use Rattle.ffm_model.specs.State.{phase_of};
 ghost use Rattle.memory_image.specs.Pieces.{byte_at, regions_of};
-ghost use Rattle.slot_names.specs.Named.{KeepsNames};
-ghost use Rattle.slot_names.specs.Premises.{AreLeft, LeavesTakes, PremisesWithImage, PremisesWithMemory, TransferPremises, HasRegions};
+ghost use Rattle.law_calls.specs.Named.{KeepsNames};
+ghost use Rattle.law_calls.specs.Premises.{AreLeft, LeavesTakes, PremisesWithImage, PremisesWithMemory, TransferPremises, HasRegions};
 ghost use Rattle.spm_tables.specs.TablesView.{TablesView, spm_of, shape_of, MadeFor};
 ghost use Rattle.spm_core.specs.Performed.{Attempts, ShowsName};
 

@@ -4,12 +4,12 @@ ghost use Rattle.ffm_model.specs.declared.machine.Call.TheVariants as call;
 ghost use Rattle.ffm_model.specs.Memory.{ByteMap};
 ghost use Rattle.ffm_model.specs.State.{phase_of};
 ghost use Rattle.ffm_model.specs.Signals.{may_resume};
-ghost use Rattle.counting_law.specs.Objects.{accepted_as};
+ghost use Rattle.law_counting.specs.Objects.{accepted_as};
 ghost use Rattle.handle_table.specs.declared.handles.Family.TheVariants as family;
 ghost use Rattle.handle_table.specs.Handles.{IsNameable};
 ghost use Rattle.object_pools.specs.Pool.{IsKept, item_at};
-ghost use Rattle.slot_names.specs.Named.{KeepsNames};
-ghost use Rattle.slot_names.specs.Premises.{Premises};
+ghost use Rattle.law_calls.specs.Named.{KeepsNames};
+ghost use Rattle.law_calls.specs.Premises.{Premises};
 ghost use Rattle.spm_tables.specs.TablesView.{spm_of, shape_of};
 ghost use Rattle.spm_core.specs.Performed.{IsReturned, ShowsName};
 

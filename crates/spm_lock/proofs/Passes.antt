@@ -4,7 +4,7 @@ use Rattle.std.proofs.lemmas.List.{length-map, nil_from_length}
 use mathlib.Core.Option.{some, some-injective}
 use lib.ListN.{get_elem?}
 use Rattle.atomic_table.specs.Table.{Me, Final, Seen}
-use Rattle.list_laws.proofs.Lists.{slice_get-behind}
+use Rattle.law_lists.proofs.Lists.{slice_get-behind}
 use Rattle.ffm_model.specs.declared.machine.Entry.{Entry}
 use Rattle.spm_lock.specs.Histories.{actors, IsRun}
 use Rattle.spm_core.specs.Manager.{Opening, Managed}

@@ -17,8 +17,8 @@ use Rattle.object_pools.specs.declared.slot.Slot.{Slot}
 use Rattle.object_pools.specs.declared.slot.Held.{Held}
 use Rattle.object_pools.specs.Pool.{Places, IsKept, IsNamed, is_at, has_slot, item_at, item_put, with_item, without}
 use Rattle.object_pools.proofs.Stores.{has_own}
-use Rattle.list_laws.proofs.Counts.{bit, count-cons, count-found, map-none, count-le-at}
-use Rattle.list_laws.proofs.Tests.{find-passes, find-same, find-map}
+use Rattle.law_lists.proofs.Counts.{bit, count-cons, count-found, map-none, count-le-at}
+use Rattle.law_lists.proofs.Tests.{find-passes, find-same, find-map}
 use Rattle.handle_table.specs.declared.handles.Family.TheVariants.{Message}
 use Rattle.handle_table.specs.Handles.{handle_at, IsNameable}
 use Rattle.handle_table.proofs.SlotLemmas.{one_slot, slot-is, held-of, nameable, nameable-at}

@@ -8,7 +8,7 @@ use Rattle.object_pools.specs.declared.slot.Held.{Held}
 use Rattle.object_pools.specs.Pool.{Places, free_index, free_slot, has_slot, is_at, item_at, item_put, taken, with_item}
 use Rattle.object_pools.proofs.Stores.{has_own}
 use Rattle.handle_table.proofs.SlotLemmas.{held-of}
-use Rattle.list_laws.proofs.Tests.{find-passes}
+use Rattle.law_lists.proofs.Tests.{find-passes}
 
 module _ {T : Type 0} where
   find-put : (s : Slot) (x : T) (held : List (Held T)) (h : Held T) → find (has_slot s) held ≡ Some h → option_map (λ (y : Held T). y.item) (find (has_slot s) (map (item_put s x) held)) ≡ Some x

@@ -3,7 +3,7 @@ use Rattle.std.proofs.Common.{ℕ, ◌≡◌, ◌≤◌, ◌+◌, ◌==◌, Bool
 use Rattle.std.specs.Prelude.{Option, Some, None, filter, ◌⊎◌}
 use Rattle.std.proofs.lemmas.Bool.{eqb-true}
 use Rattle.std.proofs.lemmas.Option.{same_Some, none-some}
-use Rattle.list_laws.proofs.Counts.{bit, count-cons}
+use Rattle.law_lists.proofs.Counts.{bit, count-cons}
 use Rattle.object_pools.proofs.Orders.{times, same_bit}
 use Rattle.spm_tables.specs.Queues.{first_of, last_of, Threaded}
 

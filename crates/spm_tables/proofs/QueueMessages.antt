@@ -12,12 +12,12 @@ use Rattle.ffm_model.specs.declared.objects.Vectors.{Vectors}
 use Rattle.object_pools.specs.declared.slot.Slot.{Slot}
 use Rattle.object_pools.specs.declared.slot.Held.{Held}
 use Rattle.object_pools.specs.Pool.{Places, IsKept, IsNamed, is_at, has_slot, item_at, item_put, with_item, without, taken, free_slot}
-use Rattle.list_laws.proofs.Counts.{bit, both-le-right, count-cons, none-count}
+use Rattle.law_lists.proofs.Counts.{bit, both-le-right, count-cons, none-count}
 use Rattle.object_pools.proofs.Orders.{times, same_bit}
 use Rattle.object_pools.proofs.Pigeons.{index-below}
 use Rattle.handle_table.proofs.SlotLemmas.{held-of, named-at, All-put}
 use Rattle.handle_table.proofs.NameLemmas.{free-parts}
-use Rattle.list_laws.proofs.Tests.{find-passes, find-all}
+use Rattle.law_lists.proofs.Tests.{find-passes, find-all}
 use Rattle.spm_tables.specs.declared.item.QueuedMessage.{QueuedMessage}
 use Rattle.spm_tables.specs.declared.links.Link.{Link}
 use Rattle.spm_tables.specs.declared.links.Ends.{Ends}

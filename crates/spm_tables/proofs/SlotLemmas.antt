@@ -13,7 +13,7 @@ use Rattle.object_pools.specs.Pool.{Places, IsKept, has_slot, item_at, item_put,
 use Rattle.object_pools.proofs.Stores.{has_own}
 use Rattle.handle_table.specs.Table.{connections, IsTable}
 use Rattle.handle_table.proofs.SlotLemmas.{one_slot, slot-is, held-of}
-use Rattle.list_laws.proofs.Tests.{find-passes, find-all, find-map}
+use Rattle.law_lists.proofs.Tests.{find-passes, find-all, find-map}
 use Rattle.spm_tables.specs.declared.item.MessageItem.{MessageItem}
 use Rattle.spm_tables.specs.declared.item.QueuedMessage.{QueuedMessage}
 use Rattle.spm_tables.specs.TablesView.{queued, queued_as, serial_at}

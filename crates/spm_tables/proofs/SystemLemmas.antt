@@ -7,8 +7,8 @@ use Rattle.std.proofs.lemmas.List.FromFn.{length-range_with_len}
 use Rattle.ffm_model.specs.declared.system.System.{System}
 use Rattle.ffm_model.specs.Names.{calls_stateless}
 use Rattle.ffm_model.proofs.ActorLemmas.{few_partitions, few_clients}
-use Rattle.list_laws.proofs.Counts.{bit, count-push}
-use Rattle.list_laws.proofs.Lists.{range_with_len-more}
+use Rattle.law_lists.proofs.Counts.{bit, count-push}
+use Rattle.law_lists.proofs.Lists.{range_with_len-more}
 
 -- ---- partitions and clients that may use a stateless service
 

@@ -24,7 +24,7 @@ use Rattle.outside_io.proofs.FilesSteps.{asks_as, asks_given, asks_stops, asks_t
 use Rattle.manifest_json.specs.Trees.{FailsTree}
 use Rattle.system_json.specs.Refused.{IsReadRefusal}
 use Rattle.manifest_json.proofs.ShortLists.{items_short, items_long}
-use Rattle.list_laws.proofs.Lists.{drop-item}
+use Rattle.law_lists.proofs.Lists.{drop-item}
 
 -- ---- a manifest in a file of its own
 

@@ -1,7 +1,7 @@
 //! The files that are made by numbers: the last service, and a client's descriptors.
 
-use generated_system::{scenario_text, system_text};
 use std::test::Fail;
+use system_texts::{scenario_text, system_text};
 
 #[test]
 fn texts_by_numbers(rt: HostRuntime) -> Result<(), Fail> {

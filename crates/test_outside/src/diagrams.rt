@@ -9,8 +9,8 @@ use memory_image::Image;
 use std::alloc::{AllocError, Global};
 use std::process::Abort;
 use std::test::Fail;
-use trace_diagram::{Format, Part, diagram};
 use trace_print::read_trace;
+use view_diagram::{Format, Part, diagram};
 
 fn name(alloc: Global, text: &str) -> Result<Name, AllocError> {
     Ok(Name::of(String::from_str(alloc, text)?))

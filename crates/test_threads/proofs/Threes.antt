@@ -1,6 +1,6 @@
 -- Three passes are all passes of a system with three actors.
 use Rattle.std.proofs.Common.{◌≡◌, ℕ, zero, suc, ◌+◌, List, [], ◌∷◌, ◌++◌, length, slice_get, Some, sym, refl, subst, arith, length-append}
-use Rattle.list_laws.proofs.Lists.{slice_get-behind}
+use Rattle.law_lists.proofs.Lists.{slice_get-behind}
 use Rattle.spm_lock.specs.Histories.{actors}
 use Rattle.spm_lock.specs.Passes.{SharedView, PassView, IsOwn, FirstPasses, ArePasses}
 use Rattle.test_threads.specs.Threes.{AreThree}

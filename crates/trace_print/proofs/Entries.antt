@@ -20,7 +20,7 @@ use Rattle.trace_print.proofs.Options.{chosen}
 use Rattle.trace_print.proofs.Numbers.{unsigned_again}
 use Rattle.trace_print.proofs.Again.{phrase_words, call_again, outcome_again}
 use Rattle.trace_print.proofs.Plain.{IsText, text_from_plain, text_spaced, IsPlain, AllPlain, plain_test, plain_from_test, plain_decimal, plain_phrase, split_words, spaced_phrase_is}
-use Rattle.list_laws.proofs.Lists.{AllByRecursion-append}
+use Rattle.law_lists.proofs.Lists.{AllByRecursion-append}
 
 call_names : (c : Call) → list_all plain_test (call_phrase c).names ≡ true
 call_names (call.Stop false) = refl

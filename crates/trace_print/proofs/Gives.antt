@@ -21,7 +21,7 @@ use Rattle.ffm_model.specs.State.{State, fresh, handle_eq}
 use Rattle.ffm_model.specs.Step.{step, step_on, handle_allowed, handle_shown, outcome_eq}
 use Rattle.trace_print.proofs.Options.{Gives, done, nothing, either, when}
 use Rattle.ffm_model.proofs.RunLemmas.{none-stays, some-is}
-use Rattle.list_laws.proofs.Bools.{or_rest}
+use Rattle.law_lists.proofs.Bools.{or_rest}
 
 abbrev pub is_message : Outcome → Bool
 is_message (outcome.Got m) = true

@@ -14,7 +14,7 @@ use Rattle.ffm_model.specs.TraceText.{Word, Phrase, Field, hexadecimal, unsigned
 use Rattle.trace_print.specs.View.{parts}
 use Rattle.trace_print.proofs.Options.{chosen}
 use Rattle.trace_print.proofs.Again.{phrase_words}
-use Rattle.list_laws.proofs.Lists.{AllByRecursion-append}
+use Rattle.law_lists.proofs.Lists.{AllByRecursion-append}
 
 -- each byte is above a number
 abbrev pub IsAbove : ℕ → List ℕ → Type 0

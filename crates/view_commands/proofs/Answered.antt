@@ -15,8 +15,8 @@ use Rattle.view_commands.specs.declared.files.TraceFiles.{TraceFiles}
 use Rattle.view_commands.specs.declared.top.Answer.{Answer}
 use Rattle.view_commands.specs.Answers.{Answered, AnswersRequest, AnswersWords, Due, EndsWith, IsAnswer, IsShownStatus, IsStatus, Shows, Unfinished, Unread}
 use Rattle.view_commands.specs.Files.{FilesRead, files_of}
-use Rattle.view_words.specs.declared.words.Request.{Request}
-use Rattle.view_words.specs.Requests.{AsksFor, IsTold, told_status}
+use Rattle.view_commands.specs.declared.words.Request.{Request}
+use Rattle.view_commands.specs.Requests.{AsksFor, IsTold, told_status}
 
 -- ---- the answer to a request
 

@@ -11,12 +11,12 @@ use Rattle.work_orders.specs.declared.unanswered.Unanswered.{Unanswered}
 use Rattle.work_orders.specs.declared.unanswered.Unanswered.TheVariants as unanswered
 use Rattle.view_commands.specs.Files.{AreTraceFiles, RefusalDue, files_of, given}
 use Rattle.view_commands.specs.Views.{IsView, IsViewText, status_of}
-use Rattle.view_words.specs.Requests.{AsksFor, IsTold}
+use Rattle.view_commands.specs.Requests.{AsksFor, IsTold}
 use Rattle.view_commands.specs.declared.files.TraceFiles.{TraceFiles}
 use Rattle.view_commands.specs.declared.top.Answer.{Answer}
 use Rattle.view_commands.specs.declared.view.View.{View}
-use Rattle.view_words.specs.declared.words.Aspect.{Aspect}
-use Rattle.view_words.specs.declared.words.Request.{Request}
+use Rattle.view_commands.specs.declared.words.Aspect.{Aspect}
+use Rattle.view_commands.specs.declared.words.Request.{Request}
 
 -- 0: shown. 1: a file is refused. 2: the words are no command, or name a place that the trace doesn't
 -- have. 6: the trace is illegal. 7: a file can't be read. 8: the text can't be written. 9: no memory

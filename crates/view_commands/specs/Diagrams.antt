@@ -2,11 +2,11 @@
 -- Source: this simulator's.
 use Rattle.std.specs.Prelude.{ℕ, nat_lt, Bool, false, if◌then◌else◌, Option, None}
 use Rattle.std.specs.Option.{option_map_or, unwrap_or}
-use Rattle.trace_diagram.specs.declared.formats.Format as drawn
-use Rattle.trace_diagram.specs.declared.formats.Format.TheVariants as drawn_as
-use Rattle.trace_diagram.specs.declared.gathering.Part.{Part}
-use Rattle.view_words.specs.declared.words.Format.{Format}
-use Rattle.view_words.specs.declared.words.Format.TheVariants as format
+use Rattle.view_diagram.specs.declared.formats.Format as drawn
+use Rattle.view_diagram.specs.declared.formats.Format.TheVariants as drawn_as
+use Rattle.view_diagram.specs.declared.gathering.Part.{Part}
+use Rattle.view_commands.specs.declared.words.Format.{Format}
+use Rattle.view_commands.specs.declared.words.Format.TheVariants as format
 
 -- a place is asked for, and a trace of so many entries doesn't have it
 abbrev pub is_beyond : ℕ → Option ℕ → Bool

@@ -14,7 +14,7 @@ use Rattle.work_orders.specs.declared.work.TraceWork.{TraceWork}
 use Rattle.view_commands.specs.declared.files.NoTrace.{NoTrace}
 use Rattle.view_commands.specs.declared.files.NoTrace.TheVariants as no_trace
 use Rattle.view_commands.specs.declared.files.TraceFiles.{TraceFiles}
-use Rattle.view_words.specs.declared.words.FileNames.{FileNames}
+use Rattle.view_commands.specs.declared.words.FileNames.{FileNames}
 
 -- a scenario of the system, and the trace whose text the bytes are
 pub record AreTraceFiles (f : TraceFiles) : Type 0 where

@@ -3,21 +3,21 @@
 use Rattle.std.specs.Prelude.{◌≡◌, ◌++◌, ℕ, List, codes, length, None, Some}
 use Rattle.std.specs.Fmt.{decimal}
 use Rattle.ffm_model.specs.Memory.{ByteMap, opening_memory}
-use Rattle.trace_counts.specs.Counted.{IsCounted}
-use Rattle.trace_diagram.specs.Diagrams.{IsDiagram}
-use Rattle.trace_diagram.specs.declared.formats.Format.{Format}
-use Rattle.trace_diagram.specs.declared.formats.SequenceDiagram.{SequenceDiagram}
-use Rattle.trace_diagram.specs.declared.gathering.Part.{Part}
-use Rattle.trace_view.specs.Showing.{IsLastLegal, IsPlace}
-use Rattle.trace_view.specs.Why.{IsFinding}
-use Rattle.trace_view.specs.declared.behind.Place.{Place}
-use Rattle.trace_view.specs.declared.behind.Place.TheVariants as behind
-use Rattle.trace_view.specs.declared.reasons.Finding.TheVariants as finding
+use Rattle.view_texts.specs.Counted.{IsCounted}
+use Rattle.view_diagram.specs.Diagrams.{IsDiagram}
+use Rattle.view_diagram.specs.declared.formats.Format.{Format}
+use Rattle.view_diagram.specs.declared.formats.SequenceDiagram.{SequenceDiagram}
+use Rattle.view_diagram.specs.declared.gathering.Part.{Part}
+use Rattle.view_places.specs.Showing.{IsLastLegal, IsPlace}
+use Rattle.view_places.specs.Why.{IsFinding}
+use Rattle.view_places.specs.declared.behind.Place.{Place}
+use Rattle.view_places.specs.declared.behind.Place.TheVariants as behind
+use Rattle.view_places.specs.declared.reasons.Finding.TheVariants as finding
 use Rattle.view_commands.specs.declared.files.TraceFiles.{TraceFiles}
 use Rattle.view_commands.specs.declared.view.View.{View}
 use Rattle.view_commands.specs.declared.view.View.TheVariants as view
-use Rattle.view_words.specs.declared.words.Aspect.{Aspect}
-use Rattle.view_words.specs.declared.words.Aspect.TheVariants as aspect
+use Rattle.view_commands.specs.declared.words.Aspect.{Aspect}
+use Rattle.view_commands.specs.declared.words.Aspect.TheVariants as aspect
 use Rattle.view_commands.specs.Diagrams.{format_of, part_asked, place_beyond}
 
 -- the memory that the trace begins with

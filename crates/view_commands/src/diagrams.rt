@@ -2,8 +2,8 @@
 ghost use Rattle.std.specs.Prelude.{◌≡◌};
 ghost use Rattle.view_commands.specs.Diagrams.{format_of, is_beyond, part_asked, place_beyond};
 
-use trace_diagram::Part;
-use view_words::Format;
+use crate::words::Format;
+use view_diagram::Part;
 
 fn is_beyond(total: u32, place: Option<u32>) -> bool
     ensures { result ≡ is_beyond total place }
@@ -38,11 +38,11 @@ pub fn part_asked(total: u32, from: Option<u32>, to: Option<u32>) -> Part
 }
 
 /// How a diagram is written, by its word.
-pub fn format_of(format: Format) -> trace_diagram::Format
+pub fn format_of(format: Format) -> view_diagram::Format
     ensures { result ≡ format_of format }
 {
     match format {
-        Format::Mermaid => trace_diagram::Format::Mermaid,
-        Format::Html => trace_diagram::Format::Html,
+        Format::Mermaid => view_diagram::Format::Mermaid,
+        Format::Html => view_diagram::Format::Html,
     }
 }

@@ -4,13 +4,13 @@ ghost use Rattle.text_lines.specs.Refusals.{wrong_line};
 ghost use Rattle.view_commands.specs.Files.{AreTraceFiles, FilesRead, IsRefusalBy, TraceRead};
 ghost use Rattle.work_orders.specs.View.{IsTraceWork};
 
+use crate::words::FileNames;
 use command_words::{Command, Inspection};
 use ffm_model::{PartsError, Refusal, Trace};
 use outside_io::Files;
 use std::alloc::Global;
 use text_lines::{refusal_line, wrong_line};
 use trace_print::{TraceError, read_trace};
-use view_words::FileNames;
 use work_orders::{TraceWork, Work, work_of};
 
 /// Why there is no trace to show.

@@ -1,4 +1,5 @@
-//! The commands of `ffm_view`: the files that they read, their texts and statuses.
+//! The commands of `ffm_view`: the words of its command line, the files that they name, the texts and the
+//! statuses.
 #![tactic(auto)]
 
 mod diagrams;
@@ -6,6 +7,8 @@ mod ends;
 mod files;
 mod top;
 mod view;
+mod words;
 
 pub use ends::program;
 pub use top::ffm_view;
+pub use words::{Aspect, FileNames, Format, Request, VERSION, request_of};

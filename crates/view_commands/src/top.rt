@@ -4,17 +4,17 @@ ghost use Rattle.outside_io.specs.Sink.{Hands};
 ghost use Rattle.clap.specs.Words.{kind_of};
 ghost use Rattle.view_commands.specs.Answers.{Answered, AnswersRequest, AnswersWords, IsShownStatus, Shows};
 ghost use Rattle.view_commands.specs.Files.{AreTraceFiles};
-ghost use Rattle.view_words.specs.Requests.{told_status};
+ghost use Rattle.view_commands.specs.Requests.{told_status};
 
 use crate::files::{NoTrace, TraceFiles, read_files};
 use crate::view::view_of;
+use crate::words::{Aspect, Request, request_of};
 use clap::Error;
 use clap::error::ErrorKind;
 use ffm_model::Memory;
 use outside_io::{Failed, Files, Sink, put_all};
 use std::alloc::Global;
 use text_lines::{NO_MEMORY, UNREAD, UNWRITTEN};
-use view_words::{Aspect, Request, request_of};
 use work_orders::Unanswered;
 
 /// A text to be written, and the status to end with.

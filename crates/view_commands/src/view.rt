@@ -8,15 +8,15 @@ ghost use Rattle.view_commands.specs.Views.{IsView, IsViewText, memory_of, no_pl
 
 use crate::diagrams::{format_of, part_asked, place_beyond};
 use crate::files::TraceFiles;
+use crate::words::{Aspect, Format};
 use ffm_model::{Memory, System};
 use memory_image::{Image, opening_image};
 use std::alloc::{AllocError, Global};
-use trace_counts::{TraceCounts, stats, stats_text};
-use trace_diagram::{SequenceDiagram, diagram};
-use trace_view::{
+use view_diagram::{SequenceDiagram, diagram};
+use view_places::{
     Finding, Place, StateBehind, behind_last, behind_place, state_text, why, why_text,
 };
-use view_words::{Aspect, Format};
+use view_texts::{TraceCounts, stats, stats_text};
 
 /// What is shown.
 #[derive(Drop)]

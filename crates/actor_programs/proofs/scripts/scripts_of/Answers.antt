@@ -3,7 +3,7 @@ use Rattle.actor_programs.specs.Programs.{AreScriptsOf}
 use Rattle.ffm_model.proofs.ActorLemmas.{actor_count_le}
 use Rattle.actor_programs.proofs.ProgramLemmas.{scripts-more}
 use Rattle.actor_programs.proofs.scripts.scripts_of.Goals as goal
-use Rattle.list_laws.proofs.Lists.{append_none}
+use Rattle.law_lists.proofs.Lists.{append_none}
 
 pub overflow_cast-actor : goal.overflow_cast-actor
 overflow_cast-actor c =

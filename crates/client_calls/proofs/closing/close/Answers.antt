@@ -17,9 +17,9 @@ use Rattle.ffm_model.specs.declared.machine.Outcome.TheVariants.{Done}
 use Rattle.ffm_model.specs.ClientCalls.{psa_close}
 use Rattle.machine_rules.specs.Vectors.{AreWithin}
 use Rattle.spm_tables.specs.TablesView.{TablesView}
-use Rattle.counting_law.proofs.CallsFit.{close-fits-after}
-use Rattle.isolation_law.proofs.CallsWithin.{close-within}
-use Rattle.slot_names.proofs.Changes.{names_kept}
+use Rattle.law_counting.proofs.CallsFit.{close-fits-after}
+use Rattle.law_calls.proofs.CallsWithin.{close-within}
+use Rattle.law_calls.proofs.Changes.{names_kept}
 
 pub send-requires-clause-connection : goal.send-requires-clause-connection
 send-requires-clause-connection c =

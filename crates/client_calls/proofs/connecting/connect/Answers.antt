@@ -1,5 +1,5 @@
 use Rattle.std.proofs.Common.{◌≡◌, ◌<◌, length, arith, refl, rules, subst, sym, ap, ◌∙◌, Some}
-use Rattle.list_laws.proofs.Options.{some-and, if-some}
+use Rattle.law_lists.proofs.Options.{some-and, if-some}
 use Rattle.ffm_model.specs.declared.objects.ActorPhase.TheVariants.{Blocked}
 use Rattle.ffm_model.specs.declared.objects.OpenConnection.{OpenConnection}
 use Rattle.ffm_model.specs.State.{SpmState, in_use, with_message, with_phase}
@@ -15,9 +15,9 @@ use Rattle.client_calls.proofs.SendLemmas.{room-for-connection, room-for-message
 use Rattle.client_calls.proofs.ConnectLemmas.{connect-rooms, connect-issues}
 use Rattle.client_calls.proofs.NameLemmas.{names-connect}
 use Rattle.client_calls.proofs.connecting.connect.Goals as goal
-use Rattle.counting_law.proofs.CallsFit.{connect-keeps}
-use Rattle.isolation_law.proofs.CallsWithin.{connect-within}
-use Rattle.slot_names.proofs.Changes.{names_kept}
+use Rattle.law_counting.proofs.CallsFit.{connect-keeps}
+use Rattle.law_calls.proofs.CallsWithin.{connect-within}
+use Rattle.law_calls.proofs.Changes.{names_kept}
 
 pub start-slot-requires-clause-room : goal.start-slot-requires-clause-room
 start-slot-requires-clause-room c =

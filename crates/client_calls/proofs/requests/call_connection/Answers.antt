@@ -13,7 +13,7 @@ use Rattle.spm_tables.specs.Answers.{state_with}
 use Rattle.memory_image.specs.Pieces.{byte_at}
 use Rattle.client_calls.proofs.NameLemmas.{names-held}
 use Rattle.client_calls.proofs.requests.call_connection.Goals as goal
-use Rattle.slot_names.proofs.Changes.{names_kept}
+use Rattle.law_calls.proofs.Changes.{names_kept}
 
 pub send-requires-clause-connection : goal.send-requires-clause-connection
 send-requires-clause-connection c =

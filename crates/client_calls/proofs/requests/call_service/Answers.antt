@@ -5,8 +5,8 @@ use Rattle.ffm_model.specs.declared.objects.ActorPhase.TheVariants.{Blocked}
 use Rattle.ffm_model.specs.Actors.{permits}
 use Rattle.ffm_model.specs.State.{SpmState, with_phase, with_request}
 use Rattle.ffm_model.specs.ClientCalls.{move}
-use Rattle.counting_law.proofs.Events.{stateless_is}
-use Rattle.counting_law.proofs.Rooms.{call-room}
+use Rattle.law_counting.proofs.Events.{stateless_is}
+use Rattle.law_counting.proofs.Rooms.{call-room}
 use Rattle.memory_image.specs.Pieces.{byte_at}
 use Rattle.spm_tables.specs.TablesView.{spm_of}
 use Rattle.spm_tables.specs.Answers.{state_with}
@@ -16,7 +16,7 @@ use Rattle.client_calls.proofs.SendLemmas.{room-for-message}
 use Rattle.client_calls.proofs.ServiceLemmas.{made-services, stateless-service}
 use Rattle.client_calls.proofs.NameLemmas.{names-asked-of}
 use Rattle.client_calls.proofs.requests.call_service.Goals as goal
-use Rattle.slot_names.proofs.Changes.{names_kept}
+use Rattle.law_calls.proofs.Changes.{names_kept}
 
 pub send_request-requires-clause-service : goal.send_request-requires-clause-service
 send_request-requires-clause-service c =

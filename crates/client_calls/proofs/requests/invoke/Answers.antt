@@ -13,9 +13,9 @@ use Rattle.std.proofs.Common.{List, []}
 use Rattle.ffm_model.specs.declared.machine.Handle.{Handle}
 use Rattle.ffm_model.specs.ClientCalls.{psa_call}
 use Rattle.ffm_model.specs.State.{SpmState}
-use Rattle.counting_law.specs.Objects.{ObjectsFit}
-use Rattle.counting_law.proofs.CallsFit.{call-keeps}
-use Rattle.isolation_law.proofs.CallsWithin.{call-within}
+use Rattle.law_counting.specs.Objects.{ObjectsFit}
+use Rattle.law_counting.proofs.CallsFit.{call-keeps}
+use Rattle.law_calls.proofs.CallsWithin.{call-within}
 use Rattle.machine_rules.specs.Vectors.{AreWithin}
 use Rattle.spm_tables.specs.TablesView.{spm_of}
 use Rattle.client_calls.proofs.RequestLemmas.{answers-keep}

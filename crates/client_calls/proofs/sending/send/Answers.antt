@@ -2,7 +2,7 @@ use Rattle.std.proofs.Common.{◌≡◌, ◌++◌, [], ◌∷◌, ℤ, w32, ap, 
 use Rattle.std.specs.Prelude.{IfSome}
 use Rattle.std.proofs.lemmas.Int.{to_z-of_z}
 use Rattle.std.proofs.lemmas.Option.{IfSome_then}
-use Rattle.list_laws.proofs.Options.{some-and}
+use Rattle.law_lists.proofs.Options.{some-and}
 use Rattle.ffm_model.specs.declared.machine.ActorId.{ActorId}
 use Rattle.ffm_model.specs.declared.objects.ActorPhase.TheVariants.{Blocked}
 use Rattle.ffm_model.specs.State.{SpmState, with_phase}

@@ -1,5 +1,5 @@
 use Rattle.doorbell_irq.proofs.NameLemmas.{fits-beside, names-beside, within-beside}
-use Rattle.slot_names.proofs.Changes.{names_kept}
+use Rattle.law_calls.proofs.Changes.{names_kept}
 use Rattle.doorbell_irq.proofs.doorbell.clear.Goals as goal
 
 pub returns-then-not-doorbell-clause-names : goal.returns-then-not-doorbell-clause-names

@@ -1,5 +1,5 @@
 use Rattle.doorbell_irq.proofs.NameLemmas.{fits-beside, names-beside, within-beside}
-use Rattle.slot_names.proofs.Changes.{names_kept}
+use Rattle.law_calls.proofs.Changes.{names_kept}
 use Rattle.doorbell_irq.proofs.interrupt.disable.Goals as goal
 
 pub returns-in_err-source-clause-names : goal.returns-in_err-source-clause-names

@@ -1,4 +1,4 @@
-use Rattle.slot_names.proofs.Changes.{names_kept}
+use Rattle.law_calls.proofs.Changes.{names_kept}
 use Rattle.doorbell_irq.proofs.interrupt.enable.Goals as goal
 
 pub returns-in_err-source-clause-names : goal.returns-in_err-source-clause-names

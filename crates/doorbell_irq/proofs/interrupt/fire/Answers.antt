@@ -1,4 +1,4 @@
-use Rattle.slot_names.proofs.Changes.{names_kept}
+use Rattle.law_calls.proofs.Changes.{names_kept}
 use Rattle.doorbell_irq.proofs.interrupt.fire.Goals as goal
 
 pub returns-else-answer-eq1-clause-names : goal.returns-else-answer-eq1-clause-names

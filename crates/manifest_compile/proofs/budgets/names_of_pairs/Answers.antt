@@ -2,7 +2,7 @@ use Rattle.std.proofs.Common.{◌≡◌, ◌∙◌, ◌&&◌, ℕ, List, [], ap,
 use Rattle.std.specs.Str.{bytes_eq}
 use Rattle.std.proofs.lemmas.List.{get_or-map}
 use Rattle.ffm_model.specs.Permissions.{Permitted}
-use Rattle.manifest_items.proofs.RepeatLemmas.{seen_more}
+use Rattle.region_map.proofs.RepeatLemmas.{seen_more}
 use Rattle.manifest_compile.specs.declared.pairs.Pair.{Pair}
 use Rattle.manifest_compile.specs.Budgets.{has_pair}
 use Rattle.manifest_compile.specs.Pairs.{pair_seen}

@@ -1,4 +1,4 @@
-use Rattle.admitted_systems.proofs.Fit.{compiled_is}
+use Rattle.law_systems.proofs.Fit.{compiled_is}
 use Rattle.manifest_compile.proofs.KeepsLemmas.{reads_refusal}
 use Rattle.manifest_compile.proofs.compiler.compile.Goals as goal
 

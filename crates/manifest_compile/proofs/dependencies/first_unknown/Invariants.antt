@@ -1,7 +1,7 @@
 use Rattle.std.proofs.Common.{◌≡◌, not, map, filter, drop}
 use Rattle.ffm_model.specs.Repeats.{first}
 use Rattle.ffm_model.specs.Rules.{dependencies_in, is_known}
-use Rattle.manifest_items.specs.Seen.{seen}
+use Rattle.region_map.specs.Seen.{seen}
 use Rattle.manifest_compile.proofs.dependencies.first_unknown.Given as goal
 
 -- the first one of those that are left is the first of all

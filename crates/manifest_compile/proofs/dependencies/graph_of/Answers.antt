@@ -3,7 +3,7 @@ use Rattle.std.specs.Prelude.{◌==◌}
 use Rattle.std.specs.List.{list_any, AllByRecursion as Each}
 use Rattle.ffm_model.specs.Layout.{Located, located_from}
 use Rattle.ffm_model.specs.Rules.{dependencies_in}
-use Rattle.manifest_items.specs.Seen.{seen}
+use Rattle.region_map.specs.Seen.{seen}
 use Rattle.manifest_compile.specs.Owners.{is_owner, is_marked}
 use Rattle.manifest_compile.proofs.GraphLemmas.{written, unmarked, few_manifests, all_below, owners_below, depends_by}
 use Rattle.manifest_compile.proofs.dependencies.graph_of.Goals as goal

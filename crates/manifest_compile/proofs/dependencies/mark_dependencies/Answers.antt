@@ -1,7 +1,7 @@
 use Rattle.std.proofs.Common.{◌≡◌, ◌<◌, ◌&&◌, ◌||◌, ℕ, List, sym, ◌∙◌, ap, get_or, map, length, subst}
 use Rattle.std.specs.Prelude.{◌==◌}
 use Rattle.ffm_model.specs.Layout.{Located}
-use Rattle.manifest_items.specs.Seen.{seen}
+use Rattle.region_map.specs.Seen.{seen}
 use Rattle.manifest_compile.specs.Owners.{is_owner, is_marked}
 use Rattle.manifest_compile.proofs.GraphLemmas.{each_at, marks_more}
 use Rattle.manifest_compile.proofs.Lists.{image_at, below_image}

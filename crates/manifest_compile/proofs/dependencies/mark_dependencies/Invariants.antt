@@ -1,7 +1,7 @@
 use Rattle.std.proofs.Common.{◌≡◌, ◌&&◌, ◌||◌, ℕ, map, take}
 use Rattle.std.specs.Prelude.{◌==◌}
 use Rattle.std.specs.List.{list_any}
-use Rattle.manifest_items.specs.Seen.{seen}
+use Rattle.region_map.specs.Seen.{seen}
 use Rattle.manifest_compile.specs.Owners.{is_owner, is_marked}
 use Rattle.manifest_compile.proofs.dependencies.mark_dependencies.Given as goal
 

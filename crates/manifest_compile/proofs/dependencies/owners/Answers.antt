@@ -5,7 +5,7 @@ use Rattle.std.proofs.lemmas.Map.Text.{btree_map_updates_str}
 use Rattle.ffm_model.specs.Layout.{Located, located_from}
 use Rattle.ffm_model.specs.Permissions.{services_in}
 use Rattle.ffm_model.specs.ManifestItems.{ServiceRecord}
-use Rattle.manifest_items.specs.Seen.{seen}
+use Rattle.region_map.specs.Seen.{seen}
 use Rattle.manifest_compile.specs.Owners.{owner_of}
 use Rattle.manifest_compile.proofs.Lists.{image_at, below_image, image_past}
 use Rattle.manifest_compile.proofs.OwnerLemmas.{owners_more, owns_all, last_owner}

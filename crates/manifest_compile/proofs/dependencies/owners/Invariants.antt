@@ -1,5 +1,5 @@
 use Rattle.std.proofs.Common.{◌≡◌, ℕ, List, take, map}
-use Rattle.manifest_items.specs.Seen.{seen}
+use Rattle.region_map.specs.Seen.{seen}
 use Rattle.manifest_compile.specs.Owners.{owner_of}
 use Rattle.manifest_compile.proofs.OwnerLemmas.{last_owner}
 use Rattle.manifest_compile.proofs.dependencies.owners.Given as goal

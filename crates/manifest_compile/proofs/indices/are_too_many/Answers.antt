@@ -1,5 +1,5 @@
 use Rattle.std.proofs.Common.{◌≡◌, ◌≤◌, ◌+◌, ◌∙◌, ◌<◌, ap, cond, get_or, length, map, sym, take}
-use Rattle.manifest_items.specs.Seen.{seen}
+use Rattle.region_map.specs.Seen.{seen}
 use Rattle.manifest_compile.proofs.IndexLemmas.{stateless_in, stateless_more}
 use Rattle.manifest_compile.proofs.Lists.{image_at, below_image}
 use Rattle.manifest_compile.proofs.indices.are_too_many.Goals.{then-is_stateless, else-is_stateless}

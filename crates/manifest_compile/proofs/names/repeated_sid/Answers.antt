@@ -4,8 +4,8 @@ use Rattle.std.specs.Ordering.{nat_cmp}
 use Rattle.std.specs.BTreeSet as tree
 use Rattle.ffm_model.specs.Layout.{Located}
 use Rattle.ffm_model.specs.ManifestItems.{ServiceRecord}
-use Rattle.manifest_items.specs.Seen.{seen, spot}
-use Rattle.manifest_items.proofs.RepeatLemmas.{repeated_step, seen_more, is_at_number, was_new, was_old, repeated_found}
+use Rattle.region_map.specs.Seen.{seen, spot}
+use Rattle.region_map.proofs.RepeatLemmas.{repeated_step, seen_more, is_at_number, was_new, was_old, repeated_found}
 use Rattle.manifest_compile.proofs.Lists.{image_at, below_image}
 use Rattle.manifest_compile.proofs.names.repeated_sid.Goals as goal
 

@@ -4,7 +4,7 @@ use Rattle.std.specs.Ordering.{nat_cmp}
 use Rattle.std.specs.List.{list_any}
 use Rattle.std.specs.BTreeSet as tree
 use Rattle.ffm_model.specs.Repeats.{first, repeated, repeated_after}
-use Rattle.manifest_items.specs.Seen.{seen}
+use Rattle.region_map.specs.Seen.{seen}
 use Rattle.manifest_compile.proofs.names.repeated_sid.Given as goal
 
 -- the first one after those so far is the first of all, and the set has the SIDs so far

@@ -6,7 +6,7 @@ use Rattle.std.specs.BTreeSet as tree
 use Rattle.std.specs.BTreeSet.{BTreeSet}
 use Rattle.std.proofs.lemmas.Map.Text.{is_eq-slice_cmp}
 use Rattle.ffm_model.specs.Rules.{Title}
-use Rattle.manifest_items.proofs.RepeatLemmas.{repeated_step, seen_more, was_new, was_old, repeated_found}
+use Rattle.region_map.proofs.RepeatLemmas.{repeated_step, seen_more, was_new, was_old, repeated_found}
 use Rattle.manifest_compile.specs.Names.{title_seen}
 use Rattle.std.proofs.lemmas.List.{get_or-map}
 use Rattle.manifest_compile.specs.declared.names.LentTitle.{LentTitle}

@@ -1,9 +1,9 @@
 use Rattle.std.proofs.Common.{◌≡◌, ◌++◌, map, drop}
 use Rattle.std.specs.List.{filter_map, enumerate_from}
 use Rattle.ffm_model.specs.Permissions.{permitted_to_client}
-use Rattle.manifest_items.specs.Seen.{seen}
+use Rattle.region_map.specs.Seen.{seen}
 use Rattle.manifest_compile.specs.Pairs.{pair_seen}
-use Rattle.admitted_systems.proofs.Budgets.{permit_if}
+use Rattle.law_systems.proofs.Budgets.{permit_if}
 use Rattle.manifest_compile.proofs.pairs.add_non_secure.Given as goal
 
 -- the pairs so far, and then those of the other services

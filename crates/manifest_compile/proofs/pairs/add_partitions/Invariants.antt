@@ -1,7 +1,7 @@
 use Rattle.std.proofs.Common.{◌≡◌, ◌++◌, map, drop}
 use Rattle.std.specs.List.{flat_map, enumerate_from}
 use Rattle.ffm_model.specs.Permissions.{permitted_to_partition}
-use Rattle.manifest_items.specs.Seen.{seen}
+use Rattle.region_map.specs.Seen.{seen}
 use Rattle.manifest_compile.specs.Pairs.{pair_seen}
 use Rattle.manifest_compile.proofs.pairs.add_partitions.Given as goal
 

@@ -2,7 +2,7 @@ use Rattle.std.proofs.Common.{◌≡◌, ◌∙◌, length, map, ap}
 use Rattle.ffm_model.specs.Layout.{located_from}
 use Rattle.ffm_model.specs.PartsItems.{PartsRecord}
 use Rattle.ffm_model.specs.Permissions.{services_in}
-use Rattle.manifest_items.specs.Seen.{seen}
+use Rattle.region_map.specs.Seen.{seen}
 use Rattle.manifest_compile.specs.Pairs.{pair_seen}
 use Rattle.manifest_compile.proofs.Lists.{short_image}
 use Rattle.manifest_compile.proofs.PairLemmas.{services_few, all_pairs}

@@ -5,7 +5,7 @@ use Rattle.std.specs.Cmp.Lexicographic.{slice_cmp}
 use Rattle.std.specs.Ordering.{nat_cmp}
 use Rattle.std.specs.Str.{bytes_eq}
 use Rattle.std.proofs.lemmas.Map.Text.{is_eq-slice_cmp}
-use Rattle.manifest_items.proofs.RepeatLemmas.{seen_more}
+use Rattle.region_map.proofs.RepeatLemmas.{seen_more}
 use Rattle.manifest_compile.proofs.OwnerLemmas.{bytes_eq-flip}
 use Rattle.manifest_compile.proofs.pairs.set_of.Goals as goal
 

@@ -1,7 +1,7 @@
 use Rattle.std.proofs.Common.{◌+◌, ◌≤◌, ◌<◌, ◌∙◌, ap, arith, drop, length, map, subst, sym}
 use Rattle.ffm_model.specs.Compiled.{index_for}
 use Rattle.ffm_model.specs.ManifestItems.{ManifestRecord}
-use Rattle.manifest_items.specs.Seen.{seen}
+use Rattle.region_map.specs.Seen.{seen}
 use Rattle.manifest_compile.proofs.IndexLemmas.{services_more}
 use Rattle.manifest_compile.proofs.Lists.{image_at, below_image, images_from}
 use Rattle.manifest_compile.proofs.PlaceLemmas.{HasPlace, place_of}

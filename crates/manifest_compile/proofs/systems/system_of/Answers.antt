@@ -1,7 +1,7 @@
 use Rattle.std.proofs.Common.{◌≡◌, ◌∙◌, ap, sym, subst}
 use Rattle.ffm_model.specs.Parts.{parts_of_system}
 use Rattle.ffm_model.specs.PartsItems.{PartsRecord, IsParts}
-use Rattle.admitted_systems.proofs.Fit.{lists_fit, lists_are_numbered}
+use Rattle.law_systems.proofs.Fit.{lists_fit, lists_are_numbered}
 use Rattle.manifest_compile.proofs.SystemLemmas.{signals_fit, partitions_are, sources_are, same_parts}
 use Rattle.manifest_compile.proofs.systems.system_of.Goals as goal
 

@@ -1,6 +1,6 @@
 use Rattle.std.proofs.Common.{[]}
 use Rattle.std.proofs.lemmas.Result.{err_from_is_err_and, IfOk-at_ok}
-use Rattle.list_laws.proofs.Lists.{AllByRecursion-push}
+use Rattle.law_lists.proofs.Lists.{AllByRecursion-push}
 use Rattle.serde_json.specs.View.{view, items_view}
 use Rattle.ffm_model.specs.Attributes.{items_after}
 use Rattle.manifest_json.proofs.Lists.{goes_on, ends, is_done}

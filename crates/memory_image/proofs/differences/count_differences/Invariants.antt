@@ -1,5 +1,5 @@
 use Rattle.std.proofs.Common.{◌≡◌}
-use Rattle.byte_lanes.specs.Differences.{differs}
+use Rattle.memory_image.specs.Differences.{differs}
 use Rattle.memory_image.specs.Pieces.{byte_at, regions_of}
 use Rattle.memory_image.proofs.Compared.{count_within}
 use Rattle.memory_image.proofs.differences.count_differences.Given as goal

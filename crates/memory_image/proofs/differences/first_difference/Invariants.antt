@@ -1,4 +1,4 @@
-use Rattle.byte_lanes.specs.Differences.{differs}
+use Rattle.memory_image.specs.Differences.{differs}
 use Rattle.memory_image.specs.Pieces.{byte_at, regions_of}
 use Rattle.memory_image.proofs.Compared.{IsLeastWithin}
 use Rattle.memory_image.proofs.differences.first_difference.Given as goal

@@ -1,6 +1,6 @@
 use Rattle.std.proofs.Common.{rules, arith, ap, ◌∙◌, sym, length, ◌≤◌, not, ◌&&◌}
 use Rattle.std.proofs.lemmas.List.{length-map}
-use Rattle.byte_lanes.specs.Differences.{differs}
+use Rattle.memory_image.specs.Differences.{differs}
 use Rattle.ffm_model.specs.Reach.{covers}
 use Rattle.memory_image.specs.Pieces.{byte_at, range_of, regions_of, is_inside}
 use Rattle.memory_image.proofs.Compared.{piece_at, region_inside, region_small, least_step, least_last, same_outside_too}

@@ -1,5 +1,5 @@
 use Rattle.std.proofs.Common.{not, ◌&&◌}
-use Rattle.byte_lanes.specs.Differences.{differs}
+use Rattle.memory_image.specs.Differences.{differs}
 use Rattle.ffm_model.specs.Reach.{covers}
 use Rattle.memory_image.specs.Pieces.{byte_at, regions_of}
 use Rattle.memory_image.proofs.Compared.{IsLeastWithin}

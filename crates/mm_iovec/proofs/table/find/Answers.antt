@@ -6,7 +6,7 @@ use Rattle.std.proofs.lemmas.Iterator.Search.{find_from_yields_List}
 use Rattle.ffm_model.specs.Held.{is_held_as}
 use Rattle.mm_iovec.specs.Items.{message_of}
 use Rattle.mm_iovec.proofs.table.find.Goals as goal
-use Rattle.list_laws.proofs.Tests.{find-map}
+use Rattle.law_lists.proofs.Tests.{find-map}
 
 pub returns : goal.returns
 returns c =

@@ -5,7 +5,7 @@ use Rattle.std.proofs.lemmas.Iterator.Search.{any_from_yields_List}
 use Rattle.ffm_model.specs.Held.{is_mapped, vector_at}
 use Rattle.mm_iovec.specs.Items.{message_of}
 use Rattle.mm_iovec.proofs.table.is_input_free.Goals as goal
-use Rattle.list_laws.proofs.Tests.{list_any-map}
+use Rattle.law_lists.proofs.Tests.{list_any-map}
 
 pub returns : goal.returns
 returns c =

@@ -4,7 +4,7 @@ use Rattle.std.proofs.lemmas.Iterator.{YieldsList-from_slice}
 use Rattle.std.proofs.lemmas.Iterator.Search.{position_from_yields_List}
 use Rattle.ffm_model.specs.Held.{is_held_as}
 use Rattle.mm_iovec.specs.Items.{message_of}
-use Rattle.list_laws.proofs.Tests.{position-map}
+use Rattle.law_lists.proofs.Tests.{position-map}
 use Rattle.mm_iovec.proofs.table.place_of.Goals as goal
 
 pub returns : goal.returns

@@ -4,9 +4,9 @@ use Rattle.spm_tables.specs.TablesView.{TablesView, Shape}
 use Rattle.panic_state.specs.Losses.{disconnect_messages}
 use Rattle.panic_state.proofs.EffectLemmas.{effect-is, names-are, shape-is, room-of, services-of, few-disconnects}
 use Rattle.panic_state.proofs.effect.panic.Goals as goal
-use Rattle.counting_law.specs.Objects.{ObjectsFit}
+use Rattle.law_counting.specs.Objects.{ObjectsFit}
 use Rattle.ffm_model.specs.State.{SpmState}
-use Rattle.isolation_law.proofs.CallsWithin.{panic-within}
+use Rattle.law_calls.proofs.CallsWithin.{panic-within}
 use Rattle.machine_rules.specs.Vectors.{AreWithin}
 use Rattle.spm_tables.specs.TablesView.{spm_of}
 use Rattle.panic_state.proofs.EffectLemmas.{panicked-fits}

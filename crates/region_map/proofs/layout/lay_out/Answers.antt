@@ -4,7 +4,7 @@ use Rattle.ffm_model.specs.ManifestItems.{ManifestRecord}
 use Rattle.ffm_model.specs.PartsItems.{PartsRecord}
 use Rattle.ffm_model.specs.Repeats.{first}
 use Rattle.ffm_model.specs.Layout.{Located, located_from, overlaps, overlapping}
-use Rattle.manifest_items.specs.Seen.{seen, spot}
+use Rattle.region_map.specs.Seen.{seen, spot}
 use Rattle.region_map.specs.Placements.{located_of}
 use Rattle.region_map.proofs.LayLemmas.{unknown_lays, unknown_same, placed_same, large_lays, none_first}
 use Rattle.region_map.proofs.OverlapSteps.{front}

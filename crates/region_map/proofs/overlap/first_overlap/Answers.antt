@@ -3,7 +3,7 @@ use Rattle.std.specs.Prelude.{sum_by}
 use Rattle.ffm_model.specs.ManifestItems.{ManifestRecord}
 use Rattle.ffm_model.specs.PartsItems.{PartsRecord}
 use Rattle.ffm_model.specs.Layout.{ram_needed, rounded}
-use Rattle.manifest_items.specs.Seen.{spot}
+use Rattle.region_map.specs.Seen.{spot}
 use Rattle.region_map.proofs.Earlier.{holds_more}
 use Rattle.region_map.proofs.OverlapSteps.{front, regions_in, more_regions, meets_front, misses_front, overlap_step, overlap_found}
 use Rattle.region_map.proofs.overlap.first_overlap.Goals as goal

@@ -1,7 +1,7 @@
 use Rattle.std.proofs.Common.{◌≡◌, ◌++◌, map, drop}
 use Rattle.std.specs.List.{filter_map}
 use Rattle.ffm_model.specs.Layout.{mmio_placed}
-use Rattle.manifest_items.specs.Seen.{seen}
+use Rattle.region_map.specs.Seen.{seen}
 use Rattle.region_map.specs.Placements.{located_of, unknown_in}
 use Rattle.region_map.proofs.placed.place_all.Given as goal
 

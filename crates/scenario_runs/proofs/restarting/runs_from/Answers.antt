@@ -7,7 +7,7 @@ use Rattle.ffm_model.specs.Actors.{counts_of}
 use Rattle.ffm_model.specs.Memory.{ByteMap, opening_memory}
 use Rattle.ffm_model.specs.Restarts.{RunsFrom, ends_panicked, memory_behind, memory_reset}
 use Rattle.ffm_model.specs.Ranges.{ranges_of}
-use Rattle.list_laws.proofs.Options.{if-some}
+use Rattle.law_lists.proofs.Options.{if-some}
 use Rattle.memory_image.specs.Pieces.{byte_at}
 use Rattle.actor_programs.specs.declared.program.Program.TheVariants.{Plain}
 use Rattle.spm_core.specs.Manager.{Opening}

@@ -19,8 +19,8 @@ use Rattle.handle_table.specs.declared.handles.Family.TheVariants.{Message}
 use Rattle.handle_table.proofs.FreshLemmas.{fresh-at}
 use Rattle.service_calls.proofs.DeliveryLemmas.{was-undelivered}
 use Rattle.ffm_model.specs.State.{SpmState}
-use Rattle.counting_law.specs.Objects.{ObjectsFit}
-use Rattle.counting_law.proofs.CallsFit.{get-fits}
+use Rattle.law_counting.specs.Objects.{ObjectsFit}
+use Rattle.law_counting.proofs.CallsFit.{get-fits}
 use Rattle.handle_table.specs.Handles.{handle_at}
 use Rattle.service_calls.proofs.FreshHandle.{objects-without}
 

@@ -7,7 +7,7 @@ use Rattle.machine_rules.specs.Vectors.{AreWithin}
 use Rattle.service_calls.proofs.transfer.skip.Goals as goal
 use Rattle.ffm_model.specs.declared.machine.Outcome.TheVariants.{Number}
 use Rattle.ffm_model.specs.ClientCalls.{move}
-use Rattle.counting_law.proofs.CallsFit.{skip-fits}
+use Rattle.law_counting.proofs.CallsFit.{skip-fits}
 use Rattle.spm_tables.specs.TablesView.{spm_of}
 
 pub skip-count-requires-clause-moved : goal.skip-count-requires-clause-moved

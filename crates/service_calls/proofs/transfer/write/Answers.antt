@@ -12,7 +12,7 @@ use Rattle.service_calls.proofs.transfer.write.Goals as goal
 use Rattle.std.proofs.Common.{[]}
 use Rattle.ffm_model.specs.declared.machine.Outcome.TheVariants.{Done}
 use Rattle.ffm_model.specs.ClientCalls.{effect}
-use Rattle.counting_law.proofs.CallsFit.{write-fits}
+use Rattle.law_counting.proofs.CallsFit.{write-fits}
 use Rattle.memory_image.specs.Pieces.{byte_at}
 use Rattle.spm_tables.specs.Answers.{state_with}
 

@@ -4,8 +4,8 @@ use Rattle.service_calls.proofs.waiting.wait.Goals as goal
 use Rattle.std.proofs.Common.{subst, sym}
 use Rattle.std.specs.Prelude.{All}
 use Rattle.ffm_model.specs.State.{SpmState}
-use Rattle.counting_law.specs.Objects.{ObjectsFit}
-use Rattle.counting_law.proofs.CallsFit.{wait-fits}
+use Rattle.law_counting.specs.Objects.{ObjectsFit}
+use Rattle.law_counting.proofs.CallsFit.{wait-fits}
 use Rattle.machine_rules.specs.Vectors.{AreWithin}
 use Rattle.spm_tables.specs.TablesView.{spm_of}
 

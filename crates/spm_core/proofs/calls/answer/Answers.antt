@@ -1,7 +1,7 @@
 use Rattle.std.proofs.Common.{◌≡◌, rules}
 use Rattle.std.specs.Prelude.{Some}
-use Rattle.slot_names.specs.Replies.{reply_on}
-use Rattle.slot_names.proofs.Owed.{names-owed}
+use Rattle.law_calls.specs.Replies.{reply_on}
+use Rattle.law_calls.proofs.Owed.{names-owed}
 use Rattle.spm_tables.specs.TablesView.{spm_of}
 use Rattle.spm_core.proofs.calls.answer.Goals as goal
 

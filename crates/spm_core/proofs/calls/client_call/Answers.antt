@@ -5,7 +5,7 @@ use Rattle.ffm_model.specs.declared.machine.Call.TheVariants as call
 use Rattle.ffm_model.specs.declared.machine.Handle.{Handle}
 use Rattle.ffm_model.specs.ClientCalls.{psa_call}
 use Rattle.memory_image.specs.Pieces.{byte_at}
-use Rattle.slot_names.proofs.Changes.{names-same}
+use Rattle.law_calls.proofs.Changes.{names-same}
 use Rattle.spm_tables.specs.Answers.{Answers, state_with}
 use Rattle.spm_core.proofs.Attempted.{attempts-answer, shows-all}
 use Rattle.spm_core.proofs.calls.client_call.Goals as goal

@@ -1,5 +1,5 @@
 use Rattle.std.proofs.Common.{refl, sym, ◌∙◌}
-use Rattle.slot_names.proofs.Changes.{names-same}
+use Rattle.law_calls.proofs.Changes.{names-same}
 use Rattle.spm_core.proofs.InterruptLemmas.{is-flih}
 use Rattle.spm_core.proofs.interrupts.fire_interrupt.Goals as goal
 

@@ -2,7 +2,7 @@ use Rattle.std.proofs.Common.{Bool, cond, ap, refl, sym, ◌∙◌}
 use Rattle.std.specs.Prelude.{Option, None, Some}
 use Rattle.ffm_model.specs.declared.machine.Outcome.TheVariants.{Done}
 use Rattle.ffm_model.specs.ClientCalls.{Move, move}
-use Rattle.slot_names.proofs.Changes.{names-same}
+use Rattle.law_calls.proofs.Changes.{names-same}
 use Rattle.spm_tables.specs.TablesView.{spm_of}
 use Rattle.spm_core.proofs.InterruptLemmas.{is-slih}
 use Rattle.spm_core.proofs.interrupts.raise_interrupt.Goals as goal

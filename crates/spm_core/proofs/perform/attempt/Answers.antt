@@ -1,5 +1,5 @@
 use Rattle.std.proofs.Common.{refl}
-use Rattle.slot_names.proofs.Changes.{names-same}
+use Rattle.law_calls.proofs.Changes.{names-same}
 use Rattle.spm_core.proofs.perform.attempt.Goals as goal
 
 pub client_call-requires-clause-premises : goal.client_call-requires-clause-premises

@@ -1,5 +1,5 @@
 use Rattle.std.proofs.Common.{refl, ap}
-use Rattle.slot_names.proofs.Changes.{names-same}
+use Rattle.law_calls.proofs.Changes.{names-same}
 use Rattle.spm_tables.specs.TablesView.{TablesView}
 use Rattle.spm_core.proofs.perform.end.Goals as goal
 

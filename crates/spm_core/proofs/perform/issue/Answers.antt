@@ -2,7 +2,7 @@ use Rattle.std.proofs.Common.{◌≡◌, rules, subst, true, false}
 use Rattle.ffm_model.specs.Actors.{kind_of}
 use Rattle.ffm_model.specs.Calls.{has_call}
 use Rattle.memory_image.specs.Pieces.{byte_at}
-use Rattle.slot_names.specs.Named.{KeepsNames}
+use Rattle.law_calls.specs.Named.{KeepsNames}
 use Rattle.spm_tables.specs.Answers.{state_with}
 use Rattle.spm_tables.specs.TablesView.{TablesView}
 use Rattle.spm_core.proofs.Attempted.{case-not_had, does-after, does-attempted, does-refused}

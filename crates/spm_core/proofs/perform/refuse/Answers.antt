@@ -1,5 +1,5 @@
 use Rattle.std.proofs.Common.{refl}
-use Rattle.slot_names.proofs.Changes.{names-same}
+use Rattle.law_calls.proofs.Changes.{names-same}
 use Rattle.spm_core.proofs.perform.refuse.Goals as goal
 
 pub returns-in-Client-clause-names : goal.returns-in-Client-clause-names

@@ -8,7 +8,7 @@ use Rattle.ffm_model.specs.declared.objects.OpenConnection.{OpenConnection}
 use Rattle.ffm_model.specs.Signals.{signals_of}
 use Rattle.ffm_model.specs.State.{phase_of}
 use Rattle.object_pools.specs.Pool.{Places, item_at}
-use Rattle.slot_names.proofs.Changes.{names-same}
+use Rattle.law_calls.proofs.Changes.{names-same}
 use Rattle.spm_tables.specs.TablesView.{TablesView, spm_of, MadeFor}
 use Rattle.spm_core.specs.Performed.{ShowsName}
 use Rattle.spm_core.proofs.Accepted.{returned-waiting, told-name, told-names}

@@ -1,6 +1,6 @@
 use Rattle.std.proofs.Common.{arith, ◌∷◌, [], length-append}
 use Rattle.std.proofs.lemmas.Result.{err_from_is_err_and}
-use Rattle.list_laws.proofs.Lists.{AllByRecursion-push}
+use Rattle.law_lists.proofs.Lists.{AllByRecursion-push}
 use Rattle.ffm_model.specs.declared.manifest.Manifest.{Manifest}
 use Rattle.ffm_model.specs.ManifestItems.{IsManifest}
 use Rattle.system_json.proofs.ManifestSteps.{goes_on, ends, is_done, lost}

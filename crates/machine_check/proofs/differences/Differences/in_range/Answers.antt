@@ -1,5 +1,5 @@
 use Rattle.std.proofs.Common.{arith, sym, ◌∙◌}
-use Rattle.byte_lanes.specs.Differences.{differs}
+use Rattle.memory_image.specs.Differences.{differs}
 use Rattle.memory_image.specs.Pieces.{byte_at}
 use Rattle.memory_image.proofs.Changed.{counted_le}
 use Rattle.machine_check.proofs.Compared.{one-count, one-least, other-outside, own-outside}

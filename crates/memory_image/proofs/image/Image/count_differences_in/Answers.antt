@@ -1,6 +1,6 @@
 use Rattle.std.proofs.Common.{rules, ◌≤◌, count_by, ap, ◌∙◌, arith}
 use Rattle.std.specs.List.{zip}
-use Rattle.byte_lanes.specs.Unequal.{are_unequal}
+use Rattle.memory_image.specs.Unequal.{are_unequal}
 use Rattle.ffm_model.specs.Memory.{bytes_at}
 use Rattle.memory_image.specs.Pieces.{byte_at}
 use Rattle.memory_image.proofs.Changed.{same_length, counted_at, counted_le}

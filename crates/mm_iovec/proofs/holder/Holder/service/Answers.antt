@@ -5,7 +5,7 @@ use Rattle.std.proofs.lemmas.Iterator.{YieldsList-from_slice}
 use Rattle.std.proofs.lemmas.Iterator.Search.{find_from_yields_List}
 use Rattle.mm_iovec.specs.Items.{service_of}
 use Rattle.mm_iovec.proofs.holder.Holder.service.Goals as goal
-use Rattle.list_laws.proofs.Tests.{find-map}
+use Rattle.law_lists.proofs.Tests.{find-map}
 
 pub returns : goal.returns
 returns c =

@@ -2,7 +2,7 @@ use Rattle.std.proofs.Common.{◌≡◌, Bool, ap, sym, ◌∙◌}
 use Rattle.std.specs.Prelude.{Some}
 use Rattle.ffm_model.specs.State.{phase_of}
 use Rattle.spm_tables.specs.TablesView.{spm_of}
-use Rattle.counting_law.specs.Pending.{is_pending}
+use Rattle.law_counting.specs.Pending.{is_pending}
 use Rattle.spm_core.proofs.Kept.{last-kept, pending-kept}
 use Rattle.spm_core.proofs.spm.Spm.pending.Goals as goal
 

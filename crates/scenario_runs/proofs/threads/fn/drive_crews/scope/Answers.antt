@@ -2,7 +2,7 @@ use Rattle.std.proofs.Common.{rules, ◌≡◌, ◌∷◌, [], ◌++◌, ◌∙�
 use denote.Exit.{yes}
 use denote.Param.Send.{param_send, param_sync, arg_send, shr_send}
 use Rattle.std.proofs.sync.atomic.AtomicBool.TheSendSync as flag
-use Rattle.list_laws.proofs.Lists.{AllByRecursion-push}
+use Rattle.law_lists.proofs.Lists.{AllByRecursion-push}
 use Rattle.spm_lock.proofs.Crossing.{shared_crosses, two_cross}
 use Rattle.scenario_runs.specs.declared.threads.Trip.{Trip}
 use Rattle.scenario_runs.specs.Threads.{AreNewCrews, IsNewCrew, IsSeat}

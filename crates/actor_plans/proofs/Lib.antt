@@ -1,4 +1,0 @@
-mod PlanLemmas
-mod ContextLemmas
-mod HeldLemmas
-mod ResumeLemmas

@@ -1,8 +1,0 @@
-use Rattle.counting_law.proofs.Runs.{run-objects, run-handles}
-use Rattle.counting_law.proofs.objects_fit.Goals as goal
-
-pub returns-clause-objects : goal.returns-clause-objects
-returns-clause-objects c = run-objects
-
-pub returns-clause-handles : goal.returns-clause-handles
-returns-clause-handles c = run-handles

@@ -1,2 +1,0 @@
-pub mod Busy
-pub mod Kept

@@ -1,6 +1,0 @@
-pub mod Reached
-pub mod Steps
-pub mod Changed
-pub mod Told
-pub mod Within
-pub mod CallsWithin

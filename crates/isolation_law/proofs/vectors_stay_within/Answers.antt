@@ -1,8 +1,0 @@
-use Rattle.isolation_law.proofs.Within.{run-four, run-vectors}
-use Rattle.isolation_law.proofs.vectors_stay_within.Goals as goal
-
-pub returns-clause-four : goal.returns-clause-four
-returns-clause-four c = run-four
-
-pub returns-clause-within : goal.returns-clause-within
-returns-clause-within c = run-vectors

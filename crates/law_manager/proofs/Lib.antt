@@ -1,0 +1,5 @@
+mod Lost
+mod Midway
+mod TablesMidway
+pub mod Behind
+pub mod Naming

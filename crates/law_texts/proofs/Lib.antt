@@ -1,0 +1,14 @@
+pub mod JudgedLemmas
+pub mod Texts
+pub mod Works
+pub mod Chains
+pub mod Played
+pub mod Readable
+pub mod Replays
+pub mod Parts
+pub mod Made
+pub mod Pieces
+pub mod Scenario
+pub mod Lines
+pub mod Programs
+pub mod Admitted

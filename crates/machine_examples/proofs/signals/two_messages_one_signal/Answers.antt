@@ -1,8 +1,0 @@
--- Each clause holds by computing.
-use Rattle.std.proofs.Common.{refl}
-use Rattle.ffm_model.specs.Step.{step}
-use Rattle.machine_examples.proofs.signals.two_messages_one_signal.Goals as goal
-
-pub returns : goal.returns
-unfolding step
-returns c = record { run = refl; named = refl; signal_stays = refl; oldest_first = refl }

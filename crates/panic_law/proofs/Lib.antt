@@ -1,3 +1,0 @@
-mod Lost
-mod Midway
-mod TablesMidway

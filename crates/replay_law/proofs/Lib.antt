@@ -1,4 +1,0 @@
-pub mod Chains
-pub mod Played
-pub mod Readable
-pub mod Replays

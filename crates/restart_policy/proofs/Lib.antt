@@ -1,2 +1,0 @@
-pub mod Panics
-pub mod Resets

@@ -1,5 +1,0 @@
-pub mod Named
-pub mod Changes
-pub mod Replies
-pub mod Stands
-pub mod Premises

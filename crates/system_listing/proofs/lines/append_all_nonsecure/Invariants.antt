@@ -1,8 +1,0 @@
-use Rattle.std.proofs.Common.{◌≡◌, ◌++◌, drop}
-use Rattle.std.specs.List.{flat_map}
-use Rattle.ffm_model.specs.Listing.{nonsecure_line}
-use Rattle.system_listing.proofs.lines.append_all_nonsecure.Given as goal
-
--- the lines so far, and then those of the other regions
-abbrev pub invariant-loop-region : goal.invariant-loop-region
-invariant-loop-region l = l.text.items ++ flat_map (λ r. nonsecure_line r r.class) (drop l.region-index l.regions) ≡ l.initial.text.items ++ flat_map (λ r. nonsecure_line r r.class) l.regions

@@ -1,8 +1,0 @@
-use Rattle.std.proofs.Common.{◌≡◌, ◌++◌, drop}
-use Rattle.std.specs.List.{flat_map, enumerate_from}
-use Rattle.ffm_model.specs.Listing.{client_line}
-use Rattle.system_listing.proofs.lines.append_clients.Given as goal
-
--- the lines so far, and then those of the other clients
-abbrev pub invariant-loop-place : goal.invariant-loop-place
-invariant-loop-place l = l.text.items ++ flat_map (client_line l.system) (enumerate_from l.place (drop l.place l.system.clients)) ≡ l.initial.text.items ++ flat_map (client_line l.system) (enumerate_from 0 l.system.clients)

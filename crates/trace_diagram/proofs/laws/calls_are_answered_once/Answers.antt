@@ -1,5 +1,0 @@
-use Rattle.trace_diagram.proofs.Places.{each-answered-once}
-use Rattle.trace_diagram.proofs.laws.calls_are_answered_once.Goals as goal
-
-pub returns : goal.returns
-returns c = each-answered-once

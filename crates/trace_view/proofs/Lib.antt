@@ -1,6 +1,0 @@
-pub mod Answers
-pub mod Judged
-pub mod LastPlaces
-pub mod Places
-pub mod Refusals
-pub mod Rules

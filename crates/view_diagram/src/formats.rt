@@ -1,0 +1,79 @@
+//! What a diagram shows, and its text.
+ghost use Rattle.std.specs.Prelude.{◌≡◌, ◌<◌, ◌^◌, IfOk, length};
+ghost use Rattle.ffm_model.specs.Ranges.{ranges_of};
+ghost use Rattle.memory_image.specs.Pieces.{byte_at, regions_of};
+ghost use Rattle.view_diagram.specs.Diagrams.{IsDiagram};
+
+use crate::gathering::{Part, PlacedArrow, gather};
+use crate::html::page;
+use crate::mermaid::mermaid;
+use ffm_model::{List, Memory, System, Trace};
+use machine_check::{Checked, check};
+use memory_image::Image;
+use std::alloc::{AllocError, Global};
+
+/// How a diagram is written.
+#[derive(Clone, Copy, Debug, PartialEq, Eq)]
+pub enum Format {
+    /// A `sequenceDiagram` of Mermaid.
+    Mermaid,
+    /// A page of HTML that stands alone.
+    Html,
+}
+
+/// A sequence diagram of a part of a trace: what its text is written of, beside the system and the trace.
+#[derive(Drop)]
+pub struct SequenceDiagram {
+    pub part: Part,
+    pub format: Format,
+    /// The arrows of the trace's legal entries in the part, in their order.
+    pub arrows: List<PlacedArrow>,
+    /// How the whole trace is judged.
+    pub judged: Checked,
+}
+
+/// The diagram of a trace's legal entries in a part. Its arrows are those of `gather`.
+///
+/// It needs what `gather` and then `machine_check::check` need. The memory has the system's regions, and
+/// the trace has fewer than 2^31 entries.
+pub fn diagram(
+    alloc: Global,
+    system: &System,
+    memory: &Image,
+    limit: u32,
+    trace: &Trace,
+    part: Part,
+    format: Format,
+) -> Result<SequenceDiagram, Memory>
+    requires regions { regions_of memory.now ≡ ranges_of system.now.regions }
+    requires few { length trace.now.entries < 2 ^ 31 }
+    ensures { IfOk result (IsDiagram system.now (byte_at memory.now) limit trace.now.entries trace.now.verdict part format) }
+{
+    let entries = trace.entries.as_slice();
+    let arrows = gather(alloc, system, memory, limit, entries, part)?;
+    let judged = check(alloc, system, memory, limit, trace)?;
+    Ok(SequenceDiagram {
+        part,
+        format,
+        arrows,
+        judged,
+    })
+}
+
+impl SequenceDiagram {
+    /// The text of the diagram of a trace over this system, in UTF-8. At its end it says how the trace ended,
+    /// or the place at which it is illegal.
+    pub fn text(
+        &self,
+        alloc: Global,
+        system: &System,
+        trace: &Trace,
+    ) -> Result<Vec<u8>, AllocError> {
+        let arrows = self.arrows.as_slice();
+        let text = match self.format {
+            Format::Mermaid => mermaid(alloc, system, trace, self.judged, arrows)?,
+            Format::Html => page(alloc, system, trace, self.judged, self.part, arrows)?,
+        };
+        Ok(text.into_bytes())
+    }
+}

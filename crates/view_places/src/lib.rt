@@ -1,0 +1,26 @@
+//! What a trace shows: the state after each of its entries, and why an entry is refused, with the
+//! conditions under which its call is a PROGRAMMER ERROR.
+//!
+//! The state is the one that the judge's machine keeps. Texts name actors, services and signals as the
+//! system does.
+#![tactic(auto)]
+
+mod access;
+mod behind;
+mod calls;
+mod client;
+mod condition;
+mod reasons;
+mod reasons_text;
+mod service;
+mod signal;
+mod stall;
+mod state;
+mod transfer;
+
+pub use behind::{Place, StateBehind, behind_last, behind_place};
+pub use calls::conditions;
+pub use condition::Condition;
+pub use reasons::{Finding, IllegalEntry, Rule, why};
+pub use reasons_text::why_text;
+pub use state::state_text;

@@ -1,3 +1,0 @@
-mod Commands
-mod Getters
-mod Parsed
