@@ -11,5 +11,8 @@ ghost use Rattle.actor_programs.specs.Programs.{IsListed};
 
 /// Each actor is listed in what a scenario file says.
 pub fn files_list_their_scripts()
-    ensures { (s : System) (limit : ℕ) (scripts : List ScriptItem) (schedule : List ActorId) (raises : List RaiseItem) (memory : List Bytes) (restarts a : ℕ) → a < actor_count s → IsListed (scenario_with s limit scripts schedule raises memory restarts) a }
+    ensures { (s : System) (limit : ℕ) (scripts : List ScriptItem) (schedule : List ActorId)
+        (raises : List RaiseItem) (memory : List Bytes) (restarts a : ℕ)
+        → a < actor_count s
+        → IsListed (scenario_with s limit scripts schedule raises memory restarts) a }
 {}

@@ -51,7 +51,8 @@ fn next_lines<'a>(
     requires actor { actor.0 < actor_count system.now }
     requires long { length made.now ≡ actor_count system.now }
     ensures lines { option_map (λ l. l.now) result ≡ next_lines scenario.now actor made.now }
-    ensures left { IfSome result (λ l. length (get_or made.now actor.0 []) < most_scripts system.now actor.0) }
+    ensures left { IfSome result (λ l.
+        length (get_or made.now actor.0 []) < most_scripts system.now actor.0) }
 {
     let own = scenario.lines.as_slice()[actor.0 as usize].as_slice();
     let count = made[actor.0 as usize].len();
@@ -89,7 +90,8 @@ fn make_next(
     requires actor { actor.0 < actor_count system.now }
     requires long { length made.old.items ≡ actor_count system.now }
     requires each { AreMade system.now made.old.items }
-    ensures reads { Reads (λ _. made.new.items) result (made_with system.now number actor made.old.items (next_lines scenario.now actor made.old.items)) }
+    ensures reads { Reads (λ _. made.new.items) result (made_with system.now number actor
+        made.old.items (next_lines scenario.now actor made.old.items)) }
     ensures long { OnOk result (length made.new.items ≡ actor_count system.now) }
     ensures each { OnOk result (AreMade system.now made.new.items) }
 {
@@ -110,7 +112,8 @@ pub fn made_of(
     scenario: &Scenario,
 ) -> Result<Vec<List<Program>>, ReadError>
     requires { IsScenarioOf system.now scenario.now }
-    ensures reads { Reads (λ v. v.items) result (made_from system.now scenario.now 0 scenario.now.order (first_made system.now scenario.now)) }
+    ensures reads { Reads (λ v. v.items) result (made_from system.now scenario.now 0
+        scenario.now.order (first_made system.now scenario.now)) }
     ensures long { IfOk result (λ v. length v.items ≡ actor_count system.now) }
     ensures each { IfOk result (λ v. AreMade system.now v.items) }
 {

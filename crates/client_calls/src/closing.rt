@@ -27,7 +27,8 @@ pub fn close(tables: &mut Tables, actor: ActorId, handle: Handle) -> Result<Outc
     requires running { phase_of (spm_of tables.old) actor.0 ≡ ActorPhase.Running }
     requires premises { (s : SystemSeen) × Premises s tables.old }
     requires takes { AreLeft tables.old.messages.takes }
-    ensures answer { Answers (λ o. o) (psa_close (spm_of tables.old) actor.0 handle) tables.old result tables.new }
+    ensures answer { Answers (λ o. o) (psa_close (spm_of tables.old) actor.0 handle)
+        tables.old result tables.new }
     ensures shape { shape_of tables.new ≡ shape_of tables.old }
     ensures names { (s : SystemSeen) → MadeFor tables.old s → KeepsNames s tables.old tables.new }
     ensures fits { KeepsFit tables.old tables.new }

@@ -44,7 +44,9 @@ pub fn connect(
     requires premises { Premises system.now tables.old }
     requires takes { LeavesTakes tables.old }
     requires running { phase_of (spm_of tables.old) actor.0 ≡ ActorPhase.Running }
-    ensures answer { Answers (λ o. o) (psa_connect system.now (spm_of tables.old) actor.0 sid version) tables.old result tables.new }
+    ensures answer { Answers (λ o. o)
+        (psa_connect system.now (spm_of tables.old) actor.0 sid version)
+        tables.old result tables.new }
     ensures shape { shape_of tables.new ≡ shape_of tables.old }
     ensures names { KeepsNames system.now tables.old tables.new }
     ensures fits { ObjectsFit system.now (spm_of tables.new) }

@@ -37,7 +37,10 @@ fn call_connection(
     requires premises { PremisesWithImage system.now tables.old image.now }
     requires takes { AreLeft tables.old.messages.takes }
     requires running { phase_of (spm_of tables.old) actor.0 ≡ ActorPhase.Running }
-    ensures answer { (given : List HandleSeen) → Answers (λ o. o) (connection_called system.now (state_with tables.old given (byte_at image.now)) actor.0 handle kind in_vec in_len out_vec out_len) tables.old result tables.new }
+    ensures answer { (given : List HandleSeen)
+        → Answers (λ o. o) (connection_called system.now
+        (state_with tables.old given (byte_at image.now)) actor.0 handle kind in_vec
+        in_len out_vec out_len) tables.old result tables.new }
     ensures shape { shape_of tables.new ≡ shape_of tables.old }
     ensures names { KeepsNames system.now tables.old tables.new }
     ensures takes { tables.new.messages.takes ≤ tables.old.messages.takes + 1 }
@@ -77,7 +80,10 @@ fn call_service(
     requires premises { PremisesWithImage system.now tables.old image.now }
     requires takes { AreLeft tables.old.messages.takes }
     requires running { phase_of (spm_of tables.old) actor.0 ≡ ActorPhase.Running }
-    ensures answer { (given : List HandleSeen) → Answers (λ o. o) (service_called system.now (state_with tables.old given (byte_at image.now)) actor.0 index kind in_vec in_len out_vec out_len) tables.old result tables.new }
+    ensures answer { (given : List HandleSeen)
+        → Answers (λ o. o) (service_called system.now
+        (state_with tables.old given (byte_at image.now)) actor.0 index kind in_vec
+        in_len out_vec out_len) tables.old result tables.new }
     ensures shape { shape_of tables.new ≡ shape_of tables.old }
     ensures names { KeepsNames system.now tables.old tables.new }
     ensures takes { tables.new.messages.takes ≤ tables.old.messages.takes + 1 }
@@ -125,7 +131,9 @@ pub fn invoke(
     requires premises { PremisesWithImage system.now tables.old image.now }
     requires takes { AreLeft tables.old.messages.takes }
     requires running { phase_of (spm_of tables.old) actor.0 ≡ ActorPhase.Running }
-    ensures answer { (given : List HandleSeen) → Answers (λ o. o) (psa_call system.now (state_with tables.old given (byte_at image.now)) actor.0 handle kind in_vec in_len out_vec out_len) tables.old result tables.new }
+    ensures answer { (given : List HandleSeen)
+        → Answers (λ o. o) (psa_call system.now (state_with tables.old given (byte_at image.now))
+        actor.0 handle kind in_vec in_len out_vec out_len) tables.old result tables.new }
     ensures shape { shape_of tables.new ≡ shape_of tables.old }
     ensures names { KeepsNames system.now tables.old tables.new }
     ensures takes { tables.new.messages.takes ≤ tables.old.messages.takes + 1 }

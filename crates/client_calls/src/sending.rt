@@ -13,7 +13,8 @@ use spm_tables::{MessageItem, Tables};
 // A message of the connection in that slot, before its delivery.
 fn item_on(connections: &Connections, slot: Slot, kind: i32, vectors: Vectors) -> MessageItem
     requires { IsSome (item_at connections.now slot) }
-    ensures item { IfSome (item_at connections.now slot) (λ c. result ≡ item_on slot c kind vectors) }
+    ensures item { IfSome (item_at connections.now slot) (λ c.
+        result ≡ item_on slot c kind vectors) }
     ensures undelivered { result.delivered ≡ false }
 {
     let connection = connections.connection(slot);
@@ -29,12 +30,17 @@ fn item_on(connections: &Connections, slot: Slot, kind: i32, vectors: Vectors) -
 
 /// Sends a message of a connection to its service. The connection's client is Blocked from then on.
 pub(crate) fn send(tables: &mut Tables, slot: Slot, kind: i32, vectors: Vectors)
-    requires connection { IsSomeAnd (item_at tables.old.connections slot) (λ c. c.service < length tables.old.services) }
+    requires connection { IsSomeAnd (item_at tables.old.connections slot) (λ c.
+        c.service < length tables.old.services) }
     requires room { length (spm_of tables.old).messages < (shape_of tables.old).messages }
     requires few { tables.old.messages.takes < most_takes }
     ensures connections { tables.new.connections ≡ tables.old.connections }
-    ensures messages { IfSome (item_at tables.old.connections slot) (λ c. IsSomeAnd (free_slot tables.old.messages) (λ place. tables.new.messages ≡ taken tables.old.messages place (message_on slot c kind vectors))) }
-    ensures state { IfSome (item_at tables.old.connections slot) (λ c. spm_of tables.new ≡ with_phase (with_message (spm_of tables.old) c kind vectors) c.client.0 ActorPhase.Blocked) }
+    ensures messages { IfSome (item_at tables.old.connections slot) (λ c.
+        IsSomeAnd (free_slot tables.old.messages) (λ place.
+        tables.new.messages ≡ taken tables.old.messages place (message_on slot c kind vectors))) }
+    ensures state { IfSome (item_at tables.old.connections slot) (λ c.
+        spm_of tables.new ≡ with_phase (with_message (spm_of tables.old) c kind vectors)
+        c.client.0 ActorPhase.Blocked) }
     ensures takes { tables.new.messages.takes ≡ tables.old.messages.takes + 1 }
     ensures shape { shape_of tables.new ≡ shape_of tables.old }
 {
@@ -55,8 +61,12 @@ pub(crate) fn send_request(
     requires room { length (spm_of tables.old).messages < (shape_of tables.old).messages }
     requires few { tables.old.messages.takes < most_takes }
     ensures connections { tables.new.connections ≡ tables.old.connections }
-    ensures messages { IsSomeAnd (free_slot tables.old.messages) (λ place. tables.new.messages ≡ taken tables.old.messages place (request_message client service kind vectors)) }
-    ensures state { spm_of tables.new ≡ with_phase (with_request (spm_of tables.old) client.0 service kind vectors) client.0 ActorPhase.Blocked }
+    ensures messages { IsSomeAnd (free_slot tables.old.messages) (λ place.
+        tables.new.messages ≡ taken tables.old.messages place
+        (request_message client service kind vectors)) }
+    ensures state { spm_of tables.new
+        ≡ with_phase (with_request (spm_of tables.old) client.0
+        service kind vectors) client.0 ActorPhase.Blocked }
     ensures takes { tables.new.messages.takes ≡ tables.old.messages.takes + 1 }
     ensures shape { shape_of tables.new ≡ shape_of tables.old }
 {

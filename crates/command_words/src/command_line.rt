@@ -86,20 +86,23 @@ fn word_of<'a>(found: &ArgMatches<'a>, id: &str) -> Option<&'a str>
 
 // The value of a flag.
 fn flag_of(found: &ArgMatches<'_>, id: &str) -> bool
-    ensures { (flag : Bool) → one_of id.now (rows_of (found_of found.now)) ≡ Some (flag_text flag) → result ≡ flag }
+    ensures { (flag : Bool) → one_of id.now (rows_of (found_of found.now)) ≡ Some (flag_text flag)
+        → result ≡ flag }
 {
     found.get_flag(id)
 }
 
 fn compile_of<'a>(found: &ArgMatches<'a>) -> Option<Command<'a>>
-    ensures { (system : List ℕ) → HasArguments (rows_of (found_of found.now)) (compile system) → option_map order result ≡ Some (compile system) }
+    ensures { (system : List ℕ) → HasArguments (rows_of (found_of found.now)) (compile system)
+        → option_map order result ≡ Some (compile system) }
 {
     let system = word_of(found, "system")?;
     Some(Command::Compile { system })
 }
 
 fn run_of<'a>(found: &ArgMatches<'a>) -> Option<Command<'a>>
-    ensures { (threads : Bool) (system scenario : List ℕ) → HasArguments (rows_of (found_of found.now)) (run threads system scenario)
+    ensures { (threads : Bool) (system scenario : List ℕ)
+        → HasArguments (rows_of (found_of found.now)) (run threads system scenario)
         → option_map order result ≡ Some (run threads system scenario) }
 {
     let system = word_of(found, "system")?;
@@ -112,7 +115,8 @@ fn run_of<'a>(found: &ArgMatches<'a>) -> Option<Command<'a>>
 }
 
 fn trace_of<'a>(inspection: Inspection, found: &ArgMatches<'a>) -> Option<Command<'a>>
-    ensures { (system scenario trace : List ℕ) → HasArguments (rows_of (found_of found.now)) (judge inspection system scenario trace)
+    ensures { (system scenario trace : List ℕ)
+        → HasArguments (rows_of (found_of found.now)) (judge inspection system scenario trace)
         → option_map order result ≡ Some (judge inspection system scenario trace) }
 {
     let system = word_of(found, "system")?;
@@ -127,7 +131,8 @@ fn trace_of<'a>(inspection: Inspection, found: &ArgMatches<'a>) -> Option<Comman
 }
 
 fn make_of<'a>(found: &ArgMatches<'a>) -> Option<Command<'a>>
-    ensures { (rounds : ℕ) → HasArguments (rows_of (found_of found.now)) (make rounds) → option_map order result ≡ Some (make rounds) }
+    ensures { (rounds : ℕ) → HasArguments (rows_of (found_of found.now)) (make rounds)
+        → option_map order result ≡ Some (make rounds) }
 {
     let rounds = rounds_of(word_of(found, "rounds")?)?;
     Some(Command::Make { rounds })
@@ -135,7 +140,8 @@ fn make_of<'a>(found: &ArgMatches<'a>) -> Option<Command<'a>>
 
 // The command of this name.
 fn command_named<'a>(name: &str, found: &ArgMatches<'a>) -> Option<Command<'a>>
-    ensures { (o : Order) → name.now ≡ name_of o → HasArguments (rows_of (found_of found.now)) o → option_map order result ≡ Some o }
+    ensures { (o : Order) → name.now ≡ name_of o → HasArguments (rows_of (found_of found.now)) o
+        → option_map order result ≡ Some o }
 {
     match name {
         "compile" => compile_of(found),
@@ -149,7 +155,8 @@ fn command_named<'a>(name: &str, found: &ArgMatches<'a>) -> Option<Command<'a>>
 
 // The command that the matches ask for.
 fn command_in<'a>(matches: &ArgMatches<'a>) -> Option<Command<'a>>
-    ensures { (o : Order) → AskFor (subcommand_rows_of matches.now) o → option_map order result ≡ Some o }
+    ensures { (o : Order) → AskFor (subcommand_rows_of matches.now) o
+        → option_map order result ≡ Some o }
 {
     let (name, found) = matches.subcommand()?;
     command_named(name, found)
@@ -157,16 +164,20 @@ fn command_in<'a>(matches: &ArgMatches<'a>) -> Option<Command<'a>>
 
 // The matches of the words.
 fn parsed<'a>(alloc: Global, words: &'a [String]) -> Result<ArgMatches<'a>, Error>
-    ensures ok { (o : Order) → order_of (map string_bytes words.entry.now) ≡ Some o → IfOk result (λ m. AskFor (subcommand_rows_of m) o) }
-    ensures err { (o : Order) → order_of (map string_bytes words.entry.now) ≡ Some o → IfErr result (λ e. kind_of e ≡ ErrorKind.OutOfMemory) }
+    ensures ok { (o : Order) → order_of (map string_bytes words.entry.now) ≡ Some o
+        → IfOk result (λ m. AskFor (subcommand_rows_of m) o) }
+    ensures err { (o : Order) → order_of (map string_bytes words.entry.now) ≡ Some o
+        → IfErr result (λ e. kind_of e ≡ ErrorKind.OutOfMemory) }
 {
     command_line(alloc)?.try_get_matches_from(words)
 }
 
 // The command as `clap` reads it.
 fn read<'a>(alloc: Global, words: &'a [String]) -> Result<Option<Command<'a>>, Error>
-    ensures ok { (o : Order) → order_of (map string_bytes words.entry.now) ≡ Some o → IfOk result (λ read. option_map order read ≡ Some o) }
-    ensures err { (o : Order) → order_of (map string_bytes words.entry.now) ≡ Some o → IfErr result (λ e. kind_of e ≡ ErrorKind.OutOfMemory) }
+    ensures ok { (o : Order) → order_of (map string_bytes words.entry.now) ≡ Some o
+        → IfOk result (λ read. option_map order read ≡ Some o) }
+    ensures err { (o : Order) → order_of (map string_bytes words.entry.now) ≡ Some o
+        → IfErr result (λ e. kind_of e ≡ ErrorKind.OutOfMemory) }
 {
     let matches = parsed(alloc, words)?;
     Ok(command_in(&matches))

@@ -156,7 +156,8 @@ fn trace_over<'a>(
     system: &'a str,
     words: &'a [String],
 ) -> Option<Command<'a>>
-    ensures { option_map order result ≡ trace_over inspection system.now (map string_bytes words.now) }
+    ensures { option_map order result
+        ≡ trace_over inspection system.now (map string_bytes words.now) }
 {
     let (scenario, words) = words.split_first()?;
     let (trace, words) = words.split_first()?;

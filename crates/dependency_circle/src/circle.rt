@@ -16,8 +16,10 @@ pub fn first_circle<G: Graph>(
     graph: &G,
     count: u32,
 ) -> Result<Option<Vec<u32>>, AllocError>
-    ensures first { IfOk result (λ found. AnswersCircle count (G.edge graph.now) (option_map (λ v. v.items) found)) }
-    ensures computed { IfOk result (λ found. option_map (λ v. v.items) found ≡ first_circle count (G.edge graph.now)) }
+    ensures first { IfOk result (λ found.
+        AnswersCircle count (G.edge graph.now) (option_map (λ v. v.items) found)) }
+    ensures computed { IfOk result (λ found.
+        option_map (λ v. v.items) found ≡ first_circle count (G.edge graph.now)) }
 {
     let mut front = Vec::new(alloc);
     'steps: while !is_circle(graph, count, front.as_slice()) {

@@ -68,7 +68,8 @@ fn goes_on<G: Graph>(
     k: u32,
 ) -> bool
     requires { k < length marks.now }
-    ensures { result ≡ (slice_index_or marks.now k false && (is_new k front.now && goes count (G.edge graph.now) home rest.now k)) }
+    ensures { result ≡ (slice_index_or marks.now k false
+        && (is_new k front.now && goes count (G.edge graph.now) home rest.now k)) }
 {
     marks[k as usize] && is_new(k, front) && goes(graph, count, home, rest, k)
 }

@@ -51,8 +51,11 @@ fn spread<G: Graph>(
     marks: &mut Vec<bool>,
 ) -> Result<(), AllocError>
     requires { vec_len marks.old ≡ count }
-    ensures found { OnOk result (found.new.items ≡ found.old.items ++ filter (is_unmarked_before marks.old.items (G.edge graph.now) y) (range_with_len 0 count)) }
-    ensures marks { OnOk result (MarksMore count (G.edge graph.now) y marks.old.items marks.new.items) }
+    ensures found { OnOk result (found.new.items ≡ found.old.items
+        ++ filter (is_unmarked_before marks.old.items (G.edge graph.now) y)
+        (range_with_len 0 count)) }
+    ensures marks { OnOk result
+        (MarksMore count (G.edge graph.now) y marks.old.items marks.new.items) }
 {
     for x in 0..count {
         if is_unmarked_before(graph, marks.as_slice(), x, y) {

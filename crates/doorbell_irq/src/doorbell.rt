@@ -13,7 +13,8 @@ use spm_tables::Tables;
 
 // The place of the partition with an ID, which is its place plus one; None where no partition has it.
 fn place_of_id(system: &System, id: i32) -> Option<ActorId>
-    ensures { result ≡ (if int_le (pos 1) id && int_le id (pos (length system.now.partitions)) then Some (record { 0 = place_of_id id }) else None) }
+    ensures { result ≡ (if int_le (pos 1) id && int_le id (pos (length system.now.partitions))
+        then Some (record { 0 = place_of_id id }) else None) }
 {
     if id < 1 {
         return None;
@@ -30,7 +31,8 @@ fn place_of_id(system: &System, id: i32) -> Option<ActorId>
 /// plus one. Fault exactly where no partition has the ID, and then nothing changed.
 pub fn notify(system: &System, tables: &mut Tables, partition: i32) -> Result<(), Fault>
     requires made { MadeFor tables.old system.now }
-    ensures answer { Answers (λ _. outcome.Done) (psa_notify system.now (spm_of tables.old) partition) tables.old result tables.new }
+    ensures answer { Answers (λ _. outcome.Done)
+        (psa_notify system.now (spm_of tables.old) partition) tables.old result tables.new }
     ensures shape { shape_of tables.new ≡ shape_of tables.old }
     ensures names { (s : SystemSeen) → MadeFor tables.old s → KeepsNames s tables.old tables.new }
     ensures fits { KeepsFit tables.old tables.new }
@@ -45,7 +47,8 @@ pub fn notify(system: &System, tables: &mut Tables, partition: i32) -> Result<()
 /// `psa_clear` (`psa/service.h`): clears the caller's doorbell. Fault exactly where it isn't asserted,
 /// and then nothing changed.
 pub fn clear(tables: &mut Tables, actor: ActorId) -> Result<(), Fault>
-    ensures answer { Answers (λ _. outcome.Done) (psa_clear (spm_of tables.old) actor.0) tables.old result tables.new }
+    ensures answer { Answers (λ _. outcome.Done) (psa_clear (spm_of tables.old) actor.0)
+        tables.old result tables.new }
     ensures shape { shape_of tables.new ≡ shape_of tables.old }
     ensures names { (s : SystemSeen) → MadeFor tables.old s → KeepsNames s tables.old tables.new }
     ensures fits { KeepsFit tables.old tables.new }

@@ -16,8 +16,12 @@ use spm_tables::Tables;
 
 // Sets the flags of a source, and then forwards its interrupts.
 fn put_forwarded(tables: &mut Tables, source: u32, flags: SourceFlags)
-    ensures answer { (s : SystemSeen) → MadeFor tables.old s → spm_of tables.new ≡ with_forwarded s (spm_of tables.old) source flags }
-    ensures after { tables.new ≡ record tables.old { flags = slice_set tables.old.flags source (forwarded (handling tables.old source) flags) } }
+    ensures answer { (s : SystemSeen) → MadeFor tables.old s
+        → spm_of tables.new ≡ with_forwarded s (spm_of tables.old) source flags }
+    ensures after { tables.new ≡ record tables.old {
+      flags = slice_set tables.old.flags source
+          (forwarded (handling tables.old source) flags);
+    } }
     ensures shape { shape_of tables.new ≡ shape_of tables.old }
     ensures names { (s : SystemSeen) → MadeFor tables.old s → KeepsNames s tables.old tables.new }
     ensures fits { KeepsFit tables.old tables.new }
@@ -32,8 +36,12 @@ fn put_forwarded(tables: &mut Tables, source: u32, flags: SourceFlags)
 /// asserted in its place. A source with a first-level handler has no such event; there it does what `fire` does with the answer 1.
 pub fn raise(tables: &mut Tables, source: u32)
     requires exists { source < length tables.old.sources }
-    ensures answer { (s : SystemSeen) → MadeFor tables.old s → raise s (spm_of tables.old) source ≡ (if handling tables.old source then None else Some (move outcome.Done (spm_of tables.new))) }
-    ensures interrupted { (s : SystemSeen) → MadeFor tables.old s → spm_of tables.new ≡ interrupted s (spm_of tables.old) source }
+    ensures answer { (s : SystemSeen) → MadeFor tables.old s
+        → raise s (spm_of tables.old) source
+        ≡ (if handling tables.old source
+        then None else Some (move outcome.Done (spm_of tables.new))) }
+    ensures interrupted { (s : SystemSeen) → MadeFor tables.old s
+        → spm_of tables.new ≡ interrupted s (spm_of tables.old) source }
     ensures shape { shape_of tables.new ≡ shape_of tables.old }
     ensures names { (s : SystemSeen) → MadeFor tables.old s → KeepsNames s tables.old tables.new }
     ensures fits { KeepsFit tables.old tables.new }
@@ -54,7 +62,8 @@ pub fn fire(tables: &mut Tables, source: u32, answer: u32)
     requires exists { source < length tables.old.sources }
     requires flih { handling tables.old source ≡ true }
     requires answer { answer ≤ 1 }
-    ensures answer { (s : SystemSeen) → MadeFor tables.old s → fire s (spm_of tables.old) source answer ≡ Some (move outcome.Done (spm_of tables.new)) }
+    ensures answer { (s : SystemSeen) → MadeFor tables.old s
+        → fire s (spm_of tables.old) source answer ≡ Some (move outcome.Done (spm_of tables.new)) }
     ensures shape { shape_of tables.new ≡ shape_of tables.old }
     ensures names { (s : SystemSeen) → MadeFor tables.old s → KeepsNames s tables.old tables.new }
     ensures fits { KeepsFit tables.old tables.new }
@@ -71,7 +80,8 @@ pub fn fire(tables: &mut Tables, source: u32, answer: u32)
 /// where it isn't the signal of such a source or isn't asserted, and then nothing changed.
 pub fn eoi(system: &System, tables: &mut Tables, actor: ActorId, signal: u32) -> Result<(), Fault>
     requires made { MadeFor tables.old system.now }
-    ensures answer { Answers (λ _. outcome.Done) (psa_eoi system.now (spm_of tables.old) actor.0 signal) tables.old result tables.new }
+    ensures answer { Answers (λ _. outcome.Done)
+        (psa_eoi system.now (spm_of tables.old) actor.0 signal) tables.old result tables.new }
     ensures shape { shape_of tables.new ≡ shape_of tables.old }
     ensures names { (s : SystemSeen) → MadeFor tables.old s → KeepsNames s tables.old tables.new }
     ensures fits { KeepsFit tables.old tables.new }
@@ -96,7 +106,9 @@ pub fn eoi(system: &System, tables: &mut Tables, actor: ActorId, signal: u32) ->
 /// nothing changed.
 pub fn reset(system: &System, tables: &mut Tables, actor: ActorId, signal: u32) -> Result<(), Fault>
     requires made { MadeFor tables.old system.now }
-    ensures answer { Answers (λ _. outcome.Done) (psa_reset_signal system.now (spm_of tables.old) actor.0 signal) tables.old result tables.new }
+    ensures answer { Answers (λ _. outcome.Done)
+        (psa_reset_signal system.now (spm_of tables.old) actor.0 signal)
+        tables.old result tables.new }
     ensures shape { shape_of tables.new ≡ shape_of tables.old }
     ensures names { (s : SystemSeen) → MadeFor tables.old s → KeepsNames s tables.old tables.new }
     ensures fits { KeepsFit tables.old tables.new }
@@ -126,7 +138,9 @@ pub fn enable(
     signal: u32,
 ) -> Result<(), Fault>
     requires made { MadeFor tables.old system.now }
-    ensures answer { Answers (λ _. outcome.Done) (psa_irq_enable system.now (spm_of tables.old) actor.0 signal) tables.old result tables.new }
+    ensures answer { Answers (λ _. outcome.Done)
+        (psa_irq_enable system.now (spm_of tables.old) actor.0 signal)
+        tables.old result tables.new }
     ensures shape { shape_of tables.new ≡ shape_of tables.old }
     ensures names { (s : SystemSeen) → MadeFor tables.old s → KeepsNames s tables.old tables.new }
     ensures fits { KeepsFit tables.old tables.new }
@@ -152,7 +166,9 @@ pub fn disable(
     signal: u32,
 ) -> Result<u32, Fault>
     requires made { MadeFor tables.old system.now }
-    ensures answer { Answers (λ was. outcome.Number was) (psa_irq_disable system.now (spm_of tables.old) actor.0 signal) tables.old result tables.new }
+    ensures answer { Answers (λ was. outcome.Number was)
+        (psa_irq_disable system.now (spm_of tables.old) actor.0 signal)
+        tables.old result tables.new }
     ensures shape { shape_of tables.new ≡ shape_of tables.old }
     ensures names { (s : SystemSeen) → MadeFor tables.old s → KeepsNames s tables.old tables.new }
     ensures fits { KeepsFit tables.old tables.new }

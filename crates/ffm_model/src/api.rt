@@ -32,7 +32,8 @@ pub trait Api {
         requires may { MayIssue (record_of pass.old) call }
         ensures own { own self.now pass.new }
         ensures actor { actor_of pass.new ≡ actor_of pass.old }
-        ensures answer { IsAnswered (actor_of pass.old) call result (record_of pass.old) (record_of pass.new) (is_done pass.new) };
+        ensures answer { IsAnswered (actor_of pass.old) call result (record_of pass.old)
+            (record_of pass.new) (is_done pass.new) };
 
     /// Returns from the call that was blocked, or says why it doesn't. It may wait for the turn.
     fn resume<R: Wait>(&self, rt: &R, pass: &mut Self::Pass) -> Answer
@@ -40,7 +41,8 @@ pub trait Api {
         requires may { MayResume (record_of pass.old) }
         ensures own { own self.now pass.new }
         ensures actor { actor_of pass.new ≡ actor_of pass.old }
-        ensures answer { IsAnswered (actor_of pass.old) Resume result (record_of pass.old) (record_of pass.new) (is_done pass.new) };
+        ensures answer { IsAnswered (actor_of pass.old) Resume result (record_of pass.old)
+            (record_of pass.new) (is_done pass.new) };
 
     /// Waits a while, where the pass was last answered that its actor can't go on yet. It promises
     /// nothing: the actor may be as far as it was. By itself it doesn't wait.

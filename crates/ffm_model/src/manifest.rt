@@ -52,9 +52,29 @@ impl Model for ServiceItem {
 
     ghost Value = { ServiceRecord };
 
-    ghost view = { λ s. record { name = s.name; sid = s.sid; nonsecure = s.nonsecure; version = s.version; policy = s.policy; connection_based = s.connection_based; stateless_handle = s.stateless_handle; mm = s.mm } };
+    ghost view = { λ s.
+        record {
+          name = s.name;
+          sid = s.sid;
+          nonsecure = s.nonsecure;
+          version = s.version;
+          policy = s.policy;
+          connection_based = s.connection_based;
+          stateless_handle = s.stateless_handle;
+          mm = s.mm;
+        } };
 
-    ghost invariant = { λ s. IsService (record { name = s.name; sid = s.sid; nonsecure = s.nonsecure; version = s.version; policy = s.policy; connection_based = s.connection_based; stateless_handle = s.stateless_handle; mm = s.mm }) };
+    ghost invariant = { λ s.
+        IsService (record {
+          name = s.name;
+          sid = s.sid;
+          nonsecure = s.nonsecure;
+          version = s.version;
+          policy = s.policy;
+          connection_based = s.connection_based;
+          stateless_handle = s.stateless_handle;
+          mm = s.mm;
+        }) };
 }
 
 /// An interrupt of a partition. Its source is a name, or the decimal text of a number.
@@ -73,7 +93,8 @@ impl Model for IrqItem {
 
     ghost view = { λ i. record { source = i.source; signal = i.signal; flih = i.flih } };
 
-    ghost invariant = { λ i. IsIrq (record { source = i.source; signal = i.signal; flih = i.flih }) };
+    ghost invariant = { λ i.
+        IsIrq (record { source = i.source; signal = i.signal; flih = i.flih }) };
 }
 
 /// A partition's manifest, with its defaults filled in. Each list has every item of the file, in
@@ -103,7 +124,35 @@ impl Model for Manifest {
 
     ghost Value = { ManifestRecord };
 
-    ghost view = { λ m. record { framework = m.framework; name = m.name; rot = m.rot; priority = m.priority; sfn = m.sfn; entry_point = m.entry_point; stack_size = m.stack_size; heap_size = m.heap_size; mmio = m.mmio; services = m.services; dependencies = m.dependencies; irqs = m.irqs } };
+    ghost view = { λ m.
+        record {
+          framework = m.framework;
+          name = m.name;
+          rot = m.rot;
+          priority = m.priority;
+          sfn = m.sfn;
+          entry_point = m.entry_point;
+          stack_size = m.stack_size;
+          heap_size = m.heap_size;
+          mmio = m.mmio;
+          services = m.services;
+          dependencies = m.dependencies;
+          irqs = m.irqs;
+        } };
 
-    ghost invariant = { λ m. IsManifest (record { framework = m.framework; name = m.name; rot = m.rot; priority = m.priority; sfn = m.sfn; entry_point = m.entry_point; stack_size = m.stack_size; heap_size = m.heap_size; mmio = m.mmio; services = m.services; dependencies = m.dependencies; irqs = m.irqs }) };
+    ghost invariant = { λ m.
+        IsManifest (record {
+          framework = m.framework;
+          name = m.name;
+          rot = m.rot;
+          priority = m.priority;
+          sfn = m.sfn;
+          entry_point = m.entry_point;
+          stack_size = m.stack_size;
+          heap_size = m.heap_size;
+          mmio = m.mmio;
+          services = m.services;
+          dependencies = m.dependencies;
+          irqs = m.irqs;
+        }) };
 }

@@ -38,7 +38,8 @@ impl Model for ConnectionItem {
 
     ghost view = { λ c. record { client = c.client; service = c.service; count = c.count } };
 
-    ghost invariant = { λ c. IsConnection (record { client = c.client; service = c.service; count = c.count }) };
+    ghost invariant = { λ c.
+        IsConnection (record { client = c.client; service = c.service; count = c.count }) };
 }
 
 /// What a system file and its manifests say, with their defaults filled in. Each list has every
@@ -62,7 +63,23 @@ impl Model for Parts {
 
     ghost Value = { PartsRecord };
 
-    ghost view = { λ p. record { level = p.level; manifests = p.manifests; regions = p.regions; non_secure_ram = p.non_secure_ram; clients = p.clients; connections = p.connections } };
+    ghost view = { λ p.
+        record {
+          level = p.level;
+          manifests = p.manifests;
+          regions = p.regions;
+          non_secure_ram = p.non_secure_ram;
+          clients = p.clients;
+          connections = p.connections;
+        } };
 
-    ghost invariant = { λ p. IsParts (record { level = p.level; manifests = p.manifests; regions = p.regions; non_secure_ram = p.non_secure_ram; clients = p.clients; connections = p.connections }) };
+    ghost invariant = { λ p.
+        IsParts (record {
+          level = p.level;
+          manifests = p.manifests;
+          regions = p.regions;
+          non_secure_ram = p.non_secure_ram;
+          clients = p.clients;
+          connections = p.connections;
+        }) };
 }

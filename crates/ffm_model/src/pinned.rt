@@ -46,9 +46,12 @@ pub fn values_of_the_limits()
 /// Each refusal has its code.
 pub fn values_of_the_codes()
     ensures values { (JSON ≡ 1) × (MISSING_ATTRIBUTE ≡ 2) × (WRONG_TYPE ≡ 3) × (BAD_VALUE ≡ 4) }
-    ensures names { (DUPLICATE_PARTITION ≡ 5) × (DUPLICATE_SERVICE ≡ 6) × (DUPLICATE_SID ≡ 7) × (DUPLICATE_IRQ_SOURCE ≡ 17) }
-    ensures dependencies { (UNKNOWN_DEPENDENCY ≡ 8) × (SELF_DEPENDENCY ≡ 9) × (DEPENDENCY_CYCLE ≡ 10) }
-    ensures counts { (TOO_MANY_SIGNALS ≡ 11) × (TOO_MANY_PARTITIONS ≡ 14) × (TOO_MANY_CONNECTIONS ≡ 15) }
+    ensures names { (DUPLICATE_PARTITION ≡ 5) × (DUPLICATE_SERVICE ≡ 6)
+        × (DUPLICATE_SID ≡ 7) × (DUPLICATE_IRQ_SOURCE ≡ 17) }
+    ensures dependencies { (UNKNOWN_DEPENDENCY ≡ 8)
+        × (SELF_DEPENDENCY ≡ 9) × (DEPENDENCY_CYCLE ≡ 10) }
+    ensures counts { (TOO_MANY_SIGNALS ≡ 11)
+        × (TOO_MANY_PARTITIONS ≡ 14) × (TOO_MANY_CONNECTIONS ≡ 15) }
     ensures budgets { BUDGET_WITHOUT_PERMISSION ≡ 16 }
     ensures stateless { (DUPLICATE_STATELESS_INDEX ≡ 21) × (TOO_MANY_STATELESS ≡ 22) }
     ensures regions { (REGION_UNKNOWN ≡ 12) × (REGION_OVERLAP ≡ 13) × (MEMORY_TOO_LARGE ≡ 18) }

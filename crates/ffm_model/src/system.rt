@@ -128,8 +128,10 @@ pub struct System {
     pub regions: Regions,
     pub clients: List<Name>,
     pub budgets: List<Budget>,
-    pub ghost counted: { IsTrue (nat_lt (length services) (2 ^ 31) && nat_lt (length regions) (2 ^ 31)) },
-    pub ghost well_formed: { IsTrue (is_well_formed level partitions services sources regions clients budgets) },
+    pub ghost counted: { IsTrue (nat_lt (length services) (2 ^ 31)
+        && nat_lt (length regions) (2 ^ 31)) },
+    pub ghost well_formed: { IsTrue (is_well_formed level partitions services
+        sources regions clients budgets) },
 }
 
 // The place of the first service with the index.
@@ -142,7 +144,8 @@ fn place_of_index(services: &[Service], index: u32) -> Option<usize>
 // How a budget stands to the client's for the service: budgets come in the order of clients, and then of
 // services.
 fn compare(budget: &Budget, client: ActorId, service: u32) -> Ordering
-    ensures { result ≡ ordering_then (nat_cmp budget.now.client.0 client.0) (nat_cmp budget.now.service service) }
+    ensures { result ≡ ordering_then (nat_cmp budget.now.client.0 client.0)
+        (nat_cmp budget.now.service service) }
 {
     let by_client = budget.client.0.cmp(&client.0);
     by_client.then(budget.service.cmp(&service))
@@ -151,7 +154,8 @@ fn compare(budget: &Budget, client: ActorId, service: u32) -> Ordering
 // The count of the client's budget for the service, among budgets in order.
 fn count_for(budgets: &[Budget], client: ActorId, service: u32) -> Option<u32>
     requires { each_pair budget_before budgets.now ≡ true }
-    ensures { result ≡ option_map (λ b. b.count) (find (λ b. (b.client.0 == client.0) && (b.service == service)) budgets.now) }
+    ensures { result ≡ option_map (λ b. b.count)
+        (find (λ b. (b.client.0 == client.0) && (b.service == service)) budgets.now) }
 {
     match budgets.binary_search_by(|b| compare(b, client, service)) {
         Ok(place) => Some(budgets[place].count),
@@ -181,8 +185,18 @@ impl System {
         requires services { length services < 2 ^ 31 }
         requires regions { length regions < 2 ^ 31 }
         requires budgets { length budgets < 2 ^ 31 }
-        ensures exact { is_some result ≡ is_well_formed level partitions services sources regions clients budgets }
-        ensures made { result ≡ system_from (record { level = level; partitions = partitions; services = services; sources = sources; regions = regions; clients = clients; budgets = budgets }) }
+        ensures exact { is_some result
+            ≡ is_well_formed level partitions services sources regions clients budgets }
+        ensures made { result
+            ≡ system_from (record {
+              level = level;
+              partitions = partitions;
+              services = services;
+              sources = sources;
+              regions = regions;
+              clients = clients;
+              budgets = budgets;
+            }) }
     {
         let fits = do_parts_fit(
             level,

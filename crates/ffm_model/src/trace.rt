@@ -26,9 +26,11 @@ impl Model for Counts {
 
     ghost Value = { ActorCounts };
 
-    ghost view = { λ c. record { partitions = c.partitions; clients = c.clients; device = c.device } };
+    ghost view = { λ c.
+        record { partitions = c.partitions; clients = c.clients; device = c.device } };
 
     ghost invariant = { λ c. (c.partitions ≤ 32) × (c.clients ≤ 16) };
 
-    ghost inverse = { λ v. record { partitions = v.partitions; clients = v.clients; device = v.device } };
+    ghost inverse = { λ v.
+        record { partitions = v.partitions; clients = v.clients; device = v.device } };
 }

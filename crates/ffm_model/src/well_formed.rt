@@ -40,7 +40,8 @@ fn is_non_secure(region: &Region) -> bool
 }
 
 fn is_region_right(region: &Region, partitions: usize) -> bool
-    ensures { result ≡ owner_below partitions region.now.class && nat_le region.now.size 1048576 && nat_le (region.now.base + region.now.size) 4294967296 }
+    ensures { result ≡ owner_below partitions region.now.class && nat_le region.now.size 1048576
+        && nat_le (region.now.base + region.now.size) 4294967296 }
 {
     let owned = match region.class {
         Class::Mmio { owner, .. } => (owner as usize) < partitions,
@@ -63,7 +64,9 @@ fn total_size(regions: &[Region]) -> u64
 }
 
 fn are_regions_right(regions: &[Region], partitions: usize) -> bool
-    ensures { result ≡ list_all (λ r. owner_below partitions r.class && nat_le r.size 1048576 && nat_le (r.base + r.size) 4294967296) regions.now }
+    ensures { result ≡ list_all (λ r.
+        owner_below partitions r.class && nat_le r.size 1048576
+        && nat_le (r.base + r.size) 4294967296) regions.now }
 {
     regions.iter().all(|r| is_region_right(r, partitions))
 }
@@ -101,7 +104,9 @@ fn are_in_order(budgets: &[Budget]) -> bool
 }
 
 fn is_budget_right(budget: &Budget, actors: usize, services: &[Service]) -> bool
-    ensures { result ≡ nat_lt budget.now.client.0 actors && option_map_or (λ v. not (v.owner == budget.now.client.0)) (slice_get services.now budget.now.service) false }
+    ensures { result ≡ nat_lt budget.now.client.0 actors
+        && option_map_or (λ v. not (v.owner == budget.now.client.0))
+        (slice_get services.now budget.now.service) false }
 {
     let other = match services.get(budget.service as usize) {
         Some(service) => service.owner != budget.client.0,
@@ -118,7 +123,10 @@ fn total_count(budgets: &[Budget]) -> u64
 }
 
 fn are_right(budgets: &[Budget], actors: usize, services: &[Service]) -> bool
-    ensures { result ≡ list_all (λ b. nat_lt b.client.0 actors && option_map_or (λ v. not (v.owner == b.client.0)) (slice_get services.now b.service) false) budgets.now }
+    ensures { result ≡ list_all (λ b.
+        nat_lt b.client.0 actors
+        && option_map_or (λ v. not (v.owner == b.client.0))
+        (slice_get services.now b.service) false) budgets.now }
 {
     budgets.iter().all(|b| is_budget_right(b, actors, services))
 }
@@ -138,13 +146,15 @@ fn are_low(services: &[Service]) -> bool
 }
 
 fn has_own_index(service: &Service, rest: &[Service]) -> bool
-    ensures { result ≡ list_all (λ w. (service.now.stateless == 0) || not (service.now.stateless == w.stateless)) rest.now }
+    ensures { result ≡ list_all
+        (λ w. (service.now.stateless == 0) || not (service.now.stateless == w.stateless)) rest.now }
 {
     rest.iter().all(|w| service.stateless == 0 || service.stateless != w.stateless)
 }
 
 fn have_own_indices(services: &[Service]) -> bool
-    ensures { result ≡ each_pair (λ v w. (v.stateless == 0) || not (v.stateless == w.stateless)) services.now }
+    ensures { result ≡ each_pair
+        (λ v w. (v.stateless == 0) || not (v.stateless == w.stateless)) services.now }
 {
     match services {
         [] => true,
@@ -175,7 +185,8 @@ pub(crate) fn do_stateless_fit(services: &[Service], budgets: &[Budget]) -> bool
 }
 
 fn has_its_ram(partition: &Partition, regions: &[Region]) -> bool
-    ensures { result ≡ option_map_or (λ r. is_ram_in partition.now.domain r.class) (slice_get regions.now partition.now.ram) false }
+    ensures { result ≡ option_map_or (λ r. is_ram_in partition.now.domain r.class)
+        (slice_get regions.now partition.now.ram) false }
 {
     match regions.get(partition.ram as usize) {
         Some(region) => match region.class {
@@ -187,7 +198,9 @@ fn has_its_ram(partition: &Partition, regions: &[Region]) -> bool
 }
 
 fn all_have_their_ram(partitions: &[Partition], regions: &[Region]) -> bool
-    ensures { result ≡ list_all (λ p. option_map_or (λ r. is_ram_in p.domain r.class) (slice_get regions.now p.ram) false) partitions.now }
+    ensures { result ≡ list_all (λ p.
+        option_map_or (λ r. is_ram_in p.domain r.class)
+        (slice_get regions.now p.ram) false) partitions.now }
 {
     partitions.iter().all(|p| has_its_ram(p, regions))
 }
@@ -214,13 +227,16 @@ fn is_someones_ram(partitions: &[Partition], place: usize) -> bool
 }
 
 fn is_ram_owned(region: &Region, place: usize, partitions: &[Partition]) -> bool
-    ensures { result ≡ not (is_ram region.now.class) || list_any (λ p. p.ram == place) partitions.now }
+    ensures { result ≡ not (is_ram region.now.class)
+        || list_any (λ p. p.ram == place) partitions.now }
 {
     !matches!(region.class, Class::Ram { .. }) || is_someones_ram(partitions, place)
 }
 
 fn is_each_ram_owned(regions: &[Region], partitions: &[Partition]) -> bool
-    ensures { result ≡ list_all (λ e. not (is_ram e.1.class) || list_any (λ p. p.ram == e.0) partitions.now) (enumerate_from 0 regions.now) }
+    ensures { result ≡ list_all (λ e.
+        not (is_ram e.1.class) || list_any (λ p. p.ram == e.0) partitions.now)
+        (enumerate_from 0 regions.now) }
 {
     regions
         .iter()
@@ -264,7 +280,8 @@ fn do_functions_fit(
 }
 
 fn do_all_functions_fit(partitions: &[Partition], services: &[Service], regions: &[Region]) -> bool
-    ensures { result ≡ list_all (functions_fit services.now regions.now) (enumerate_from 0 partitions.now) }
+    ensures { result ≡ list_all (functions_fit services.now regions.now)
+        (enumerate_from 0 partitions.now) }
 {
     partitions
         .iter()
@@ -341,13 +358,15 @@ fn do_source_signals_fit(sources: &[Source], partitions: usize) -> bool
 }
 
 fn clashes_with_no_service(service: &Service, rest: &[Service]) -> bool
-    ensures { result ≡ list_all (λ w. not ((service.now.owner == w.owner) && (service.now.signal == w.signal))) rest.now }
+    ensures { result ≡ list_all
+        (λ w. not ((service.now.owner == w.owner) && (service.now.signal == w.signal))) rest.now }
 {
     rest.iter().all(|w| !(service.owner == w.owner && service.signal == w.signal))
 }
 
 fn no_services_clash(services: &[Service]) -> bool
-    ensures { result ≡ each_pair (λ v w. not ((v.owner == w.owner) && (v.signal == w.signal))) services.now }
+    ensures { result ≡ each_pair
+        (λ v w. not ((v.owner == w.owner) && (v.signal == w.signal))) services.now }
 {
     match services {
         [] => true,
@@ -356,13 +375,15 @@ fn no_services_clash(services: &[Service]) -> bool
 }
 
 fn clashes_with_no_later(source: &Source, rest: &[Source]) -> bool
-    ensures { result ≡ list_all (λ w. not ((source.now.owner == w.owner) && (source.now.signal == w.signal))) rest.now }
+    ensures { result ≡ list_all
+        (λ w. not ((source.now.owner == w.owner) && (source.now.signal == w.signal))) rest.now }
 {
     rest.iter().all(|w| !(source.owner == w.owner && source.signal == w.signal))
 }
 
 fn no_sources_clash(sources: &[Source]) -> bool
-    ensures { result ≡ each_pair (λ v w. not ((v.owner == w.owner) && (v.signal == w.signal))) sources.now }
+    ensures { result ≡ each_pair
+        (λ v w. not ((v.owner == w.owner) && (v.signal == w.signal))) sources.now }
 {
     match sources {
         [] => true,
@@ -371,13 +392,17 @@ fn no_sources_clash(sources: &[Source]) -> bool
 }
 
 fn clashes_with_no_source(service: &Service, sources: &[Source]) -> bool
-    ensures { result ≡ list_all (λ w. not ((service.now.owner == w.owner) && (service.now.signal == w.signal))) sources.now }
+    ensures { result ≡ list_all (λ w.
+        not ((service.now.owner == w.owner) && (service.now.signal == w.signal)))
+        sources.now }
 {
     sources.iter().all(|w| !(service.owner == w.owner && service.signal == w.signal))
 }
 
 fn no_service_clashes_with_a_source(services: &[Service], sources: &[Source]) -> bool
-    ensures { result ≡ list_all (λ v. list_all (λ w. not ((v.owner == w.owner) && (v.signal == w.signal))) sources.now) services.now }
+    ensures { result ≡ list_all (λ v.
+        list_all (λ w. not ((v.owner == w.owner) && (v.signal == w.signal)))
+        sources.now) services.now }
 {
     services.iter().all(|v| clashes_with_no_source(v, sources))
 }
@@ -408,7 +433,8 @@ pub(crate) fn do_parts_fit(
     requires budgets { length budgets.now < 2 ^ 31 }
     ensures few_partitions { result ≡ true → length partitions.now ≤ 32 }
     ensures few_clients { result ≡ true → length clients.now ≤ 16 }
-    ensures fit { result ≡ is_well_formed level partitions.now services.now sources.now regions.now clients.now budgets.now }
+    ensures fit { result ≡ is_well_formed level partitions.now services.now sources.now
+        regions.now clients.now budgets.now }
 {
     1 <= level
         && level <= 3

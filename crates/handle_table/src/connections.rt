@@ -62,7 +62,8 @@ fn is_told(connection: &OpenConnection, handle: Handle) -> bool
 }
 
 fn is_held_by(connection: &OpenConnection, owner: ActorId, handle: Handle) -> bool
-    ensures { result ≡ (connection.now.client.0 == owner.0) && has_handle connection.now.handle handle }
+    ensures { result ≡ (connection.now.client.0 == owner.0)
+        && has_handle connection.now.handle handle }
 {
     connection.client.0 == owner.0 && is_told(connection, handle)
 }
@@ -81,7 +82,9 @@ fn is_owned_from(connection: &OpenConnection, owner: ActorId, from: u32) -> bool
 
 // The slot that a handle names, where it is that of a connection.
 fn connection_slot(handle: Handle) -> Option<Slot>
-    ensures { (slot : TheSlot) → IsNameable family.Connection slot → handle_at family.Connection slot ≡ handle → result ≡ Some slot }
+    ensures { (slot : TheSlot) → IsNameable family.Connection slot
+        → handle_at family.Connection slot ≡ handle
+        → result ≡ Some slot }
 {
     match slot_of(handle) {
         Some((Family::Connection, slot)) => Some(slot),
@@ -152,8 +155,10 @@ impl Connections {
         requires room { length self.old.held < length self.old.generations }
         requires few { self.old.takes < most_takes }
         ensures slot { free_slot self.old ≡ Some result }
-        ensures after { self.new ≡ taken self.old result (new_connection (spm_of_connections self.old) owner.0 service) }
-        ensures state { spm_of_connections self.new ≡ with_started (spm_of_connections self.old) (new_connection (spm_of_connections self.old) owner.0 service) }
+        ensures after { self.new
+            ≡ taken self.old result (new_connection (spm_of_connections self.old) owner.0 service) }
+        ensures state { spm_of_connections self.new ≡ with_started (spm_of_connections self.old)
+            (new_connection (spm_of_connections self.old) owner.0 service) }
     {
         let connection = OpenConnection {
             serial: self.pool.takes(),
@@ -171,7 +176,8 @@ impl Connections {
 
     /// The connection of this owner that was told this handle, in constant time; None exactly where there is none.
     pub fn find(&self, owner: ActorId, handle: Handle) -> Option<Slot>
-        ensures connection { option_and_then (item_at self.now) result ≡ connection_held (spm_of_connections self.now) owner.0 handle }
+        ensures connection { option_and_then (item_at self.now) result
+            ≡ connection_held (spm_of_connections self.now) owner.0 handle }
         ensures live { IfSome result (λ slot. IsSome (item_at self.now slot)) }
     {
         self.pool.law();
@@ -202,8 +208,11 @@ impl Connections {
     /// Changes the phase of a connection.
     pub fn set_phase(&mut self, slot: Slot, phase: ConnPhase)
         requires { IsSome (item_at self.old slot) }
-        ensures item { IfSome (item_at self.old slot) (λ c. self.new ≡ with_item self.old slot (record c { phase = phase })) }
-        ensures state { IfSome (item_at self.old slot) (λ c. spm_of_connections self.new ≡ with_connection_phase (spm_of_connections self.old) c.serial phase) }
+        ensures item { IfSome (item_at self.old slot) (λ c.
+            self.new ≡ with_item self.old slot (record c { phase = phase })) }
+        ensures state { IfSome (item_at self.old slot) (λ c.
+            spm_of_connections self.new
+            ≡ with_connection_phase (spm_of_connections self.old) c.serial phase) }
     {
         let mut connection = self.open_at(slot);
         connection.phase = phase;
@@ -213,8 +222,11 @@ impl Connections {
     /// Changes the rhandle of a connection.
     pub fn set_rhandle(&mut self, slot: Slot, rhandle: u32)
         requires { IsSome (item_at self.old slot) }
-        ensures item { IfSome (item_at self.old slot) (λ c. self.new ≡ with_item self.old slot (record c { rhandle = rhandle })) }
-        ensures state { IfSome (item_at self.old slot) (λ c. spm_of_connections self.new ≡ with_rhandle (spm_of_connections self.old) c.serial rhandle) }
+        ensures item { IfSome (item_at self.old slot) (λ c.
+            self.new ≡ with_item self.old slot (record c { rhandle = rhandle })) }
+        ensures state { IfSome (item_at self.old slot) (λ c.
+            spm_of_connections self.new
+            ≡ with_rhandle (spm_of_connections self.old) c.serial rhandle) }
     {
         let mut connection = self.open_at(slot);
         connection.rhandle = rhandle;
@@ -225,8 +237,11 @@ impl Connections {
     pub fn tell(&mut self, slot: Slot) -> Handle
         requires { IsSome (item_at self.old slot) }
         ensures handle { result ≡ handle_at family.Connection slot }
-        ensures item { IfSome (item_at self.old slot) (λ c. self.new ≡ with_item self.old slot (record c { handle = Some result })) }
-        ensures state { IfSome (item_at self.old slot) (λ c. spm_of_connections self.new ≡ with_connection_handle (spm_of_connections self.old) c.serial result) }
+        ensures item { IfSome (item_at self.old slot) (λ c.
+            self.new ≡ with_item self.old slot (record c { handle = Some result })) }
+        ensures state { IfSome (item_at self.old slot) (λ c.
+            spm_of_connections self.new
+            ≡ with_connection_handle (spm_of_connections self.old) c.serial result) }
     {
         let mut connection = self.open_at(slot);
         let handle = handle_of(Family::Connection, slot);
@@ -239,7 +254,9 @@ impl Connections {
     pub fn free(&mut self, slot: Slot)
         requires { IsSome (item_at self.old slot) }
         ensures rest { self.new ≡ without self.old slot }
-        ensures state { IfSome (item_at self.old slot) (λ c. spm_of_connections self.new ≡ without_connection (spm_of_connections self.old) c.serial) }
+        ensures state { IfSome (item_at self.old slot) (λ c.
+            spm_of_connections self.new
+            ≡ without_connection (spm_of_connections self.old) c.serial) }
     {
         self.pool.law();
         self.pool.put_back(slot);
@@ -261,9 +278,12 @@ impl Connections {
 
     /// The connection of this owner with the least serial number from this one on; None exactly where there is none.
     pub fn first_of(&self, owner: ActorId, from: u32) -> Option<Slot>
-        ensures connection { option_and_then (item_at self.now) result ≡ find (is_owned_from owner.0 from) (connections self.now) }
+        ensures connection { option_and_then (item_at self.now) result
+            ≡ find (is_owned_from owner.0 from) (connections self.now) }
         ensures live { IfSome result (λ slot. IsSome (item_at self.now slot)) }
-        ensures least { IfSome (option_and_then (item_at self.now) result) (λ c. All (λ d. IsTrue (is_owned_from owner.0 from d) → c.serial ≤ d.serial) (connections self.now)) }
+        ensures least { IfSome (option_and_then (item_at self.now) result) (λ c.
+            All (λ d. IsTrue (is_owned_from owner.0 from d) → c.serial ≤ d.serial)
+            (connections self.now)) }
     {
         self.pool.law();
         for place in 0..self.pool.live() {

@@ -57,8 +57,11 @@ pub fn handle_of(family: Family, slot: Slot) -> Handle
 }
 
 fn slot_of_number(number: u32) -> Option<(Family, Slot)>
-    ensures gives { IfSome result (λ named. IsNameable named.0 named.1 × (handle_number named.0 named.1 ≡ number)) }
-    ensures only { (family : TheFamily) (slot : TheSlot) → IsNameable family slot → handle_number family slot ≡ number → result ≡ Some (family, slot) }
+    ensures gives { IfSome result (λ named.
+        IsNameable named.0 named.1 × (handle_number named.0 named.1 ≡ number)) }
+    ensures only { (family : TheFamily) (slot : TheSlot) → IsNameable family slot
+        → handle_number family slot ≡ number
+        → result ≡ Some (family, slot) }
 {
     let generation = number / NUMBERS;
     let rest = number % NUMBERS;
@@ -84,8 +87,11 @@ fn slot_of_number(number: u32) -> Option<(Family, Slot)>
 /// The family and the slot that give this handle. None exactly where none do: the handle isn't positive or is 0x40000000 or more,
 /// as each stateless one, or it shows generation 0 or an index that its family hasn't.
 pub fn slot_of(handle: Handle) -> Option<(Family, Slot)>
-    ensures gives { IfSome result (λ named. IsNameable named.0 named.1 × (handle_at named.0 named.1 ≡ handle)) }
-    ensures only { (family : TheFamily) (slot : TheSlot) → IsNameable family slot → handle_at family slot ≡ handle → result ≡ Some (family, slot) }
+    ensures gives { IfSome result (λ named.
+        IsNameable named.0 named.1 × (handle_at named.0 named.1 ≡ handle)) }
+    ensures only { (family : TheFamily) (slot : TheSlot) → IsNameable family slot
+        → handle_at family slot ≡ handle
+        → result ≡ Some (family, slot) }
 {
     match u32::try_from(handle.0) {
         Ok(number) => slot_of_number(number),

@@ -21,7 +21,9 @@ ghost use Rattle.law_calls.specs.Vectors.{HaveFour, LieWithin};
 pub fn bytes_changed_lie_in_reach()
     ensures steps { (s : System) → (st : State) → HaveFour st.spm → StepsChangeReach s st }
     ensures calls { (s : System) → (st : State) → HaveFour st.spm → CallsChangeReach s st }
-    ensures runs { (s : System) → (m : ByteMap) → (es : List Entry) → (st : State) → after s m es ≡ Some st → StepsChangeReach s st }
+    ensures runs { (s : System) → (m : ByteMap) → (es : List Entry) → (st : State)
+        → after s m es ≡ Some st
+        → StepsChangeReach s st }
 {}
 
 /// A byte that an event tells lies in RAM of its actor's domain, in MMIO of its actor, or in an input
@@ -29,13 +31,18 @@ pub fn bytes_changed_lie_in_reach()
 /// memory outside of these, the same entries are steps, and after one each byte is the same in both or wasn't
 /// changed in either. It holds of any two states.
 pub fn bytes_read_lie_in_reach()
-    ensures { (s : System) → (one other : State) → (e : Entry) → AgreeWithin s e.actor.0 one other → StepsAlike one other (step s one e) (step s other e) }
+    ensures { (s : System) → (one other : State) → (e : Entry) → AgreeWithin s e.actor.0 one other
+        → StepsAlike one other (step s one e) (step s other e) }
 {}
 
 /// In each state of a run each message has four input and four output vectors, and they meet the
 /// condition on vectors in the system's regions: they, and the descriptors of the outputs given, lie in
 /// these regions, and no more was moved than there is.
 pub fn vectors_stay_within()
-    ensures four { (s : System) → (m : ByteMap) → (es : List Entry) → (st : State) → after s m es ≡ Some st → HaveFour st.spm }
-    ensures within { (s : System) → (m : ByteMap) → (es : List Entry) → (st : State) → after s m es ≡ Some st → LieWithin s st.spm }
+    ensures four { (s : System) → (m : ByteMap) → (es : List Entry) → (st : State)
+        → after s m es ≡ Some st
+        → HaveFour st.spm }
+    ensures within { (s : System) → (m : ByteMap) → (es : List Entry) → (st : State)
+        → after s m es ≡ Some st
+        → LieWithin s st.spm }
 {}

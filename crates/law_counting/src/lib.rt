@@ -43,7 +43,8 @@ pub fn messages_pair_with_connections()
 pub fn declared_connections_suffice()
     ensures connections { InEachRun (λ s es st. length st.spm.connections ≤ capacity s) }
     ensures messages { InEachRun (λ s es st. length st.spm.messages ≤ message_capacity s) }
-    ensures without_stateless { (s : System) → ((service : ℕ) → is_stateless s service ≡ false) → message_capacity s ≡ capacity s }
+    ensures without_stateless { (s : System) → ((service : ℕ) → is_stateless s service ≡ false)
+        → message_capacity s ≡ capacity s }
     ensures room { (s : System) → (b : SpmState) → ObjectsFit s b → RoomFor s b }
 {}
 
@@ -52,7 +53,10 @@ pub fn declared_connections_suffice()
 pub fn takes_are_few()
     ensures connections { InEachRun (λ s es st. st.spm.connections_made ≤ length es) }
     ensures takes { InEachNamedRun (λ s es w. TakesFew es w) }
-    ensures generations { InEachNamedRun (λ s es w. length es ≤ MAX_ENTRIES → (length w.names.connections < last_generation) × (length w.names.past_messages < last_generation)) }
+    ensures generations { InEachNamedRun (λ s es w.
+        length es ≤ MAX_ENTRIES
+        → (length w.names.connections < last_generation)
+        × (length w.names.past_messages < last_generation)) }
 {}
 
 /// In each run whose handles are the names of their slots, no two slots ever taken have one name, and the

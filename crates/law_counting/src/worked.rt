@@ -13,15 +13,19 @@ ghost use Rattle.law_counting.specs.Worked.{behind, beyond_the_budget, client, m
 /// A client with a budget of two has one connection and asks for the other. What the laws count is
 /// computed here.
 pub fn second_connection_asked()
-    ensures connections { behind (λ b. map (λ c. c.phase) b.connections) ≡ Some (Idle ∷ Opening ∷ []) }
-    ensures as_many_as_declared { behind (λ b. length b.connections) ≡ Some (capacity vault_system) }
+    ensures connections { behind (λ b. map (λ c. c.phase) b.connections)
+        ≡ Some (Idle ∷ Opening ∷ []) }
+    ensures as_many_as_declared { behind (λ b. length b.connections)
+        ≡ Some (capacity vault_system) }
     ensures budget_in_use { behind (λ b. in_use b client 0) ≡ Some (allowed vault_system client 0) }
     ensures numbers_rise { behind (λ b. map (λ c. c.serial) b.connections) ≡ Some (0 ∷ 1 ∷ []) }
-    ensures message_of_the_second { behind (λ b. map (λ m. m.connection) b.messages) ≡ Some (Some 1 ∷ []) }
+    ensures message_of_the_second { behind (λ b. map (λ m. m.connection) b.messages)
+        ≡ Some (Some 1 ∷ []) }
     ensures one_answer_awaited { behind (λ b. count_by (awaited_of client) b.connections) ≡ Some 1 }
     ensures shown_rightly { behind (λ b. count_by (wrongly_shown b.phases) b.connections) ≡ Some 0 }
     ensures handle_of_the_first { behind (λ b. objects_with b (record { 0 = pos 1024 })) ≡ Some 1 }
-    ensures messages_made { option_map (λ w. length w.names.past_messages) (named_after vault_system zeros second_connection) ≡ Some 2 }
+    ensures messages_made { option_map (λ w. length w.names.past_messages)
+        (named_after vault_system zeros second_connection) ≡ Some 2 }
     ensures connections_owned { behind (λ b. owned b) ≡ Some 2 }
     ensures client_waits { ends_blocked (answers_to client second_connection) ≡ true }
     ensures vault_does_not { ends_blocked (answers_to vault second_connection) ≡ false }

@@ -12,16 +12,23 @@ ghost use Rattle.law_examples.specs.Isolation.{spy_panicked, spy_answered};
 /// are equal, and never at level 3. A client never may.
 pub fn isolation_levels()
     ensures level_1 { verdict_of level_1_system zeros 4096 spy_answered ≡ Some Quiet }
-    ensures level_1_shared { refuses_next level_1_system zeros (take 1 spy_answered) (entry spy (Load 0x30000000 4) Panicked) ≡ true }
+    ensures level_1_shared { refuses_next level_1_system zeros (take 1 spy_answered)
+        (entry spy (Load 0x30000000 4) Panicked) ≡ true }
     ensures level_1_types { verdict_of level_1_types_system zeros 4096 spy_answered ≡ Some Quiet }
-    ensures level_1_types_shared { refuses_next level_1_types_system zeros (take 1 spy_answered) (entry spy (Load 0x30000000 4) Panicked) ≡ true }
+    ensures level_1_types_shared { refuses_next level_1_types_system zeros (take 1 spy_answered)
+        (entry spy (Load 0x30000000 4) Panicked) ≡ true }
     ensures level_2 { verdict_of level_2_system zeros 4096 spy_answered ≡ Some Quiet }
-    ensures level_2_shared { refuses_next level_2_system zeros (take 1 spy_answered) (entry spy (Load 0x30000000 4) Panicked) ≡ true }
+    ensures level_2_shared { refuses_next level_2_system zeros (take 1 spy_answered)
+        (entry spy (Load 0x30000000 4) Panicked) ≡ true }
     ensures level_2_types { verdict_of level_2_types_system zeros 4096 spy_panicked ≡ Some Quiet }
-    ensures level_2_types_apart { refuses_next level_2_types_system zeros (take 1 spy_panicked) (entry spy (Load 0x30000000 4) (Number 0)) ≡ true }
+    ensures level_2_types_apart { refuses_next level_2_types_system zeros (take 1 spy_panicked)
+        (entry spy (Load 0x30000000 4) (Number 0)) ≡ true }
     ensures level_3 { verdict_of level_3_system zeros 4096 spy_panicked ≡ Some Quiet }
-    ensures level_3_apart { refuses_next level_3_system zeros (take 1 spy_panicked) (entry spy (Load 0x30000000 4) (Number 0)) ≡ true }
+    ensures level_3_apart { refuses_next level_3_system zeros (take 1 spy_panicked)
+        (entry spy (Load 0x30000000 4) (Number 0)) ≡ true }
     ensures level_3_types { verdict_of level_3_types_system zeros 4096 spy_panicked ≡ Some Quiet }
-    ensures level_3_types_apart { refuses_next level_3_types_system zeros (take 1 spy_panicked) (entry spy (Load 0x30000000 4) (Number 0)) ≡ true }
-    ensures client_never { refuses_next level_1_system zeros (take 2 spy_answered) (entry outsider (Load 0x30000000 4) (Number 0)) ≡ true }
+    ensures level_3_types_apart { refuses_next level_3_types_system zeros (take 1 spy_panicked)
+        (entry spy (Load 0x30000000 4) (Number 0)) ≡ true }
+    ensures client_never { refuses_next level_1_system zeros (take 2 spy_answered)
+        (entry outsider (Load 0x30000000 4) (Number 0)) ≡ true }
 {}

@@ -17,9 +17,12 @@ ghost use Rattle.law_examples.specs.Wrong.{FollowWithoutNames, HasOneRunInAnyTur
 /// A client and a service, each with its program, have a run in each of two orders, with threads and by
 /// a schedule that tells the order. So it is wrong that a scenario has one run whatever the turns are.
 pub fn turns_are_the_freedom()
-    ensures scheduled { RanBy vault_system zeros (scenario_with_turns client_first) programs false client_first Quiet }
-    ensures first_order { RanBy vault_system zeros (scenario_with_turns client_first) programs true client_first Quiet }
-    ensures second_order { RanBy vault_system zeros (scenario_with_turns client_first) programs true vault_first Quiet }
+    ensures scheduled { RanBy vault_system zeros (scenario_with_turns client_first) programs
+        false client_first Quiet }
+    ensures first_order { RanBy vault_system zeros (scenario_with_turns client_first) programs
+        true client_first Quiet }
+    ensures second_order { RanBy vault_system zeros (scenario_with_turns client_first) programs
+        true vault_first Quiet }
     ensures one_in_any_turns { HasOneRunInAnyTurns → ⊥ }
 {}
 
@@ -39,8 +42,10 @@ pub fn ranges_are_needed()
     ensures versions { VersionsFit vault_system }
     ensures programs { ProgramsFit vault_system programs }
     ensures bytes { HasBytes zeros }
-    ensures wide_line { RanBy vault_system zeros (scenario_with_turns wide_call) wide_program true wide_call Quiet }
+    ensures wide_line { RanBy vault_system zeros (scenario_with_turns wide_call) wide_program
+        true wide_call Quiet }
     ensures wide_line_misfits { Misfits vault_system wide_call }
-    ensures wide_byte { RanBy vault_system wide_memory (scenario_with_turns wide_load) loading_program true wide_load Quiet }
+    ensures wide_byte { RanBy vault_system wide_memory (scenario_with_turns wide_load)
+        loading_program true wide_load Quiet }
     ensures wide_byte_misfits { Misfits vault_system wide_load }
 {}

@@ -16,6 +16,10 @@ ghost use Rattle.spm_tables.specs.TablesView.{MadeFor, TablesView, spm_of};
 /// and messages fit the system, if at first they fit it with that partition as one that runs. If the
 /// vectors of all messages lie within some ranges at first, those of all messages do in the middle.
 pub fn panics_fit_midway()
-    ensures fits { (s : System) (d : TablesView) (p : ℕ) → MadeFor d s → p < length s.partitions → ObjectsFit s (with_phase (spm_of d) p Running) → ObjectsFit s (spm_of (as_client s p d)) }
-    ensures within { (ranges : List (ℕ × ℕ)) (s : System) (d : TablesView) (p : ℕ) → All (λ m. AreWithin ranges m.vectors) (spm_of d).messages → All (λ m. AreWithin ranges m.vectors) (spm_of (as_client s p d)).messages }
+    ensures fits { (s : System) (d : TablesView) (p : ℕ) → MadeFor d s → p < length s.partitions
+        → ObjectsFit s (with_phase (spm_of d) p Running)
+        → ObjectsFit s (spm_of (as_client s p d)) }
+    ensures within { (ranges : List (ℕ × ℕ)) (s : System) (d : TablesView) (p : ℕ)
+        → All (λ m. AreWithin ranges m.vectors) (spm_of d).messages
+        → All (λ m. AreWithin ranges m.vectors) (spm_of (as_client s p d)).messages }
 {}

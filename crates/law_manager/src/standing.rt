@@ -27,7 +27,10 @@ ghost use Rattle.law_manager.specs.Naming.{HaveNames, SlotsFollow};
 /// slots have the names that the run gave, stand for the state after it, its given handles included.
 /// Each call of the manager says the first by its clauses on the answer, and the second by `names`.
 pub fn tables_stand_in_runs()
-    ensures { InEachNamedRun (λ s es w. (d : TablesView) (bytes : List Bytes) → NamesAre d w.names → w.state.spm ≡ spm_of d → w.state.memory ≡ byte_at bytes → Stands d bytes w.state) }
+    ensures { InEachNamedRun (λ s es w.
+        (d : TablesView) (bytes : List Bytes) → NamesAre d w.names → w.state.spm ≡ spm_of d
+        → w.state.memory ≡ byte_at bytes
+        → Stands d bytes w.state) }
 {}
 
 /// Tables and an image that stand for a state, whatever led to it, stand after an event for each state with
@@ -41,14 +44,27 @@ pub fn tables_stand_in_runs()
 /// partition, also of one that a reply leaves to its caller; and `get` of `psa_get`. `step` says it of each step,
 /// the return of `psa_connect` included, where connections and messages fit the system, as in every state of a run.
 pub fn tables_stand_behind_events()
-    ensures event { (s : System) (d new : TablesView) (bytes after : List Bytes) (st next : State) (shown : List Handle) → AreKept d → AreKept new → Stands d bytes st → KeepsNames s d new
-        → next.spm ≡ spm_of new → next.memory ≡ byte_at after → next.handles_given ≡ st.handles_given ++ shown → All (λ h. 1 ≤ objects_with next.spm h) shown → Stands new after next }
-    ensures quiet { (s : System) (d new : TablesView) (bytes after : List Bytes) (st next : State) → AreKept d → AreKept new → Stands d bytes st → KeepsNames s d new
-        → next.spm ≡ spm_of new → next.memory ≡ byte_at after → next.handles_given ≡ st.handles_given → Stands new after next }
-    ensures get { (s : System) (d new : TablesView) (bytes after : List Bytes) (st next : State) (a signal msg : ℕ) (h : Handle) (o : Outcome) → AreKept d → AreKept new → Stands d bytes st → KeepsNames s d new
-        → psa_get s st a signal msg h ≡ Some (effect o next) → next.spm ≡ spm_of new → next.memory ≡ byte_at after → Stands new after next }
-    ensures step { (s : System) (d new : TablesView) (bytes after : List Bytes) (st next : State) (e : Entry) → AreKept d → AreKept new → ObjectsFit s (spm_of d) → Stands d bytes st → KeepsNames s d new
-        → step s st e ≡ Some next → next.spm ≡ spm_of new → next.memory ≡ byte_at after → Stands new after next }
+    ensures event { (s : System) (d new : TablesView) (bytes after : List Bytes) (st next : State)
+        (shown : List Handle)
+        → AreKept d → AreKept new → Stands d bytes st → KeepsNames s d new → next.spm ≡ spm_of new
+        → next.memory ≡ byte_at after → next.handles_given ≡ st.handles_given ++ shown
+        → All (λ h. 1 ≤ objects_with next.spm h) shown
+        → Stands new after next }
+    ensures quiet { (s : System) (d new : TablesView) (bytes after : List Bytes) (st next : State)
+        → AreKept d → AreKept new → Stands d bytes st → KeepsNames s d new → next.spm ≡ spm_of new
+        → next.memory ≡ byte_at after → next.handles_given ≡ st.handles_given
+        → Stands new after next }
+    ensures get { (s : System) (d new : TablesView) (bytes after : List Bytes) (st next : State)
+        (a signal msg : ℕ) (h : Handle) (o : Outcome)
+        → AreKept d → AreKept new → Stands d bytes st → KeepsNames s d new
+        → psa_get s st a signal msg h ≡ Some (effect o next) → next.spm ≡ spm_of new
+        → next.memory ≡ byte_at after
+        → Stands new after next }
+    ensures step { (s : System) (d new : TablesView) (bytes after : List Bytes)
+        (st next : State) (e : Entry)
+        → AreKept d → AreKept new → ObjectsFit s (spm_of d) → Stands d bytes st → KeepsNames s d new
+        → step s st e ≡ Some next → next.spm ≡ spm_of new → next.memory ≡ byte_at after
+        → Stands new after next }
 {}
 
 /// The slots of all tables have names, whatever led to these. So what a call's clause `names` says of slots, from
@@ -59,5 +75,6 @@ pub fn tables_stand_behind_events()
 /// event which keeps names (`KeepsNames`) goes from some of the tables before to some of those after.
 pub fn tables_have_names()
     ensures names { (d : TablesView) → AreKept d → AddUp d → HaveNames d }
-    ensures event { (s : System) (d new : TablesView) → AreKept d → AddUp d → KeepsNames s d new → SlotsFollow s d new }
+    ensures event { (s : System) (d new : TablesView) → AreKept d → AddUp d → KeepsNames s d new
+        → SlotsFollow s d new }
 {}

@@ -14,5 +14,6 @@ ghost use Rattle.law_texts.specs.Plain.{JudgedPlainly};
 /// verdict is that of the run. Else it is judged illegal at the first place, counted from 1, at which the entry is no
 /// step after those before it, or is above the limit, or which is one after all entries.
 pub fn traces_are_judged_plainly()
-    ensures { (s : System) (m : ByteMap) (limit : ℕ) (es : List Entry) (v : Verdict) → JudgedPlainly s m limit es v }
+    ensures { (s : System) (m : ByteMap) (limit : ℕ) (es : List Entry) (v : Verdict)
+        → JudgedPlainly s m limit es v }
 {}

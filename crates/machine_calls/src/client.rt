@@ -38,9 +38,14 @@ impl Objects {
         kind: i32,
         vectors: Vectors,
     ) -> Result<(), Memory>
-        ensures state { IfOk result (λ u. spm_of_objects self.new ≡ with_phase (with_message (spm_of_objects self.old) connection kind vectors) actor.0 phase.Blocked) }
+        ensures state { IfOk result (λ u.
+            spm_of_objects self.new
+            ≡ with_phase (with_message (spm_of_objects self.old)
+            connection kind vectors) actor.0 phase.Blocked) }
         ensures made { self.new.connections_made ≡ self.old.connections_made }
-        ensures fits { (regions : prelude.List (ℕ × ℕ)) → AreWithin regions vectors → MessagesFit regions self.old → MessagesFit regions self.new }
+        ensures fits { (regions : prelude.List (ℕ × ℕ)) → AreWithin regions vectors
+            → MessagesFit regions self.old
+            → MessagesFit regions self.new }
     {
         self.add_message(connection, kind, vectors)?;
         self.set_phase(actor.0, ActorPhase::Blocked);
@@ -50,9 +55,11 @@ impl Objects {
     // Adds a connection and its message; the client waits.
     fn issue_connect(&mut self, actor: ActorId, service: u32) -> Result<(), Memory>
         requires few { self.old.connections_made < 2 ^ 31 }
-        ensures state { IfOk result (λ u. spm_of_objects self.new ≡ connect_issued (spm_of_objects self.old) actor.0 service) }
+        ensures state { IfOk result (λ u.
+            spm_of_objects self.new ≡ connect_issued (spm_of_objects self.old) actor.0 service) }
         ensures made { self.new.connections_made ≤ self.old.connections_made + 1 }
-        ensures fits { (regions : prelude.List (ℕ × ℕ)) → MessagesFit regions self.old → MessagesFit regions self.new }
+        ensures fits { (regions : prelude.List (ℕ × ℕ)) → MessagesFit regions self.old
+            → MessagesFit regions self.new }
     {
         let connection = OpenConnection {
             serial: self.connections_made,
@@ -76,9 +83,12 @@ impl Objects {
     ) -> Result<Outcome, Memory>
         requires few { self.old.connections_made < 2 ^ 31 }
         requires budget { budget_of system.now actor.0 service ≡ Some budget }
-        ensures moves { IfOk result (λ o. connect_to system.now (spm_of_objects self.old) actor.0 service ≡ move o (spm_of_objects self.new)) }
+        ensures moves { IfOk result (λ o.
+            connect_to system.now (spm_of_objects self.old) actor.0 service
+            ≡ move o (spm_of_objects self.new)) }
         ensures made { self.new.connections_made ≤ self.old.connections_made + 1 }
-        ensures fits { (regions : prelude.List (ℕ × ℕ)) → MessagesFit regions self.old → MessagesFit regions self.new }
+        ensures fits { (regions : prelude.List (ℕ × ℕ)) → MessagesFit regions self.old
+            → MessagesFit regions self.new }
     {
         if self.is_service_panicked(system, service) {
             return Ok(Outcome::Value(PSA_ERROR_CONNECTION_REFUSED));
@@ -99,9 +109,11 @@ impl Objects {
         version: u32,
     ) -> Result<Option<Outcome>, Memory>
         requires few { self.old.connections_made < 2 ^ 31 }
-        ensures moves { Moves (psa_connect system.now (spm_of_objects self.old) actor.0 sid version) self.old result self.new }
+        ensures moves { Moves (psa_connect system.now (spm_of_objects self.old) actor.0 sid version)
+            self.old result self.new }
         ensures made { self.new.connections_made ≤ self.old.connections_made + 1 }
-        ensures fits { (regions : prelude.List (ℕ × ℕ)) → MessagesFit regions self.old → MessagesFit regions self.new }
+        ensures fits { (regions : prelude.List (ℕ × ℕ)) → MessagesFit regions self.old
+            → MessagesFit regions self.new }
     {
         let Some(service) = system.service_at(sid) else {
             return Ok(None);
@@ -123,9 +135,13 @@ impl Objects {
         kind: i32,
         vectors: Vectors,
     ) -> Result<Outcome, Memory>
-        ensures moves { IfOk result (λ o. call_on (spm_of_objects self.old) actor.0 connection kind vectors ≡ move o (spm_of_objects self.new)) }
+        ensures moves { IfOk result (λ o.
+            call_on (spm_of_objects self.old) actor.0 connection kind vectors
+            ≡ move o (spm_of_objects self.new)) }
         ensures made { self.new.connections_made ≡ self.old.connections_made }
-        ensures fits { (regions : prelude.List (ℕ × ℕ)) → AreWithin regions vectors → MessagesFit regions self.old → MessagesFit regions self.new }
+        ensures fits { (regions : prelude.List (ℕ × ℕ)) → AreWithin regions vectors
+            → MessagesFit regions self.old
+            → MessagesFit regions self.new }
     {
         if is_dead(connection.phase) {
             return Ok(Outcome::Value(PSA_ERROR_COMMUNICATION_FAILURE));
@@ -144,9 +160,13 @@ impl Objects {
         kind: i32,
         vectors: Vectors,
     ) -> Result<Outcome, Memory>
-        ensures moves { IfOk result (λ o. call_to system.now (spm_of_objects self.old) actor.0 service kind vectors ≡ move o (spm_of_objects self.new)) }
+        ensures moves { IfOk result (λ o.
+            call_to system.now (spm_of_objects self.old) actor.0 service kind vectors
+            ≡ move o (spm_of_objects self.new)) }
         ensures made { self.new.connections_made ≡ self.old.connections_made }
-        ensures fits { (regions : prelude.List (ℕ × ℕ)) → AreWithin regions vectors → MessagesFit regions self.old → MessagesFit regions self.new }
+        ensures fits { (regions : prelude.List (ℕ × ℕ)) → AreWithin regions vectors
+            → MessagesFit regions self.old
+            → MessagesFit regions self.new }
     {
         if self.is_service_panicked(system, service) {
             return Ok(Outcome::Value(PSA_ERROR_COMMUNICATION_FAILURE));
@@ -157,9 +177,12 @@ impl Objects {
     }
 
     fn close_on(&mut self, actor: ActorId, connection: OpenConnection) -> Result<Outcome, Memory>
-        ensures moves { IfOk result (λ o. close_on (spm_of_objects self.old) actor.0 connection ≡ move o (spm_of_objects self.new)) }
+        ensures moves { IfOk result (λ o.
+            close_on (spm_of_objects self.old) actor.0 connection
+            ≡ move o (spm_of_objects self.new)) }
         ensures made { self.new.connections_made ≡ self.old.connections_made }
-        ensures fits { (regions : prelude.List (ℕ × ℕ)) → MessagesFit regions self.old → MessagesFit regions self.new }
+        ensures fits { (regions : prelude.List (ℕ × ℕ)) → MessagesFit regions self.old
+            → MessagesFit regions self.new }
     {
         if is_dead(connection.phase) {
             self.remove_connection(connection.serial);
@@ -172,9 +195,11 @@ impl Objects {
 
     /// `psa_close`: None for a PROGRAMMER ERROR.
     pub fn close(&mut self, actor: ActorId, handle: Handle) -> Result<Option<Outcome>, Memory>
-        ensures moves { Moves (psa_close (spm_of_objects self.old) actor.0 handle) self.old result self.new }
+        ensures moves { Moves (psa_close (spm_of_objects self.old) actor.0 handle)
+            self.old result self.new }
         ensures made { self.new.connections_made ≡ self.old.connections_made }
-        ensures fits { (regions : prelude.List (ℕ × ℕ)) → MessagesFit regions self.old → MessagesFit regions self.new }
+        ensures fits { (regions : prelude.List (ℕ × ℕ)) → MessagesFit regions self.old
+            → MessagesFit regions self.new }
     {
         if handle.0 == PSA_NULL_HANDLE {
             return Ok(Some(Outcome::Done));
@@ -204,7 +229,10 @@ impl Machine {
         out_len: u32,
     ) -> Result<Option<Outcome>, Memory>
         requires { IsMachineOf system.now self.old }
-        ensures does { Does (λ given. option_map (in_state (state_of self.old given)) (connection_called system.now (state_of self.old given) actor.0 handle kind in_vec in_len out_vec out_len)) self.old result self.new }
+        ensures does { Does (λ given.
+            option_map (in_state (state_of self.old given)) (connection_called system.now
+            (state_of self.old given) actor.0 handle kind in_vec in_len out_vec out_len))
+            self.old result self.new }
         ensures made { self.new.objects.connections_made ≡ self.old.objects.connections_made }
         ensures kept { IfOk result (λ o. IsMachineOf system.now self.new) }
     {
@@ -235,7 +263,10 @@ impl Machine {
         out_len: u32,
     ) -> Result<Option<Outcome>, Memory>
         requires { IsMachineOf system.now self.old }
-        ensures does { Does (λ given. option_map (in_state (state_of self.old given)) (service_called system.now (state_of self.old given) actor.0 index kind in_vec in_len out_vec out_len)) self.old result self.new }
+        ensures does { Does (λ given.
+            option_map (in_state (state_of self.old given)) (service_called system.now
+            (state_of self.old given) actor.0 index kind in_vec in_len out_vec out_len))
+            self.old result self.new }
         ensures made { self.new.objects.connections_made ≡ self.old.objects.connections_made }
         ensures kept { IfOk result (λ o. IsMachineOf system.now self.new) }
     {
@@ -267,7 +298,10 @@ impl Machine {
         out_len: u32,
     ) -> Result<Option<Outcome>, Memory>
         requires { IsMachineOf system.now self.old }
-        ensures does { Does (λ given. option_map (in_state (state_of self.old given)) (psa_call system.now (state_of self.old given) actor.0 handle kind in_vec in_len out_vec out_len)) self.old result self.new }
+        ensures does { Does (λ given.
+            option_map (in_state (state_of self.old given)) (psa_call system.now
+            (state_of self.old given) actor.0 handle kind in_vec in_len out_vec out_len))
+            self.old result self.new }
         ensures made { self.new.objects.connections_made ≡ self.old.objects.connections_made }
         ensures kept { IfOk result (λ o. IsMachineOf system.now self.new) }
     {

@@ -18,7 +18,8 @@ fn has_handle(connection: &OpenConnection, handle: Handle) -> bool
 }
 
 fn held_by(connections: &[OpenConnection], client: u32, handle: Handle) -> Option<OpenConnection>
-    ensures { result ≡ find (λ c. (c.client.0 == client) && has_handle c.handle handle) connections.now }
+    ensures { result ≡ find
+        (λ c. (c.client.0 == client) && has_handle c.handle handle) connections.now }
 {
     let mut held = connections.iter().copied();
     held.find(|c| c.client.0 == client && has_handle(c, handle))
@@ -109,7 +110,8 @@ impl Objects {
 
     /// Sets what the connection with a serial number does.
     pub fn set_connection_phase(&mut self, serial: u32, phase: ConnPhase)
-        ensures state { spm_of_objects self.new ≡ with_connection_phase (spm_of_objects self.old) serial phase }
+        ensures state { spm_of_objects self.new
+            ≡ with_connection_phase (spm_of_objects self.old) serial phase }
         ensures messages { self.new.messages ≡ self.old.messages }
         ensures made { self.new.connections_made ≡ self.old.connections_made }
     {
@@ -118,7 +120,8 @@ impl Objects {
 
     /// Sets the value that comes with each message of the connection with a serial number.
     pub fn set_rhandle(&mut self, serial: u32, rhandle: u32)
-        ensures state { spm_of_objects self.new ≡ with_rhandle (spm_of_objects self.old) serial rhandle }
+        ensures state { spm_of_objects self.new
+            ≡ with_rhandle (spm_of_objects self.old) serial rhandle }
         ensures messages { self.new.messages ≡ self.old.messages }
         ensures made { self.new.connections_made ≡ self.old.connections_made }
     {
@@ -127,7 +130,8 @@ impl Objects {
 
     /// Gives the connection with a serial number its handle.
     pub fn set_connection_handle(&mut self, serial: u32, handle: Handle)
-        ensures state { spm_of_objects self.new ≡ with_connection_handle (spm_of_objects self.old) serial handle }
+        ensures state { spm_of_objects self.new
+            ≡ with_connection_handle (spm_of_objects self.old) serial handle }
         ensures messages { self.new.messages ≡ self.old.messages }
         ensures made { self.new.connections_made ≡ self.old.connections_made }
     {
@@ -136,7 +140,8 @@ impl Objects {
 
     /// Removes the connection with a serial number.
     pub fn remove_connection(&mut self, serial: u32)
-        ensures state { spm_of_objects self.new ≡ without_connection (spm_of_objects self.old) serial }
+        ensures state { spm_of_objects self.new
+            ≡ without_connection (spm_of_objects self.old) serial }
         ensures messages { self.new.messages ≡ self.old.messages }
         ensures made { self.new.connections_made ≡ self.old.connections_made }
     {
@@ -150,9 +155,13 @@ impl Objects {
         kind: i32,
         vectors: Vectors,
     ) -> Result<(), Memory>
-        ensures state { IfOk result (λ u. spm_of_objects self.new ≡ with_message (spm_of_objects self.old) connection kind vectors) }
+        ensures state { IfOk result (λ u.
+            spm_of_objects self.new
+            ≡ with_message (spm_of_objects self.old) connection kind vectors) }
         ensures made { self.new.connections_made ≡ self.old.connections_made }
-        ensures fits { (regions : prelude.List (ℕ × ℕ)) → AreWithin regions vectors → MessagesFit regions self.old → MessagesFit regions self.new }
+        ensures fits { (regions : prelude.List (ℕ × ℕ)) → AreWithin regions vectors
+            → MessagesFit regions self.old
+            → MessagesFit regions self.new }
     {
         self.messages.push(PendingMessage {
             service: connection.service,
@@ -173,9 +182,13 @@ impl Objects {
         kind: i32,
         vectors: Vectors,
     ) -> Result<(), Memory>
-        ensures state { IfOk result (λ u. spm_of_objects self.new ≡ with_request (spm_of_objects self.old) client.0 service kind vectors) }
+        ensures state { IfOk result (λ u.
+            spm_of_objects self.new
+            ≡ with_request (spm_of_objects self.old) client.0 service kind vectors) }
         ensures made { self.new.connections_made ≡ self.old.connections_made }
-        ensures fits { (regions : prelude.List (ℕ × ℕ)) → AreWithin regions vectors → MessagesFit regions self.old → MessagesFit regions self.new }
+        ensures fits { (regions : prelude.List (ℕ × ℕ)) → AreWithin regions vectors
+            → MessagesFit regions self.old
+            → MessagesFit regions self.new }
     {
         self.messages.push(PendingMessage {
             service,

@@ -35,7 +35,8 @@ impl Objects {
     }
 
     fn set_doorbell(&mut self, partition: usize, set: bool)
-        ensures state { spm_of_objects self.new ≡ with_doorbell (spm_of_objects self.old) partition set }
+        ensures state { spm_of_objects self.new
+            ≡ with_doorbell (spm_of_objects self.old) partition set }
         ensures messages { self.new.messages ≡ self.old.messages }
         ensures made { self.new.connections_made ≡ self.old.connections_made }
     {
@@ -56,7 +57,8 @@ impl Objects {
     }
 
     fn set_flags(&mut self, source: u32, flags: SourceFlags)
-        ensures state { spm_of_objects self.new ≡ with_flags (spm_of_objects self.old) source flags }
+        ensures state { spm_of_objects self.new
+            ≡ with_flags (spm_of_objects self.old) source flags }
         ensures messages { self.new.messages ≡ self.old.messages }
         ensures made { self.new.connections_made ≡ self.old.connections_made }
     {
@@ -65,7 +67,8 @@ impl Objects {
 
     /// `psa_notify` (`psa/service.h`). None where no partition has the ID.
     pub fn notify(&mut self, system: &System, partition: i32) -> Option<Outcome>
-        ensures moves { Moves (psa_notify system.now (spm_of_objects self.old) partition) self.old (Ok result) self.new }
+        ensures moves { Moves (psa_notify system.now (spm_of_objects self.old) partition) self.old
+            (Ok result) self.new }
         ensures messages { self.new.messages ≡ self.old.messages }
         ensures made { self.new.connections_made ≡ self.old.connections_made }
     {
@@ -79,7 +82,8 @@ impl Objects {
 
     /// `psa_clear` (`psa/service.h`). None where the actor's doorbell isn't set.
     pub fn clear(&mut self, actor: ActorId) -> Option<Outcome>
-        ensures moves { Moves (psa_clear (spm_of_objects self.old) actor.0) self.old (Ok result) self.new }
+        ensures moves { Moves (psa_clear (spm_of_objects self.old) actor.0) self.old
+            (Ok result) self.new }
         ensures messages { self.new.messages ≡ self.old.messages }
         ensures made { self.new.connections_made ≡ self.old.connections_made }
     {
@@ -93,7 +97,8 @@ impl Objects {
     /// `psa_eoi` (`psa/service.h`). None where it isn't the asserted signal of an interrupt source of the actor, or the source has
     /// a first-level handler.
     pub fn eoi(&mut self, system: &System, actor: ActorId, signal: u32) -> Option<Outcome>
-        ensures moves { Moves (psa_eoi system.now (spm_of_objects self.old) actor.0 signal) self.old (Ok result) self.new }
+        ensures moves { Moves (psa_eoi system.now (spm_of_objects self.old) actor.0 signal) self.old
+            (Ok result) self.new }
         ensures messages { self.new.messages ≡ self.old.messages }
         ensures made { self.new.connections_made ≡ self.old.connections_made }
     {
@@ -112,7 +117,8 @@ impl Objects {
 
     /// An interrupt of the device. None where no source has the number, or the source has a first-level handler.
     pub fn raise(&mut self, system: &System, source: u32) -> Option<Outcome>
-        ensures moves { Moves (raise system.now (spm_of_objects self.old) source) self.old (Ok result) self.new }
+        ensures moves { Moves (raise system.now (spm_of_objects self.old) source) self.old
+            (Ok result) self.new }
         ensures messages { self.new.messages ≡ self.old.messages }
         ensures made { self.new.connections_made ≡ self.old.connections_made }
     {
@@ -129,7 +135,8 @@ impl Objects {
 
     /// `psa_irq_enable` (`psa/service.h`). None where it isn't the signal of an interrupt source of the actor.
     pub fn irq_enable(&mut self, system: &System, actor: ActorId, signal: u32) -> Option<Outcome>
-        ensures moves { Moves (psa_irq_enable system.now (spm_of_objects self.old) actor.0 signal) self.old (Ok result) self.new }
+        ensures moves { Moves (psa_irq_enable system.now (spm_of_objects self.old) actor.0 signal)
+            self.old (Ok result) self.new }
         ensures messages { self.new.messages ≡ self.old.messages }
         ensures made { self.new.connections_made ≡ self.old.connections_made }
     {
@@ -144,7 +151,8 @@ impl Objects {
 
     /// `psa_irq_disable` (`psa/service.h`). None where it isn't the signal of an interrupt source of the actor.
     pub fn irq_disable(&mut self, system: &System, actor: ActorId, signal: u32) -> Option<Outcome>
-        ensures moves { Moves (psa_irq_disable system.now (spm_of_objects self.old) actor.0 signal) self.old (Ok result) self.new }
+        ensures moves { Moves (psa_irq_disable system.now (spm_of_objects self.old) actor.0 signal)
+            self.old (Ok result) self.new }
         ensures messages { self.new.messages ≡ self.old.messages }
         ensures made { self.new.connections_made ≡ self.old.connections_made }
     {
@@ -160,7 +168,8 @@ impl Objects {
 
     /// `psa_reset_signal` (`psa/service.h`). None where it isn't the asserted signal of an interrupt source of the actor with FLIH.
     pub fn reset_signal(&mut self, system: &System, actor: ActorId, signal: u32) -> Option<Outcome>
-        ensures moves { Moves (psa_reset_signal system.now (spm_of_objects self.old) actor.0 signal) self.old (Ok result) self.new }
+        ensures moves { Moves (psa_reset_signal system.now (spm_of_objects self.old) actor.0 signal)
+            self.old (Ok result) self.new }
         ensures messages { self.new.messages ≡ self.old.messages }
         ensures made { self.new.connections_made ≡ self.old.connections_made }
     {
@@ -179,7 +188,8 @@ impl Objects {
 
     /// An interrupt of the device with its handler's answer. None where no source with FLIH has the number, or the answer is above 1.
     pub fn fire(&mut self, system: &System, source: u32, answer: u32) -> Option<Outcome>
-        ensures moves { Moves (fire system.now (spm_of_objects self.old) source answer) self.old (Ok result) self.new }
+        ensures moves { Moves (fire system.now (spm_of_objects self.old) source answer) self.old
+            (Ok result) self.new }
         ensures messages { self.new.messages ≡ self.old.messages }
         ensures made { self.new.connections_made ≡ self.old.connections_made }
     {

@@ -19,7 +19,8 @@ fn has_handle(message: &PendingMessage, handle: Handle) -> bool
 }
 
 fn is_held(system: &System, partition: u32, message: &PendingMessage, handle: Handle) -> bool
-    ensures { result ≡ (is_service_of system.now partition message.now.service && has_handle message.now.handle handle) }
+    ensures { result ≡ (is_service_of system.now partition message.now.service
+        && has_handle message.now.handle handle) }
 {
     is_service_of(system, partition, message.service) && has_handle(message, handle)
 }
@@ -30,7 +31,9 @@ fn held_by(
     partition: u32,
     handle: Handle,
 ) -> Option<PendingMessage>
-    ensures { result ≡ find (λ m. is_service_of system.now partition m.service && has_handle m.handle handle) messages.now }
+    ensures { result ≡ find (λ m.
+        is_service_of system.now partition m.service
+        && has_handle m.handle handle) messages.now }
 {
     let mut held = messages.iter().copied();
     held.find(|m| is_held(system, partition, m, handle))
@@ -63,7 +66,8 @@ fn put_all_vectors(messages: &mut [PendingMessage], handle: Handle, vectors: Vec
 }
 
 fn remove(messages: &mut Vec<PendingMessage>, handle: Handle)
-    ensures { messages.new.items ≡ filter (λ m. not (has_handle m.handle handle)) messages.old.items }
+    ensures { messages.new.items
+        ≡ filter (λ m. not (has_handle m.handle handle)) messages.old.items }
 {
     messages.retain(|m| !has_handle(m, handle));
 }
@@ -101,7 +105,8 @@ impl Objects {
         handle: Handle,
         index: u32,
     ) -> Option<PendingMessage>
-        ensures { result ≡ request_held system.now (spm_of_objects self.now) partition handle index }
+        ensures { result ≡ request_held system.now (spm_of_objects self.now)
+            partition handle index }
     {
         let message = self.message_held(system, partition, handle)?;
         if message.kind >= PSA_IPC_CALL && index < PSA_MAX_IOVEC {
@@ -120,7 +125,8 @@ impl Objects {
 
     /// Delivers the oldest message of a service that waits for `psa_get`, under a handle.
     pub fn deliver(&mut self, service: u32, handle: Handle)
-        ensures state { spm_of_objects self.new ≡ record (spm_of_objects self.old) { messages = delivered service handle (spm_of_objects self.old).messages } }
+        ensures state { spm_of_objects self.new ≡ record (spm_of_objects self.old)
+            { messages = delivered service handle (spm_of_objects self.old).messages } }
         ensures made { self.new.connections_made ≡ self.old.connections_made }
     {
         deliver(self.messages.as_mut_slice(), service as usize, handle);
@@ -128,7 +134,8 @@ impl Objects {
 
     /// Sets the vectors of the message with a handle.
     pub fn set_vectors(&mut self, handle: Handle, vectors: Vectors)
-        ensures state { spm_of_objects self.new ≡ with_vectors (spm_of_objects self.old) handle vectors }
+        ensures state { spm_of_objects self.new
+            ≡ with_vectors (spm_of_objects self.old) handle vectors }
         ensures made { self.new.connections_made ≡ self.old.connections_made }
     {
         put_all_vectors(self.messages.as_mut_slice(), handle, vectors);

@@ -78,7 +78,8 @@ fn answer_callers(
 
 // The client of a lost request is told.
 fn put_answer(phases: &mut [ActorPhase], client: u32)
-    ensures { phases.new ≡ slice_set phases.old client (phase.Ready (outcome.Value PSA_ERROR_COMMUNICATION_FAILURE)) }
+    ensures { phases.new ≡ slice_set phases.old client
+        (phase.Ready (outcome.Value PSA_ERROR_COMMUNICATION_FAILURE)) }
 {
     let at = client as usize;
     if at < phases.len() {
@@ -174,14 +175,16 @@ fn stays(system: &System, partition: u32, connection: &mut OpenConnection) -> bo
 }
 
 fn lose_connections(system: &System, partition: u32, connections: &mut Vec<OpenConnection>)
-    ensures { connections.new.items ≡ filter_map (left_of system.now partition) connections.old.items }
+    ensures { connections.new.items
+        ≡ filter_map (left_of system.now partition) connections.old.items }
 {
     connections.retain_mut(|c| stays(system, partition, c));
 }
 
 // The messages to the partition's services are gone.
 fn drop_messages(system: &System, partition: u32, messages: &mut Vec<PendingMessage>)
-    ensures { messages.new.items ≡ filter (λ m. not (is_service_of system.now partition m.service)) messages.old.items }
+    ensures { messages.new.items
+        ≡ filter (λ m. not (is_service_of system.now partition m.service)) messages.old.items }
 {
     messages.retain(|m| !is_service_of(system, partition, m.service));
 }
@@ -193,8 +196,12 @@ fn send_disconnection(
     connection: OpenConnection,
     messages: &mut Vec<PendingMessage>,
 ) -> Result<(), Memory>
-    ensures sent { IfOk result (λ u. messages.new.items ≡ messages.old.items ++ cons_option (disconnection_left system.now partition connection) []) }
-    ensures fits { (regions : prelude.List (ℕ × ℕ)) → All (λ m. AreWithin regions m.vectors) messages.old.items → All (λ m. AreWithin regions m.vectors) messages.new.items }
+    ensures sent { IfOk result (λ u.
+        messages.new.items ≡ messages.old.items
+        ++ cons_option (disconnection_left system.now partition connection) []) }
+    ensures fits { (regions : prelude.List (ℕ × ℕ))
+        → All (λ m. AreWithin regions m.vectors) messages.old.items
+        → All (λ m. AreWithin regions m.vectors) messages.new.items }
 {
     if let Some(message) = disconnection_left(system, partition, connection) {
         messages.push(message)?;
@@ -209,8 +216,12 @@ fn send_disconnections(
     connections: &[OpenConnection],
     messages: &mut Vec<PendingMessage>,
 ) -> Result<(), Memory>
-    ensures sent { IfOk result (λ u. messages.new.items ≡ messages.old.items ++ filter_map (disconnection_left system.now partition) connections.now) }
-    ensures fits { (regions : prelude.List (ℕ × ℕ)) → All (λ m. AreWithin regions m.vectors) messages.old.items → All (λ m. AreWithin regions m.vectors) messages.new.items }
+    ensures sent { IfOk result (λ u.
+        messages.new.items ≡ messages.old.items
+        ++ filter_map (disconnection_left system.now partition) connections.now) }
+    ensures fits { (regions : prelude.List (ℕ × ℕ))
+        → All (λ m. AreWithin regions m.vectors) messages.old.items
+        → All (λ m. AreWithin regions m.vectors) messages.new.items }
 {
     for connection in connections {
         send_disconnection(system, partition, *connection, messages)?;
@@ -223,9 +234,12 @@ impl Objects {
     /// Dead, and their clients are answered where they wait. All messages to its services are gone. Then each connection of
     /// its own is freed where it is Dead, and else is Closing, with a disconnection for which nobody waits.
     pub fn panic(&mut self, system: &System, partition: ActorId) -> Result<(), Memory>
-        ensures state { IfOk result (λ u. spm_of_objects self.new ≡ panic_effect system.now (spm_of_objects self.old) partition.0) }
+        ensures state { IfOk result (λ u.
+            spm_of_objects self.new
+            ≡ panic_effect system.now (spm_of_objects self.old) partition.0) }
         ensures made { self.new.connections_made ≡ self.old.connections_made }
-        ensures fits { (regions : prelude.List (ℕ × ℕ)) → MessagesFit regions self.old → MessagesFit regions self.new }
+        ensures fits { (regions : prelude.List (ℕ × ℕ)) → MessagesFit regions self.old
+            → MessagesFit regions self.new }
     {
         let at = partition.0;
         self.set_phase(at, ActorPhase::Panicked);

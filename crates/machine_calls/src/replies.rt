@@ -14,7 +14,8 @@ use machine_rules::{finish, is_connect_status, is_partition, owes_panic};
 
 impl Objects {
     fn answer_connect(&mut self, serial: u32, message: PendingMessage, status: i32)
-        ensures state { spm_of_objects self.new ≡ connect_answered (spm_of_objects self.old) serial message status }
+        ensures state { spm_of_objects self.new
+            ≡ connect_answered (spm_of_objects self.old) serial message status }
         ensures messages { self.new.messages ≡ self.old.messages }
         ensures made { self.new.connections_made ≡ self.old.connections_made }
     {
@@ -29,7 +30,8 @@ impl Objects {
 
     // Nobody waits where the client panicked.
     fn answer_close(&mut self, serial: u32, message: PendingMessage)
-        ensures state { spm_of_objects self.new ≡ close_answered (spm_of_objects self.old) serial message }
+        ensures state { spm_of_objects self.new
+            ≡ close_answered (spm_of_objects self.old) serial message }
         ensures messages { self.new.messages ≡ self.old.messages }
         ensures made { self.new.connections_made ≡ self.old.connections_made }
     {
@@ -41,7 +43,8 @@ impl Objects {
 
     // The connection of a request, where it has one.
     fn set_request_phase(&mut self, message: PendingMessage, phase: ConnPhase)
-        ensures state { spm_of_objects self.new ≡ with_request_phase (spm_of_objects self.old) message phase }
+        ensures state { spm_of_objects self.new
+            ≡ with_request_phase (spm_of_objects self.old) message phase }
         ensures messages { self.new.messages ≡ self.old.messages }
         ensures made { self.new.connections_made ≡ self.old.connections_made }
     {
@@ -52,7 +55,8 @@ impl Objects {
 
     // A non-secure client is told, and a partition stays Blocked and owes its panic.
     fn fail_request(&mut self, system: &System, message: PendingMessage)
-        ensures state { spm_of_objects self.new ≡ request_failed system.now (spm_of_objects self.old) message }
+        ensures state { spm_of_objects self.new
+            ≡ request_failed system.now (spm_of_objects self.old) message }
         ensures messages { self.new.messages ≡ self.old.messages }
         ensures made { self.new.connections_made ≡ self.old.connections_made }
     {
@@ -64,7 +68,8 @@ impl Objects {
     }
 
     fn answer_request(&mut self, system: &System, message: PendingMessage, status: i32)
-        ensures state { spm_of_objects self.new ≡ request_answered system.now (spm_of_objects self.old) message status }
+        ensures state { spm_of_objects self.new
+            ≡ request_answered system.now (spm_of_objects self.old) message status }
         ensures messages { self.new.messages ≡ self.old.messages }
         ensures made { self.new.connections_made ≡ self.old.connections_made }
     {
@@ -77,7 +82,8 @@ impl Objects {
     }
 
     fn answer(&mut self, system: &System, message: PendingMessage, status: i32)
-        ensures state { spm_of_objects self.new ≡ answered system.now (spm_of_objects self.old) message status }
+        ensures state { spm_of_objects self.new
+            ≡ answered system.now (spm_of_objects self.old) message status }
         ensures messages { self.new.messages ≡ self.old.messages }
         ensures made { self.new.connections_made ≡ self.old.connections_made }
     {
@@ -102,8 +108,10 @@ impl Objects {
         status: i32,
         message: PendingMessage,
     )
-        ensures state { spm_of_objects self.new ≡ replied system.now (spm_of_objects self.old) handle status message }
-        ensures fits { (regions : prelude.List (ℕ × ℕ)) → MessagesFit regions self.old → MessagesFit regions self.new }
+        ensures state { spm_of_objects self.new
+            ≡ replied system.now (spm_of_objects self.old) handle status message }
+        ensures fits { (regions : prelude.List (ℕ × ℕ)) → MessagesFit regions self.old
+            → MessagesFit regions self.new }
         ensures made { self.new.connections_made ≡ self.old.connections_made }
     {
         self.remove_message(handle);
@@ -136,8 +144,14 @@ impl Objects {
         status: i32,
         message: PendingMessage,
     ) -> Result<(), Memory>
-        ensures state { IfOk result (λ u. spm_of_objects self.new ≡ (if owes_panic system.now message status then panic_effect system.now (replied system.now (spm_of_objects self.old) handle status message) message.client.0 else replied system.now (spm_of_objects self.old) handle status message)) }
-        ensures fits { IfOk result (λ u. (regions : prelude.List (ℕ × ℕ)) → MessagesFit regions self.old → MessagesFit regions self.new) }
+        ensures state { IfOk result (λ u.
+            spm_of_objects self.new ≡ (if owes_panic system.now message status
+            then panic_effect system.now
+            (replied system.now (spm_of_objects self.old) handle status message) message.client.0
+            else replied system.now (spm_of_objects self.old) handle status message)) }
+        ensures fits { IfOk result (λ u.
+            (regions : prelude.List (ℕ × ℕ)) → MessagesFit regions self.old
+            → MessagesFit regions self.new) }
         ensures made { self.new.connections_made ≡ self.old.connections_made }
     {
         self.close_message(system, handle, status, message);
@@ -160,7 +174,9 @@ impl Machine {
         status: Status,
     ) -> Result<Option<Outcome>, Memory>
         requires { IsMachineOf system.now self.old }
-        ensures does { Does (λ given. psa_reply system.now (state_of self.old given) actor.0 handle status.0) self.old result self.new }
+        ensures does { Does (λ given.
+            psa_reply system.now (state_of self.old given) actor.0 handle status.0)
+            self.old result self.new }
         ensures made { self.new.objects.connections_made ≡ self.old.objects.connections_made }
         ensures kept { IfOk result (λ o. IsMachineOf system.now self.new) }
     {

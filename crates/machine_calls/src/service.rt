@@ -21,7 +21,10 @@ use memory_image::valid_buffer;
 impl Objects {
     // The rhandle that a message carries: 0 for that of a `psa_connect`, else its connection's.
     fn rhandle_of(&self, message: PendingMessage) -> u32
-        ensures { result ≡ (if int_eq message.kind PSA_IPC_CONNECT then 0 else option_map_or (λ c. c.rhandle) (option_and_then (connection_by_serial (spm_of_objects self.now)) message.connection) 0) }
+        ensures { result ≡ (if int_eq message.kind PSA_IPC_CONNECT
+            then 0
+            else option_map_or (λ c. c.rhandle) (option_and_then
+            (connection_by_serial (spm_of_objects self.now)) message.connection) 0) }
     {
         if message.kind == PSA_IPC_CONNECT {
             return 0;
@@ -57,7 +60,8 @@ impl Objects {
         mask: u32,
         timeout: u32,
     ) -> Option<Outcome>
-        ensures moves { Moves (psa_wait system.now (spm_of_objects self.old) actor.0 mask timeout) self.old (Ok result) self.new }
+        ensures moves { Moves (psa_wait system.now (spm_of_objects self.old) actor.0 mask timeout)
+            self.old (Ok result) self.new }
         ensures messages { self.new.messages ≡ self.old.messages }
         ensures made { self.new.connections_made ≡ self.old.connections_made }
     {
@@ -79,7 +83,8 @@ impl Objects {
         handle: Handle,
         rhandle: u32,
     ) -> Option<Outcome>
-        ensures moves { Moves (psa_set_rhandle system.now (spm_of_objects self.old) actor.0 handle rhandle) self.old (Ok result) self.new }
+        ensures moves { Moves (psa_set_rhandle system.now (spm_of_objects self.old)
+            actor.0 handle rhandle) self.old (Ok result) self.new }
         ensures messages { self.new.messages ≡ self.old.messages }
         ensures made { self.new.connections_made ≡ self.old.connections_made }
     {
@@ -102,7 +107,9 @@ impl Machine {
         handle: Handle,
     ) -> Option<Message>
         requires { IsMachineOf system.now self.old }
-        ensures gets { Gets (λ given. psa_get system.now (state_of self.old given) actor.0 signal msg handle) handle self.old result self.new }
+        ensures gets { Gets (λ given.
+            psa_get system.now (state_of self.old given) actor.0 signal msg handle)
+            handle self.old result self.new }
         ensures made { self.new.objects.connections_made ≡ self.old.objects.connections_made }
         ensures kept { IsMachineOf system.now self.new }
     {
@@ -128,7 +135,10 @@ impl Machine {
         len: u32,
     ) -> Option<Outcome>
         requires { IsMachineOf system.now self.old }
-        ensures does { Does (λ given. option_map (in_state (state_of self.old given)) (psa_skip system.now (spm_of_objects self.old.objects) actor.0 handle index len)) self.old (Ok result) self.new }
+        ensures does { Does (λ given.
+            option_map (in_state (state_of self.old given))
+            (psa_skip system.now (spm_of_objects self.old.objects) actor.0 handle index len))
+            self.old (Ok result) self.new }
         ensures made { self.new.objects.connections_made ≡ self.old.objects.connections_made }
         ensures kept { IsMachineOf system.now self.new }
     {
@@ -150,7 +160,9 @@ impl Machine {
         len: u32,
     ) -> Option<Outcome>
         requires { IsMachineOf system.now self.old }
-        ensures does { Does (λ given. psa_read system.now (state_of self.old given) actor.0 handle index buffer len) self.old (Ok result) self.new }
+        ensures does { Does (λ given.
+            psa_read system.now (state_of self.old given) actor.0 handle index buffer len)
+            self.old (Ok result) self.new }
         ensures made { self.new.objects.connections_made ≡ self.old.objects.connections_made }
         ensures kept { IsMachineOf system.now self.new }
     {
@@ -175,7 +187,9 @@ impl Machine {
         len: u32,
     ) -> Option<Outcome>
         requires { IsMachineOf system.now self.old }
-        ensures does { Does (λ given. psa_write system.now (state_of self.old given) actor.0 handle index buffer len) self.old (Ok result) self.new }
+        ensures does { Does (λ given.
+            psa_write system.now (state_of self.old given) actor.0 handle index buffer len)
+            self.old (Ok result) self.new }
         ensures made { self.new.objects.connections_made ≡ self.old.objects.connections_made }
         ensures kept { IsMachineOf system.now self.new }
     {

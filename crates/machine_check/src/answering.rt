@@ -13,7 +13,8 @@ use std::collections::BTreeSet;
 
 // A handle that isn't among those given: the body takes the least, the clause any. None where all are.
 fn least_left(given: &BTreeSet<i32>) -> Option<Handle>
-    ensures { MatchOption result ((h : HandleSeen) → is_left given.now h ≡ false) (λ h. is_left given.now h ≡ true) }
+    ensures { MatchOption result ((h : HandleSeen) → is_left given.now h ≡ false) (λ h.
+        is_left given.now h ≡ true) }
 {
     for number in 1..LAST_HANDLE as u32 + 1 {
         let handle = Handle(number as i32);
@@ -37,7 +38,9 @@ impl Checker {
     pub fn due(self, system: &System, actor: ActorId, call: Call) -> Result<Option<Outcome>, Memory>
         requires kept { IsMachineOf system.now self.machine }
         requires few { self.machine.objects.connections_made < 2 ^ 31 }
-        ensures { (handles : prelude.List HandleSeen) → Knows self.given handles → IfOk result (λ due. IsDue system.now (state_of self.machine handles) actor.0 call due) }
+        ensures { (handles : prelude.List HandleSeen) → Knows self.given handles
+            → IfOk result (λ due.
+            IsDue system.now (state_of self.machine handles) actor.0 call due) }
     {
         let Checker {
             mut machine,

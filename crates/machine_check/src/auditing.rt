@@ -92,7 +92,8 @@ impl Auditor {
         requires kept { IsMachineOf system.now self.old.checker.machine }
         requires regions { regions_of self.old.before ≡ ranges_of system.now.regions }
         requires inside { AreInside (ranges_of system.now.regions) written }
-        requires stays { (x : ℕ) → any_covers (ranges_in written) x ≡ false → byte_at self.old.checker.machine.memory x ≡ byte_at self.old.before x }
+        requires stays { (x : ℕ) → any_covers (ranges_in written) x ≡ false
+            → byte_at self.old.checker.machine.memory x ≡ byte_at self.old.before x }
         ensures checker { self.new.checker ≡ self.old.checker }
         ensures tells { IfOk result (λ u. Tells system.now actor.0 self.old self.new) }
     {
@@ -106,7 +107,8 @@ impl Auditor {
     fn accept(&mut self, system: &System, limit: u32, entry: &Entry) -> Result<bool, Memory>
         requires ready { IsReady system.now self.old }
         requires few { self.old.checker.count < 2 ^ 31 }
-        ensures audits { (all : prelude.List HandleSeen) → Knows self.old.checker.given all → Audits system.now limit self.old all entry.now result self.new }
+        ensures audits { (all : prelude.List HandleSeen) → Knows self.old.checker.given all
+            → Audits system.now limit self.old all entry.now result self.new }
         ensures count { self.new.checker.count ≤ self.old.checker.count + 1 }
     {
         let written = written(&self.checker.machine, system, entry);
@@ -142,7 +144,8 @@ pub fn audit(
 ) -> Result<AuditReport, Memory>
     requires regions { regions_of memory.now ≡ ranges_of system.now.regions }
     requires few { length trace.now.entries < 2 ^ 31 }
-    ensures { IfOk result (λ report. IsAudit system.now (byte_at memory.now) limit trace.now.entries trace.now.verdict report) }
+    ensures { IfOk result (λ report.
+        IsAudit system.now (byte_at memory.now) limit trace.now.entries trace.now.verdict report) }
 {
     let mut auditor = Auditor::new(alloc, system, memory)?;
     for entry in trace.entries.as_slice() {

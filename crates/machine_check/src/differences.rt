@@ -61,7 +61,8 @@ impl Differences {
         requires old { regions_of old.now ≡ ranges_of system.now.regions }
         requires new { regions_of new.now ≡ ranges_of system.now.regions }
         requires inside { is_inside address len (ranges_of system.now.regions) ≡ true }
-        ensures differences { AreDifferences system.now actor.0 (byte_at old.now) (byte_at new.now) ((address, len) ∷ []) result }
+        ensures differences { AreDifferences system.now actor.0 (byte_at old.now) (byte_at new.now)
+            ((address, len) ∷ []) result }
         ensures count { result.count ≤ len }
     {
         let lowest = old.first_difference_in(new, address, len);
@@ -100,7 +101,8 @@ pub fn differences_in(
     requires old { regions_of old.now ≡ ranges_of system.now.regions }
     requires new { regions_of new.now ≡ ranges_of system.now.regions }
     requires inside { AreInside (ranges_of system.now.regions) written }
-    ensures { AreDifferences system.now actor.0 (byte_at old.now) (byte_at new.now) (ranges_in written) result }
+    ensures { AreDifferences system.now actor.0 (byte_at old.now) (byte_at new.now)
+        (ranges_in written) result }
 {
     let mut found = Differences::NONE;
     for k in 0..written.times {
@@ -115,7 +117,8 @@ pub fn differences_in(
 pub fn take_over(memory: &mut Image, other: &Image, written: Ranges)
     requires regions { regions_of other.now ≡ regions_of memory.old }
     requires inside { AreInside (regions_of memory.old) written }
-    ensures bytes { byte_at memory.new ≡ taken_from (byte_at other.now) (ranges_in written) (byte_at memory.old) }
+    ensures bytes { byte_at memory.new
+        ≡ taken_from (byte_at other.now) (ranges_in written) (byte_at memory.old) }
     ensures regions { regions_of memory.new ≡ regions_of memory.old }
 {
     memory.keeps_its_limits();

@@ -40,7 +40,9 @@ fn filled<T: Copy>(alloc: Global, value: T, count: usize) -> Result<Vec<T>, Memo
 
 // The flags of the sources at the start.
 fn opening_flags(alloc: Global, sources: &[Source]) -> Result<Vec<SourceFlags>, Memory>
-    ensures { IfOk result (λ v. v.items ≡ map (λ x. record { enabled = x.enabled; pending = false; asserted = false }) sources.now) }
+    ensures { IfOk result (λ v.
+        v.items ≡ map (λ x. record { enabled = x.enabled; pending = false; asserted = false })
+        sources.now) }
 {
     let mut flags = Vec::new(alloc);
     for source in sources {
@@ -115,7 +117,8 @@ impl Checker {
         requires kept { IsMachineOf system.now self.old.machine }
         requires made { self.old.machine.objects.connections_made ≤ self.old.count }
         requires few { self.old.count < 2 ^ 31 }
-        ensures accepts { (all : prelude.List HandleSeen) → Knows self.old.given all → Accepts system.now limit self.old all entry.now result self.new }
+        ensures accepts { (all : prelude.List HandleSeen) → Knows self.old.given all
+            → Accepts system.now limit self.old all entry.now result self.new }
         ensures count { self.new.count ≤ self.old.count + 1 }
     {
         if self.count >= limit {
@@ -132,7 +135,8 @@ impl Checker {
     /// The verdict of a run that ends here and may have at most so many entries. None where it isn't ended: an
     /// actor can go on, and the entries are not as many as the limit.
     pub fn verdict(&self, system: &System, limit: u32) -> Option<Verdict>
-        ensures { result ≡ verdict_at system.now limit self.now.count (spm_of_objects self.now.machine.objects) }
+        ensures { result ≡ verdict_at system.now limit self.now.count
+            (spm_of_objects self.now.machine.objects) }
     {
         let objects = &self.machine.objects;
         if is_some_enabled(objects, system) {
@@ -151,7 +155,8 @@ impl Checker {
     /// Judges by the verdict, after all entries.
     pub fn finish(&self, system: &System, limit: u32, verdict: Verdict) -> Checked
         requires { self.now.count < 2 ^ 31 }
-        ensures { (j : Judgement) → ChecksTo system.now limit verdict j self.now [] → judgement result ≡ j }
+        ensures { (j : Judgement) → ChecksTo system.now limit verdict j self.now []
+            → judgement result ≡ j }
     {
         match self.verdict(system, limit) {
             Some(found) if found == verdict => Checked::Legal,
@@ -231,7 +236,9 @@ pub fn check(
 ) -> Result<Checked, Memory>
     requires regions { regions_of memory.now ≡ ranges_of system.now.regions }
     requires few { length trace.now.entries < 2 ^ 31 }
-    ensures { IfOk result (λ c. judgement c ≡ judged system.now (byte_at memory.now) limit trace.now.entries trace.now.verdict) }
+    ensures { IfOk result (λ c.
+        judgement c
+        ≡ judged system.now (byte_at memory.now) limit trace.now.entries trace.now.verdict) }
 {
     match follow(alloc, system, memory, limit, trace.entries.as_slice())? {
         Followed::All(checker) => Ok(checker.finish(system, limit, trace.verdict)),

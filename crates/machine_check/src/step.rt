@@ -182,7 +182,8 @@ fn memory_call(
 // The return of a call that waited.
 fn resume(machine: &mut Machine, system: &System, actor: ActorId, handle: Handle) -> Outcome
     requires kept { IsMachineOf system.now machine.old }
-    ensures attempts { Attempts system.now actor.0 call.Resume handle machine.old (Ok (Some result)) machine.new }
+    ensures attempts { Attempts system.now actor.0 call.Resume handle machine.old
+        (Ok (Some result)) machine.new }
     ensures made { machine.new.objects.connections_made ≡ machine.old.objects.connections_made }
     ensures kept { IsMachineOf system.now machine.new }
 {
@@ -313,7 +314,8 @@ pub fn step(
 ) -> Result<bool, Memory>
     requires kept { IsMachineOf system.now machine.old }
     requires few { machine.old.objects.connections_made < 2 ^ 31 }
-    ensures steps { (all : List HandleSeen) → Knows given.old all → Steps system.now machine.old all entry.now result machine.new given.new }
+    ensures steps { (all : List HandleSeen) → Knows given.old all
+        → Steps system.now machine.old all entry.now result machine.new given.new }
     ensures made { machine.new.objects.connections_made ≤ machine.old.objects.connections_made + 1 }
     ensures kept { IfOk result (λ o. IsMachineOf system.now machine.new) }
 {
@@ -394,7 +396,9 @@ pub fn gave_handle(phase: ActorPhase, call: Call, outcome: Outcome) -> bool
 // Gives a handle, where it is from 1 to 0x3fffffff and no event gave it before.
 fn give(given: &mut BTreeSet<i32>, handle: Handle) -> Result<bool, Memory>
     ensures fresh { IfOk result (λ is_fresh. is_fresh ≡ is_left given.old handle) }
-    ensures given { IfOk result (λ is_fresh. is_fresh ≡ true → (k : ℤ) → contains int_cmp given.new k ≡ (int_eq k handle.0 || contains int_cmp given.old k)) }
+    ensures given { IfOk result (λ is_fresh.
+        is_fresh ≡ true → (k : ℤ)
+        → contains int_cmp given.new k ≡ (int_eq k handle.0 || contains int_cmp given.old k)) }
 {
     if handle.0 < 1 || handle.0 > LAST_HANDLE {
         return Ok(false);

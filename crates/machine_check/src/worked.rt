@@ -7,7 +7,8 @@ ghost use Rattle.machine_check.specs.Worked.{ChangeZeros, first_change, loads, s
 /// one.
 pub fn changes_of_stores()
     ensures own { ChangeZeros (stores 0x30000004 7 ∷ []) (first_change 0x30000004 1 None ∷ []) }
-    ensures outside { ChangeZeros (stores 0x30000020 7 ∷ []) (first_change 0x30000020 1 (Some 0x30000020) ∷ []) }
+    ensures outside { ChangeZeros (stores 0x30000020 7 ∷ [])
+        (first_change 0x30000020 1 (Some 0x30000020) ∷ []) }
     ensures same_byte { ChangeZeros (stores 0x30000004 0 ∷ []) [] }
     ensures load { ChangeZeros (loads 0x30000004 ∷ []) [] }
 {}
@@ -16,9 +17,17 @@ pub fn changes_of_stores()
 /// actor's own RAM where it is not. No change can be told where no byte differs.
 pub fn false_changes()
     ensures left_out { ChangeZeros (stores 0x30000004 7 ∷ []) [] → ⊥ }
-    ensures counted_twice { ChangeZeros (stores 0x30000004 7 ∷ []) (first_change 0x30000004 2 None ∷ []) → ⊥ }
-    ensures another_address { ChangeZeros (stores 0x30000004 7 ∷ []) (first_change 0x30000005 1 None ∷ []) → ⊥ }
-    ensures not_outside { ChangeZeros (stores 0x30000020 7 ∷ []) (first_change 0x30000020 1 None ∷ []) → ⊥ }
-    ensures another_place { ChangeZeros (loads 0x30000004 ∷ stores 0x30000004 7 ∷ []) (first_change 0x30000004 1 None ∷ []) → ⊥ }
+    ensures counted_twice { ChangeZeros (stores 0x30000004 7 ∷ [])
+        (first_change 0x30000004 2 None ∷ [])
+        → ⊥ }
+    ensures another_address { ChangeZeros (stores 0x30000004 7 ∷ [])
+        (first_change 0x30000005 1 None ∷ [])
+        → ⊥ }
+    ensures not_outside { ChangeZeros (stores 0x30000020 7 ∷ [])
+        (first_change 0x30000020 1 None ∷ [])
+        → ⊥ }
+    ensures another_place { ChangeZeros (loads 0x30000004 ∷ stores 0x30000004 7 ∷ [])
+        (first_change 0x30000004 1 None ∷ [])
+        → ⊥ }
     ensures made_up { (change : Change) → ChangeZeros (loads 0x30000004 ∷ []) (change ∷ []) → ⊥ }
 {}

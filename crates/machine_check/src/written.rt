@@ -104,7 +104,9 @@ fn written_by_write(
     len: u32,
 ) -> Ranges
     requires { IsMachineOf system.now machine.now }
-    ensures { result ≡ option_map_or (λ m. next_bytes (output_at m index) len) (request_held system.now (spm_of_objects machine.now.objects) actor.0 handle index) nothing }
+    ensures { result ≡ option_map_or (λ m. next_bytes (output_at m index) len)
+        (request_held system.now (spm_of_objects machine.now.objects)
+        actor.0 handle index) nothing }
 {
     match machine.objects.request_held(system, actor.0, handle, index) {
         Some(message) => {
@@ -121,7 +123,8 @@ fn written_by_write(
 // What `psa_reply` may change.
 fn written_by_reply(machine: &Machine, system: &System, actor: ActorId, handle: Handle) -> Ranges
     requires { IsMachineOf system.now machine.now }
-    ensures { result ≡ option_map_or length_words (message_held system.now (spm_of_objects machine.now.objects) actor.0 handle) nothing }
+    ensures { result ≡ option_map_or length_words
+        (message_held system.now (spm_of_objects machine.now.objects) actor.0 handle) nothing }
 {
     match machine.objects.message_held(system, actor.0, handle) {
         Some(message) => length_words(&machine.memory, &message),

@@ -20,7 +20,8 @@ pub fn skip(vectors: &mut Vectors, index: u32, len: u32) -> u32
     ensures number { result ≡ min len (rest_of (input_of vectors.old index)) }
     ensures vectors { vectors.new ≡ with_input_moved vectors.old index result }
     ensures moved { AreMovedWithin vectors.new }
-    ensures within { (regions : List (ℕ × ℕ)) → AreWithin regions vectors.old → AreWithin regions vectors.new }
+    ensures within { (regions : List (ℕ × ℕ)) → AreWithin regions vectors.old
+        → AreWithin regions vectors.new }
 {
     let span = &mut vectors.input[index as usize];
     let count = len.min(span.len - span.moved);
@@ -48,8 +49,10 @@ pub fn read(image: &mut Image, vectors: &mut Vectors, index: u32, buffer: u32, l
     requires buffer { is_inside buffer len (regions_of image.old) ≡ true }
     ensures number { result ≡ min len (rest_of (input_of vectors.old index)) }
     ensures vectors { vectors.new ≡ with_input_moved vectors.old index result }
-    ensures bytes { let v = input_of vectors.old index in byte_at image.new ≡ copy_bytes (byte_at image.old) (v.base + v.moved) buffer result }
-    ensures changed { (x : ℕ) → range_covers (buffer, len) x ≡ false → byte_at image.new x ≡ byte_at image.old x }
+    ensures bytes { let v = input_of vectors.old index in
+        byte_at image.new ≡ copy_bytes (byte_at image.old) (v.base + v.moved) buffer result }
+    ensures changed { (x : ℕ) → range_covers (buffer, len) x ≡ false
+        → byte_at image.new x ≡ byte_at image.old x }
     ensures regions { regions_of image.new ≡ regions_of image.old }
     ensures within { AreWithin (regions_of image.new) vectors.new }
 {
@@ -69,7 +72,8 @@ fn advance(vectors: &mut Vectors, index: u32, len: u32) -> Result<(), Fault>
     ensures exact { is_ok result ≡ nat_le len (rest_of (output_of vectors.old index)) }
     ensures vectors { OnOk result (vectors.new ≡ with_output_moved vectors.old index len) }
     ensures fault { OnErr result (vectors.new ≡ vectors.old) }
-    ensures within { (regions : List (ℕ × ℕ)) → AreWithin regions vectors.old → AreWithin regions vectors.new }
+    ensures within { (regions : List (ℕ × ℕ)) → AreWithin regions vectors.old
+        → AreWithin regions vectors.new }
 {
     let span = &mut vectors.output[index as usize];
     if len > span.len - span.moved {
@@ -96,9 +100,11 @@ pub fn write(
     requires buffer { is_inside buffer len (regions_of image.old) ≡ true }
     ensures exact { is_ok result ≡ nat_le len (rest_of (output_of vectors.old index)) }
     ensures vectors { OnOk result (vectors.new ≡ with_output_moved vectors.old index len) }
-    ensures bytes { OnOk result (let v = output_of vectors.old index in byte_at image.new ≡ copy_bytes (byte_at image.old) buffer (v.base + v.moved) len) }
+    ensures bytes { OnOk result (let v = output_of vectors.old index in
+        byte_at image.new ≡ copy_bytes (byte_at image.old) buffer (v.base + v.moved) len) }
     ensures fault { OnErr result ((vectors.new ≡ vectors.old) × (image.new ≡ image.old)) }
-    ensures changed { (x : ℕ) → span_has x (output_of vectors.old index) ≡ false → byte_at image.new x ≡ byte_at image.old x }
+    ensures changed { (x : ℕ) → span_has x (output_of vectors.old index) ≡ false
+        → byte_at image.new x ≡ byte_at image.old x }
     ensures regions { regions_of image.new ≡ regions_of image.old }
     ensures within { AreWithin (regions_of image.new) vectors.new }
 {
@@ -112,7 +118,8 @@ pub fn write(
 }
 
 fn put_lengths(image: &mut Image, at: u32, spans: &[Span])
-    requires { (k : ℕ) → k < length spans.now → is_inside (at + 8 * k) 8 (regions_of image.old) ≡ true }
+    requires { (k : ℕ) → k < length spans.now
+        → is_inside (at + 8 * k) 8 (regions_of image.old) ≡ true }
     ensures bytes { byte_at image.new ≡ lengths_written (byte_at image.old) at spans.now }
     ensures regions { regions_of image.new ≡ regions_of image.old }
 {
@@ -127,8 +134,10 @@ fn put_lengths(image: &mut Image, at: u32, spans: &[Span])
 /// other byte changes. The vectors meet the condition on vectors.
 pub fn finish(image: &mut Image, vectors: &Vectors)
     requires { AreWithin (regions_of image.old) vectors.now }
-    ensures bytes { byte_at image.new ≡ lengths_written (byte_at image.old) vectors.now.out_vec (take vectors.now.out_len vectors.now.output) }
-    ensures changed { (x : ℕ) → length_word_has x vectors.now.out_vec vectors.now.out_len ≡ false → byte_at image.new x ≡ byte_at image.old x }
+    ensures bytes { byte_at image.new ≡ lengths_written (byte_at image.old) vectors.now.out_vec
+        (take vectors.now.out_len vectors.now.output) }
+    ensures changed { (x : ℕ) → length_word_has x vectors.now.out_vec vectors.now.out_len ≡ false
+        → byte_at image.new x ≡ byte_at image.old x }
     ensures regions { regions_of image.new ≡ regions_of image.old }
 {
     let given = &vectors.output[..vectors.out_len as usize];

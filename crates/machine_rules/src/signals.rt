@@ -41,7 +41,8 @@ pub fn source_of_signal(system: &System, partition: u32, signal: u32) -> Option<
 
 // The signals of a partition's services.
 fn service_signals(services: &[Service], partition: u32) -> u32
-    ensures { result ≡ union_of (map (λ v. v.signal) (filter (λ v. v.owner == partition) services.now)) }
+    ensures { result ≡ union_of
+        (map (λ v. v.signal) (filter (λ v. v.owner == partition) services.now)) }
 {
     services
         .iter()
@@ -52,7 +53,8 @@ fn service_signals(services: &[Service], partition: u32) -> u32
 
 // The signals of a partition's interrupt sources.
 fn source_signals(sources: &[Source], partition: u32) -> u32
-    ensures { result ≡ union_of (map (λ v. v.signal) (filter (λ v. v.owner == partition) sources.now)) }
+    ensures { result ≡ union_of
+        (map (λ v. v.signal) (filter (λ v. v.owner == partition) sources.now)) }
 {
     sources
         .iter()

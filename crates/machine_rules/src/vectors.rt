@@ -79,7 +79,8 @@ pub fn snapshot(
     out_len: u32,
 ) -> Option<Vectors>
     requires { regions_of image.now ≡ ranges_of system.now.regions }
-    ensures exact { result ≡ vectors_of system.now (byte_at image.now) actor.0 in_vec in_len out_vec out_len }
+    ensures exact { result ≡ vectors_of system.now (byte_at image.now) actor.0 in_vec
+        in_len out_vec out_len }
     ensures within { IfSome result (λ vectors. AreWithin (regions_of image.now) vectors) }
 {
     if !are_few(in_len, out_len) {

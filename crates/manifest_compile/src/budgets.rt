@@ -166,7 +166,10 @@ fn first_without_permission<'a>(
     pairs: &[Pair<'a>],
 ) -> Result<Option<u32>, AllocError>
     requires { map pair_seen pairs.now ≡ permitted parts.now }
-    ensures { IfOk result (λ found. found ≡ option_map (λ e. e.0) (first (filter (λ e. not (list_any (λ pair. pair.connects && is_for pair e.1) (permitted parts.now))) (enumerate_from 0 parts.now.connections)))) }
+    ensures { IfOk result (λ found.
+        found ≡ option_map (λ e. e.0) (first (filter (λ e.
+        not (list_any (λ pair. pair.connects && is_for pair e.1) (permitted parts.now)))
+        (enumerate_from 0 parts.now.connections)))) }
 {
     let names = names_of_pairs(alloc, pairs)?;
     for (place, connection) in parts.connections.as_slice().iter().enumerate() {

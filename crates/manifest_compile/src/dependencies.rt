@@ -53,7 +53,9 @@ fn first_unknown(
     owners: &BTreeMap<&str, u32>,
 ) -> Result<Option<(u32, u32)>, AllocError>
     requires { Owns owners.now parts.now }
-    ensures { IfOk result (λ found. found ≡ option_map spot (first (filter (λ d. not (is_known parts.now d.value)) (dependencies_in parts.now)))) }
+    ensures { IfOk result (λ found.
+        found ≡ option_map spot
+        (first (filter (λ d. not (is_known parts.now d.value)) (dependencies_in parts.now)))) }
 {
     let dependencies = located::<Dependencies>(alloc, parts.manifests.as_slice())?;
     for at in &dependencies {
@@ -86,7 +88,9 @@ fn first_own(
     owners: &BTreeMap<&str, u32>,
 ) -> Result<Option<(u32, u32)>, AllocError>
     requires { Owns owners.now parts.now }
-    ensures { IfOk result (λ found. found ≡ option_map spot (first (filter (λ d. has_service parts.now d.manifest d.value) (dependencies_in parts.now)))) }
+    ensures { IfOk result (λ found.
+        found ≡ option_map spot (first
+        (filter (λ d. has_service parts.now d.manifest d.value) (dependencies_in parts.now)))) }
 {
     let dependencies = located::<Dependencies>(alloc, parts.manifests.as_slice())?;
     for at in &dependencies {
@@ -144,7 +148,8 @@ fn mark(marks: &mut [bool], from: u32, to: u32)
     requires room { length marks.old ≡ 65536 }
     requires from { from < 256 }
     requires to { to < 256 }
-    ensures { (k j : ℕ) → is_marked marks.new k j ≡ (is_marked marks.old k j || ((from == k) && (to == j))) }
+    ensures { (k j : ℕ)
+        → is_marked marks.new k j ≡ (is_marked marks.old k j || ((from == k) && (to == j))) }
 {
     marks[from as usize * ROW + to as usize] = true;
 }
@@ -153,8 +158,11 @@ fn mark(marks: &mut [bool], from: u32, to: u32)
 fn mark_dependency(marks: &mut [bool], owners: &BTreeMap<&str, u32>, from: u32, name: &Name)
     requires room { length marks.old ≡ 65536 }
     requires from { from < 256 }
-    requires owners { (service : List ℕ) → IfSome (owner_of owners.now service) (λ owner. owner < 256) }
-    ensures { (k j : ℕ) → is_marked marks.new k j ≡ (is_marked marks.old k j || ((from == k) && is_owner owners.now j name.now)) }
+    requires owners { (service : List ℕ)
+        → IfSome (owner_of owners.now service) (λ owner. owner < 256) }
+    ensures { (k j : ℕ)
+        → is_marked marks.new k j
+        ≡ (is_marked marks.old k j || ((from == k) && is_owner owners.now j name.now)) }
 {
     if let Some(owner) = owners.get(name.as_str()) {
         mark(marks, from, *owner);
@@ -168,8 +176,13 @@ fn mark_dependencies(
 )
     requires room { length marks.old ≡ 65536 }
     requires from { Each (λ d. d.manifest < 256) (map seen dependencies.now) }
-    requires owners { (service : List ℕ) → IfSome (owner_of owners.now service) (λ owner. owner < 256) }
-    ensures { (k j : ℕ) → is_marked marks.new k j ≡ (is_marked marks.old k j || list_any (λ d. (d.manifest == k) && is_owner owners.now j d.value) (map seen dependencies.now)) }
+    requires owners { (service : List ℕ)
+        → IfSome (owner_of owners.now service) (λ owner. owner < 256) }
+    ensures { (k j : ℕ)
+        → is_marked marks.new k j
+        ≡ (is_marked marks.old k j
+        || list_any (λ d. (d.manifest == k) && is_owner owners.now j d.value)
+        (map seen dependencies.now)) }
 {
     for at in dependencies {
         mark_dependency(marks, owners, at.manifest, at.value);
@@ -182,7 +195,8 @@ fn graph_of(
     owners: &BTreeMap<&str, u32>,
 ) -> Result<DependencyGraph, AllocError>
     requires { Owns owners.now parts.now }
-    ensures { IfOk result (λ graph. (k j : ℕ) → is_marked graph.marks.items k j ≡ depends parts.now k j) }
+    ensures { IfOk result (λ graph.
+        (k j : ℕ) → is_marked graph.marks.items k j ≡ depends parts.now k j) }
 {
     let dependencies = located::<Dependencies>(alloc, parts.manifests.as_slice())?;
     let mut marks = vec![in alloc; false; ROW * ROW]?;

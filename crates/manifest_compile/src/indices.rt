@@ -34,7 +34,10 @@ fn repeated_index(
     alloc: Global,
     services: &[At<'_, ServiceItem>],
 ) -> Result<Option<(u32, u32)>, AllocError>
-    ensures { IfOk result (λ found. found ≡ option_map spot (first (repeated (λ x y. not (y.value.stateless_handle == 0) && (x.value.stateless_handle == y.value.stateless_handle)) (map seen services.now)))) }
+    ensures { IfOk result (λ found.
+        found ≡ option_map spot (first (repeated (λ x y.
+        not (y.value.stateless_handle == 0)
+        && (x.value.stateless_handle == y.value.stateless_handle)) (map seen services.now)))) }
 {
     let mut indices = BTreeSet::new(alloc);
     for at in services {
@@ -63,7 +66,8 @@ pub fn indices_differ(alloc: Global, parts: &Parts) -> Result<(), ReadError>
 }
 
 fn are_too_many(services: &[At<'_, ServiceItem>]) -> bool
-    ensures { result ≡ nat_lt MAX_STATELESS (count_by (λ x. not x.value.connection_based) (map seen services.now)) }
+    ensures { result ≡ nat_lt MAX_STATELESS
+        (count_by (λ x. not x.value.connection_based) (map seen services.now)) }
 {
     let mut stateless: usize = 0;
     for at in services {
@@ -90,7 +94,8 @@ pub fn stated_indices(
     alloc: Global,
     services: &[At<'_, ServiceItem>],
 ) -> Result<Vec<u32>, AllocError>
-    ensures { IfOk result (λ indices. indices.items ≡ map (λ x. x.value.stateless_handle) (map seen services.now)) }
+    ensures { IfOk result (λ indices.
+        indices.items ≡ map (λ x. x.value.stateless_handle) (map seen services.now)) }
 {
     let mut indices = Vec::new(alloc);
     for at in services {

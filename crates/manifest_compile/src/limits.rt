@@ -13,7 +13,8 @@ use ffm_model::{
 use std::alloc::Global;
 
 fn has_too_many_signals(manifest: &Manifest) -> bool
-    ensures { result ≡ nat_lt MAX_SIGNALS (length manifest.now.services + length manifest.now.irqs) }
+    ensures { result ≡ nat_lt MAX_SIGNALS
+        (length manifest.now.services + length manifest.now.irqs) }
 {
     let most = MAX_SIGNALS as usize;
     let services = manifest.services.len();
@@ -23,7 +24,9 @@ fn has_too_many_signals(manifest: &Manifest) -> bool
 // The first manifest with too many services and interrupts.
 fn first_with_too_many_signals(manifests: &[Manifest]) -> Option<u32>
     requires { length manifests.now ≤ 256 }
-    ensures { result ≡ option_map (λ e. e.0) (first (filter (λ e. nat_lt MAX_SIGNALS (length e.1.services + length e.1.irqs)) (enumerate_from 0 manifests.now))) }
+    ensures { result ≡ option_map (λ e. e.0) (first (filter (λ e.
+        nat_lt MAX_SIGNALS (length e.1.services + length e.1.irqs))
+        (enumerate_from 0 manifests.now))) }
 {
     for (k, manifest) in manifests.iter().enumerate() {
         if has_too_many_signals(manifest) {

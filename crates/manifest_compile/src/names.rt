@@ -37,7 +37,8 @@ fn add_partitions<'a>(
     manifests: &'a [Manifest],
 ) -> Result<(), AllocError>
     requires { length manifests.now ≤ 256 }
-    ensures { OnOk result (map title_seen found.new.items ≡ map title_seen found.old.items ++ map partition_title (enumerate_from 0 manifests.now)) }
+    ensures { OnOk result (map title_seen found.new.items
+        ≡ map title_seen found.old.items ++ map partition_title (enumerate_from 0 manifests.now)) }
 {
     for (k, manifest) in manifests.iter().enumerate() {
         found.push(LentTitle {
@@ -51,7 +52,8 @@ fn add_partitions<'a>(
 // Adds the names of the clients.
 fn add_clients<'a>(found: &mut Vec<LentTitle<'a>>, clients: &'a [Name]) -> Result<(), AllocError>
     requires { length clients.now ≤ 16 }
-    ensures { OnOk result (map title_seen found.new.items ≡ map title_seen found.old.items ++ map client_title (enumerate_from 0 clients.now)) }
+    ensures { OnOk result (map title_seen found.new.items
+        ≡ map title_seen found.old.items ++ map client_title (enumerate_from 0 clients.now)) }
 {
     for (k, client) in clients.iter().enumerate() {
         found.push(LentTitle {
@@ -73,7 +75,10 @@ fn titles(alloc: Global, parts: &Parts) -> Result<Vec<LentTitle<'_>>, AllocError
 
 // Whose name is the first that an earlier one has.
 fn repeated_title(alloc: Global, titles: &[LentTitle<'_>]) -> Result<Option<Titled>, AllocError>
-    ensures { IfOk result (λ found. option_map steps_of found ≡ option_map (λ x. x.steps) (first (repeated (λ x y. bytes_eq x.name y.name) (map title_seen titles.now)))) }
+    ensures { IfOk result (λ found.
+        option_map steps_of found
+        ≡ option_map (λ x. x.steps)
+        (first (repeated (λ x y. bytes_eq x.name y.name) (map title_seen titles.now)))) }
 {
     let mut names = BTreeSet::new(alloc);
     for title in titles {
@@ -134,7 +139,9 @@ fn repeated_sid(
     alloc: Global,
     services: &[At<'_, ServiceItem>],
 ) -> Result<Option<(u32, u32)>, AllocError>
-    ensures { IfOk result (λ found. found ≡ option_map spot (first (repeated (λ x y. x.value.sid.0 == y.value.sid.0) (map seen services.now)))) }
+    ensures { IfOk result (λ found.
+        found ≡ option_map spot
+        (first (repeated (λ x y. x.value.sid.0 == y.value.sid.0) (map seen services.now)))) }
 {
     let mut sids = BTreeSet::new(alloc);
     for at in services {

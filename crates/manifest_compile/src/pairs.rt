@@ -53,7 +53,9 @@ fn add_dependencies<'a>(
     services: &[At<'a, ServiceItem>],
 ) -> Result<(), AllocError>
     requires { length services.now ≤ 896 }
-    ensures { OnOk result (map pair_seen found.new.items ≡ map pair_seen found.old.items ++ permitted_to_partition (map seen services.now) (client, manifest.now)) }
+    ensures { OnOk result (map pair_seen found.new.items
+        ≡ map pair_seen found.old.items
+        ++ permitted_to_partition (map seen services.now) (client, manifest.now)) }
 {
     let client_name = manifest.name.as_str();
     let dependencies = set_of(alloc, manifest.dependencies.as_slice())?;
@@ -80,7 +82,9 @@ fn add_non_secure<'a>(
     services: &[At<'a, ServiceItem>],
 ) -> Result<(), AllocError>
     requires { length services.now ≤ 896 }
-    ensures { OnOk result (map pair_seen found.new.items ≡ map pair_seen found.old.items ++ permitted_to_client (map seen services.now) (client, client_name.now)) }
+    ensures { OnOk result (map pair_seen found.new.items
+        ≡ map pair_seen found.old.items
+        ++ permitted_to_client (map seen services.now) (client, client_name.now)) }
 {
     let client_name = client_name.as_str();
     for (place, at) in services.iter().enumerate() {
@@ -106,7 +110,10 @@ fn add_partitions<'a>(
 ) -> Result<(), AllocError>
     requires manifests { length manifests.now ≤ 32 }
     requires services { length services.now ≤ 896 }
-    ensures { OnOk result (map pair_seen found.new.items ≡ map pair_seen found.old.items ++ flat_map (permitted_to_partition (map seen services.now)) (enumerate_from 0 manifests.now)) }
+    ensures { OnOk result (map pair_seen found.new.items
+        ≡ map pair_seen found.old.items
+        ++ flat_map (permitted_to_partition (map seen services.now))
+        (enumerate_from 0 manifests.now)) }
 {
     for (k, manifest) in manifests.iter().enumerate() {
         add_dependencies(alloc, found, k as u32, manifest, services)?;
@@ -124,7 +131,10 @@ fn add_clients<'a>(
     requires partitions { partitions ≤ 32 }
     requires clients { length clients.now ≤ 16 }
     requires services { length services.now ≤ 896 }
-    ensures { OnOk result (map pair_seen found.new.items ≡ map pair_seen found.old.items ++ flat_map (permitted_to_client (map seen services.now)) (enumerate_from partitions clients.now)) }
+    ensures { OnOk result (map pair_seen found.new.items
+        ≡ map pair_seen found.old.items
+        ++ flat_map (permitted_to_client (map seen services.now))
+        (enumerate_from partitions clients.now)) }
 {
     for (k, client) in clients.iter().enumerate() {
         add_non_secure(found, partitions + k as u32, client, services)?;

@@ -76,7 +76,8 @@ pub fn small_regions(
     regions: Result<List<Region>, List<PathStep>>,
 ) -> Result<List<Region>, ReadError>
     ensures keeps { (p : PartsRecord) → HasSizes p regions → Keeps result (memory_too_large p) }
-    ensures regions { (p : PartsRecord) → HasSizes p regions → IfOk result (λ made. made ≡ regions_laid_out p) }
+    ensures regions { (p : PartsRecord) → HasSizes p regions
+        → IfOk result (λ made. made ≡ regions_laid_out p) }
 {
     match regions {
         Ok(regions) => Ok(regions),

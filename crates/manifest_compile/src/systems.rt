@@ -41,7 +41,8 @@ fn partitions_of(
     manifests: &[Manifest],
 ) -> Result<List<Partition>, AllocError>
     requires { length manifests.now ≤ 256 }
-    ensures { IfOk result (λ partitions. partitions ≡ map (partition_of level) (enumerate_from 0 manifests.now)) }
+    ensures { IfOk result (λ partitions.
+        partitions ≡ map (partition_of level) (enumerate_from 0 manifests.now)) }
 {
     let mut partitions = Vec::new(alloc);
     for (k, manifest) in manifests.iter().enumerate() {
@@ -109,7 +110,8 @@ fn services_from(
 // The services of all partitions. The indices that some state are taken from the start.
 fn services_of(alloc: Global, manifests: &[Manifest]) -> Result<List<Service>, AllocError>
     requires { All (λ m. length m.services + length m.irqs ≤ 28) manifests.now }
-    ensures { IfOk result (λ services. (p : PartsRecord) → p.manifests ≡ manifests.now → services ≡ services_of p) }
+    ensures { IfOk result (λ services.
+        (p : PartsRecord) → p.manifests ≡ manifests.now → services ≡ services_of p) }
 {
     let items = located::<Services>(alloc, manifests)?;
     let taken = stated_indices(alloc, items.as_slice())?;
@@ -141,7 +143,8 @@ fn source_of(
 // Adds the interrupts of one partition.
 fn add_sources(sources: &mut Vec<Source>, owner: u32, manifest: &Manifest) -> Result<(), AllocError>
     requires { length manifest.now.services + length manifest.now.irqs ≤ 28 }
-    ensures { OnOk result (sources.new.items ≡ sources.old.items ++ sources_of_manifest (owner, manifest.now)) }
+    ensures { OnOk result
+        (sources.new.items ≡ sources.old.items ++ sources_of_manifest (owner, manifest.now)) }
 {
     let signals = signals_of(manifest);
     for (place, item) in manifest.irqs.as_slice().iter().enumerate() {
@@ -154,7 +157,8 @@ fn add_sources(sources: &mut Vec<Source>, owner: u32, manifest: &Manifest) -> Re
 fn sources_of(alloc: Global, manifests: &[Manifest]) -> Result<List<Source>, AllocError>
     requires few { length manifests.now ≤ 256 }
     requires signals { All (λ m. length m.services + length m.irqs ≤ 28) manifests.now }
-    ensures { IfOk result (λ sources. sources ≡ flat_map sources_of_manifest (enumerate_from 0 manifests.now)) }
+    ensures { IfOk result (λ sources.
+        sources ≡ flat_map sources_of_manifest (enumerate_from 0 manifests.now)) }
 {
     let mut sources = Vec::new(alloc);
     for (k, manifest) in manifests.iter().enumerate() {

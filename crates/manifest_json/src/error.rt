@@ -89,7 +89,8 @@ pub fn placed<T: Drop>(
     front: Vec<PathStep>,
     read: Result<T, PartError>,
 ) -> Result<T, ReadError>
-    ensures { (r : Result T PartRefusal) → Gives read r → GivesRead result (placed root front.items r) }
+    ensures { (r : Result T PartRefusal) → Gives read r
+        → GivesRead result (placed root front.items r) }
 {
     match read {
         Ok(value) => Ok(value),

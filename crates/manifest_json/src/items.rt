@@ -29,7 +29,8 @@ pub(crate) fn since_1_1<R: Reader>(
     key: Key,
 ) -> Result<R::Out, PartError>
     requires { R.keeps reader.now default }
-    ensures given { Gives result (since_1_1 framework default (optional (R.gives reader.now) default key (view tree.now))) }
+    ensures given { Gives result
+        (since_1_1 framework default (optional (R.gives reader.now) default key (view tree.now))) }
     ensures kept { IfOk result (R.keeps reader.now) }
 {
     if framework == FRAMEWORK_1_1 {

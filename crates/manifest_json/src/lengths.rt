@@ -22,7 +22,8 @@ impl<R: Reader> Reader for ListUpTo<R> {
 
     ghost gives = { λ r. list_up_to r.most (R.gives r.reader.0) };
 
-    ghost keeps = { λ r items. AllByRecursion (R.keeps r.reader.0) items × (length items ≤ r.most) };
+    ghost keeps = { λ r items.
+        AllByRecursion (R.keeps r.reader.0) items × (length items ≤ r.most) };
 
     #[tactic(auto, unfolding(ffm_model::specs::Attributes::list_up_to))]
     fn read(&self, alloc: Global, tree: &Value) -> Result<List<R::Out>, PartError> {

@@ -61,8 +61,8 @@ fn is_marked(run: &[u8]) -> bool
 
 /// Adds a run, with its marks.
 fn put_run(out: &mut Vec<u8>, run: &[u8]) -> Result<(), AllocError>
-    ensures { OnOk result
-        (out.new.items ≡ out.old.items ++ (marks (is_marked run.now) ++ run.now ++ marks (is_marked run.now))) }
+    ensures { OnOk result (out.new.items
+        ≡ out.old.items ++ (marks (is_marked run.now) ++ run.now ++ marks (is_marked run.now))) }
 {
     let marked = is_marked(run);
     if marked {

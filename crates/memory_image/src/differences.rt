@@ -16,7 +16,9 @@ impl Image {
     pub fn first_difference_in(&self, other: &Image, address: u32, len: u32) -> Option<u32>
         requires one { is_inside address len (regions_of self.now) ≡ true }
         requires other { is_inside address len (regions_of other.now) ≡ true }
-        ensures { IsLeast (λ x. differs (byte_at self.now) (byte_at other.now) x && range_covers (address, len) x) result }
+        ensures { IsLeast (λ x.
+            differs (byte_at self.now) (byte_at other.now) x
+            && range_covers (address, len) x) result }
     {
         self.keeps_its_limits();
         let before = self.bytes(address, len as usize);
@@ -32,7 +34,8 @@ impl Image {
     pub fn count_differences_in(&self, other: &Image, address: u32, len: u32) -> u32
         requires one { is_inside address len (regions_of self.now) ≡ true }
         requires other { is_inside address len (regions_of other.now) ≡ true }
-        ensures { result ≡ count_by (differs (byte_at self.now) (byte_at other.now)) (range_with_len address len) }
+        ensures { result ≡ count_by (differs (byte_at self.now) (byte_at other.now))
+            (range_with_len address len) }
     {
         let before = self.bytes(address, len as usize);
         let after = other.bytes(address, len as usize);
@@ -58,7 +61,8 @@ pub fn first_difference(one: &Image, other: &Image) -> Option<u32>
 /// In how many addresses two images of the same regions differ.
 pub fn count_differences(one: &Image, other: &Image) -> u32
     requires { regions_of one.now ≡ regions_of other.now }
-    ensures { result ≡ count_in (differs (byte_at one.now) (byte_at other.now)) (regions_of one.now) }
+    ensures { result ≡ count_in
+        (differs (byte_at one.now) (byte_at other.now)) (regions_of one.now) }
 {
     one.keeps_its_limits();
     let mut total = 0;
@@ -79,7 +83,9 @@ fn first_difference_around(
 ) -> Option<u32>
     requires one { is_inside address len (regions_of one.now) ≡ true }
     requires other { is_inside address len (regions_of other.now) ≡ true }
-    ensures { IsLeast (λ x. (differs (byte_at one.now) (byte_at other.now) x && not (covers skip x)) && range_covers (address, len) x) result }
+    ensures { IsLeast (λ x.
+        (differs (byte_at one.now) (byte_at other.now) x && not (covers skip x))
+        && range_covers (address, len) x) result }
 {
     one.keeps_its_limits();
     let before = len.min(skip.base.saturating_sub(address));
@@ -99,7 +105,8 @@ fn first_difference_around(
 /// `None` where there is none. The region need not be one of theirs.
 pub fn first_difference_outside(one: &Image, other: &Image, skip: Region) -> Option<u32>
     requires { regions_of one.now ≡ regions_of other.now }
-    ensures { IsLeast (λ x. differs (byte_at one.now) (byte_at other.now) x && not (covers skip x)) result }
+    ensures { IsLeast
+        (λ x. differs (byte_at one.now) (byte_at other.now) x && not (covers skip x)) result }
 {
     one.keeps_its_limits();
     let mut least = None;

@@ -118,7 +118,8 @@ impl Image {
     /// where the range isn't empty.
     #[tactic(auto, using(crate::proofs::Stored::stay_apart))]
     pub(crate) fn place_with(&self, address: u32, len: usize) -> Option<usize>
-        ensures exact { 0 < len → is_some result ≡ list_any (has_range address len) (regions_of self.now) }
+        ensures exact { 0 < len
+            → is_some result ≡ list_any (has_range address len) (regions_of self.now) }
         ensures found { IfSome result (λ place. HasRangeAt self.now place address len) }
     {
         piece_with(self.pieces.as_slice(), self.starts.as_slice(), address, len)

@@ -13,7 +13,8 @@ use ffm_model::{Bytes, Start, last_up_to};
 pub fn piece_with(pieces: &[Bytes], starts: &[Start], address: u32, len: usize) -> Option<usize>
     requires index { IsIndexOf starts.now (regions_of pieces.now) }
     requires apart { each_pair share_no_byte (regions_of pieces.now) ≡ true }
-    ensures exact { 0 < len → is_some result ≡ list_any (has_range address len) (regions_of pieces.now) }
+    ensures exact { 0 < len
+        → is_some result ≡ list_any (has_range address len) (regions_of pieces.now) }
     ensures found { IfSome result (λ place. HasRangeAt pieces.now place address len) }
 {
     match last_up_to(starts, address) {

@@ -25,7 +25,9 @@ fn unequal_bits(a: &[u8], b: &[u8], at: usize) -> u64
 fn are_equal_at(a: &[u8], b: &[u8], at: usize) -> bool
     requires a { at + 32 ≤ length a.now }
     requires b { at + 32 ≤ length b.now }
-    ensures { IsTrue result → position_or_len are_unequal (drop at (zip a.now b.now)) ≡ 32 + position_or_len are_unequal (drop (at + 32) (zip a.now b.now)) }
+    ensures { IsTrue result
+        → position_or_len are_unequal (drop at (zip a.now b.now))
+        ≡ 32 + position_or_len are_unequal (drop (at + 32) (zip a.now b.now)) }
 {
     unequal_bits(a, b, at) == 0
 }
@@ -35,7 +37,8 @@ fn are_equal_at(a: &[u8], b: &[u8], at: usize) -> bool
 fn count_at(a: &[u8], b: &[u8], at: usize) -> usize
     requires a { at + 32 ≤ length a.now }
     requires b { at + 32 ≤ length b.now }
-    ensures { count_by are_unequal (drop at (zip a.now b.now)) ≡ result + count_by are_unequal (drop (at + 32) (zip a.now b.now)) }
+    ensures { count_by are_unequal (drop at (zip a.now b.now))
+        ≡ result + count_by are_unequal (drop (at + 32) (zip a.now b.now)) }
 {
     unequal_bits(a, b, at).count_ones() as usize
 }
@@ -44,7 +47,8 @@ fn count_at(a: &[u8], b: &[u8], at: usize) -> usize
 fn equal_blocks(a: &[u8], b: &[u8]) -> usize
     requires { length a.now ≡ length b.now }
     ensures within { result ≤ length a.now }
-    ensures passed { position_or_len are_unequal (zip a.now b.now) ≡ result + position_or_len are_unequal (drop result (zip a.now b.now)) }
+    ensures passed { position_or_len are_unequal (zip a.now b.now)
+        ≡ result + position_or_len are_unequal (drop result (zip a.now b.now)) }
 {
     let mut at = 0;
     while 32 <= a.len() - at && are_equal_at(a, b, at) {

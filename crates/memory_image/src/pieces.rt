@@ -32,7 +32,9 @@ pub fn zero_pieces(alloc: Global, regions: &[Region]) -> Result<Vec<Bytes>, Memo
 // The bytes are put at a place and after it.
 fn put_bytes(content: &mut [u8], place: usize, bytes: &[u8])
     requires { place + length bytes.now ≤ length content.old }
-    ensures { (x : ℕ) → slice_index content.new x ≡ write_bytes (λ y. slice_index content.old y) place bytes.now x }
+    ensures { (x : ℕ)
+        → slice_index content.new x
+        ≡ write_bytes (λ y. slice_index content.old y) place bytes.now x }
 {
     content[place..place + bytes.len()].copy_from_slice(bytes);
 }
@@ -59,9 +61,11 @@ fn put_in(piece: &mut Bytes, address: u32, bytes: &[u8])
 /// Puts bytes into the piece at a place.
 pub fn store_among(pieces: &mut [Bytes], place: usize, address: u32, bytes: &[u8])
     requires exists { place < length pieces.old }
-    requires inside { has_range address (length bytes.now) (range_of (get_or pieces.old place no_piece)) ≡ true }
+    requires inside { has_range address (length bytes.now)
+        (range_of (get_or pieces.old place no_piece)) ≡ true }
     requires apart { each_pair share_no_byte (regions_of pieces.old) ≡ true }
-    ensures stored { (x : ℕ) → byte_at pieces.new x ≡ write_bytes (byte_at pieces.old) address bytes.now x }
+    ensures stored { (x : ℕ)
+        → byte_at pieces.new x ≡ write_bytes (byte_at pieces.old) address bytes.now x }
     ensures regions { regions_of pieces.new ≡ regions_of pieces.old }
 {
     let piece = &mut pieces[place];
@@ -73,7 +77,8 @@ fn store_word_among(pieces: &mut [Bytes], place: usize, address: u32, word: u32)
     requires exists { place < length pieces.old }
     requires inside { has_range address 4 (range_of (get_or pieces.old place no_piece)) ≡ true }
     requires apart { each_pair share_no_byte (regions_of pieces.old) ≡ true }
-    ensures stored { (x : ℕ) → byte_at pieces.new x ≡ store_number (byte_at pieces.old) address 4 word x }
+    ensures stored { (x : ℕ)
+        → byte_at pieces.new x ≡ store_number (byte_at pieces.old) address 4 word x }
     ensures regions { regions_of pieces.new ≡ regions_of pieces.old }
 {
     store_among(pieces, place, address, &word.to_le_bytes());
@@ -82,10 +87,12 @@ fn store_word_among(pieces: &mut [Bytes], place: usize, address: u32, word: u32)
 /// Puts words of four bytes into the piece at a place, one after the other.
 pub fn store_words_among(pieces: &mut [Bytes], place: usize, address: u32, words: &[u32])
     requires exists { place < length pieces.old }
-    requires inside { has_range address (4 * length words.now) (range_of (get_or pieces.old place no_piece)) ≡ true }
+    requires inside { has_range address (4 * length words.now)
+        (range_of (get_or pieces.old place no_piece)) ≡ true }
     requires apart { each_pair share_no_byte (regions_of pieces.old) ≡ true }
     requires end { address + 4 * length words.now ≤ 2 ^ 32 }
-    ensures stored { (x : ℕ) → byte_at pieces.new x ≡ words_stored (byte_at pieces.old) address words.now x }
+    ensures stored { (x : ℕ)
+        → byte_at pieces.new x ≡ words_stored (byte_at pieces.old) address words.now x }
     ensures regions { regions_of pieces.new ≡ regions_of pieces.old }
 {
     for (k, word) in words.iter().enumerate() {
@@ -136,7 +143,9 @@ pub fn bytes_among(pieces: &[Bytes], place: usize, address: u32, len: usize) -> 
 fn copy_part(content: &mut [u8], start: usize, place: usize, len: usize)
     requires from { start + len ≤ length content.old }
     requires to { place + len ≤ length content.old }
-    ensures { (x : ℕ) → slice_index content.new x ≡ write_bytes (λ y. slice_index content.old y) place (take len (drop start content.old)) x }
+    ensures { (x : ℕ)
+        → slice_index content.new x
+        ≡ write_bytes (λ y. slice_index content.old y) place (take len (drop start content.old)) x }
 {
     content.copy_within(start..start + len, place);
 }
@@ -144,7 +153,8 @@ fn copy_part(content: &mut [u8], start: usize, place: usize, len: usize)
 fn copy_in(piece: &mut Bytes, from: u32, to: u32, len: usize)
     requires from { has_range from len (range_of piece.old) ≡ true }
     requires to { has_range to len (range_of piece.old) ≡ true }
-    ensures { IsPut piece.old piece.new to (take len (drop (from - piece.old.address) piece.old.content)) }
+    ensures { IsPut piece.old piece.new to
+        (take len (drop (from - piece.old.address) piece.old.content)) }
 {
     let start = (from - piece.address) as usize;
     let place = (to - piece.address) as usize;
@@ -157,7 +167,8 @@ fn copy_within(pieces: &mut [Bytes], place: usize, from: u32, to: u32, len: usiz
     requires from { has_range from len (range_of (get_or pieces.old place no_piece)) ≡ true }
     requires to { has_range to len (range_of (get_or pieces.old place no_piece)) ≡ true }
     requires apart { each_pair share_no_byte (regions_of pieces.old) ≡ true }
-    ensures copied { (x : ℕ) → byte_at pieces.new x ≡ copy_bytes (byte_at pieces.old) from to len x }
+    ensures copied { (x : ℕ)
+        → byte_at pieces.new x ≡ copy_bytes (byte_at pieces.old) from to len x }
     ensures regions { regions_of pieces.new ≡ regions_of pieces.old }
 {
     let piece = &mut pieces[place];
@@ -171,7 +182,8 @@ fn copy_forward(pieces: &mut [Bytes], source: usize, target: usize, from: u32, t
     requires from { has_range from len (range_of (get_or pieces.old source no_piece)) ≡ true }
     requires to { has_range to len (range_of (get_or pieces.old target no_piece)) ≡ true }
     requires apart { each_pair share_no_byte (regions_of pieces.old) ≡ true }
-    ensures copied { (x : ℕ) → byte_at pieces.new x ≡ copy_bytes (byte_at pieces.old) from to len x }
+    ensures copied { (x : ℕ)
+        → byte_at pieces.new x ≡ copy_bytes (byte_at pieces.old) from to len x }
     ensures regions { regions_of pieces.new ≡ regions_of pieces.old }
 {
     let (front, back) = pieces.split_at_mut(target);
@@ -186,7 +198,8 @@ fn copy_back(pieces: &mut [Bytes], source: usize, target: usize, from: u32, to: 
     requires from { has_range from len (range_of (get_or pieces.old source no_piece)) ≡ true }
     requires to { has_range to len (range_of (get_or pieces.old target no_piece)) ≡ true }
     requires apart { each_pair share_no_byte (regions_of pieces.old) ≡ true }
-    ensures copied { (x : ℕ) → byte_at pieces.new x ≡ copy_bytes (byte_at pieces.old) from to len x }
+    ensures copied { (x : ℕ)
+        → byte_at pieces.new x ≡ copy_bytes (byte_at pieces.old) from to len x }
     ensures regions { regions_of pieces.new ≡ regions_of pieces.old }
 {
     let (front, back) = pieces.split_at_mut(source);
@@ -208,7 +221,8 @@ pub fn copy_among(
     requires from { has_range from len (range_of (get_or pieces.old source no_piece)) ≡ true }
     requires to { has_range to len (range_of (get_or pieces.old target no_piece)) ≡ true }
     requires apart { each_pair share_no_byte (regions_of pieces.old) ≡ true }
-    ensures copied { (x : ℕ) → byte_at pieces.new x ≡ copy_bytes (byte_at pieces.old) from to len x }
+    ensures copied { (x : ℕ)
+        → byte_at pieces.new x ≡ copy_bytes (byte_at pieces.old) from to len x }
     ensures regions { regions_of pieces.new ≡ regions_of pieces.old }
 {
     if source < target {

@@ -69,7 +69,9 @@ fn is_writable_by(system: &System, actor: ActorId, class: Class) -> bool
 // The class of the region that has the whole range. At most one has it, since the range isn't empty.
 fn class_of(system: &System, base: u32, len: u32) -> Option<Class>
     requires { 0 < len }
-    ensures { (p : ClassSeen → Bool) → list_any (λ r. p r.class && lies_in base len r) system.now.regions ≡ option_map_or p result false }
+    ensures { (p : ClassSeen → Bool)
+        → list_any (λ r. p r.class && lies_in base len r) system.now.regions
+        ≡ option_map_or p result false }
 {
     let regions = system.regions.as_slice();
     match system.regions.place_with(base, len as usize) {

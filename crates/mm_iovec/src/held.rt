@@ -55,7 +55,11 @@ impl Held {
     /// Takes in a message that `psa_get` got by a signal, its vectors fresh, where the signal is a
     /// service's of the partition and fewer than 304 messages are held; else nothing changes.
     pub fn got(&mut self, signal: u32, message: Message)
-        ensures { (msg : ℕ) → self.new ≡ record self.old { table = table_behind self.old.holder (call.Get signal msg) (outcome.Got message) self.old.table } }
+        ensures { (msg : ℕ)
+            → self.new ≡ record self.old {
+              table = table_behind self.old.holder
+                  (call.Get signal msg) (outcome.Got message) self.old.table;
+            } }
     {
         steps::got(&self.holder, &mut self.messages, signal, message);
     }
@@ -78,12 +82,15 @@ impl Held {
     /// that makes a call changes nothing either, so that it makes the same call where it is asked for
     /// again: `noted` takes the call's outcome. A line without a call changes the table at once.
     pub fn act(&mut self, line: MmLine) -> MmStep
-        ensures fault { (result ≡ MmStep.Fault) ↔ (can_do self.old.holder self.old.table line ≡ false) }
+        ensures fault { (result ≡ MmStep.Fault)
+            ↔ (can_do self.old.holder self.old.table line ≡ false) }
         ensures step { result ≡ step_of self.old.holder self.old.table line }
-        ensures table { self.new ≡ record self.old { table = table_of self.old.holder self.old.table line } }
+        ensures table { self.new
+            ≡ record self.old { table = table_of self.old.holder self.old.table line } }
 
         // It is what the engine of a script does with the line.
-        ensures engine { (x : Holding) → x.table ≡ self.old.table → engine_step x result self.new.table ≡ engine_line self.old.holder x line }
+        ensures engine { (x : Holding) → x.table ≡ self.old.table
+            → engine_step x result self.new.table ≡ engine_line self.old.holder x line }
     {
         if !self.allows(line) {
             return MmStep::Fault;
@@ -99,7 +106,8 @@ impl Held {
     /// got is taken in, and one that was answered is left out. Give it the outcome by which the call
     /// returns, and not `Blocked`.
     pub fn noted(&mut self, instruction: Option<Instruction>, call: Call, outcome: Outcome)
-        ensures { self.new ≡ record self.old { table = table_noted self.old.holder instruction call outcome self.old.table } }
+        ensures { self.new ≡ record self.old
+            { table = table_noted self.old.holder instruction call outcome self.old.table } }
     {
         match call {
             Call::Read { handle, index, .. } => {

@@ -36,7 +36,13 @@ impl Model for Holder {
 
     ghost use Rattle.mm_iovec.specs.Items.{service_of};
 
-    ghost view = { λ h. record { base = h.base; size = h.size; heap = h.heap; services = map service_of h.services.items } };
+    ghost view = { λ h.
+        record {
+          base = h.base;
+          size = h.size;
+          heap = h.heap;
+          services = map service_of h.services.items;
+        } };
 
     ghost invariant = { λ h. (h.base + h.size ≤ 2 ^ 32) × (h.heap ≤ h.size) };
 }
@@ -66,9 +72,17 @@ impl Holder {
         services: ArrayVec<HolderService, 28>,
     ) -> Self
         requires there { partition.now.ram < length regions.now }
-        requires end { IfSome (slice_get regions.now partition.now.ram) (λ r. r.base + r.size ≤ 2 ^ 32) }
-        requires heap { IfSome (slice_get regions.now partition.now.ram) (λ r. partition.now.heap ≤ r.size) }
-        ensures { IfSome (slice_get regions.now partition.now.ram) (λ r. result ≡ record { base = r.base; size = r.size; heap = partition.now.heap; services = map service_of services.items }) }
+        requires end { IfSome (slice_get regions.now partition.now.ram) (λ r.
+            r.base + r.size ≤ 2 ^ 32) }
+        requires heap { IfSome (slice_get regions.now partition.now.ram) (λ r.
+            partition.now.heap ≤ r.size) }
+        ensures { IfSome (slice_get regions.now partition.now.ram) (λ r.
+            result ≡ record {
+              base = r.base;
+              size = r.size;
+              heap = partition.now.heap;
+              services = map service_of services.items;
+            }) }
     {
         let ram = regions[partition.ram as usize];
         Holder {

@@ -38,7 +38,14 @@ fn fresh_vectors(sizes: [u32; 4]) -> [HeldVector; 4]
 impl HeldItem {
     /// A message with fresh vectors. `mm` says whether its service's vectors may be mapped.
     pub(crate) fn of(message: Message, mm: bool) -> Self
-        ensures { message_of result ≡ record { handle = message.handle; kind = message.kind; mm = mm; input = map fresh_vector message.in_size; output = map fresh_vector message.out_size } }
+        ensures { message_of result
+            ≡ record {
+              handle = message.handle;
+              kind = message.kind;
+              mm = mm;
+              input = map fresh_vector message.in_size;
+              output = map fresh_vector message.out_size;
+            } }
     {
         HeldItem {
             handle: message.handle,
@@ -66,7 +73,8 @@ impl HeldItem {
     }
 
     pub(crate) fn with_input_touched(self, index: u32) -> Self
-        ensures { message_of result ≡ record (message_of self) { input = touched index (message_of self).input } }
+        ensures { message_of result
+            ≡ record (message_of self) { input = touched index (message_of self).input } }
     {
         let mut input = self.input;
         touch(&mut input, index);
@@ -74,7 +82,8 @@ impl HeldItem {
     }
 
     pub(crate) fn with_output_touched(self, index: u32) -> Self
-        ensures { message_of result ≡ record (message_of self) { output = touched index (message_of self).output } }
+        ensures { message_of result
+            ≡ record (message_of self) { output = touched index (message_of self).output } }
     {
         let mut output = self.output;
         touch(&mut output, index);

@@ -93,7 +93,8 @@ pub(crate) fn step_done(holder: &Holder, items: &[HeldItem], line: MmLine) -> Mm
 
 /// Changes the table as a line does that may be done. One with a call changes nothing.
 pub(crate) fn change(messages: &mut Messages, line: MmLine)
-    ensures { map message_of messages.new.items ≡ table_done line (map message_of messages.old.items) }
+    ensures { map message_of messages.new.items
+        ≡ table_done line (map message_of messages.old.items) }
 {
     match line {
         MmLine::UnmapIn { handle, index } => {
@@ -139,7 +140,8 @@ pub(crate) fn note_read(
     handle: Handle,
     index: u32,
 )
-    ensures { map message_of messages.new.items ≡ table_read instruction handle index (map message_of messages.old.items) }
+    ensures { map message_of messages.new.items
+        ≡ table_read instruction handle index (map message_of messages.old.items) }
 {
     if maps_in(instruction) {
         table::set_input(messages, handle, index, VectorState::Mapped);
@@ -155,7 +157,8 @@ pub(crate) fn note_write(
     handle: Handle,
     index: u32,
 )
-    ensures { map message_of messages.new.items ≡ table_written instruction handle index (map message_of messages.old.items) }
+    ensures { map message_of messages.new.items
+        ≡ table_written instruction handle index (map message_of messages.old.items) }
 {
     if unmaps_out(instruction) {
         table::set_output(messages, handle, index, VectorState::Unmapped);
@@ -166,7 +169,9 @@ pub(crate) fn note_write(
 
 /// A message was got by a signal.
 pub(crate) fn got(holder: &Holder, messages: &mut Messages, signal: u32, message: Message)
-    ensures { map message_of messages.new.items ≡ table_behind holder.now (call.Get signal 0) (outcome.Got message) (map message_of messages.old.items) }
+    ensures { map message_of messages.new.items
+        ≡ table_behind holder.now (call.Get signal 0) (outcome.Got message)
+        (map message_of messages.old.items) }
 {
     if let Some(service) = holder.service(signal) {
         table::take_in(messages, service, message);
@@ -175,7 +180,10 @@ pub(crate) fn got(holder: &Holder, messages: &mut Messages, signal: u32, message
 
 /// After `psa_get` with a signal.
 pub(crate) fn note_get(holder: &Holder, messages: &mut Messages, signal: u32, outcome: Outcome)
-    ensures { (msg : ℕ) → map message_of messages.new.items ≡ table_behind holder.now (call.Get signal msg) outcome (map message_of messages.old.items) }
+    ensures { (msg : ℕ)
+        → map message_of messages.new.items
+        ≡ table_behind holder.now (call.Get signal msg) outcome
+        (map message_of messages.old.items) }
 {
     if let Outcome::Got(message) = outcome {
         got(holder, messages, signal, message);
@@ -184,7 +192,9 @@ pub(crate) fn note_get(holder: &Holder, messages: &mut Messages, signal: u32, ou
 
 /// After `psa_reply` to a message.
 pub(crate) fn note_reply(messages: &mut Messages, handle: Handle, outcome: Outcome)
-    ensures { (p : HolderView) (status : Status) → map message_of messages.new.items ≡ table_behind p (call.Reply handle status) outcome (map message_of messages.old.items) }
+    ensures { (p : HolderView) (status : Status)
+        → map message_of messages.new.items
+        ≡ table_behind p (call.Reply handle status) outcome (map message_of messages.old.items) }
 {
     if let Outcome::Done = outcome {
         table::take_out(messages, handle);

@@ -25,7 +25,8 @@ fn place_of(items: &[HeldItem], handle: Handle) -> Option<usize>
 
 // The message of a handle.
 fn find(items: &[HeldItem], handle: Handle) -> Option<&HeldItem>
-    ensures { option_map message_of (option_copied result) ≡ held (map message_of items.now) handle }
+    ensures { option_map message_of (option_copied result)
+        ≡ held (map message_of items.now) handle }
 {
     items.iter().find(|item| item.handle.0 == handle.0)
 }
@@ -135,7 +136,8 @@ fn put(items: &mut Messages, place: usize, item: HeldItem)
 
 /// A message of a service comes last, where there is room.
 pub(crate) fn take_in(items: &mut Messages, service: HolderService, message: Message)
-    ensures { map message_of items.new.items ≡ with_message_of (service_of service) message (map message_of items.old.items) }
+    ensures { map message_of items.new.items
+        ≡ with_message_of (service_of service) message (map message_of items.old.items) }
 {
     if !items.is_full() {
         items.push(HeldItem::of(message, service.mm));
@@ -153,7 +155,8 @@ pub(crate) fn take_out(items: &mut Messages, handle: Handle)
 
 /// An input vector of the message of a handle gets a state.
 pub(crate) fn set_input(items: &mut Messages, handle: Handle, index: u32, state: VectorState)
-    ensures { map message_of items.new.items ≡ changed_at handle (with_input (state_of state) index) (map message_of items.old.items) }
+    ensures { map message_of items.new.items
+        ≡ changed_at handle (with_input (state_of state) index) (map message_of items.old.items) }
 {
     if let Some(place) = place_of(items.as_slice(), handle) {
         let item = items.as_slice()[place];
@@ -163,7 +166,8 @@ pub(crate) fn set_input(items: &mut Messages, handle: Handle, index: u32, state:
 
 /// An output vector of the message of a handle gets a state.
 pub(crate) fn set_output(items: &mut Messages, handle: Handle, index: u32, state: VectorState)
-    ensures { map message_of items.new.items ≡ changed_at handle (with_output (state_of state) index) (map message_of items.old.items) }
+    ensures { map message_of items.new.items
+        ≡ changed_at handle (with_output (state_of state) index) (map message_of items.old.items) }
 {
     if let Some(place) = place_of(items.as_slice(), handle) {
         let item = items.as_slice()[place];
@@ -173,7 +177,9 @@ pub(crate) fn set_output(items: &mut Messages, handle: Handle, index: u32, state
 
 /// An input vector of the message of a handle becomes used where it was fresh.
 pub(crate) fn touch_input(items: &mut Messages, handle: Handle, index: u32)
-    ensures { map message_of items.new.items ≡ changed_at handle (λ m. record m { input = touched index m.input }) (map message_of items.old.items) }
+    ensures { map message_of items.new.items
+        ≡ changed_at handle (λ m. record m { input = touched index m.input })
+        (map message_of items.old.items) }
 {
     if let Some(place) = place_of(items.as_slice(), handle) {
         let item = items.as_slice()[place];
@@ -183,7 +189,9 @@ pub(crate) fn touch_input(items: &mut Messages, handle: Handle, index: u32)
 
 /// An output vector of the message of a handle becomes used where it was fresh.
 pub(crate) fn touch_output(items: &mut Messages, handle: Handle, index: u32)
-    ensures { map message_of items.new.items ≡ changed_at handle (λ m. record m { output = touched index m.output }) (map message_of items.old.items) }
+    ensures { map message_of items.new.items
+        ≡ changed_at handle (λ m. record m { output = touched index m.output })
+        (map message_of items.old.items) }
 {
     if let Some(place) = place_of(items.as_slice(), handle) {
         let item = items.as_slice()[place];

@@ -74,7 +74,8 @@ pub(crate) fn vector_at(vectors: &[HeldVector], index: u32) -> HeldVector
 
 /// The vector at an index gets a state.
 pub(crate) fn set_state(vectors: &mut [HeldVector], index: u32, state: VectorState)
-    ensures { map vector_of vectors.new ≡ with_state (state_of state) index (map vector_of vectors.old) }
+    ensures { map vector_of vectors.new
+        ≡ with_state (state_of state) index (map vector_of vectors.old) }
 {
     let place = index as usize;
     if place < vectors.len() {

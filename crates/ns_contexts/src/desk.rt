@@ -73,7 +73,8 @@ impl Desk {
     pub fn pick(&self, ended: [bool; 8]) -> Option<u32>
         ensures picked { result ≡ picked self.now ended }
         ensures within { IfSome result (λ k. k < self.now.count) }
-        ensures none { (result ≡ None) ↔ ((k : ℕ) → k < self.now.count → get_or ended k false ≡ true) }
+        ensures none { (result ≡ None)
+            ↔ ((k : ℕ) → k < self.now.count → get_or ended k false ≡ true) }
     {
         first_from(self.count, &ended, self.turn, self.count)
     }

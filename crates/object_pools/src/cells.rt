@@ -81,7 +81,8 @@ pub(crate) fn put<T: Copy, const CAP: usize>(
     item: Option<T>,
 )
     requires { slot.index < length cells.old.items }
-    ensures { cells.new.items ≡ slice_set cells.old.items slot.index (record { generation = slot.generation; item = item }) }
+    ensures { cells.new.items ≡ slice_set cells.old.items slot.index
+        (record { generation = slot.generation; item = item }) }
 {
     let generation = slot.generation;
     cells.as_mut_slice()[slot.index as usize] = Cell { generation, item };

@@ -65,5 +65,6 @@ pub trait Files {
 pub trait NamesFailed: Files {
     /// The name of the last failed read, lent, if there was one.
     fn last_failed(&self) -> Option<&str>
-        ensures { IfSome (Self.seen self.now).last_failed (λ told. option_map (λ name. name.now) result ≡ told) };
+        ensures { IfSome (Self.seen self.now).last_failed (λ told.
+            option_map (λ name. name.now) result ≡ told) };
 }

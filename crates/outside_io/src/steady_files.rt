@@ -24,7 +24,8 @@ impl SteadyFiles {
     /// that are listed there to fail don't fail here. The names that were read there stand before
     /// those that are read here. It takes no memory.
     pub fn new(files: MemoryFiles) -> Self
-        ensures held { (name : List ℕ) → content_of result name ≡ unwrap_or (held_by files name) [] }
+        ensures held { (name : List ℕ)
+            → content_of result name ≡ unwrap_or (held_by files name) [] }
         ensures reads { reads_of result ≡ reads_before files }
     {
         SteadyFiles { files }

@@ -62,7 +62,8 @@ impl Sink for SteadySink {
 
         // The bytes are told up to the piece that finds no room, which isn't kept, and never again.
         ensures fits { IfSome (told_by self.old) (λ bytes.
-            length bytes + length piece.now ≤ room_of self.old → told_by self.new ≡ Some (bytes ++ piece.now)) }
+            length bytes + length piece.now ≤ room_of self.old
+            → told_by self.new ≡ Some (bytes ++ piece.now)) }
         ensures over { IfSome (told_by self.old) (λ bytes.
             room_of self.old < length bytes + length piece.now → told_by self.new ≡ None) }
         ensures untold { told_by self.old ≡ None → told_by self.new ≡ None }

@@ -17,7 +17,8 @@ use spm_tables::{MessageItem, Tables};
 
 // The message that closes a connection, for which nobody waits.
 fn disconnect_message(held: Held<OpenConnection>) -> MessageItem
-    ensures message { fresh_message (queued_as (Some held.item.serial) result) ≡ disconnect_message held.item }
+    ensures message { fresh_message (queued_as (Some held.item.serial) result)
+        ≡ disconnect_message held.item }
     ensures connection { result.connection ≡ Some held.slot }
     ensures undelivered { result.delivered ≡ false }
 {
@@ -33,16 +34,26 @@ fn disconnect_message(held: Held<OpenConnection>) -> MessageItem
 
 // The partition's own connections, in the order of their making: a Dead one is freed; of any other a disconnection goes last, and it is Closing.
 pub(crate) fn leave_services(tables: &mut Tables, partition: ActorId)
-    requires services { All (λ h. h.item.service < length tables.old.services) tables.old.connections.held }
-    requires room { length tables.old.messages.held + length (disconnect_messages partition.0 tables.old.connections) ≤ length tables.old.messages.generations }
-    requires few { tables.old.messages.takes + length (disconnect_messages partition.0 tables.old.connections) ≤ most_takes }
-    ensures connections { tables.new.connections ≡ left_by (held_without_client partition.0) tables.old.connections }
-    ensures messages { (spm_of tables.new).messages ≡ (spm_of tables.old).messages ++ disconnect_messages partition.0 tables.old.connections }
-    ensures rest { tables.new ≡ record tables.old { connections = tables.new.connections; messages = tables.new.messages } }
+    requires services { All (λ h. h.item.service < length tables.old.services)
+        tables.old.connections.held }
+    requires room { length tables.old.messages.held
+        + length (disconnect_messages partition.0 tables.old.connections)
+        ≤ length tables.old.messages.generations }
+    requires few { tables.old.messages.takes
+        + length (disconnect_messages partition.0 tables.old.connections) ≤ most_takes }
+    ensures connections { tables.new.connections
+        ≡ left_by (held_without_client partition.0) tables.old.connections }
+    ensures messages { (spm_of tables.new).messages
+        ≡ (spm_of tables.old).messages ++ disconnect_messages partition.0 tables.old.connections }
+    ensures rest { tables.new ≡ record tables.old
+        { connections = tables.new.connections; messages = tables.new.messages } }
     ensures size { length tables.new.messages.generations ≡ length tables.old.messages.generations }
-    ensures takes { tables.new.messages.takes ≡ tables.old.messages.takes + length (disconnect_messages partition.0 tables.old.connections) }
-    ensures names { (first : TablesView) (kept : List SlotName) → TakesOn (length tables.old.messages.generations) first kept 0 tables.old
-        → TakesOn (length tables.old.messages.generations) first kept (length (disconnect_messages partition.0 tables.old.connections)) tables.new }
+    ensures takes { tables.new.messages.takes ≡ tables.old.messages.takes
+        + length (disconnect_messages partition.0 tables.old.connections) }
+    ensures names { (first : TablesView) (kept : List SlotName)
+        → TakesOn (length tables.old.messages.generations) first kept 0 tables.old
+        → TakesOn (length tables.old.messages.generations) first kept
+        (length (disconnect_messages partition.0 tables.old.connections)) tables.new }
     ensures given { KeepsGiven tables.old tables.new }
 {
     let mut place = 0;

@@ -39,7 +39,8 @@ fn end_services(system: &System, tables: &mut Tables, partition: ActorId)
 pub fn panic(system: &System, tables: &mut Tables, partition: ActorId)
     requires made { MadeFor tables.old system.now }
     requires partition { partition.0 < length system.now.partitions }
-    requires fits { ObjectsFit system.now (with_phase (spm_of tables.old) partition.0 phase.Running) }
+    requires fits { ObjectsFit system.now
+        (with_phase (spm_of tables.old) partition.0 phase.Running) }
     requires takes { AreLeft tables.old.messages.takes }
     ensures state { spm_of tables.new ≡ panic_effect system.now (spm_of tables.old) partition.0 }
     ensures names { KeepsNames system.now tables.old tables.new }

@@ -16,7 +16,10 @@ use spm_tables::{QueuedMessage, Tables};
 
 // Answers the client of a lost connection, where it waits.
 fn answer_client(tables: &mut Tables, connection: &OpenConnection)
-    ensures { tables.new ≡ record tables.old { phases = client_answered connection.now.phase tables.old.phases connection.now.client.0 } }
+    ensures { tables.new ≡ record tables.old {
+      phases = client_answered
+          connection.now.phase tables.old.phases connection.now.client.0;
+    } }
 {
     let client = connection.client;
     match connection.phase {
@@ -72,7 +75,8 @@ pub(crate) fn lose_services(system: &System, tables: &mut Tables, partition: Act
 
 // Answers the client of a lost message that is of no connection; that of any other is answered as its connection is lost.
 fn answer_caller(tables: &mut Tables, message: &QueuedMessage)
-    ensures { tables.new ≡ record tables.old { phases = caller_answered message.now tables.old.phases } }
+    ensures { tables.new
+        ≡ record tables.old { phases = caller_answered message.now tables.old.phases } }
 {
     if message.serial.is_none() {
         let failed = Outcome::Value(PSA_ERROR_COMMUNICATION_FAILURE);

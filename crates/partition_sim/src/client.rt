@@ -26,8 +26,11 @@ fn settle_at(contexts: &mut [Context; 8], parts: &[Part], k: usize)
     requires here { k < length parts.now }
     requires few { length parts.now ≤ 8 }
     requires fits { AllByRecursion IsPart parts.now }
-    ensures at { (p : Point) → Reaches (script_of parts.now k) p (get_or contexts.old k first_context) → AtCall (script_of parts.now k) p (get_or contexts.new k first_context) }
-    ensures others { (j : ℕ) → (j ≡ k → ⊥) → get_or contexts.new j first_context ≡ get_or contexts.old j first_context }
+    ensures at { (p : Point)
+        → Reaches (script_of parts.now k) p (get_or contexts.old k first_context)
+        → AtCall (script_of parts.now k) p (get_or contexts.new k first_context) }
+    ensures others { (j : ℕ) → (j ≡ k → ⊥)
+        → get_or contexts.new j first_context ≡ get_or contexts.old j first_context }
 {
     let part = &parts[k];
     let context = &mut contexts[k];
@@ -38,7 +41,8 @@ fn settle_at(contexts: &mut [Context; 8], parts: &[Part], k: usize)
 fn settle_all(contexts: &mut [Context; 8], parts: &[Part])
     requires few { length parts.now ≤ 8 }
     requires fits { AllByRecursion IsPart parts.now }
-    ensures { (ps : List Point) → EachReaches parts.now ps contexts.old → EachAtCall parts.now ps contexts.new }
+    ensures { (ps : List Point) → EachReaches parts.now ps contexts.old
+        → EachAtCall parts.now ps contexts.new }
 {
     for k in 0..parts.len() {
         settle_at(contexts, parts, k);
@@ -48,7 +52,9 @@ fn settle_all(contexts: &mut [Context; 8], parts: &[Part])
 // The next call of one context.
 fn call_of(contexts: &[Context; 8], k: usize) -> Call
     requires { k < 8 }
-    ensures { (script : List Instruction) (p : Point) → AtCall script p (get_or contexts.now k first_context) → result ≡ call_from script p }
+    ensures { (script : List Instruction) (p : Point)
+        → AtCall script p (get_or contexts.now k first_context)
+        → result ≡ call_from script p }
 {
     contexts[k].call
 }
@@ -56,7 +62,9 @@ fn call_of(contexts: &[Context; 8], k: usize) -> Call
 // Which contexts have ended: their next call is Stop.
 fn ended_contexts(contexts: &[Context; 8], parts: &[Part]) -> [bool; 8]
     requires few { length parts.now ≤ 8 }
-    ensures { (ps : List Point) → EachAtCall parts.now ps contexts.now → (k : ℕ) → k < length parts.now → get_or result k false ≡ is_stop (call_from (script_of parts.now k) (get_or ps k start)) }
+    ensures { (ps : List Point) → EachAtCall parts.now ps contexts.now → (k : ℕ)
+        → k < length parts.now
+        → get_or result k false ≡ is_stop (call_from (script_of parts.now k) (get_or ps k start)) }
 {
     let mut ended = [false; 8];
     for k in 0..parts.len() {
@@ -68,7 +76,9 @@ fn ended_contexts(contexts: &[Context; 8], parts: &[Part]) -> [bool; 8]
 // Whether the local lines of a context are spent.
 fn any_spent(contexts: &[Context; 8], parts: &[Part]) -> bool
     requires few { length parts.now ≤ 8 }
-    ensures { (ps : List Point) → length ps ≡ length parts.now → EachAtCall parts.now ps contexts.now → result ≡ list_any is_spent (next_calls parts.now ps) }
+    ensures { (ps : List Point) → length ps ≡ length parts.now
+        → EachAtCall parts.now ps contexts.now
+        → result ≡ list_any is_spent (next_calls parts.now ps) }
 {
     for k in 0..parts.len() {
         if is_spent(call_of(contexts, k)) {
@@ -83,7 +93,13 @@ fn any_spent(contexts: &[Context; 8], parts: &[Part]) -> bool
 fn call_due(waiting: bool, contexts: &[Context; 8], parts: &[Part], picked: Option<u32>) -> Call
     requires few { length parts.now ≤ 8 }
     requires within { IfSome picked (λ k. k < length parts.now) }
-    ensures { (ps : List Point) → length ps ≡ length parts.now → EachAtCall parts.now ps contexts.now → let calls = next_calls parts.now ps in result ≡ (if waiting then Call.Resume else option_map_or (λ k. get_or calls k (Call.Stop false)) picked (Call.Stop (list_any is_spent calls))) }
+    ensures { (ps : List Point) → length ps ≡ length parts.now
+        → EachAtCall parts.now ps contexts.now
+        → let calls = next_calls parts.now ps in
+        result ≡ (if waiting
+        then Call.Resume
+        else option_map_or (λ k. get_or calls k (Call.Stop false)) picked
+        (Call.Stop (list_any is_spent calls))) }
 {
     if waiting {
         return Call::Resume;
@@ -99,8 +115,12 @@ fn call_due(waiting: bool, contexts: &[Context; 8], parts: &[Part], picked: Opti
 // Gives one context the outcome of its call, which isn't Blocked.
 fn answer_at(contexts: &mut [Context; 8], k: usize, outcome: &Outcome)
     requires { k < 8 }
-    ensures answered { (script : List Instruction) (p : Point) → AtCall script p (get_or contexts.old k first_context) → Reaches script (behind script outcome.now (arrived script p)) (get_or contexts.new k first_context) }
-    ensures others { (j : ℕ) → (j ≡ k → ⊥) → get_or contexts.new j first_context ≡ get_or contexts.old j first_context }
+    ensures answered { (script : List Instruction) (p : Point)
+        → AtCall script p (get_or contexts.old k first_context)
+        → Reaches script (behind script outcome.now (arrived script p))
+        (get_or contexts.new k first_context) }
+    ensures others { (j : ℕ) → (j ≡ k → ⊥)
+        → get_or contexts.new j first_context ≡ get_or contexts.old j first_context }
 {
     let context = &mut contexts[k];
     context.take(outcome);
@@ -128,7 +148,8 @@ impl Model for ClientRunner {
 
     ghost Value = { ClientStanding };
 
-    ghost view = { λ r. record { contexts = r.contexts; desk = r.desk; caller = r.caller; waiting = r.waiting } };
+    ghost view = { λ r.
+        record { contexts = r.contexts; desk = r.desk; caller = r.caller; waiting = r.waiting } };
 
     ghost invariant = { λ r. (r.caller < r.desk.count) × (r.desk.count ≤ 8) };
 }
@@ -144,7 +165,8 @@ impl ClientRunner {
     pub fn new(count: u32) -> ClientRunner
         requires some { 1 ≤ count }
         requires few { count ≤ 8 }
-        ensures follows { (scripts : List (List Instruction)) → length scripts ≡ count → FollowsAll scripts [] result }
+        ensures follows { (scripts : List (List Instruction)) → length scripts ≡ count
+            → FollowsAll scripts [] result }
         ensures count { result.desk.count ≡ count }
     {
         let context = Context::new();
@@ -159,9 +181,12 @@ impl ClientRunner {
     /// The call that the client makes next. Asked again before `after`, it is the same call.
     pub fn next(&mut self, script: &Script) -> Call
         requires { length script.now ≡ self.old.desk.count }
-        ensures call { (outcomes : List Outcome) → FollowsAll script.now outcomes self.old → result ≡ context_plan script.now outcomes }
-        ensures asked { (outcomes : List Outcome) → FollowsAll script.now outcomes self.old → AskedAll script.now outcomes self.new }
-        ensures again { (outcomes : List Outcome) → FollowsAll script.now outcomes self.old → FollowsAll script.now outcomes self.new }
+        ensures call { (outcomes : List Outcome) → FollowsAll script.now outcomes self.old
+            → result ≡ context_plan script.now outcomes }
+        ensures asked { (outcomes : List Outcome) → FollowsAll script.now outcomes self.old
+            → AskedAll script.now outcomes self.new }
+        ensures again { (outcomes : List Outcome) → FollowsAll script.now outcomes self.old
+            → FollowsAll script.now outcomes self.new }
         ensures count { self.new.desk.count ≡ self.old.desk.count }
     {
         let parts = script.parts.as_slice();
@@ -173,7 +198,9 @@ impl ClientRunner {
 
     /// Takes the outcome of the call that was asked for.
     pub fn after(&mut self, outcome: &Outcome)
-        ensures follows { (scripts : List (List Instruction)) (outcomes : List Outcome) → AskedAll scripts outcomes self.old → FollowsAll scripts (outcomes ++ outcome.now ∷ []) self.new }
+        ensures follows { (scripts : List (List Instruction)) (outcomes : List Outcome)
+            → AskedAll scripts outcomes self.old
+            → FollowsAll scripts (outcomes ++ outcome.now ∷ []) self.new }
         ensures count { self.new.desk.count ≡ self.old.desk.count }
     {
         if is_blocked(outcome) {

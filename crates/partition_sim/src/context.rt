@@ -14,7 +14,8 @@ use ffm_model::{Call, Instruction, Outcome};
 #[tactic(auto, unfolding(ffm_model::specs::ScriptRuns::local_step))]
 fn local_step(script: &[Instruction], registers: &mut [u32; 16], place: usize) -> Option<usize>
     requires { IsPart script.now }
-    ensures local { IfSome result (λ to. local_step script.now (point registers.old place) ≡ Some (point registers.new to)) }
+    ensures local { IfSome result (λ to.
+        local_step script.now (point registers.old place) ≡ Some (point registers.new to)) }
     ensures call { IfNone result (local_step script.now (point registers.old place) ≡ None) }
     ensures kept { IfNone result (registers.new ≡ registers.old) }
 {
@@ -33,10 +34,13 @@ pub fn run_lines(
     left: u32,
 ) -> (usize, u32)
     requires { IsPart script.now }
-    ensures point { point registers.new result.0 ≡ local_steps script.now left (point registers.old place) }
+    ensures point { point registers.new result.0
+        ≡ local_steps script.now left (point registers.old place) }
     ensures left { result.1 ≤ left }
     ensures ended { 0 < result.1 → local_step script.now (point registers.new result.0) ≡ None }
-    ensures held { (p : Holder) (t : List HeldMessage) → held_steps p script.now result.1 (holding registers.new result.0 t) ≡ held_steps p script.now left (holding registers.old place t) }
+    ensures held { (p : Holder) (t : List HeldMessage)
+        → held_steps p script.now result.1 (holding registers.new result.0 t)
+        ≡ held_steps p script.now left (holding registers.old place t) }
 {
     let mut place = place;
     let mut left = left;
@@ -111,7 +115,8 @@ impl Context {
 
     /// Takes the outcome of the call at which the context stands, which isn't Blocked.
     pub fn take(&mut self, outcome: &Outcome)
-        ensures { (script : List Instruction) (p : Point) → AtCall script p self.old → Reaches script (behind script outcome.now (arrived script p)) self.new }
+        ensures { (script : List Instruction) (p : Point) → AtCall script p self.old
+            → Reaches script (behind script outcome.now (arrived script p)) self.new }
     {
         note(&mut self.registers, outcome);
         self.place = self.after;

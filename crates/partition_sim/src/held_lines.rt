@@ -26,7 +26,8 @@ fn handle_operand(registers: &[u32; 16], operands: &[Operand; 3], i: usize) -> H
 
 // A line that maps or unmaps, at the values of its operands.
 fn mm_line(name: MapName, registers: &[u32; 16], operands: &[Operand; 3]) -> MmLine
-    ensures { (p : Holder) (x : Holding) → x.at.registers ≡ registers.now → engine_line p x result ≡ line_step p x (instruction.Map name operands.now) }
+    ensures { (p : Holder) (x : Holding) → x.at.registers ≡ registers.now
+        → engine_line p x result ≡ line_step p x (instruction.Map name operands.now) }
 {
     let handle = handle_operand(registers, operands, 0);
     let index = number_operand(registers, operands, 1);
@@ -53,8 +54,11 @@ fn mm_effect(
     line: MmLine,
 ) -> Option<usize>
     requires { place < usize.MAX }
-    ensures leads { IfSome result (λ to. led_to (engine_line held.old.holder (holding registers.old place held.old.table) line) ≡ Some (holding registers.new to held.new.table)) }
-    ensures makes { IfNone result (led_to (engine_line held.old.holder (holding registers.old place held.old.table) line) ≡ None) }
+    ensures leads { IfSome result (λ to.
+        led_to (engine_line held.old.holder (holding registers.old place held.old.table) line)
+        ≡ Some (holding registers.new to held.new.table)) }
+    ensures makes { IfNone result (led_to
+        (engine_line held.old.holder (holding registers.old place held.old.table) line) ≡ None) }
     ensures kept { IfNone result (registers.new ≡ registers.old) }
     ensures held { IfNone result (held.new ≡ held.old) }
     ensures holder { held.new.holder ≡ held.old.holder }
@@ -79,8 +83,12 @@ pub fn map_effect(
     operands: &[Operand; 3],
 ) -> Option<usize>
     requires { place < usize.MAX }
-    ensures leads { IfSome result (λ to. led_to (line_step held.old.holder (holding registers.old place held.old.table) (instruction.Map name operands.now)) ≡ Some (holding registers.new to held.new.table)) }
-    ensures makes { IfNone result (led_to (line_step held.old.holder (holding registers.old place held.old.table) (instruction.Map name operands.now)) ≡ None) }
+    ensures leads { IfSome result (λ to.
+        led_to (line_step held.old.holder (holding registers.old place held.old.table)
+        (instruction.Map name operands.now))
+        ≡ Some (holding registers.new to held.new.table)) }
+    ensures makes { IfNone result (led_to (line_step held.old.holder
+        (holding registers.old place held.old.table) (instruction.Map name operands.now)) ≡ None) }
     ensures kept { IfNone result (registers.new ≡ registers.old) }
     ensures held { IfNone result (held.new ≡ held.old) }
     ensures holder { held.new.holder ≡ held.old.holder }
@@ -94,8 +102,10 @@ pub fn map_effect(
 // The call of a line about a vector, which is done: Panic where it may not be, and the end of the
 // script where it makes no call.
 fn call_by_act(held: &mut Held, line: MmLine) -> Call
-    ensures call { (x : Holding) → x.table ≡ held.old.table → result ≡ call_made (engine_line held.old.holder x line) }
-    ensures table { held.new ≡ record held.old { table = table_of held.old.holder held.old.table line } }
+    ensures call { (x : Holding) → x.table ≡ held.old.table
+        → result ≡ call_made (engine_line held.old.holder x line) }
+    ensures table { held.new
+        ≡ record held.old { table = table_of held.old.holder held.old.table line } }
 {
     match held.act(line) {
         MmStep::Calls(call) => call,
@@ -107,7 +117,8 @@ fn call_by_act(held: &mut Held, line: MmLine) -> Call
 // The call of a line that maps or unmaps without one, once no line may run any more: the end of the
 // script, or Panic where the line may not be done.
 fn end_unless_fault(held: &Held, line: MmLine) -> Call
-    ensures { result ≡ (if can_do held.now.holder held.now.table line then Call.Stop true else Call.Panic) }
+    ensures { result ≡ (if can_do held.now.holder held.now.table line
+        then Call.Stop true else Call.Panic) }
 {
     if held.allows(line) {
         Call::Stop { spent: true }
@@ -118,7 +129,8 @@ fn end_unless_fault(held: &Held, line: MmLine) -> Call
 
 // The call of a line about a vector. The table stays as it is.
 fn mm_call(held: &mut Held, line: MmLine) -> Call
-    ensures call { (x : Holding) → x.table ≡ held.old.table → result ≡ call_made (engine_line held.old.holder x line) }
+    ensures call { (x : Holding) → x.table ≡ held.old.table
+        → result ≡ call_made (engine_line held.old.holder x line) }
     ensures held { held.new ≡ held.old }
 {
     match line {
@@ -167,7 +179,9 @@ pub fn map_call(
     name: MapName,
     operands: &[Operand; 3],
 ) -> Call
-    ensures call { (place : ℕ) → result ≡ call_made (line_step held.old.holder (holding registers.now place held.old.table) (instruction.Map name operands.now)) }
+    ensures call { (place : ℕ)
+        → result ≡ call_made (line_step held.old.holder (holding registers.now place held.old.table)
+        (instruction.Map name operands.now)) }
     ensures held { held.new ≡ held.old }
 {
     let line = mm_line(name, registers, operands);

@@ -13,19 +13,27 @@ ghost use Rattle.partition_sim.specs.Resuming.{ResumesBehindBlocked};
 
 /// A client with one script calls as the script says.
 pub fn one_context_is_a_script()
-    ensures call { (script : List Instruction) (outcomes : List Outcome) → context_plan (script ∷ []) outcomes ≡ script_plan script outcomes }
-    ensures run { (script : List Instruction) (entries : List Entry) → ContextRun (script ∷ []) entries ↔ ScriptRun script entries }
+    ensures call { (script : List Instruction) (outcomes : List Outcome)
+        → context_plan (script ∷ []) outcomes ≡ script_plan script outcomes }
+    ensures run { (script : List Instruction) (entries : List Entry)
+        → ContextRun (script ∷ []) entries ↔ ScriptRun script entries }
 {}
 
 /// A partition whose script maps nothing calls as the script says, whatever messages it holds.
 pub fn scripts_that_map_nothing()
-    ensures call { (p : Holder) (script : List Instruction) (outcomes : List Outcome) → MapsNothing script → held_plan p script outcomes ≡ script_plan script outcomes }
-    ensures run { (p : Holder) (script : List Instruction) (entries : List Entry) → MapsNothing script → PlanRun (held_plan p script) entries ↔ ScriptRun script entries }
+    ensures call { (p : Holder) (script : List Instruction) (outcomes : List Outcome)
+        → MapsNothing script
+        → held_plan p script outcomes ≡ script_plan script outcomes }
+    ensures run { (p : Holder) (script : List Instruction) (entries : List Entry)
+        → MapsNothing script
+        → PlanRun (held_plan p script) entries ↔ ScriptRun script entries }
 {}
 
 /// Each plan gives a return exactly where the last call is blocked.
 pub fn plans_resume_behind_blocked()
     ensures script { (script : List Instruction) → ResumesBehindBlocked (script_plan script) }
-    ensures held { (p : Holder) (script : List Instruction) → ResumesBehindBlocked (held_plan p script) }
-    ensures contexts { (scripts : List (List Instruction)) → ResumesBehindBlocked (context_plan scripts) }
+    ensures held { (p : Holder) (script : List Instruction)
+        → ResumesBehindBlocked (held_plan p script) }
+    ensures contexts { (scripts : List (List Instruction))
+        → ResumesBehindBlocked (context_plan scripts) }
 {}

@@ -14,7 +14,8 @@ pub const MOST_LINES: u32 = 100000;
 pub fn line_effect(registers: &mut [u32; 16], place: usize, line: &Instruction) -> Option<usize>
     requires room { place < usize.MAX }
     requires fits { (count : ℕ) × FitsIn count line.now }
-    ensures local { IfSome result (λ to. line_effect (point registers.old place) line.now ≡ Some (point registers.new to)) }
+    ensures local { IfSome result (λ to.
+        line_effect (point registers.old place) line.now ≡ Some (point registers.new to)) }
     ensures call { IfNone result (line_effect (point registers.old place) line.now ≡ None) }
     ensures kept { IfNone result (registers.new ≡ registers.old) }
 {

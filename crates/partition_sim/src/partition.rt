@@ -21,8 +21,12 @@ fn map_step(
     script: &[Instruction],
     place: usize,
 ) -> Option<usize>
-    ensures leads { IfSome result (λ to. held_step held.old.holder script.now (holding registers.old place held.old.table) ≡ Some (holding registers.new to held.new.table)) }
-    ensures makes { local_step script.now (point registers.old place) ≡ None → IfNone result (held_step held.old.holder script.now (holding registers.old place held.old.table) ≡ None) }
+    ensures leads { IfSome result (λ to.
+        held_step held.old.holder script.now (holding registers.old place held.old.table)
+        ≡ Some (holding registers.new to held.new.table)) }
+    ensures makes { local_step script.now (point registers.old place) ≡ None
+        → IfNone result
+        (held_step held.old.holder script.now (holding registers.old place held.old.table) ≡ None) }
     ensures kept { IfNone result (registers.new ≡ registers.old) }
     ensures held { IfNone result (held.new ≡ held.old) }
     ensures holder { held.new.holder ≡ held.old.holder }
@@ -43,7 +47,8 @@ fn run_held(
     place: usize,
 ) -> usize
     requires { IsPart script.now }
-    ensures arrived { holding registers.new result held.new.table ≡ held_arrived held.old.holder script.now (holding registers.old place held.old.table) }
+    ensures arrived { holding registers.new result held.new.table
+        ≡ held_arrived held.old.holder script.now (holding registers.old place held.old.table) }
     ensures holder { held.new.holder ≡ held.old.holder }
 {
     let mut place = place;
@@ -71,7 +76,8 @@ fn line_at(script: &[Instruction], place: usize) -> Option<Instruction>
 // The call that is made at a place.
 #[tactic(auto, unfolding(ffm_model::specs::HeldPlans::held_call))]
 fn held_call(held: &mut Held, registers: &[u32; 16], script: &[Instruction], place: usize) -> Call
-    ensures call { result ≡ held_call held.old.holder script.now (holding registers.now place held.old.table) }
+    ensures call { result ≡ held_call held.old.holder script.now
+        (holding registers.now place held.old.table) }
     ensures held { held.new ≡ held.old }
 {
     match script.get(place) {
@@ -117,7 +123,16 @@ impl Model for PartitionRunner {
 
     ghost Value = { PartitionStanding };
 
-    ghost view = { λ r. record { holder = r.held.holder; at = holding r.registers r.place r.held.table; waiting = r.waiting; ready = r.ready; line = r.line; call = r.call; after = r.after } };
+    ghost view = { λ r.
+        record {
+          holder = r.held.holder;
+          at = holding r.registers r.place r.held.table;
+          waiting = r.waiting;
+          ready = r.ready;
+          line = r.line;
+          call = r.call;
+          after = r.after;
+        } };
 }
 
 impl PartitionRunner {
@@ -131,7 +146,8 @@ impl PartitionRunner {
     /// A runner at the start of a script, for a partition of the system. It has seen no outcome.
     pub fn new(system: &System, partition: u32) -> PartitionRunner
         requires { partition < length system.now.partitions }
-        ensures { (script : List Instruction) → FollowsHeld (holder_of system.now partition) script [] result }
+        ensures { (script : List Instruction)
+            → FollowsHeld (holder_of system.now partition) script [] result }
     {
         PartitionRunner {
             held: Held::new(system, partition),
@@ -148,7 +164,9 @@ impl PartitionRunner {
     // Does lines up to the next call, unless the script stands there.
     fn settle(&mut self, script: &[Instruction])
         requires { IsPart script.now }
-        ensures { (p : Holder) (outcomes : List Outcome) → FollowsHeld p script.now outcomes self.old → AskedHeld p script.now outcomes self.new }
+        ensures { (p : Holder) (outcomes : List Outcome)
+            → FollowsHeld p script.now outcomes self.old
+            → AskedHeld p script.now outcomes self.new }
     {
         if self.ready {
             return;
@@ -164,9 +182,15 @@ impl PartitionRunner {
     /// The call that the partition makes next. Asked again before `after`, it is the same call.
     pub fn next(&mut self, script: &[Instruction]) -> Call
         requires { IsPart script.now }
-        ensures call { (p : Holder) (outcomes : List Outcome) → FollowsHeld p script.now outcomes self.old → result ≡ held_plan p script.now outcomes }
-        ensures asked { (p : Holder) (outcomes : List Outcome) → FollowsHeld p script.now outcomes self.old → AskedHeld p script.now outcomes self.new }
-        ensures again { (p : Holder) (outcomes : List Outcome) → FollowsHeld p script.now outcomes self.old → FollowsHeld p script.now outcomes self.new }
+        ensures call { (p : Holder) (outcomes : List Outcome)
+            → FollowsHeld p script.now outcomes self.old
+            → result ≡ held_plan p script.now outcomes }
+        ensures asked { (p : Holder) (outcomes : List Outcome)
+            → FollowsHeld p script.now outcomes self.old
+            → AskedHeld p script.now outcomes self.new }
+        ensures again { (p : Holder) (outcomes : List Outcome)
+            → FollowsHeld p script.now outcomes self.old
+            → FollowsHeld p script.now outcomes self.new }
     {
         self.settle(script);
         call_due(self.waiting, self.call)
@@ -174,7 +198,9 @@ impl PartitionRunner {
 
     /// Takes the outcome of the call that was asked for.
     pub fn after(&mut self, outcome: &Outcome)
-        ensures { (p : Holder) (script : List Instruction) (outcomes : List Outcome) → AskedHeld p script outcomes self.old → FollowsHeld p script (outcomes ++ outcome.now ∷ []) self.new }
+        ensures { (p : Holder) (script : List Instruction) (outcomes : List Outcome)
+            → AskedHeld p script outcomes self.old
+            → FollowsHeld p script (outcomes ++ outcome.now ∷ []) self.new }
     {
         if is_blocked(outcome) {
             self.waiting = true;

@@ -35,7 +35,8 @@ impl Runner {
         requires single { kind_of system.now actor.0 ≢ ActorKind.Client → contexts ≡ 1 }
         ensures role { role_of result ≡ role_at system.now actor.0 }
         ensures contexts { contexts_of result ≡ contexts }
-        ensures follows { (parts : List (List Instruction)) → length parts ≡ contexts → Follows (role_at system.now actor.0) parts [] result }
+        ensures follows { (parts : List (List Instruction)) → length parts ≡ contexts
+            → Follows (role_at system.now actor.0) parts [] result }
     {
         match system.actor_kind(actor) {
             ActorKind::Partition => Runner::Partition(PartitionRunner::new(system, actor.0)),
@@ -47,9 +48,15 @@ impl Runner {
     /// has as many parts as the runner has contexts.
     pub fn next(&mut self, script: &Script) -> Call
         requires { length script.now ≡ contexts_of self.old }
-        ensures call { (role : Role) (outcomes : List Outcome) → Follows role script.now outcomes self.old → result ≡ plan_of_role role script.now outcomes }
-        ensures asked { (role : Role) (outcomes : List Outcome) → Follows role script.now outcomes self.old → Asked role script.now outcomes self.new }
-        ensures again { (role : Role) (outcomes : List Outcome) → Follows role script.now outcomes self.old → Follows role script.now outcomes self.new }
+        ensures call { (role : Role) (outcomes : List Outcome)
+            → Follows role script.now outcomes self.old
+            → result ≡ plan_of_role role script.now outcomes }
+        ensures asked { (role : Role) (outcomes : List Outcome)
+            → Follows role script.now outcomes self.old
+            → Asked role script.now outcomes self.new }
+        ensures again { (role : Role) (outcomes : List Outcome)
+            → Follows role script.now outcomes self.old
+            → Follows role script.now outcomes self.new }
         ensures contexts { contexts_of self.new ≡ contexts_of self.old }
     {
         match self {
@@ -60,7 +67,9 @@ impl Runner {
 
     /// Takes the outcome of the call that was asked for.
     pub fn after(&mut self, outcome: &Outcome)
-        ensures follows { (role : Role) (parts : List (List Instruction)) (outcomes : List Outcome) → Asked role parts outcomes self.old → Follows role parts (outcomes ++ outcome.now ∷ []) self.new }
+        ensures follows { (role : Role) (parts : List (List Instruction)) (outcomes : List Outcome)
+            → Asked role parts outcomes self.old
+            → Follows role parts (outcomes ++ outcome.now ∷ []) self.new }
         ensures contexts { contexts_of self.new ≡ contexts_of self.old }
     {
         match self {

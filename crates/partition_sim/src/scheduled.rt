@@ -156,13 +156,16 @@ pub fn drive_scheduled(
     ensures opening { spm.new.opening ≡ spm.old.opening }
 
     // From the empty history on, each entry was made in the next turn of an enabled actor.
-    ensures scheduled { OnOk result (Scheduled spm.old.opening.system (byte_at spm.old.opening.memory) schedule.now spm.new.history) }
+    ensures scheduled { OnOk result (Scheduled spm.old.opening.system
+        (byte_at spm.old.opening.memory) schedule.now spm.new.history) }
 
     // Each actor's entries are a run of its plan, which its scripts give.
-    ensures runs { OnOk result ((a : ℕ) → a < actor_count spm.old.opening.system → PlanRun (plan_at spm.old.opening.system scripts.now a) (entries_of a spm.new.history)) }
+    ensures runs { OnOk result ((a : ℕ) → a < actor_count spm.old.opening.system
+        → PlanRun (plan_at spm.old.opening.system scripts.now a) (entries_of a spm.new.history)) }
 
     // No actor that could go on is left out below the limit.
-    ensures ended { OnOk result (IsSome (verdict_of spm.old.opening.system (byte_at spm.old.opening.memory) spm.old.opening.limit spm.new.history)) }
+    ensures ended { OnOk result (IsSome (verdict_of spm.old.opening.system
+        (byte_at spm.old.opening.memory) spm.old.opening.limit spm.new.history)) }
     ensures err { OnErr result (spm.new ≡ spm.old) }
 {
     let count = spm.actor_count();

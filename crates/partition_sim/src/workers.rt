@@ -64,7 +64,8 @@ fn ask<A: Api, R: Wait>(rt: &R, api: &A, pass: &mut A::Pass, call: Call) -> Answ
     requires due { is_resume call ≡ ends_blocked (outcomes_of (A.record_of pass.old)) }
     ensures own { A.own api.now pass.new }
     ensures actor { A.actor_of pass.new ≡ A.actor_of pass.old }
-    ensures answer { IsAnswered (A.actor_of pass.old) call result (A.record_of pass.old) (A.record_of pass.new) (A.is_done pass.new) }
+    ensures answer { IsAnswered (A.actor_of pass.old) call result (A.record_of pass.old)
+        (A.record_of pass.new) (A.is_done pass.new) }
 {
     match call {
         Call::Resume => api.resume(rt, pass),

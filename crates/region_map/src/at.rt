@@ -88,7 +88,8 @@ fn number(index: usize) -> Result<u32, AllocError>
 
 // Adds the items of one manifest.
 fn add<'a, T>(found: &mut Vec<At<'a, T>>, manifest: u32, items: &'a [T]) -> Result<(), AllocError>
-    ensures { OnOk result (map seen found.new.items ≡ map seen found.old.items ++ located_in manifest 0 items.now) }
+    ensures { OnOk result
+        (map seen found.new.items ≡ map seen found.old.items ++ located_in manifest 0 items.now) }
 {
     for i in 0..items.len() {
         let item = number(i)?;

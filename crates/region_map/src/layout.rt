@@ -17,7 +17,8 @@ use std::alloc::{AllocError, Global};
 
 // Adds the MMIO regions.
 fn add_placed(regions: &mut Vec<Region>, placed: &[Placed]) -> Result<(), AllocError>
-    ensures { OnOk result (regions.new.items ≡ regions.old.items ++ map (λ x. x.value) (map located_of placed.now)) }
+    ensures { OnOk result
+        (regions.new.items ≡ regions.old.items ++ map (λ x. x.value) (map located_of placed.now)) }
 {
     for at in placed {
         regions.push(at.region)?;

@@ -44,8 +44,10 @@ fn meets_any(ram: u64, non_secure: u64, earlier: &BTreeMap<u32, u32>, region: &R
     requires sizes { (ram ≤ 2199023263488) × (non_secure ≤ 2199023263488) }
     requires earlier { IsDisjoint earlier.now }
     requires region { IsRange (region.now.base, region.now.size) }
-    ensures hit { IsTrue result → IsTrue (meets_ram ram non_secure region.now) ⊎ MeetsSome earlier.now region.now }
-    ensures miss { result ≡ false → (meets_ram ram non_secure region.now ≡ false) × MeetsNone earlier.now region.now }
+    ensures hit { IsTrue result
+        → IsTrue (meets_ram ram non_secure region.now) ⊎ MeetsSome earlier.now region.now }
+    ensures miss { result ≡ false
+        → (meets_ram ram non_secure region.now ≡ false) × MeetsNone earlier.now region.now }
 {
     meets(RAM_BASE, ram, region)
         || meets(NON_SECURE_RAM_BASE, non_secure, region)
@@ -55,7 +57,9 @@ fn meets_any(ram: u64, non_secure: u64, earlier: &BTreeMap<u32, u32>, region: &R
 // Whether each MMIO region lies after the one before it, and none shares a byte with RAM: the usual
 // case, which needs no map.
 fn follow_each_other(parts: &Parts, placed: &[Placed]) -> bool
-    ensures { IsTrue result → first (overlapping (rams_of parts.now ++ non_secure_of parts.now ∷ []) (map located_of placed.now)) ≡ None }
+    ensures { IsTrue result
+        → first (overlapping (rams_of parts.now ++ non_secure_of parts.now ∷ [])
+        (map located_of placed.now)) ≡ None }
 {
     let ram = ram_total(parts.manifests.as_slice());
     let non_secure = rounded(u64::from(parts.non_secure_ram));
@@ -79,7 +83,9 @@ pub fn first_overlap(
     parts: &Parts,
     placed: &[Placed],
 ) -> Result<Option<(u32, u32)>, AllocError>
-    ensures { IfOk result (λ found. found ≡ option_map spot (first (overlapping (rams_of parts.now ++ non_secure_of parts.now ∷ []) (map located_of placed.now)))) }
+    ensures { IfOk result (λ found.
+        found ≡ option_map spot (first (overlapping
+        (rams_of parts.now ++ non_secure_of parts.now ∷ []) (map located_of placed.now)))) }
 {
     if follow_each_other(parts, placed) {
         return Ok(None);

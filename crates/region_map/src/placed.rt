@@ -40,9 +40,13 @@ pub fn place_all(
     directory: &Directory,
     items: &[At<MmioItem>],
 ) -> Result<Vec<Placed>, LayoutError>
-    ensures placed { IfOk result (λ found. map located_of found.items ≡ filter_map (mmio_placed directory.now.regions.now) (map seen items.now)) }
-    ensures known { IfOk result (λ _. unknown_in directory.now.regions.now (map seen items.now) ≡ []) }
-    ensures unknown { IfErr result (IsUnknown (unknown_in directory.now.regions.now (map seen items.now))) }
+    ensures placed { IfOk result (λ found.
+        map located_of found.items
+        ≡ filter_map (mmio_placed directory.now.regions.now) (map seen items.now)) }
+    ensures known { IfOk result (λ _.
+        unknown_in directory.now.regions.now (map seen items.now) ≡ []) }
+    ensures unknown { IfErr result
+        (IsUnknown (unknown_in directory.now.regions.now (map seen items.now))) }
 {
     let mut found = Vec::new(alloc);
     for at in items {

@@ -60,7 +60,8 @@ pub fn add_rams(
 ) -> Result<(), AllocError>
     requires count { length manifests.now ≤ 256 }
     requires total { sum_by ram_needed manifests.now ≤ 16777216 }
-    ensures { OnOk result (regions.new.items ≡ regions.old.items ++ rams_from level 0 RAM_BASE manifests.now) }
+    ensures { OnOk result
+        (regions.new.items ≡ regions.old.items ++ rams_from level 0 RAM_BASE manifests.now) }
 {
     let mut base = RAM_BASE;
     for (place, manifest) in manifests.iter().enumerate() {
@@ -79,7 +80,8 @@ pub fn add_rams(
 /// The RAM of non-secure clients, where so many bytes are asked for.
 pub fn non_secure_ram(size: u32) -> Region
     requires { size ≤ 1048576 }
-    ensures { result ≡ record { base = NON_SECURE_RAM_BASE; size = rounded size; class = Class.NonSecure } }
+    ensures { result ≡ record
+        { base = NON_SECURE_RAM_BASE; size = rounded size; class = Class.NonSecure } }
 {
     Region {
         base: NON_SECURE_RAM_BASE,

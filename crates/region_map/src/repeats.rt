@@ -41,7 +41,8 @@ pub fn repeated_name<'a, T: Named>(
     alloc: Global,
     items: &[At<'a, T>],
 ) -> Result<Option<(u32, u32)>, AllocError>
-    ensures { IfOk result (λ found. found ≡ option_map spot (first (repeated (same_name T.name_of) (map seen items.now)))) }
+    ensures { IfOk result (λ found.
+        found ≡ option_map spot (first (repeated (same_name T.name_of) (map seen items.now)))) }
 {
     let mut names = BTreeSet::new(alloc);
     for at in items {

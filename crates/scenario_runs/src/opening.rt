@@ -29,13 +29,15 @@ fn is_ended(verdict: Verdict) -> bool
 
 fn is_panicked(ended: &Spm, partition: u32) -> bool
     requires { partition < length ended.now.opening.system.partitions }
-    ensures { result ≡ option_map_or (λ st. is_panicked (phase_of st.spm partition)) (state_of ended.now) false }
+    ensures { result ≡ option_map_or (λ st. is_panicked (phase_of st.spm partition))
+        (state_of ended.now) false }
 {
     matches!(ended.phase(ActorId(partition)), Phase::Panicked)
 }
 
 fn is_some_panicked(ended: &Spm) -> bool
-    ensures { result ≡ option_map_or (some_panicked ended.now.opening.system) (state_of ended.now) false }
+    ensures { result ≡ option_map_or (some_panicked ended.now.opening.system)
+        (state_of ended.now) false }
 {
     for partition in 0..ended.system().counts().partitions {
         if is_panicked(ended, partition) {
@@ -58,8 +60,11 @@ fn runs_again(ended: &Spm) -> bool
 // The first memory, with the MMIO bytes that the run left.
 fn reset(alloc: Global, first: &Image, ended: &Spm) -> Result<Image, Memory>
     requires { regions_of first.now ≡ ranges_of ended.now.opening.system.regions }
-    ensures regions { IfOk result (λ image. regions_of image ≡ ranges_of ended.now.opening.system.regions) }
-    ensures bytes { IfOk result (λ image. byte_at image ≡ memory_reset ended.now.opening.system (byte_at first.now) (memory_behind ended.now.opening.system (byte_at ended.now.opening.memory) ended.now.history)) }
+    ensures regions { IfOk result (λ image.
+        regions_of image ≡ ranges_of ended.now.opening.system.regions) }
+    ensures bytes { IfOk result (λ image.
+        byte_at image ≡ memory_reset ended.now.opening.system (byte_at first.now) (memory_behind
+        ended.now.opening.system (byte_at ended.now.opening.memory) ended.now.history)) }
 {
     let mut image = first.copy_of(alloc)?;
     let last = ended.image();
@@ -78,8 +83,12 @@ fn reset(alloc: Global, first: &Image, ended: &Spm) -> Result<Image, Memory>
 pub fn next_opening(alloc: Global, first: &Image, ended: &Spm) -> Result<Option<Image>, Memory>
     requires { regions_of first.now ≡ ranges_of ended.now.opening.system.regions }
     ensures again { IfOk result (λ next. is_some next ≡ runs_again ended.now) }
-    ensures regions { IfOk result (λ next. IfSome next (λ image. regions_of image ≡ ranges_of ended.now.opening.system.regions)) }
-    ensures bytes { IfOk result (λ next. IfSome next (λ image. byte_at image ≡ memory_reset ended.now.opening.system (byte_at first.now) (memory_behind ended.now.opening.system (byte_at ended.now.opening.memory) ended.now.history))) }
+    ensures regions { IfOk result (λ next.
+        IfSome next (λ image. regions_of image ≡ ranges_of ended.now.opening.system.regions)) }
+    ensures bytes { IfOk result (λ next.
+        IfSome next (λ image.
+        byte_at image ≡ memory_reset ended.now.opening.system (byte_at first.now) (memory_behind
+        ended.now.opening.system (byte_at ended.now.opening.memory) ended.now.history))) }
 {
     if !runs_again(ended) {
         return Ok(None);

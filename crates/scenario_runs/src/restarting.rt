@@ -48,8 +48,12 @@ fn kept(ran: Ran) -> (System, Trace)
 fn next_memory(alloc: Global, left: u32, first: &Image, ran: &Ran) -> Result<Option<Image>, Memory>
     requires { regions_of first.now ≡ ranges_of ran.now.spm.opening.system.regions }
     ensures again { IfOk result (λ next. is_some next ≡ (nat_lt 0 left && runs_again ran.now.spm)) }
-    ensures regions { IfOk result (λ next. IfSome next (λ image. regions_of image ≡ ranges_of ran.now.spm.opening.system.regions)) }
-    ensures bytes { IfOk result (λ next. IfSome next (λ image. byte_at image ≡ memory_reset ran.now.spm.opening.system (byte_at first.now) (memory_behind ran.now.spm.opening.system (byte_at ran.now.spm.opening.memory) ran.now.spm.history))) }
+    ensures regions { IfOk result (λ next.
+        IfSome next (λ image. regions_of image ≡ ranges_of ran.now.spm.opening.system.regions)) }
+    ensures bytes { IfOk result (λ next.
+        IfSome next (λ image.
+        byte_at image ≡ memory_reset ran.now.spm.opening.system (byte_at first.now) (memory_behind
+        ran.now.spm.opening.system (byte_at ran.now.spm.opening.memory) ran.now.spm.history))) }
 {
     if left == 0 {
         return Ok(None);
@@ -74,7 +78,9 @@ fn runs_from(
     requires opening { byte_at memory ≡ opening_memory scenario.now.memory }
     requires same { memory ≡ first.now }
     ensures system { IfOk result (λ runs. runs.system ≡ system) }
-    ensures ran { IfOk result (λ runs. AreRuns system scenario.now (map Plain scripts.now) false scenario.now.restarts (map finished runs.traces.items)) }
+    ensures ran { IfOk result (λ runs.
+        AreRuns system scenario.now (map Plain scripts.now) false scenario.now.restarts
+        (map finished runs.traces.items)) }
 {
     let mut traces = Vec::new(alloc);
     let (mut system, mut memory) = (system, memory);
@@ -97,7 +103,8 @@ fn runs_from(
 pub(crate) fn alone(alloc: Global, ran: Ran) -> Result<Runs, AllocError>
     requires { length ran.spm.history ≤ MAX_ENTRIES }
     ensures system { IfOk result (λ runs. runs.system ≡ ran.spm.opening.system) }
-    ensures trace { IfOk result (λ runs. runs.traces.items ≡ record { entries = ran.spm.history; verdict = ran.verdict } ∷ []) }
+    ensures trace { IfOk result (λ runs.
+        runs.traces.items ≡ record { entries = ran.spm.history; verdict = ran.verdict } ∷ []) }
 {
     let _length = ran.spm.length();
     let (system, trace) = kept(ran);
@@ -118,7 +125,9 @@ pub fn run_in_turns(
     requires programs { length programs ≡ actor_count system }
     requires fit { ArePrograms system programs }
     ensures system { IfOk result (λ runs. runs.system ≡ system) }
-    ensures ran { IfOk result (λ runs. AreRuns system scenario.now programs false scenario.now.restarts (map finished runs.traces.items)) }
+    ensures ran { IfOk result (λ runs.
+        AreRuns system scenario.now programs false scenario.now.restarts
+        (map finished runs.traces.items)) }
 {
     scripts_that_map_nothing();
     let scripts = scripts_of(alloc, &system, programs)?;

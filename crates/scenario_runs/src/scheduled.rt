@@ -39,8 +39,11 @@ pub(crate) fn run_from(
     requires scripts { length scripts.now ≡ actor_count system }
     requires contexts { HaveContexts system scripts.now }
     requires regions { regions_of memory ≡ ranges_of system.regions }
-    ensures opening { IfOk result (λ ran. ran.spm.opening ≡ record { system = system; memory = memory; limit = scenario.now.limit }) }
-    ensures ran { IfOk result (λ ran. RanBy system (byte_at memory) scenario.now (map Plain scripts.now) false ran.spm.history ran.verdict) }
+    ensures opening { IfOk result (λ ran.
+        ran.spm.opening ≡ record { system = system; memory = memory; limit = scenario.now.limit }) }
+    ensures ran { IfOk result (λ ran.
+        RanBy system (byte_at memory) scenario.now (map Plain scripts.now)
+        false ran.spm.history ran.verdict) }
 {
     let mut spm = Spm::new(alloc, system, memory, scenario.limit)?;
     drive_scheduled(alloc, &mut spm, scripts, &scenario.schedule)?;
@@ -63,7 +66,9 @@ pub fn run_once(
     requires programs { length programs ≡ actor_count system }
     requires fit { ArePrograms system programs }
     ensures system { IfOk result (λ ran. ran.spm.opening.system ≡ system) }
-    ensures ran { IfOk result (λ ran. RanBy system (opening_memory scenario.now.memory) scenario.now programs false ran.spm.history ran.verdict) }
+    ensures ran { IfOk result (λ ran.
+        RanBy system (opening_memory scenario.now.memory) scenario.now programs
+        false ran.spm.history ran.verdict) }
 {
     scripts_that_map_nothing();
     let scripts = scripts_of(alloc, &system, programs)?;

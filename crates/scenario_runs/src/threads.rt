@@ -187,7 +187,8 @@ fn seat_of(
     requires room { length undriven.old.items < vec_capacity undriven.old }
     ensures seat { IsSeat shared.now result }
     ensures crew { result.crew.value ≡ crew.value }
-    ensures undriven { undriven.new.items ≡ undriven.old.items ++ left_of result.crew.value result.progress }
+    ensures undriven { undriven.new.items
+        ≡ undriven.old.items ++ left_of result.crew.value result.progress }
     ensures capacity { vec_capacity undriven.new ≡ vec_capacity undriven.old }
 {
     let (drove, back) = trip;
@@ -225,7 +226,8 @@ fn turned_back<F: FnOnce() -> (bool, Crew)>(
     requires room { length undriven.old.items < vec_capacity undriven.old }
     ensures seat { IsSeat shared.now result }
     ensures crew { result.crew.value ≡ crew.value }
-    ensures undriven { undriven.new.items ≡ undriven.old.items ++ left_of result.crew.value result.progress }
+    ensures undriven { undriven.new.items
+        ≡ undriven.old.items ++ left_of result.crew.value result.progress }
     ensures capacity { vec_capacity undriven.new ≡ vec_capacity undriven.old }
 {
     flag.store(true, Ordering::SeqCst);
@@ -241,10 +243,13 @@ fn pass_of<R: Threads + Wait, G: Gate>(
     workers: &mut IntoIter<Worker<Pass>>,
 ) -> Pass
     requires seat { IsSeat shared.now seat }
-    requires next { (rest : Workers) × SameWorkers (left_of seat.crew.value seat.progress ++ rest) workers.old.rest.items }
+    requires next { (rest : Workers)
+        × SameWorkers (left_of seat.crew.value seat.progress ++ rest) workers.old.rest.items }
     requires finished { AllFinished shared.now workers.old.rest.items }
     ensures pass { IsDoneBy shared.now seat.crew.value result }
-    ensures left { (rest : Workers) → SameWorkers (left_of seat.crew.value seat.progress ++ rest) workers.old.rest.items → SameWorkers rest workers.new.rest.items }
+    ensures left { (rest : Workers)
+        → SameWorkers (left_of seat.crew.value seat.progress ++ rest) workers.old.rest.items
+        → SameWorkers rest workers.new.rest.items }
     ensures finished { AllFinished shared.now workers.new.rest.items }
 {
     let Seat { crew: _, progress } = seat;
@@ -310,7 +315,9 @@ fn drive_crews<R: Threads + Wait + Sync, G: Gate + Sync, S: Starts>(
             requires sync { IsSync R.row × IsSync G.row }
             requires new { AreNewCrews shared.now crews.items }
             requires flags { length crews.items ≤ length flags.now }
-            requires room { (length crews.items ≤ vec_capacity seats) × (length crews.items ≤ vec_capacity undriven) × (length crews.items ≤ vec_capacity room) }
+            requires room { (length crews.items ≤ vec_capacity seats)
+                × (length crews.items ≤ vec_capacity undriven)
+                × (length crews.items ≤ vec_capacity room) }
             requires none { (seats.items ≡ []) × (undriven.items ≡ []) × (room.items ≡ []) }
             ensures { AreDoneBy shared.entry.now crews.items result }
         {
@@ -361,7 +368,9 @@ fn run_scripts<R: Threads + Wait + Sync, G: Gate + Sync, S: Starts>(
     requires scripts { length scripts ≡ actor_count system }
     requires contexts { HaveContexts system scripts }
     ensures system { IfOk result (λ ran. ran.spm.opening.system ≡ system) }
-    ensures ran { IfOk result (λ ran. RanBy system (opening_memory scenario.now.memory) scenario.now (map Plain scripts) true ran.spm.history ran.verdict) }
+    ensures ran { IfOk result (λ ran.
+        RanBy system (opening_memory scenario.now.memory) scenario.now (map Plain scripts)
+        true ran.spm.history ran.verdict) }
 {
     let image = opening_image(alloc, &system, scenario)?;
     let begins = starts_of(alloc, &system, scripts)?;
@@ -395,7 +404,8 @@ pub fn run_in_threads<R: Threads + Wait + Sync, G: Gate + Sync, S: Starts>(
     requires programs { length programs ≡ actor_count system }
     requires fit { ArePrograms system programs }
     ensures system { IfOk result (λ runs. runs.system ≡ system) }
-    ensures ran { IfOk result (λ runs. AreRuns system scenario.now programs true 0 (map finished runs.traces.items)) }
+    ensures ran { IfOk result (λ runs.
+        AreRuns system scenario.now programs true 0 (map finished runs.traces.items)) }
 {
     scripts_that_map_nothing();
     let scripts = scripts_of(alloc, &system, programs)?;

@@ -70,7 +70,8 @@ pub fn two_words<'a>(words: &[&'a [u8]]) -> Option<(&'a [u8], &'a [u8])>
 }
 
 fn three_words<'a>(words: &[&'a [u8]]) -> Option<(&'a [u8], (&'a [u8], &'a [u8]))>
-    ensures { option_map (λ w. (w.0.now, (w.1.0.now, w.1.1.now))) result ≡ three_words (map (λ w. w.now) words.now) }
+    ensures { option_map (λ w. (w.0.now, (w.1.0.now, w.1.1.now))) result
+        ≡ three_words (map (λ w. w.now) words.now) }
 {
     let (word, rest) = words.split_first()?;
     let others = two_words(rest)?;
@@ -92,7 +93,8 @@ fn change_of(operation: Operation, words: &[&[u8]]) -> Option<Instruction>
 }
 
 fn jump_of(lines: &LabelledLines<'_>, words: &[&[u8]]) -> Option<Instruction>
-    ensures gives { result ≡ jump_of (lines_view lines.now.lines.items) (map (λ w. w.now) words.now) }
+    ensures gives { result ≡ jump_of (lines_view lines.now.lines.items)
+        (map (λ w. w.now) words.now) }
     ensures fits { IfSome result (FitsIn (sum_by width (lines_view lines.now.lines.items))) }
 {
     let label = one_word(words)?;
@@ -105,7 +107,8 @@ fn jump_if_of(
     lines: &LabelledLines<'_>,
     words: &[&[u8]],
 ) -> Option<Instruction>
-    ensures gives { result ≡ jump_if_of comparison (lines_view lines.now.lines.items) (map (λ w. w.now) words.now) }
+    ensures gives { result ≡ jump_if_of comparison (lines_view lines.now.lines.items)
+        (map (λ w. w.now) words.now) }
     ensures fits { IfSome result (FitsIn (sum_by width (lines_view lines.now.lines.items))) }
 {
     let (register, (operand, label)) = three_words(words)?;
@@ -151,7 +154,8 @@ pub fn instruction_of(
     lines: &LabelledLines<'_>,
     words: &[&[u8]],
 ) -> Option<Instruction>
-    ensures gives { result ≡ instruction_of kind (lines_view lines.now.lines.items) (map (λ w. w.now) words.now) }
+    ensures gives { result ≡ instruction_of kind (lines_view lines.now.lines.items)
+        (map (λ w. w.now) words.now) }
     ensures fits { IfSome result (FitsIn (sum_by width (lines_view lines.now.lines.items))) }
 {
     let (first, words) = words.split_first()?;

@@ -41,7 +41,8 @@ impl LabelledLines<'_> {
 
     /// Whether a label of this name stands before that line.
     pub fn is_labelled_before(&self, name: &[u8], line: usize) -> bool
-        ensures { result ≡ is_some (place_of name.now (take line (lines_view self.now.lines.items))) }
+        ensures { result ≡ is_some
+            (place_of name.now (take line (lines_view self.now.lines.items))) }
     {
         match self.labels.get(name) {
             Some(label) => (label.line as usize) < line,
@@ -65,7 +66,9 @@ fn keep_label<'a>(
     name: &'a [u8],
     label: FirstLabel,
 ) -> Result<(), AllocError>
-    ensures { OnOk result ((n : Word) → label_in labels.new n ≡ option_or (label_in labels.old n) (if bytes_eq name.now n then Some label else None)) }
+    ensures { OnOk result ((n : Word)
+        → label_in labels.new n
+        ≡ option_or (label_in labels.old n) (if bytes_eq name.now n then Some label else None)) }
 {
     if !labels.contains_key(name) {
         labels.insert(name, label)?;
@@ -79,7 +82,10 @@ fn keep_line<'a>(
     line: &Line<'a>,
     label: FirstLabel,
 ) -> Result<(), AllocError>
-    ensures { OnOk result ((n : Word) → label_in labels.new n ≡ option_or (label_in labels.old n) (if is_label n (line_view line.now) then Some label else None)) }
+    ensures { OnOk result ((n : Word)
+        → label_in labels.new n
+        ≡ option_or (label_in labels.old n)
+        (if is_label n (line_view line.now) then Some label else None)) }
 {
     match line {
         Line::Label(name) => keep_label(labels, *name, label),

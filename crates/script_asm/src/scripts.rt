@@ -53,8 +53,10 @@ fn made_of(
     at: usize,
     line: &Line<'_>,
 ) -> Option<Option<Instruction>>
-    ensures gives { option_map listed result ≡ made_of kind (lines_view lines.now.lines.items) at (line_view line.now) }
-    ensures fits { IfSome result (λ made. IfSome made (FitsIn (sum_by width (lines_view lines.now.lines.items)))) }
+    ensures gives { option_map listed result
+        ≡ made_of kind (lines_view lines.now.lines.items) at (line_view line.now) }
+    ensures fits { IfSome result (λ made.
+        IfSome made (FitsIn (sum_by width (lines_view lines.now.lines.items)))) }
 {
     match line {
         Line::Passed => Some(None),
@@ -87,7 +89,8 @@ fn instructions_of(
     lines: &LabelledLines<'_>,
 ) -> Result<Vec<Instruction>, LineError>
     requires { length lines.now.lines.items < 2 ^ 31 }
-    ensures gives { Gives (λ v. v.items) result (assembled_lines kind (lines_view lines.now.lines.items)) }
+    ensures gives { Gives (λ v. v.items) result
+        (assembled_lines kind (lines_view lines.now.lines.items)) }
     ensures part { IfOk result (λ v. IsPart v.items) }
 {
     let mut instructions = Vec::new(alloc);
@@ -113,7 +116,8 @@ fn assembled(alloc: Global, kind: ActorKind, texts: &[Name]) -> Result<Vec<Instr
 /// The refusal of a line of the script with this number, both counted from 0: its place is
 /// `/scripts/NUMBER/lines/LINE`, and its code SCRIPT_SYNTAX. Err where no memory was found.
 pub fn line_refusal(alloc: Global, number: u32, line: u32) -> Result<Refusal, AllocError>
-    ensures { IfOk result (λ r. r ≡ record { code = SCRIPT_SYNTAX; place = line_place number line; cycle = [] }) }
+    ensures { IfOk result (λ r.
+        r ≡ record { code = SCRIPT_SYNTAX; place = line_place number line; cycle = [] }) }
 {
     let steps = vec![in alloc;
         PathStep::Key(Key::Scripts),

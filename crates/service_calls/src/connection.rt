@@ -12,7 +12,8 @@ use spm_tables::{QueuedMessage, Tables};
 // The slot of the connection of a live message, which has to be there; None where the message is of no connection.
 pub(crate) fn connection_of(tables: &Tables, slot: Slot, message: QueuedMessage) -> Option<Slot>
     requires item { item_at tables.now.messages slot ≡ Some message }
-    requires there { IfSome message.serial (λ n. IsSome (connection_by_serial (spm_of tables.now) n)) }
+    requires there { IfSome message.serial (λ n.
+        IsSome (connection_by_serial (spm_of tables.now) n)) }
     ensures { IsLinkOf tables.now.connections message result }
 {
     tables.law();

@@ -32,8 +32,12 @@ use spm_tables::{QueuedMessage, Tables};
 // The rhandle that a message carries: 0 for that of a `psa_connect` or of no connection, else its connection's.
 fn rhandle_of(tables: &Tables, slot: Slot, message: QueuedMessage) -> u32
     requires item { item_at tables.now.messages slot ≡ Some message }
-    requires there { IfSome message.serial (λ n. IsSome (connection_by_serial (spm_of tables.now) n)) }
-    ensures { result ≡ (if int_eq message.kind PSA_IPC_CONNECT then 0 else option_map_or (λ c. c.rhandle) (option_and_then (connection_by_serial (spm_of tables.now)) message.serial) 0) }
+    requires there { IfSome message.serial (λ n.
+        IsSome (connection_by_serial (spm_of tables.now) n)) }
+    ensures { result ≡ (if int_eq message.kind PSA_IPC_CONNECT
+        then 0
+        else option_map_or (λ c. c.rhandle)
+        (option_and_then (connection_by_serial (spm_of tables.now)) message.serial) 0) }
 {
     if message.kind == PSA_IPC_CONNECT {
         return 0;
@@ -47,9 +51,11 @@ fn rhandle_of(tables: &Tables, slot: Slot, message: QueuedMessage) -> u32
 // What a partition is told of a message that it gets.
 fn shown(system: &System, tables: &Tables, slot: Slot, message: QueuedMessage) -> Message
     requires item { item_at tables.now.messages slot ≡ Some message }
-    requires there { IfSome message.serial (λ n. IsSome (connection_by_serial (spm_of tables.now) n)) }
+    requires there { IfSome message.serial (λ n.
+        IsSome (connection_by_serial (spm_of tables.now) n)) }
     requires client { message.client.0 < actor_count system.now }
-    ensures { result ≡ shown_message system.now (spm_of tables.now) (message_of slot message) (handle_at family.Message slot) }
+    ensures { result ≡ shown_message system.now (spm_of tables.now) (message_of slot message)
+        (handle_at family.Message slot) }
 {
     tables.law();
     Message {
@@ -75,9 +81,15 @@ pub fn get(
     msg: u32,
 ) -> Result<Message, Fault>
     requires premises { PremisesWithImage system.now tables.old image.old }
-    ensures answer { (given : List HandleSeen) → IsGot system.now tables.old given image.old actor.0 signal msg result tables.new image.new }
-    ensures fresh { IfOk result (λ m. (st : StateSeen) → Stands tables.old image.old st → fresh st m.handle ≡ true) }
-    ensures name { IfOk result (λ m. (k : NamesSoFar) → NamesAre tables.old k → (given : List HandleSeen) → name_due system.now (state_with tables.old given (byte_at image.old)) actor.0 (Get signal msg) k ≡ Some m.handle) }
+    ensures answer { (given : List HandleSeen)
+        → IsGot system.now tables.old given image.old actor.0 signal msg
+        result tables.new image.new }
+    ensures fresh { IfOk result (λ m.
+        (st : StateSeen) → Stands tables.old image.old st → fresh st m.handle ≡ true) }
+    ensures name { IfOk result (λ m.
+        (k : NamesSoFar) → NamesAre tables.old k → (given : List HandleSeen)
+        → name_due system.now (state_with tables.old given (byte_at image.old)) actor.0
+        (Get signal msg) k ≡ Some m.handle) }
     ensures fits { ObjectsFit system.now (spm_of tables.new) }
     ensures within { KeepsVectors tables.old tables.new }
     ensures shape { shape_of tables.new ≡ shape_of tables.old }

@@ -43,7 +43,9 @@ pub fn set_rhandle(
     rhandle: u32,
 ) -> Result<(), Fault>
     requires premises { (s : SystemSeen) × Premises s tables.old }
-    ensures answer { (s : SystemSeen) → MadeFor tables.old s → Answers (λ u. Done) (psa_set_rhandle s (spm_of tables.old) actor.0 handle rhandle) tables.old result tables.new }
+    ensures answer { (s : SystemSeen) → MadeFor tables.old s
+        → Answers (λ u. Done) (psa_set_rhandle s (spm_of tables.old) actor.0 handle rhandle)
+        tables.old result tables.new }
     ensures shape { shape_of tables.new ≡ shape_of tables.old }
     ensures takes { tables.new.messages.takes ≡ tables.old.messages.takes }
     ensures names { (s : SystemSeen) → MadeFor tables.old s → KeepsNames s tables.old tables.new }
@@ -64,7 +66,9 @@ pub fn set_rhandle(
 
 // The message that the partition holds by the handle, where it may be answered so.
 fn answerable(tables: &Tables, actor: ActorId, handle: Handle, status: Status) -> Option<Slot>
-    ensures message { (s : SystemSeen) → MadeFor tables.now s → option_and_then (message_at tables.now) result ≡ reply_to s (spm_of tables.now) actor.0 handle status.0 }
+    ensures message { (s : SystemSeen) → MadeFor tables.now s
+        → option_and_then (message_at tables.now) result
+        ≡ reply_to s (spm_of tables.now) actor.0 handle status.0 }
     ensures live { IfSome result (λ slot. IsSome (item_at tables.now.messages slot)) }
 {
     let Some(slot) = tables.find_message(actor, handle) else {
@@ -80,7 +84,10 @@ fn answerable(tables: &Tables, actor: ActorId, handle: Handle, status: Status) -
 // Tells the client of a request how many bytes were written of its output vectors.
 fn tell_lengths(image: &mut Image, message: QueuedMessage)
     requires { AreWithin (regions_of image.old) message.vectors }
-    ensures bytes { byte_at image.new ≡ (if int_lt message.kind PSA_IPC_CALL then byte_at image.old else lengths_written (byte_at image.old) message.vectors.out_vec (take message.vectors.out_len message.vectors.output)) }
+    ensures bytes { byte_at image.new ≡ (if int_lt message.kind PSA_IPC_CALL
+        then byte_at image.old
+        else lengths_written (byte_at image.old) message.vectors.out_vec
+        (take message.vectors.out_len message.vectors.output)) }
     ensures regions { regions_of image.new ≡ regions_of image.old }
 {
     if message.kind >= PSA_IPC_CALL {
@@ -90,7 +97,9 @@ fn tell_lengths(image: &mut Image, message: QueuedMessage)
 
 fn answer_connect(tables: &mut Tables, connection: Slot, message: QueuedMessage, status: Status)
     requires connection { IsConnectionOf tables.old.connections message connection }
-    ensures state { spm_of tables.new ≡ option_map_or (λ n. connect_answered (spm_of tables.old) n (fresh_message message) status.0) message.serial (spm_of tables.old) }
+    ensures state { spm_of tables.new ≡ option_map_or (λ n.
+        connect_answered (spm_of tables.old) n (fresh_message message) status.0)
+        message.serial (spm_of tables.old) }
     ensures connections { ChangesAt connection tables.old.connections tables.new.connections }
     ensures messages { tables.new.messages ≡ tables.old.messages }
     ensures shape { shape_of tables.new ≡ shape_of tables.old }
@@ -107,7 +116,9 @@ fn answer_connect(tables: &mut Tables, connection: Slot, message: QueuedMessage,
 
 fn answer_close(tables: &mut Tables, connection: Slot, message: QueuedMessage)
     requires connection { IsConnectionOf tables.old.connections message connection }
-    ensures state { spm_of tables.new ≡ option_map_or (λ n. close_answered (spm_of tables.old) n (fresh_message message)) message.serial (spm_of tables.old) }
+    ensures state { spm_of tables.new
+        ≡ option_map_or (λ n. close_answered (spm_of tables.old) n (fresh_message message))
+        message.serial (spm_of tables.old) }
     ensures connections { ChangesAt connection tables.old.connections tables.new.connections }
     ensures messages { tables.new.messages ≡ tables.old.messages }
     ensures shape { shape_of tables.new ≡ shape_of tables.old }
@@ -121,7 +132,8 @@ fn answer_close(tables: &mut Tables, connection: Slot, message: QueuedMessage)
 // The connection of a request, where it has one, gets the phase.
 fn set_request_phase(tables: &mut Tables, connection: Option<Slot>, phase: ConnPhase)
     requires live { IfSome connection (λ slot. IsSome (item_at tables.old.connections slot)) }
-    ensures state { (m : QueuedSeen) → IsLinkOf tables.old.connections m connection → spm_of tables.new ≡ with_request_phase (spm_of tables.old) (fresh_message m) phase }
+    ensures state { (m : QueuedSeen) → IsLinkOf tables.old.connections m connection
+        → spm_of tables.new ≡ with_request_phase (spm_of tables.old) (fresh_message m) phase }
     ensures connections { ChangesWhere connection tables.old.connections tables.new.connections }
     ensures messages { tables.new.messages ≡ tables.old.messages }
     ensures shape { shape_of tables.new ≡ shape_of tables.old }
@@ -140,8 +152,12 @@ fn answer_request(
     status: Status,
 ) -> Option<ActorId>
     requires connection { IsLinkOf tables.old.connections message connection }
-    ensures state { spm_of tables.new ≡ request_answered system.now (spm_of tables.old) (fresh_message message) status.0 }
-    ensures owing { option_map (λ p. p.0) result ≡ (if int_eq status.0 PSA_ERROR_PROGRAMMER_ERROR && is_partition (kind_of system.now message.client.0) then Some message.client.0 else None) }
+    ensures state { spm_of tables.new
+        ≡ request_answered system.now (spm_of tables.old) (fresh_message message) status.0 }
+    ensures owing { option_map (λ p. p.0) result
+        ≡ (if int_eq status.0 PSA_ERROR_PROGRAMMER_ERROR
+        && is_partition (kind_of system.now message.client.0)
+        then Some message.client.0 else None) }
     ensures connections { ChangesWhere connection tables.old.connections tables.new.connections }
     ensures messages { tables.new.messages ≡ tables.old.messages }
     ensures shape { shape_of tables.new ≡ shape_of tables.old }
@@ -171,8 +187,11 @@ fn answer(
     status: Status,
 ) -> Option<ActorId>
     requires connection { IsLinkOf tables.old.connections message connection }
-    ensures state { spm_of tables.new ≡ answered system.now (spm_of tables.old) (fresh_message message) status.0 }
-    ensures owing { option_map (λ p. p.0) result ≡ (if owes_panic system.now (fresh_message message) status.0 then Some message.client.0 else None) }
+    ensures state { spm_of tables.new
+        ≡ answered system.now (spm_of tables.old) (fresh_message message) status.0 }
+    ensures owing { option_map (λ p. p.0) result
+        ≡ (if owes_panic system.now (fresh_message message) status.0
+        then Some message.client.0 else None) }
     ensures connections { ChangesWhere connection tables.old.connections tables.new.connections }
     ensures messages { tables.new.messages ≡ tables.old.messages }
     ensures shape { shape_of tables.new ≡ shape_of tables.old }
@@ -205,12 +224,24 @@ pub fn reply(
     status: Status,
 ) -> Result<Option<ActorId>, Fault>
     requires premises { PremisesWithMemory system.now tables.old image.old }
-    ensures left { LeavesReply (reply_on system.now (spm_of tables.old) actor.0 handle status.0) tables.old image.old result tables.new image.new }
-    ensures answer { IfOk result (λ owing. (given : List HandleSeen) → psa_reply system.now (state_with tables.old given (byte_at image.old)) actor.0 handle status.0
-        ≡ Some (effect Done (record { spm = once_panicked system.now (spm_of tables.new) owing; handles_given = given; memory = byte_at image.new }))) }
-    ensures settled { IfOk result (λ owing. owing ≡ None → ObjectsFit system.now (spm_of tables.new)) }
-    ensures owed { IfOk result (λ owing. IfSome owing (λ p. ObjectsFit system.now (with_phase (spm_of tables.new) p.0 ActorPhase.Running))) }
-    ensures partition { IfOk result (λ owing. IfSome owing (λ p. p.0 < length system.now.partitions)) }
+    ensures left { LeavesReply (reply_on system.now (spm_of tables.old) actor.0 handle status.0)
+        tables.old image.old result tables.new image.new }
+    ensures answer { IfOk result (λ owing.
+        (given : List HandleSeen)
+        → psa_reply system.now (state_with tables.old given (byte_at image.old))
+        actor.0 handle status.0
+        ≡ Some (effect Done (record {
+          spm = once_panicked system.now (spm_of tables.new) owing;
+          handles_given = given;
+          memory = byte_at image.new;
+        }))) }
+    ensures settled { IfOk result (λ owing.
+        owing ≡ None → ObjectsFit system.now (spm_of tables.new)) }
+    ensures owed { IfOk result (λ owing.
+        IfSome owing (λ p.
+        ObjectsFit system.now (with_phase (spm_of tables.new) p.0 ActorPhase.Running))) }
+    ensures partition { IfOk result (λ owing.
+        IfSome owing (λ p. p.0 < length system.now.partitions)) }
     ensures shape { shape_of tables.new ≡ shape_of tables.old }
     ensures regions { regions_of image.new ≡ regions_of image.old }
     ensures vectors { VectorsLie tables.new image.new }

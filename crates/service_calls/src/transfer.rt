@@ -25,7 +25,9 @@ use spm_tables::Tables;
 
 // The request that the partition holds by the handle, where the index is a vector's.
 fn request(tables: &Tables, actor: ActorId, handle: Handle, index: u32) -> Option<Slot>
-    ensures request { (s : SystemSeen) → MadeFor tables.now s → option_and_then (message_at tables.now) result ≡ request_held s (spm_of tables.now) actor.0 handle index }
+    ensures request { (s : SystemSeen) → MadeFor tables.now s
+        → option_and_then (message_at tables.now) result
+        ≡ request_held s (spm_of tables.now) actor.0 handle index }
     ensures live { IfSome result (λ slot. IsSome (item_at tables.now.messages slot)) }
     ensures index { OnSome result (index < PSA_MAX_IOVEC) }
 {
@@ -42,9 +44,16 @@ fn request(tables: &Tables, actor: ActorId, handle: Handle, index: u32) -> Optio
 // Says how far the vectors of a request were moved.
 fn set_vectors(tables: &mut Tables, slot: Slot, vectors: Vectors)
     requires { IsSome (item_at tables.old.messages slot) }
-    ensures state { IfSome (item_at tables.old.messages slot) (λ m. m.delivered ≡ true → spm_of tables.new ≡ with_vectors (spm_of tables.old) (handle_at family.Message slot) vectors) }
-    ensures moved { AreMovedWithin vectors → All (λ m. AreMovedWithin m.vectors) (spm_of tables.old).messages → All (λ m. AreMovedWithin m.vectors) (spm_of tables.new).messages }
-    ensures within { (regions : List (ℕ × ℕ)) → AreWithin regions vectors → All (λ m. AreWithin regions m.vectors) (spm_of tables.old).messages → All (λ m. AreWithin regions m.vectors) (spm_of tables.new).messages }
+    ensures state { IfSome (item_at tables.old.messages slot) (λ m.
+        m.delivered ≡ true
+        → spm_of tables.new
+        ≡ with_vectors (spm_of tables.old) (handle_at family.Message slot) vectors) }
+    ensures moved { AreMovedWithin vectors
+        → All (λ m. AreMovedWithin m.vectors) (spm_of tables.old).messages
+        → All (λ m. AreMovedWithin m.vectors) (spm_of tables.new).messages }
+    ensures within { (regions : List (ℕ × ℕ)) → AreWithin regions vectors
+        → All (λ m. AreWithin regions m.vectors) (spm_of tables.old).messages
+        → All (λ m. AreWithin regions m.vectors) (spm_of tables.new).messages }
     ensures shape { shape_of tables.new ≡ shape_of tables.old }
     ensures takes { tables.new.messages.takes ≡ tables.old.messages.takes }
     ensures names { (s : SystemSeen) → KeepsNames s tables.old tables.new }
@@ -63,13 +72,16 @@ pub fn skip(
     len: u32,
 ) -> Result<u32, Fault>
     requires moved { All (λ m. AreMovedWithin m.vectors) (spm_of tables.old).messages }
-    ensures answer { (s : SystemSeen) → MadeFor tables.old s → Answers Number (psa_skip s (spm_of tables.old) actor.0 handle index len) tables.old result tables.new }
+    ensures answer { (s : SystemSeen) → MadeFor tables.old s
+        → Answers Number (psa_skip s (spm_of tables.old) actor.0 handle index len)
+        tables.old result tables.new }
     ensures moved { All (λ m. AreMovedWithin m.vectors) (spm_of tables.new).messages }
     ensures within { KeepsVectors tables.old tables.new }
     ensures shape { shape_of tables.new ≡ shape_of tables.old }
     ensures takes { tables.new.messages.takes ≡ tables.old.messages.takes }
     ensures names { (s : SystemSeen) → MadeFor tables.old s → KeepsNames s tables.old tables.new }
-    ensures fits { (s : SystemSeen) → MadeFor tables.old s → ObjectsFit s (spm_of tables.old) → ObjectsFit s (spm_of tables.new) }
+    ensures fits { (s : SystemSeen) → MadeFor tables.old s → ObjectsFit s (spm_of tables.old)
+        → ObjectsFit s (spm_of tables.new) }
 {
     let Some(slot) = request(tables, actor, handle, index) else {
         return Err(Fault);
@@ -94,13 +106,16 @@ pub fn read(
     len: u32,
 ) -> Result<u32, Fault>
     requires premises { TransferPremises system.now tables.old image.old }
-    ensures answer { (given : List HandleSeen) → AnswersOver Number (psa_read system.now (state_with tables.old given (byte_at image.old)) actor.0 handle index buffer len) given tables.old image.old result tables.new image.new }
+    ensures answer { (given : List HandleSeen)
+        → AnswersOver Number (psa_read system.now (state_with tables.old given (byte_at image.old))
+        actor.0 handle index buffer len) given tables.old image.old result tables.new image.new }
     ensures shape { shape_of tables.new ≡ shape_of tables.old }
     ensures regions { regions_of image.new ≡ regions_of image.old }
     ensures vectors { VectorsLie tables.new image.new }
     ensures takes { tables.new.messages.takes ≡ tables.old.messages.takes }
     ensures names { KeepsNames system.now tables.old tables.new }
-    ensures fits { ObjectsFit system.now (spm_of tables.old) → ObjectsFit system.now (spm_of tables.new) }
+    ensures fits { ObjectsFit system.now (spm_of tables.old)
+        → ObjectsFit system.now (spm_of tables.new) }
 {
     let Some(slot) = request(tables, actor, handle, index) else {
         return Err(Fault);
@@ -128,13 +143,17 @@ pub fn write(
     len: u32,
 ) -> Result<(), Fault>
     requires premises { TransferPremises system.now tables.old image.old }
-    ensures answer { (given : List HandleSeen) → AnswersOver (λ u. Done) (psa_write system.now (state_with tables.old given (byte_at image.old)) actor.0 handle index buffer len) given tables.old image.old result tables.new image.new }
+    ensures answer { (given : List HandleSeen)
+        → AnswersOver (λ u. Done) (psa_write system.now
+        (state_with tables.old given (byte_at image.old)) actor.0 handle index buffer len)
+        given tables.old image.old result tables.new image.new }
     ensures shape { shape_of tables.new ≡ shape_of tables.old }
     ensures regions { regions_of image.new ≡ regions_of image.old }
     ensures vectors { VectorsLie tables.new image.new }
     ensures takes { tables.new.messages.takes ≡ tables.old.messages.takes }
     ensures names { KeepsNames system.now tables.old tables.new }
-    ensures fits { ObjectsFit system.now (spm_of tables.old) → ObjectsFit system.now (spm_of tables.new) }
+    ensures fits { ObjectsFit system.now (spm_of tables.old)
+        → ObjectsFit system.now (spm_of tables.new) }
 {
     let Some(slot) = request(tables, actor, handle, index) else {
         return Err(Fault);

@@ -23,10 +23,13 @@ pub fn wait(
     timeout: u32,
 ) -> Result<Outcome, Fault>
     requires made { MadeFor tables.old system.now }
-    ensures answer { Answers (λ o. o) (psa_wait system.now (spm_of tables.old) actor.0 mask timeout) tables.old result tables.new }
+    ensures answer { Answers (λ o. o) (psa_wait system.now (spm_of tables.old) actor.0 mask timeout)
+        tables.old result tables.new }
     ensures shape { shape_of tables.new ≡ shape_of tables.old }
     ensures names { KeepsNames system.now tables.old tables.new }
-    ensures fits { phase_of (spm_of tables.old) actor.0 ≡ ActorPhase.Running → ObjectsFit system.now (spm_of tables.old) → ObjectsFit system.now (spm_of tables.new) }
+    ensures fits { phase_of (spm_of tables.old) actor.0 ≡ ActorPhase.Running
+        → ObjectsFit system.now (spm_of tables.old)
+        → ObjectsFit system.now (spm_of tables.new) }
     ensures within { KeepsVectors tables.old tables.new }
     ensures takes { tables.new.messages.takes ≡ tables.old.messages.takes }
 {

@@ -21,7 +21,8 @@ use script_asm::{Line, LineError, labelled_lines, line_refusal, lines_of};
 use std::alloc::{AllocError, AllocFailed, Global};
 
 fn place_of(services: &[Service], partition: u32, name: &[u8]) -> Option<usize>
-    ensures { result ≡ position (λ v. (v.owner == partition) && bytes_eq v.name name.now) services.now }
+    ensures { result ≡ position
+        (λ v. (v.owner == partition) && bytes_eq v.name name.now) services.now }
 {
     services.iter().position(|v| v.owner == partition && v.name.as_str().as_bytes() == name)
 }
@@ -71,7 +72,8 @@ fn function_of(
     section: &Section<'_>,
 ) -> Result<SfnFunction, LineError>
     requires { section.now.line + length section.now.texts.now < 2 ^ 31 }
-    ensures gives { Gives (λ f. f) result (function_of system.now partition above.now (section_view section.now)) }
+    ensures gives { Gives (λ f. f) result
+        (function_of system.now partition above.now (section_view section.now)) }
     ensures fresh { IfOk result (λ f. has_function above.now f.service ≡ false) }
     ensures function { IfOk result (λ f. IsFunction f.instructions) }
     ensures short { IfOk result (λ f. length f.instructions ≤ length section.now.texts.now) }
@@ -97,7 +99,8 @@ fn functions_of_sections<'a>(
 ) -> Result<Vec<SfnFunction>, LineError>
     requires lines { lines_view lines.now ≡ lines_of texts.now }
     requires few { length lines.now < 2 ^ 31 }
-    ensures gives { Gives (λ v. v.items) result (functions_below system.now partition [] (sections 0 (lines_view lines.now))) }
+    ensures gives { Gives (λ v. v.items) result
+        (functions_below system.now partition [] (sections 0 (lines_view lines.now))) }
     ensures kept { IfOk result (λ v. length lines.now ≤ MAX_SCRIPT_LINES → IsSfnScript v.items) }
 {
     let mut functions = Vec::new(alloc);
@@ -119,7 +122,8 @@ fn functions_of(
     partition: u32,
 ) -> Result<Vec<SfnFunction>, LineError>
     requires { length texts.now < 2 ^ 31 }
-    ensures gives { Gives (λ v. v.items) result (functions_of system.now partition (lines_of texts.now)) }
+    ensures gives { Gives (λ v. v.items) result
+        (functions_of system.now partition (lines_of texts.now)) }
     ensures kept { IfOk result (λ v. length texts.now ≤ MAX_SCRIPT_LINES → IsSfnScript v.items) }
 {
     let lines = lines_of(alloc, texts)?;
@@ -137,7 +141,8 @@ fn limited(
     partition: u32,
 ) -> Result<Vec<SfnFunction>, LineError>
     requires { length texts.now < 2 ^ 31 }
-    ensures gives { Gives (λ v. v.items) result (limited (length texts.now) (functions_of system.now partition (lines_of texts.now))) }
+    ensures gives { Gives (λ v. v.items) result
+        (limited (length texts.now) (functions_of system.now partition (lines_of texts.now))) }
     ensures kept { IfOk result (λ v. IsSfnScript v.items) }
 {
     match functions_of(alloc, texts, system, partition) {

@@ -94,7 +94,8 @@ fn push_line(
 ) -> Result<(), Memory>
     requires short { length lines.now ≤ 4096 }
     requires room { from < 2 ^ 31 }
-    ensures { OnOk result (code.new.items ≡ code.old.items ++ line_code (λ t. from + place_in lines.now t) line.now) }
+    ensures { OnOk result
+        (code.new.items ≡ code.old.items ++ line_code (λ t. from + place_in lines.now t) line.now) }
 {
     match line {
         SfnInstruction::Plain(plain) => {
@@ -169,7 +170,9 @@ fn push_service_code(
 ) -> Result<(), Memory>
     requires short { length lines.now ≤ 4096 }
     requires room { length code.old.items < 2 ^ 30 }
-    ensures code { OnOk result (code.new.items ≡ code.old.items ++ service_code base (length code.old.items) (record { signal = signal; lines = lines.now })) }
+    ensures code { OnOk result (code.new.items ≡ code.old.items
+        ++ service_code base (length code.old.items)
+        (record { signal = signal; lines = lines.now })) }
 {
     let at = code.len() as u32;
     let size = 7 + place_in(lines, lines.len() as u32);
@@ -237,7 +240,9 @@ fn push_service(
     requires short { AllByRecursion (λ f. length f.instructions ≤ 4096) functions.now }
     requires room { length code.old.items < 2 ^ 30 }
     requires bit { bit < 32 }
-    ensures code { OnOk result (code.new.items ≡ code.old.items ++ services_code base (length code.old.items) (option_to_list (sfn_service_at system.now partition functions.now bit))) }
+    ensures code { OnOk result (code.new.items ≡ code.old.items
+        ++ services_code base (length code.old.items)
+        (option_to_list (sfn_service_at system.now partition functions.now bit))) }
     ensures few { OnOk result (length code.new.items ≤ length code.old.items + 8199) }
 {
     let signal = signal_of(bit);
@@ -256,7 +261,9 @@ fn with_signal(
     bit: u32,
 ) -> u32
     requires { bit < 32 }
-    ensures { (vs : List SfnService) → signals ≡ signals_in vs → result ≡ signals_in (vs ++ option_to_list (sfn_service_at system.now partition functions.now bit)) }
+    ensures { (vs : List SfnService) → signals ≡ signals_in vs
+        → result ≡ signals_in
+        (vs ++ option_to_list (sfn_service_at system.now partition functions.now bit)) }
 {
     let signal = signal_of(bit);
     match service_of_signal(system, partition, signal) {

@@ -84,8 +84,10 @@ fn return_of(words: &[&[u8]]) -> Option<SfnInstruction>
 // The instruction of these words in a function of these lines; None where they are wrong.
 #[tactic(auto, unfolding(crate::specs::FunctionLines::function_instruction))]
 fn function_instruction(lines: &LabelledLines<'_>, words: &[&[u8]]) -> Option<SfnInstruction>
-    ensures gives { result ≡ function_instruction (lines_view lines.now.lines.items) (map (λ w. w.now) words.now) }
-    ensures fits { IfSome result (IsFunctionLine (sum_by width (lines_view lines.now.lines.items))) }
+    ensures gives { result ≡ function_instruction (lines_view lines.now.lines.items)
+        (map (λ w. w.now) words.now) }
+    ensures fits { IfSome result
+        (IsFunctionLine (sum_by width (lines_view lines.now.lines.items))) }
 {
     let (first, rest) = words.split_first()?;
     if *first == b"return".as_slice() {
@@ -102,8 +104,10 @@ fn function_instruction(lines: &LabelledLines<'_>, words: &[&[u8]]) -> Option<Sf
 // What a line adds to the instructions; None where it is wrong.
 #[tactic(auto, unfolding(crate::specs::FunctionLines::made_of))]
 fn made_of(lines: &LabelledLines<'_>, at: usize, line: &Line<'_>) -> Option<Option<SfnInstruction>>
-    ensures gives { option_map listed result ≡ made_of (lines_view lines.now.lines.items) at (line_view line.now) }
-    ensures fits { IfSome result (λ made. IfSome made (IsFunctionLine (sum_by width (lines_view lines.now.lines.items)))) }
+    ensures gives { option_map listed result
+        ≡ made_of (lines_view lines.now.lines.items) at (line_view line.now) }
+    ensures fits { IfSome result (λ made.
+        IfSome made (IsFunctionLine (sum_by width (lines_view lines.now.lines.items)))) }
 {
     match line {
         Line::Passed => Some(None),
@@ -140,7 +144,8 @@ pub fn instructions_of(
     first: u32,
 ) -> Result<Vec<SfnInstruction>, LineError>
     requires { first + length lines.now.lines.items < 2 ^ 32 }
-    ensures gives { Gives (λ v. v.items) result (instructions_of first (lines_view lines.now.lines.items)) }
+    ensures gives { Gives (λ v. v.items) result
+        (instructions_of first (lines_view lines.now.lines.items)) }
     ensures function { IfOk result (λ v. IsFunction v.items) }
     ensures short { IfOk result (λ v. length v.items ≤ length lines.now.lines.items) }
 {

@@ -73,7 +73,9 @@ pub fn section_at<'a>(texts: &'a [Name], lines: &[Line<'a>], at: usize) -> Optio
     requires lines { lines_view lines.now ≡ lines_of texts.now }
     requires inside { at < length lines.now }
     requires few { length lines.now < 2 ^ 31 }
-    ensures gives { sections at (lines_view (drop at lines.now)) ≡ option_to_list (option_map section_view result) ++ sections (at + 1) (lines_view (drop (at + 1) lines.now)) }
+    ensures gives { sections at (lines_view (drop at lines.now))
+        ≡ option_to_list (option_map section_view result)
+        ++ sections (at + 1) (lines_view (drop (at + 1) lines.now)) }
     ensures within { IfSome result (λ x. x.line + length x.texts.now < length lines.now) }
 {
     let Some(name) = head_name(&lines[at]) else {

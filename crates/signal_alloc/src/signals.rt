@@ -45,7 +45,8 @@ pub fn signal_of(map: SignalMap, place: u32) -> u32
 pub fn service_of(map: SignalMap, signal: u32) -> Option<u32>
     ensures place { IfSome result (λ place. (place < map.services) × (signal ≡ signal_at place)) }
     ensures none { IsNone result ↔ ((place : ℕ) → place < map.services → signal ≢ signal_at place) }
-    ensures round_trip { (place : ℕ) → place < map.services → signal ≡ signal_at place → result ≡ Some place }
+    ensures round_trip { (place : ℕ) → place < map.services → signal ≡ signal_at place
+        → result ≡ Some place }
 {
     for place in 0..map.services {
         if signal_of(map, place) == signal {

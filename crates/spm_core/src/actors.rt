@@ -40,7 +40,8 @@ pub(crate) fn is_pending(phase: ActorPhase) -> bool
 
 /// The actor can go on.
 pub(crate) fn is_enabled(tables: &Tables, actor: ActorId) -> bool
-    ensures { (s : SystemSeen) → MadeFor tables.now s → result ≡ enabled s (spm_of tables.now) actor.0 }
+    ensures { (s : SystemSeen) → MadeFor tables.now s
+        → result ≡ enabled s (spm_of tables.now) actor.0 }
 {
     match tables.phase(actor) {
         ActorPhase::Running | ActorPhase::Ready(_) | ActorPhase::Connected(_) => true,
@@ -110,7 +111,8 @@ pub(crate) fn refused(
 /// A phase as the manager shows it.
 pub(crate) fn shown(system: &System, tables: &Tables, actor: ActorId) -> Phase
     requires { ObjectsFit system.now (spm_of tables.now) }
-    ensures { (k : NamesSoFar) → NamesAre tables.now k → result ≡ shown_phase k (phase_of (spm_of tables.now) actor.0) }
+    ensures { (k : NamesSoFar) → NamesAre tables.now k
+        → result ≡ shown_phase k (phase_of (spm_of tables.now) actor.0) }
 {
     match tables.phase(actor) {
         ActorPhase::Running => Phase::Running,

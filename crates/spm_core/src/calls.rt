@@ -34,7 +34,8 @@ pub(crate) fn client_call(
     requires premises { PremisesWithImage system.now tables.old image.now }
     requires takes { LeavesTakes tables.old }
     requires running { phase_of (spm_of tables.old) actor.0 ≡ PhaseSeen.Running }
-    ensures attempts { Attempts system.now actor.0 call tables.old image.now result tables.new image.now }
+    ensures attempts { Attempts system.now actor.0 call tables.old image.now
+        result tables.new image.now }
     ensures shown { IfOk result (ShowsName system.now actor.0 call tables.old (byte_at image.now)) }
     ensures shape { shape_of tables.new ≡ shape_of tables.old }
     ensures names { KeepsNames system.now tables.old tables.new }
@@ -70,7 +71,8 @@ pub(crate) fn service_call(
     requires group { group_of call ≡ group.Service }
     requires premises { PremisesWithMemory system.now tables.old image.old }
     requires takes { AreLeft tables.old.messages.takes }
-    ensures attempts { Attempts system.now actor.0 call tables.old image.old result tables.new image.new }
+    ensures attempts { Attempts system.now actor.0 call tables.old image.old
+        result tables.new image.new }
     ensures shown { IfOk result (ShowsName system.now actor.0 call tables.old (byte_at image.old)) }
     ensures regions { regions_of image.new ≡ regions_of image.old }
     ensures shape { shape_of tables.new ≡ shape_of tables.old }
@@ -101,7 +103,8 @@ pub(crate) fn transfer(
 ) -> Result<Outcome, Fault>
     requires group { group_of call ≡ group.Transfer }
     requires premises { TransferPremises system.now tables.old image.old }
-    ensures attempts { Attempts system.now actor.0 call tables.old image.old result tables.new image.new }
+    ensures attempts { Attempts system.now actor.0 call tables.old image.old
+        result tables.new image.new }
     ensures regions { regions_of image.new ≡ regions_of image.old }
     ensures shape { shape_of tables.new ≡ shape_of tables.old }
     ensures names { KeepsNames system.now tables.old tables.new }
@@ -144,7 +147,8 @@ fn answer(
 ) -> Result<Outcome, Fault>
     requires premises { PremisesWithMemory system.now tables.old image.old }
     requires takes { AreLeft tables.old.messages.takes }
-    ensures attempts { Attempts system.now actor.0 (call.Reply handle status) tables.old image.old result tables.new image.new }
+    ensures attempts { Attempts system.now actor.0 (call.Reply handle status) tables.old image.old
+        result tables.new image.new }
     ensures regions { regions_of image.new ≡ regions_of image.old }
     ensures shape { shape_of tables.new ≡ shape_of tables.old }
     ensures names { KeepsNames system.now tables.old tables.new }
@@ -164,7 +168,8 @@ pub(crate) fn signal_call(
 ) -> Result<Outcome, Fault>
     requires group { group_of call ≡ group.Signal }
     requires made { MadeFor tables.old system.now }
-    ensures attempts { (bytes : List BytesSeen) → Attempts system.now actor.0 call tables.old bytes result tables.new bytes }
+    ensures attempts { (bytes : List BytesSeen)
+        → Attempts system.now actor.0 call tables.old bytes result tables.new bytes }
     ensures shape { shape_of tables.new ≡ shape_of tables.old }
     ensures names { KeepsNames system.now tables.old tables.new }
 {
@@ -194,7 +199,8 @@ pub(crate) fn memory_call(
 ) -> Result<Outcome, Fault>
     requires group { group_of call ≡ group.Memory }
     requires regions { HasRegions system.now image.old }
-    ensures attempts { (d : TablesView) → Attempts system.now actor.0 call d image.old result d image.new }
+    ensures attempts { (d : TablesView)
+        → Attempts system.now actor.0 call d image.old result d image.new }
     ensures regions { regions_of image.new ≡ regions_of image.old }
 {
     match call {

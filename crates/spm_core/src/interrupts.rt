@@ -12,7 +12,8 @@ use spm_tables::Tables;
 
 // Whether there is such a source, and it has a second-level handler.
 fn may_raise(system: &System, source: u32) -> bool
-    ensures { result ≡ nat_lt source (length system.now.sources) && not (has_flih system.now source) }
+    ensures { result ≡ nat_lt source (length system.now.sources)
+        && not (has_flih system.now source) }
 {
     match system.sources.as_slice().get(source as usize) {
         Some(source) => !source.flih,
@@ -22,7 +23,8 @@ fn may_raise(system: &System, source: u32) -> bool
 
 // Whether there is such a source, it has a first-level handler, and the answer is one.
 fn may_fire(system: &System, source: u32, answer: u32) -> bool
-    ensures { result ≡ nat_lt source (length system.now.sources) && (has_flih system.now source && nat_le answer 1) }
+    ensures { result ≡ nat_lt source (length system.now.sources)
+        && (has_flih system.now source && nat_le answer 1) }
 {
     match system.sources.as_slice().get(source as usize) {
         Some(source) => source.flih && answer <= 1,
@@ -38,7 +40,8 @@ pub(crate) fn raise_interrupt(
     source: u32,
 ) -> Result<(), Fault>
     requires made { MadeFor tables.old system.now }
-    ensures answer { Answers (λ _. outcome.Done) (raise system.now (spm_of tables.old) source) tables.old result tables.new }
+    ensures answer { Answers (λ _. outcome.Done) (raise system.now (spm_of tables.old) source)
+        tables.old result tables.new }
     ensures shape { shape_of tables.new ≡ shape_of tables.old }
     ensures names { KeepsNames system.now tables.old tables.new }
 {
@@ -58,7 +61,8 @@ pub(crate) fn fire_interrupt(
     answer: u32,
 ) -> Result<(), Fault>
     requires made { MadeFor tables.old system.now }
-    ensures answer { Answers (λ _. outcome.Done) (fire system.now (spm_of tables.old) source answer) tables.old result tables.new }
+    ensures answer { Answers (λ _. outcome.Done) (fire system.now (spm_of tables.old) source answer)
+        tables.old result tables.new }
     ensures shape { shape_of tables.new ≡ shape_of tables.old }
     ensures names { KeepsNames system.now tables.old tables.new }
 {

@@ -38,7 +38,8 @@ fn attempt(
     requires takes { LeavesTakes tables.old }
     requires running { phase_of (spm_of tables.old) actor.0 ≡ PhaseSeen.Running }
     requires no_return { is_resume call ≡ false }
-    ensures attempts { Attempts system.now actor.0 call tables.old image.old result tables.new image.new }
+    ensures attempts { Attempts system.now actor.0 call tables.old image.old
+        result tables.new image.new }
     ensures shown { IfOk result (ShowsName system.now actor.0 call tables.old (byte_at image.old)) }
     ensures regions { regions_of image.new ≡ regions_of image.old }
     ensures shape { shape_of tables.new ≡ shape_of tables.old }
@@ -58,7 +59,8 @@ fn attempt(
 fn end(tables: &mut Tables, actor: ActorId, call: Call) -> Result<Outcome, Fault>
     requires group { group_of call ≡ group.Actor }
     requires no_return { is_resume call ≡ false }
-    ensures attempts { (s : SystemSeen) (bytes : List BytesSeen) → Attempts s actor.0 call tables.old bytes result tables.new bytes }
+    ensures attempts { (s : SystemSeen) (bytes : List BytesSeen)
+        → Attempts s actor.0 call tables.old bytes result tables.new bytes }
     ensures shape { shape_of tables.new ≡ shape_of tables.old }
     ensures names { (s : SystemSeen) → KeepsNames s tables.old tables.new }
 {

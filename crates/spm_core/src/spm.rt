@@ -34,9 +34,16 @@ impl Model for Spm {
 
     ghost Value = { Managed };
 
-    ghost view = { λ m. record { opening = record { system = m.system; memory = m.opening.value; limit = m.limit }; history = m.history.items; bytes = m.memory } };
+    ghost view = { λ m.
+        record {
+          opening = record { system = m.system; memory = m.opening.value; limit = m.limit };
+          history = m.history.items;
+          bytes = m.memory;
+        } };
 
-    ghost invariant = { λ m. Keeps (record { system = m.system; memory = m.opening.value; limit = m.limit }) m.history.items m.memory m.tables (vec_capacity m.history) };
+    ghost invariant = { λ m.
+        Keeps (record { system = m.system; memory = m.opening.value; limit = m.limit })
+        m.history.items m.memory m.tables (vec_capacity m.history) };
 }
 
 impl Spm {
@@ -58,7 +65,12 @@ impl Spm {
         requires regions { regions_of memory ≡ ranges_of system.regions }
         requires positive { 1 ≤ limit }
         requires limited { limit ≤ MAX_ENTRIES }
-        ensures { IfOk result (λ m. m ≡ record { opening = record { system = system; memory = memory; limit = limit }; history = []; bytes = memory }) }
+        ensures { IfOk result (λ m.
+            m ≡ record {
+              opening = record { system = system; memory = memory; limit = limit };
+              history = [];
+              bytes = memory;
+            }) }
     {
         let tables = Tables::new(alloc, &system)?;
         tables.law();
@@ -86,9 +98,13 @@ impl Spm {
         requires exists { actor.0 < actor_count self.old.opening.system }
         requires due { CallDue self.old.opening self.old.history actor.0 call }
         ensures opening { self.new.opening ≡ self.old.opening }
-        ensures answer { StepAnswers self.old.opening self.old.history actor.0 call result self.new.history }
-        ensures unchanged { refusal self.old.opening self.old.history actor.0 ≢ None → self.new ≡ self.old }
-        ensures reach { IfSome (state_of self.old) (λ st. (x : ℕ) → write_reach self.old.opening.system st.spm actor.0 x ≡ false → byte_at self.new.bytes x ≡ byte_at self.old.bytes x) }
+        ensures answer { StepAnswers self.old.opening self.old.history actor.0
+            call result self.new.history }
+        ensures unchanged { refusal self.old.opening self.old.history actor.0 ≢ None
+            → self.new ≡ self.old }
+        ensures reach { IfSome (state_of self.old) (λ st.
+            (x : ℕ) → write_reach self.old.opening.system st.spm actor.0 x ≡ false
+            → byte_at self.new.bytes x ≡ byte_at self.old.bytes x) }
         ensures short { length self.new.history ≤ self.new.opening.limit }
         ensures limited { self.new.opening.limit ≤ MAX_ENTRIES }
     {
@@ -120,7 +136,8 @@ impl Spm {
     pub fn pending(&self, actor: ActorId) -> bool
         requires { actor.0 < actor_count self.now.opening.system }
         ensures phase { pending_in self.now actor.0 ≡ Some result }
-        ensures last { is_actor_gone self.now.opening self.now.history actor.0 ≡ false → result ≡ awaits_return self.now.history actor.0 }
+        ensures last { is_actor_gone self.now.opening self.now.history actor.0 ≡ false
+            → result ≡ awaits_return self.now.history actor.0 }
     {
         is_pending(self.tables.phase(actor))
     }
@@ -144,7 +161,8 @@ impl Spm {
     /// How the run ended: Quiet where no actor can go on and none is blocked, Stalled where none can
     /// and some is, Full where some can and the limit is reached. None exactly otherwise.
     pub fn verdict(&self) -> Option<Verdict>
-        ensures { result ≡ verdict_of self.now.opening.system (byte_at self.now.opening.memory) self.now.opening.limit self.now.history }
+        ensures { result ≡ verdict_of self.now.opening.system
+            (byte_at self.now.opening.memory) self.now.opening.limit self.now.history }
     {
         if is_some_enabled(&self.system, &self.tables) {
             if self.history.len() == self.limit as usize {
@@ -164,8 +182,10 @@ impl Spm {
     pub fn length(&self) -> u32
         ensures exact { result ≡ length self.now.history }
         ensures within { result ≤ self.now.opening.limit }
-        ensures run { Run self.now.opening.system (byte_at self.now.opening.memory) self.now.history }
-        ensures named { names self.now.opening.system (byte_at self.now.opening.memory) self.now.history ≡ true }
+        ensures run { Run self.now.opening.system
+            (byte_at self.now.opening.memory) self.now.history }
+        ensures named { names self.now.opening.system
+            (byte_at self.now.opening.memory) self.now.history ≡ true }
     {
         self.history.len() as u32
     }

@@ -24,7 +24,14 @@ impl Model for Pass {
 
     ghost Value = { PassView };
 
-    ghost view = { λ p. record { table = p.seat.table_id; opening = p.seat.me.0.start.opening; actor = p.actor.0; turns = turns p.seat.me; front = front p.seat.me } };
+    ghost view = { λ p.
+        record {
+          table = p.seat.table_id;
+          opening = p.seat.me.0.start.opening;
+          actor = p.actor.0;
+          turns = turns p.seat.me;
+          front = front p.seat.me;
+        } };
 
     ghost invariant = { λ p. IsAtRest p.actor.0 p.pending p.seat.me };
 }

@@ -34,9 +34,11 @@ impl Model for Shared {
 
     ghost Value = { SharedView };
 
-    ghost view = { λ s. record { table = s.table.shared.table_id; opening = s.table.shared.key.value.opening } };
+    ghost view = { λ s.
+        record { table = s.table.shared.table_id; opening = s.table.shared.key.value.opening } };
 
-    ghost invariant = { λ s. (s.table.shared.table_id.words ≡ 3) × (s.table.shared.table_id.slots ≡ 1) };
+    ghost invariant = { λ s.
+        (s.table.shared.table_id.words ≡ 3) × (s.table.shared.table_id.slots ≡ 1) };
 }
 
 impl Shared {
@@ -76,7 +78,8 @@ impl Shared {
         ensures own { IsOwn self.now pass.new }
         ensures actor { pass.new.actor ≡ pass.old.actor }
         ensures turns { pass.new.turns ≡ pass.old.turns + 1 }
-        ensures turn { IsTurn self.now.opening pass.old.actor pass.old.front call result pass.new.front }
+        ensures turn { IsTurn self.now.opening pass.old.actor pass.old.front
+            call result pass.new.front }
     {
         let _ = &pass.actor;
         self.turn(rt, pass, call)
@@ -90,7 +93,8 @@ impl Shared {
         ensures own { IsOwn self.now pass.new }
         ensures actor { pass.new.actor ≡ pass.old.actor }
         ensures turns { pass.new.turns ≡ pass.old.turns + 1 }
-        ensures turn { IsTurn self.now.opening pass.old.actor pass.old.front Resume result pass.new.front }
+        ensures turn { IsTurn self.now.opening pass.old.actor pass.old.front
+            Resume result pass.new.front }
     {
         let _ = &pass.actor;
         self.turn(rt, pass, Call::Resume)
@@ -111,7 +115,8 @@ impl Shared {
         ensures own { IsOwn self.now pass.new }
         ensures actor { pass.new.actor ≡ pass.old.actor }
         ensures turns { pass.new.turns ≡ pass.old.turns + 1 }
-        ensures turn { IsTurn self.now.opening pass.old.actor pass.old.front call result pass.new.front }
+        ensures turn { IsTurn self.now.opening pass.old.actor pass.old.front
+            call result pass.new.front }
     {
         let answer = take_turn(
             rt,
@@ -133,7 +138,8 @@ impl Shared {
         requires { ArePasses self passes }
         ensures opening { result.opening ≡ self.opening }
         ensures run { IsRun self.opening result.history }
-        ensures fronts { (k : ℕ) (p : PassView) → slice_get passes k ≡ Some p → Keeps result.history p }
+        ensures fronts { (k : ℕ) (p : PassView) → slice_get passes k ≡ Some p
+            → Keeps result.history p }
     {
         let Shared { table, .. } = self;
         let mut target = table.shared.load_new_seat::<Come>(LENGTH).1;
@@ -149,10 +155,15 @@ impl Shared {
 
 // Splits off the next actor's pass.
 fn next_pass(table: &TurnTable, source: &mut TurnSeat, actor: ActorId) -> Pass
-    requires table { (source.old.table_id ≡ table.now.shared.table_id) × (0 < table.now.shared.table_id.words) }
-    requires source { (source.old.me ≡ (maker source.old.me.0.start actor.0, [])) × (actor.0 < actors source.old.me.0.start.opening) }
-    ensures source { (source.new.table_id ≡ source.old.table_id) × (source.new.me ≡ (maker source.old.me.0.start (actor.0 + 1), [])) }
-    ensures pass { (result.table ≡ source.old.table_id) × (result.opening ≡ source.old.me.0.start.opening) × (result.actor ≡ actor.0) × (result.front ≡ []) × (result.turns ≡ 0) }
+    requires table { (source.old.table_id ≡ table.now.shared.table_id)
+        × (0 < table.now.shared.table_id.words) }
+    requires source { (source.old.me ≡ (maker source.old.me.0.start actor.0, []))
+        × (actor.0 < actors source.old.me.0.start.opening) }
+    ensures source { (source.new.table_id ≡ source.old.table_id)
+        × (source.new.me ≡ (maker source.old.me.0.start (actor.0 + 1), [])) }
+    ensures pass { (result.table ≡ source.old.table_id)
+        × (result.opening ≡ source.old.me.0.start.opening) × (result.actor ≡ actor.0)
+        × (result.front ≡ []) × (result.turns ≡ 0) }
 {
     let seat = table.shared.split_seat::<SplitPass>(source);
     Pass {
@@ -164,9 +175,13 @@ fn next_pass(table: &TurnTable, source: &mut TurnSeat, actor: ActorId) -> Pass
 
 // Takes in the right of a pass.
 fn take_in(table: &TurnTable, target: &mut TurnSeat, pass: Pass)
-    requires table { (target.old.table_id ≡ table.now.shared.table_id) × (pass.table ≡ table.now.shared.table_id) × (0 < table.now.shared.table_id.words) }
-    requires target { target.old.me ≡ (taker table.now.shared.key.value target.old.me.0.rights, []) }
-    ensures { (target.new.table_id ≡ target.old.table_id) × (target.new.me ≡ (taker table.now.shared.key.value (target.old.me.0.rights ++ right_in pass ∷ []), [])) }
+    requires table { (target.old.table_id ≡ table.now.shared.table_id)
+        × (pass.table ≡ table.now.shared.table_id) × (0 < table.now.shared.table_id.words) }
+    requires target { target.old.me
+        ≡ (taker table.now.shared.key.value target.old.me.0.rights, []) }
+    ensures { (target.new.table_id ≡ target.old.table_id)
+        × (target.new.me
+        ≡ (taker table.now.shared.key.value (target.old.me.0.rights ++ right_in pass ∷ []), [])) }
 {
     let Pass {
         seat,

@@ -46,10 +46,15 @@ fn give_back(
     manager: Box<Spm>,
     answer: Answer,
 )
-    requires table { (table.now.shared.table_id.words ≡ 3) × (table.now.shared.table_id.slots ≡ 1) × (seat.old.table_id ≡ table.now.shared.table_id) }
+    requires table { (table.now.shared.table_id.words ≡ 3) × (table.now.shared.table_id.slots ≡ 1)
+        × (seat.old.table_id ≡ table.now.shared.table_id) }
     requires stepped { HasStepped actor.0 seat.old.me manager.value answer }
     ensures table { seat.new.table_id ≡ seat.old.table_id }
-    ensures idle { seat.new.me ≡ (pass_with seat.old.me.0.start (right_of actor.0 (turns seat.old.me) manager.value.history) Idle, []) }
+    ensures idle { seat.new.me ≡ (
+      pass_with seat.old.me.0.start
+          (right_of actor.0 (turns seat.old.me) manager.value.history) Idle,
+      [],
+    ) }
 {
     let slot = Some(manager);
     if let Answer::Made { place, .. } = answer {
@@ -72,12 +77,14 @@ pub(crate) fn take_turn<R: Wait>(
     call: Call,
 ) -> Answer
     requires table { (table.now.shared.table_id.words ≡ 3) × (table.now.shared.table_id.slots ≡ 1) }
-    requires seat { (seat.old.table_id ≡ table.now.shared.table_id) × IsIdle actor.0 seat.old.me × (actor.0 < actors seat.old.me.0.start.opening) }
+    requires seat { (seat.old.table_id ≡ table.now.shared.table_id) × IsIdle actor.0 seat.old.me
+        × (actor.0 < actors seat.old.me.0.start.opening) }
     requires due { is_resume call ≡ awaits_return (front seat.old.me) actor.0 }
     ensures table { seat.new.table_id ≡ seat.old.table_id }
     ensures idle { IsIdle actor.0 seat.new.me × (seat.new.me.0.start ≡ seat.old.me.0.start) }
     ensures turns { turns seat.new.me ≡ turns seat.old.me + 1 }
-    ensures turn { IsTurn seat.old.me.0.start.opening actor.0 (front seat.old.me) call result (front seat.new.me) }
+    ensures turn { IsTurn seat.old.me.0.start.opening actor.0 (front seat.old.me) call
+        result (front seat.new.me) }
 {
     room.enter(rt, table);
     seize(rt, table, room, seat, actor);

@@ -34,7 +34,14 @@ impl Model for SignalInputs {
 
     ghost Value = { InputsView };
 
-    ghost view = { λ s. record { services = boxed_slice_items s.services; sources = boxed_slice_items s.sources; waiting = boxed_slice_items s.waiting; doorbells = boxed_slice_items s.doorbells; flags = boxed_slice_items s.flags } };
+    ghost view = { λ s.
+        record {
+          services = boxed_slice_items s.services;
+          sources = boxed_slice_items s.sources;
+          waiting = boxed_slice_items s.waiting;
+          doorbells = boxed_slice_items s.doorbells;
+          flags = boxed_slice_items s.flags;
+        } };
 }
 
 impl SignalInputs {
@@ -129,13 +136,15 @@ impl SignalInputs {
     }
 
     fn set_waiting(&mut self, service: u32, waits: bool)
-        ensures { self.new ≡ record self.old { waiting = slice_set self.old.waiting service waits } }
+        ensures { self.new
+            ≡ record self.old { waiting = slice_set self.old.waiting service waits } }
     {
         put(self.waiting.as_mut_slice(), service, waits);
     }
 
     fn set_doorbell(&mut self, partition: ActorId, set: bool)
-        ensures { self.new ≡ record self.old { doorbells = slice_set self.old.doorbells partition.0 set } }
+        ensures { self.new
+            ≡ record self.old { doorbells = slice_set self.old.doorbells partition.0 set } }
     {
         put(self.doorbells.as_mut_slice(), partition.0, set);
     }
@@ -199,7 +208,8 @@ impl SignalBoard {
 
     /// The asserted signals of a partition, in constant time; none where there is no such partition.
     pub(crate) fn word(&self, partition: u32) -> u32
-        ensures there { partition < length self.now.doorbells → result ≡ word_of self.now partition }
+        ensures there { partition < length self.now.doorbells
+            → result ≡ word_of self.now partition }
         ensures none { length self.now.doorbells ≤ partition → result ≡ 0 }
     {
         match self.words.as_slice().get(partition as usize) {
@@ -210,7 +220,8 @@ impl SignalBoard {
 
     /// Says whether a message waits for the service. Nothing changes where there is no such service.
     pub(crate) fn set_waiting(&mut self, service: u32, waits: bool)
-        ensures { self.new ≡ record self.old { waiting = slice_set self.old.waiting service waits } }
+        ensures { self.new
+            ≡ record self.old { waiting = slice_set self.old.waiting service waits } }
     {
         if self.inputs.waits(service) == waits {
             return;
@@ -222,7 +233,8 @@ impl SignalBoard {
 
     /// Sets or clears the doorbell of a partition. Nothing changes where there is no such partition.
     pub(crate) fn set_doorbell(&mut self, partition: ActorId, set: bool)
-        ensures { self.new ≡ record self.old { doorbells = slice_set self.old.doorbells partition.0 set } }
+        ensures { self.new
+            ≡ record self.old { doorbells = slice_set self.old.doorbells partition.0 set } }
     {
         self.inputs.set_doorbell(partition, set);
         refresh(self.words.as_mut_slice(), Some(partition.0), &self.inputs);

@@ -128,9 +128,11 @@ pub(crate) fn live_item(messages: &Pool<QueuedMessage, 304>, slot: Slot) -> Queu
 // The message of a service with the least index, delivered or not.
 pub(crate) fn least_to(messages: &Pool<QueuedMessage, 304>, service: u32) -> Option<Slot>
     ensures none { IsNone result → All (λ h. ¬ (h.item.service ≡ service)) messages.now.held }
-    ensures service { IfSome result (λ slot. IfSome (item_at messages.now slot) (λ m. m.service ≡ service)) }
+    ensures service { IfSome result (λ slot.
+        IfSome (item_at messages.now slot) (λ m. m.service ≡ service)) }
     ensures live { IfSome result (λ slot. IsSome (item_at messages.now slot)) }
-    ensures least { IfSome result (λ slot. All (λ h. h.item.service ≡ service → slot.index ≤ h.slot.index) messages.now.held) }
+    ensures least { IfSome result (λ slot.
+        All (λ h. h.item.service ≡ service → slot.index ≤ h.slot.index) messages.now.held) }
 {
     messages.law();
     for index in 0..messages.size() {

@@ -69,7 +69,8 @@ fn set_before(links: &mut [Link], index: Option<u32>, before: Option<u32>)
 /// Puts an index last into the queue of a service.
 pub(crate) fn join(links: &mut [Link], ends: &mut [Ends], service: u32, index: u32)
     ensures links { links.new ≡ joined links.old (ends_at ends.old service).last index }
-    ensures ends { ends.new ≡ slice_set ends.old service (joined_ends (ends_at ends.old service) index) }
+    ensures ends { ends.new
+        ≡ slice_set ends.old service (joined_ends (ends_at ends.old service) index) }
 {
     let old = ends_at(ends, service as usize);
     let before = old.last;
@@ -87,8 +88,12 @@ pub(crate) fn join(links: &mut [Link], ends: &mut [Ends], service: u32, index: u
 
 /// Takes a message that goes out of its queue, where it waits in one.
 pub(crate) fn leave(links: &mut [Link], ends: &mut [Ends], item: &QueuedMessage, index: u32)
-    ensures links { links.new ≡ (if item.now.delivered then links.old else unlinked links.old (link_at links.old index)) }
-    ensures ends { ends.new ≡ (if item.now.delivered then ends.old else slice_set ends.old item.now.service (unlinked_ends (ends_at ends.old item.now.service) (link_at links.old index))) }
+    ensures links { links.new
+        ≡ (if item.now.delivered then links.old else unlinked links.old (link_at links.old index)) }
+    ensures ends { ends.new ≡ (if item.now.delivered
+        then ends.old
+        else slice_set ends.old item.now.service
+        (unlinked_ends (ends_at ends.old item.now.service) (link_at links.old index))) }
 {
     if !item.delivered {
         unlink(links, ends, item.service, index);
@@ -98,7 +103,8 @@ pub(crate) fn leave(links: &mut [Link], ends: &mut [Ends], item: &QueuedMessage,
 /// Takes an index out of the queue of a service.
 pub(crate) fn unlink(links: &mut [Link], ends: &mut [Ends], service: u32, index: u32)
     ensures links { links.new ≡ unlinked links.old (link_at links.old index) }
-    ensures ends { ends.new ≡ slice_set ends.old service (unlinked_ends (ends_at ends.old service) (link_at links.old index)) }
+    ensures ends { ends.new ≡ slice_set ends.old service
+        (unlinked_ends (ends_at ends.old service) (link_at links.old index)) }
 {
     let link = link_at(links, index);
     set_after(links, link.before, link.after);

@@ -35,9 +35,11 @@ impl Model for MessageQueues {
 
     ghost Value = { QueuesView };
 
-    ghost view = { λ q. record { messages = q.messages.value; services = length (boxed_slice_items q.ends) } };
+    ghost view = { λ q.
+        record { messages = q.messages.value; services = length (boxed_slice_items q.ends) } };
 
-    ghost invariant = { λ q. KeepsQueues q.messages.value (boxed_slice_items q.links) (boxed_slice_items q.ends) };
+    ghost invariant = { λ q.
+        KeepsQueues q.messages.value (boxed_slice_items q.links) (boxed_slice_items q.ends) };
 }
 
 impl MessageQueues {
@@ -86,7 +88,8 @@ impl MessageQueues {
         requires room { length self.old.messages.held < length self.old.messages.generations }
         requires few { self.old.messages.takes < most_takes }
         ensures slot { free_slot self.old.messages ≡ Some result }
-        ensures after { self.new ≡ record self.old { messages = taken self.old.messages result message } }
+        ensures after { self.new
+            ≡ record self.old { messages = taken self.old.messages result message } }
         ensures others { OthersWaitAsBefore message.service self.old.messages self.new.messages }
     {
         let messages = &mut *self.messages;
@@ -107,8 +110,12 @@ impl MessageQueues {
 
     /// The oldest undelivered message of a service, which is delivered from now on; None exactly where there is none.
     pub(crate) fn deliver(&mut self, service: u32) -> Option<Slot>
-        ensures oldest { result ≡ option_map (λ h. h.slot) (find (waits_for service) self.old.messages.held) }
-        ensures after { MatchOption result (self.new ≡ self.old) (λ slot. IfSome (item_at self.old.messages slot) (λ m. self.new ≡ record self.old { messages = with_item self.old.messages slot (record m { delivered = true }) })) }
+        ensures oldest { result ≡ option_map (λ h. h.slot)
+            (find (waits_for service) self.old.messages.held) }
+        ensures after { MatchOption result (self.new ≡ self.old) (λ slot.
+            IfSome (item_at self.old.messages slot) (λ m.
+            self.new ≡ record self.old
+            { messages = with_item self.old.messages slot (record m { delivered = true }) })) }
         ensures others { OthersWaitAsBefore service self.old.messages self.new.messages }
     {
         let messages = &mut *self.messages;
@@ -131,7 +138,9 @@ impl MessageQueues {
     /// Gives a message other vectors.
     pub(crate) fn set_vectors(&mut self, slot: Slot, vectors: Vectors)
         requires { IsSome (item_at self.old.messages slot) }
-        ensures after { IfSome (item_at self.old.messages slot) (λ m. self.new ≡ record self.old { messages = with_item self.old.messages slot (record m { vectors = vectors }) }) }
+        ensures after { IfSome (item_at self.old.messages slot) (λ m.
+            self.new ≡ record self.old
+            { messages = with_item self.old.messages slot (record m { vectors = vectors }) }) }
         ensures all { AllWaitAsBefore self.old.messages self.new.messages }
     {
         let messages = &mut *self.messages;

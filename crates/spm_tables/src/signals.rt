@@ -98,7 +98,8 @@ fn waits_at(waiting: &[bool], service: usize) -> bool
 
 // The signals of a partition's services for which a message waits.
 pub(crate) fn service_word(services: &[OwnedSignal], waiting: &[bool], partition: u32) -> u32
-    ensures { result ≡ union_of (asserted (λ v. get_or waiting.now v false) services.now partition) }
+    ensures { result ≡ union_of
+        (asserted (λ v. get_or waiting.now v false) services.now partition) }
 {
     let mut word = 0;
     for (place, service) in services.iter().enumerate() {
@@ -111,7 +112,8 @@ pub(crate) fn service_word(services: &[OwnedSignal], waiting: &[bool], partition
 
 // The asserted signals of a partition's interrupt sources.
 pub(crate) fn source_word(sources: &[OwnedSignal], flags: &[SourceFlags], partition: u32) -> u32
-    ensures { result ≡ union_of (asserted (λ i. (get_or flags.now i no_flags).asserted) sources.now partition) }
+    ensures { result ≡ union_of
+        (asserted (λ i. (get_or flags.now i no_flags).asserted) sources.now partition) }
 {
     let mut word = 0;
     for (place, source) in sources.iter().enumerate() {

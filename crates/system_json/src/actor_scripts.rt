@@ -95,7 +95,8 @@ impl ReaderAfter for ScriptReader<'_> {
 
     ghost gives = { λ r. script_of r.system.now };
 
-    ghost keeps = { λ r script. (script.actor.0 < actor_count r.system.now) × (length script.lines ≤ MAX_SCRIPT_LINES) };
+    ghost keeps = { λ r script.
+        (script.actor.0 < actor_count r.system.now) × (length script.lines ≤ MAX_SCRIPT_LINES) };
 
     #[tactic(auto, unfolding(ffm_model::specs::Scenarios::script_of))]
     fn read_after(
@@ -157,7 +158,8 @@ fn gathered(
     scripts: List<ScriptItem>,
 ) -> Result<Vec<List<Lines>>, AllocError>
     requires { AllByRecursion (λ script. script.actor.0 < count) scripts }
-    ensures { IfOk result (λ by_actor. by_actor.items ≡ fold with_script (replicate count []) scripts) }
+    ensures { IfOk result (λ by_actor.
+        by_actor.items ≡ fold with_script (replicate count []) scripts) }
 {
     let mut by_actor = no_scripts(alloc, count)?;
     for script in scripts.into_vec() {

@@ -30,7 +30,8 @@ const ROOM_OF_A_TREE: usize = 24 << 20;
 
 /// The refusal of a part of the system file.
 fn refused_in_system(alloc: Global, steps: &[PathStep], code: u8) -> ReadError
-    ensures { IsReadRefusal result (record { code = code; place = record { root = Root.System; steps = steps.now }; cycle = [] }) }
+    ensures { IsReadRefusal result (record
+        { code = code; place = record { root = Root.System; steps = steps.now }; cycle = [] }) }
 {
     match steps.to_vec(alloc) {
         Ok(steps) => ReadError::Refused(Refusal {
@@ -54,7 +55,8 @@ fn manifest_steps(alloc: Global, number: u32) -> Result<Vec<PathStep>, AllocErro
 
 /// The manifest that stands at this place of the system file.
 fn manifest_here(alloc: Global, tree: &Value, number: u32) -> Result<Manifest, ReadError>
-    ensures given { Reads (λ m. m) result (behind (at_manifest number) (manifest_of (view tree.now))) }
+    ensures given { Reads (λ m. m) result
+        (behind (at_manifest number) (manifest_of (view tree.now))) }
     ensures kept { IfOk result IsManifest }
 {
     let front = manifest_steps(alloc, number)?;
@@ -152,7 +154,8 @@ fn manifests_from<F: Files>(
 /// The items of the list of manifests. A longer list than may be is refused before any of them is
 /// read.
 fn manifest_items(alloc: Global, tree: &Value) -> Result<&[Value], ReadError>
-    ensures given { Reads (λ items. items_view items.now) result (behind [] (manifest_items_of (view tree.now))) }
+    ensures given { Reads (λ items. items_view items.now) result
+        (behind [] (manifest_items_of (view tree.now))) }
     ensures few { IfOk result (λ items. length items.now ≤ 256) }
 {
     let step = [PathStep::Key(Key::Manifests)];

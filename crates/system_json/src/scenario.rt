@@ -27,8 +27,10 @@ const DEFAULT_EVENTS: u32 = 4096;
 
 /// The bytes that the memory begins with.
 fn opening_memory(alloc: Global, system: &System, tree: &Value) -> Result<List<Bytes>, PartError>
-    ensures given { Gives result (optional (list_of (bytes_of system.now.regions)) [] key.Memory (view tree.now)) }
-    ensures kept { IfOk result (AllByRecursion (λ bytes. IsTrue (list_any (lies_in bytes.address (length bytes.content)) system.now.regions))) }
+    ensures given { Gives result
+        (optional (list_of (bytes_of system.now.regions)) [] key.Memory (view tree.now)) }
+    ensures kept { IfOk result (AllByRecursion (λ bytes.
+        IsTrue (list_any (lies_in bytes.address (length bytes.content)) system.now.regions))) }
 {
     let bytes = BytesReader {
         regions: &system.regions,
@@ -88,7 +90,8 @@ fn scenario(alloc: Global, system: &System, tree: &Value) -> Result<Scenario, Pa
 /// unknown actor, code 20, at its item; in a system without sources, which has no device, each source
 /// is unknown. `Memory` where no memory is found.
 pub fn read_scenario(alloc: Global, bytes: &[u8], system: &System) -> Result<Scenario, ReadError>
-    ensures given { Reads (λ scenario. scenario) result (stopped (scenario_in system.now bytes.now)) }
+    ensures given { Reads (λ scenario. scenario) result
+        (stopped (scenario_in system.now bytes.now)) }
     ensures kept { IfOk result (IsScenarioOf system.now) }
 {
     let place = Place {

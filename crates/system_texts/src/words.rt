@@ -12,7 +12,8 @@ use text_lines::{Word, append, append_word};
 
 /// Appends words, each after a space.
 pub fn append_spaced(text: &mut Vec<u8>, words: &[Word<'_>]) -> Result<(), AllocError>
-    ensures { OnOk result (text.new.items ≡ text.old.items ++ flat_map spaced (map word_text words.now)) }
+    ensures { OnOk result
+        (text.new.items ≡ text.old.items ++ flat_map spaced (map word_text words.now)) }
 {
     for word in words {
         append(text, " ")?;
@@ -23,7 +24,8 @@ pub fn append_spaced(text: &mut Vec<u8>, words: &[Word<'_>]) -> Result<(), Alloc
 
 /// Appends a line: its first word, and the others.
 pub fn append_line(text: &mut Vec<u8>, front: &str, words: &[Word<'_>]) -> Result<(), AllocError>
-    ensures { OnOk result (text.new.items ≡ text.old.items ++ line_of front.now (map word_text words.now)) }
+    ensures { OnOk result
+        (text.new.items ≡ text.old.items ++ line_of front.now (map word_text words.now)) }
 {
     append(text, front)?;
     append_spaced(text, words)?;

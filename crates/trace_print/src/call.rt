@@ -30,7 +30,8 @@ fn operand<'a>(kind: OperandKind, words: Words<'a>) -> Option<(u32, Words<'a>)>
 #[tactic(auto, unfolding(crate::specs::Reading::operands_at), using(crate::proofs::Operands::goes_on, crate::proofs::Operands::stops, crate::proofs::Operands::ends))]
 fn operands<'a>(kinds: &[OperandKind], words: Words<'a>) -> Option<(ArrayVec<u32, 6>, Words<'a>)>
     requires { length kinds.now ≤ 6 }
-    ensures { option_map (λ r. (r.0.items, words_of r.1)) result ≡ operands_at kinds.now (words_of words.entry) }
+    ensures { option_map (λ r. (r.0.items, words_of r.1)) result
+        ≡ operands_at kinds.now (words_of words.entry) }
 {
     let mut operands = ArrayVec::new();
     let mut words = words;

@@ -188,8 +188,10 @@ pub fn append_fields(line: &mut Line, fields: &[Field])
 /// Appends a space and a name, and then a space and a number for each field.
 pub fn append_phrase(line: &mut Line, name: &[u8], fields: &[Field])
     requires { line_len line.old + 1 + length name.now + 12 * length fields.now ≤ LINE_CAPACITY }
-    ensures items { line.new.items ≡ line.old.items ++ (spaced name.now ++ flat_map spaced_field (numbers fields.now)) }
-    ensures grows { line_len line.new ≤ line_len line.old + 1 + length name.now + sum_by width_of (numbers fields.now) }
+    ensures items { line.new.items
+        ≡ line.old.items ++ (spaced name.now ++ flat_map spaced_field (numbers fields.now)) }
+    ensures grows { line_len line.new
+        ≤ line_len line.old + 1 + length name.now + sum_by width_of (numbers fields.now) }
 {
     append(line, b" ");
     append(line, name);
@@ -199,7 +201,8 @@ pub fn append_phrase(line: &mut Line, name: &[u8], fields: &[Field])
 /// Appends a space and a number for each of four sizes.
 pub fn append_sizes(line: &mut Line, sizes: &[u32; 4])
     requires { line_len line.old + 48 ≤ LINE_CAPACITY }
-    ensures items { line.new.items ≡ line.old.items ++ flat_map spaced_field (size_fields sizes.now) }
+    ensures items { line.new.items
+        ≡ line.old.items ++ flat_map spaced_field (size_fields sizes.now) }
     ensures grows { line_len line.new ≤ line_len line.old + 44 }
     ensures fits { AreFourSizes sizes.now }
 {

@@ -84,7 +84,9 @@ fn append_invoke(
     out_len: u32,
 )
     requires { line_len line.old ≤ 76 }
-    ensures items { line.new.items ≡ line.old.items ++ flat_map spaced_field (call_phrase (Call.Invoke handle kind in_vec in_len out_vec out_len)).fields }
+    ensures items { line.new.items ≡ line.old.items
+        ++ flat_map spaced_field
+        (call_phrase (Call.Invoke handle kind in_vec in_len out_vec out_len)).fields }
     ensures grows { line_len line.new ≤ line_len line.old + 68 }
     ensures fits { CallFits (Call.Invoke handle kind in_vec in_len out_vec out_len) }
 {
@@ -104,7 +106,8 @@ fn append_invoke(
 // Appends the numbers of `psa_read` or `psa_write`.
 fn append_transfer(line: &mut Line, handle: Handle, index: u32, buffer: u32, len: u32)
     requires { line_len line.old ≤ 76 }
-    ensures items { line.new.items ≡ line.old.items ++ flat_map spaced_field (call_phrase (Call.Read handle index buffer len)).fields }
+    ensures items { line.new.items ≡ line.old.items
+        ++ flat_map spaced_field (call_phrase (Call.Read handle index buffer len)).fields }
     ensures grows { line_len line.new ≤ line_len line.old + 45 }
     ensures fits { CallFits (Call.Read handle index buffer len) }
 {
@@ -122,8 +125,10 @@ fn append_transfer(line: &mut Line, handle: Handle, index: u32, buffer: u32, len
 // Appends the numbers of a call.
 fn append_call_fields(line: &mut Line, call: Call)
     requires { line_len line.old ≤ 76 }
-    ensures items { line.new.items ≡ line.old.items ++ flat_map spaced_field (call_phrase call).fields }
-    ensures grows { line_len line.new ≤ line_len line.old + sum_by width_of (call_phrase call).fields }
+    ensures items { line.new.items
+        ≡ line.old.items ++ flat_map spaced_field (call_phrase call).fields }
+    ensures grows { line_len line.new
+        ≤ line_len line.old + sum_by width_of (call_phrase call).fields }
     ensures fits { CallFits call }
 {
     match call {
@@ -195,7 +200,8 @@ fn append_call(line: &mut Line, call: Call)
 // Appends a message without its sizes.
 fn append_front(line: &mut Line, message: Message)
     requires { line_len line.old ≤ 79 }
-    ensures items { line.new.items ≡ line.old.items ++ (spaced (codes "message") ++ flat_map spaced_field (message_front message)) }
+    ensures items { line.new.items ≡ line.old.items
+        ++ (spaced (codes "message") ++ flat_map spaced_field (message_front message)) }
     ensures grows { line_len line.new ≤ line_len line.old + 55 }
     ensures fits { AllByRecursion FieldFits (message_front message) }
 {

@@ -73,7 +73,9 @@ pub fn read_trace(alloc: Global, counts: Counts, bytes: &[u8]) -> Result<Trace, 
     ensures fits { IfOk result (λ t. AllByRecursion (EntryFits counts) t.entries) }
     ensures few { IfOk result (λ t. length t.entries ≤ MAX_ENTRIES) }
     // The text of such a trace is read as that trace.
-    ensures only { (es : prelude.List Entry) (v : Verdict) → AllByRecursion (EntryFits counts) es → length es ≤ MAX_ENTRIES → bytes.now ≡ trace_text counts es v → ReadsTrace es v result }
+    ensures only { (es : prelude.List Entry) (v : Verdict) → AllByRecursion (EntryFits counts) es
+        → length es ≤ MAX_ENTRIES → bytes.now ≡ trace_text counts es v
+        → ReadsTrace es v result }
     // Of another text the first wrong line is told.
     ensures wrong { IfErr result (λ e. TellsFirstWrong counts bytes.now e) }
 {
@@ -100,14 +102,18 @@ pub fn read_trace(alloc: Global, counts: Counts, bytes: &[u8]) -> Result<Trace, 
 /// Two traces have the same text only where they are the same, with entries in range and of actors
 /// that the counts name.
 pub fn texts_differ(counts: Counts)
-    ensures { (ds es : prelude.List Entry) (v w : Verdict) → AllByRecursion (EntryFits counts) ds → AllByRecursion (EntryFits counts) es → trace_text counts ds v ≡ trace_text counts es w → (ds ≡ es) × (v ≡ w) }
+    ensures { (ds es : prelude.List Entry) (v w : Verdict) → AllByRecursion (EntryFits counts) ds
+        → AllByRecursion (EntryFits counts) es → trace_text counts ds v ≡ trace_text counts es w
+        → (ds ≡ es) × (v ≡ w) }
 {
     let _counts = counts;
 }
 
 /// A text has at most one first wrong line, so the text alone settles which line `read_trace` tells.
 pub fn one_wrong_line(counts: Counts)
-    ensures { (bytes : prelude.List ℕ) (j k : ℕ) → IsFirstWrong counts 0 (parts 10 bytes) j → IsFirstWrong counts 0 (parts 10 bytes) k → j ≡ k }
+    ensures { (bytes : prelude.List ℕ) (j k : ℕ) → IsFirstWrong counts 0 (parts 10 bytes) j
+        → IsFirstWrong counts 0 (parts 10 bytes) k
+        → j ≡ k }
 {
     let _counts = counts;
 }

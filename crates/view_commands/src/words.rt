@@ -121,7 +121,8 @@ fn format_option<'a>(alloc: Global) -> Arg<'a>
 }
 
 fn diagram_command<'a>(alloc: Global) -> Result<Command<'a>, AllocError>
-    ensures app { IfOk result (λ c. (p : ParserSeen) × IsFormatParser p × (app_of c ≡ diagram_app p)) }
+    ensures app { IfOk result (λ c.
+        (p : ParserSeen) × IsFormatParser p × (app_of c ≡ diagram_app p)) }
     ensures own { IfOk result (λ c. (fields_of c).has_globals ≡ false) }
 {
     view_command(alloc, "diagram", "Draws a sequence diagram")?
@@ -186,7 +187,9 @@ fn number_of(found: &ArgMatches<'_>, id: &str) -> Option<u32>
 }
 
 fn names_of<'a>(found: &ArgMatches<'a>) -> Option<FileNames<'a>>
-    ensures { MatchOption result ((names : NamesSeen) → AreNamesOf (rows_of (found_of found.now)) names → ⊥) (AreNamesOf (rows_of (found_of found.now))) }
+    ensures { MatchOption result
+        ((names : NamesSeen) → AreNamesOf (rows_of (found_of found.now)) names → ⊥)
+        (AreNamesOf (rows_of (found_of found.now))) }
 {
     Some(FileNames {
         system: word_of(found, "system")?,
@@ -206,7 +209,9 @@ fn format_of(found: &ArgMatches<'_>) -> Format
 
 // What the command of this name shows.
 fn aspect_of(name: &str, found: &ArgMatches<'_>) -> Option<Aspect>
-    ensures { MatchOption result ((a : AspectSeen) → IsAspectOf name.now (rows_of (found_of found.now)) a → ⊥) (IsAspectOf name.now (rows_of (found_of found.now))) }
+    ensures { MatchOption result
+        ((a : AspectSeen) → IsAspectOf name.now (rows_of (found_of found.now)) a → ⊥)
+        (IsAspectOf name.now (rows_of (found_of found.now))) }
 {
     match name {
         "state" => Some(Aspect::State(number_of(found, "place"))),
@@ -222,7 +227,8 @@ fn aspect_of(name: &str, found: &ArgMatches<'_>) -> Option<Aspect>
 }
 
 fn request_in<'a>(matches: &ArgMatches<'a>) -> Option<Request<'a>>
-    ensures { MatchOption result (AskNothing (subcommand_rows_of matches.now)) (IsRequestOf (subcommand_rows_of matches.now)) }
+    ensures { MatchOption result (AskNothing (subcommand_rows_of matches.now))
+        (IsRequestOf (subcommand_rows_of matches.now)) }
 {
     let (name, found) = matches.subcommand()?;
     Some(Request {
@@ -240,9 +246,13 @@ fn no_command(alloc: Global) -> Result<Error, AllocError>
 
 // The matches of the words.
 fn parsed<'a>(alloc: Global, words: &'a [String]) -> Result<ArgMatches<'a>, Error>
-    ensures matches { IfOk result (λ m. (p : ParserSeen) × IsFormatParser p × ((fault_of (view_app p) (map string_bytes words.entry.now) ≡ [])
+    ensures matches { IfOk result (λ m.
+        (p : ParserSeen) × IsFormatParser p
+        × ((fault_of (view_app p) (map string_bytes words.entry.now) ≡ [])
         × (subcommand_rows_of m ≡ subcommand_of (view_app p) (map string_bytes words.entry.now)))) }
-    ensures faults { IfErr result (λ e. (kind_of e ≡ ErrorKind.OutOfMemory) ⊎ IsTold (map string_bytes words.entry.now) (told_status (kind_of e))) }
+    ensures faults { IfErr result (λ e.
+        (kind_of e ≡ ErrorKind.OutOfMemory)
+        ⊎ IsTold (map string_bytes words.entry.now) (told_status (kind_of e))) }
 {
     command_line(alloc)?.try_get_matches_from(words)
 }
@@ -251,7 +261,9 @@ fn parsed<'a>(alloc: Global, words: &'a [String]) -> Result<ArgMatches<'a>, Erro
 /// the version, the text that `clap` has for that.
 pub fn request_of<'a>(alloc: Global, words: &'a [String]) -> Result<Request<'a>, Error>
     ensures asked { IfOk result (AsksFor (map string_bytes words.entry.now)) }
-    ensures told { IfErr result (λ e. (kind_of e ≡ ErrorKind.OutOfMemory) ⊎ IsTold (map string_bytes words.entry.now) (told_status (kind_of e))) }
+    ensures told { IfErr result (λ e.
+        (kind_of e ≡ ErrorKind.OutOfMemory)
+        ⊎ IsTold (map string_bytes words.entry.now) (told_status (kind_of e))) }
 {
     let matches = parsed(alloc, words)?;
     match request_in(&matches) {

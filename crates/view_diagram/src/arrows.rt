@@ -220,7 +220,8 @@ pub fn arrow_of(system: &System, objects: &Objects, entry: &Entry) -> Option<Arr
 
 // The partition that panics in an entry: the caller, or the client whose request is answered with PROGRAMMER ERROR.
 fn panicking(system: &System, objects: &Objects, entry: &Entry) -> Option<ActorId>
-    ensures { option_map (λ a. a.0) result ≡ panicking system.now (spm_of_objects objects.now) entry.now }
+    ensures { option_map (λ a. a.0) result
+        ≡ panicking system.now (spm_of_objects objects.now) entry.now }
 {
     match (entry.outcome, entry.call) {
         (Outcome::Panicked, _) => Some(entry.actor),
@@ -243,7 +244,8 @@ fn release_arrow(
     partition: ActorId,
     message: &PendingMessage,
 ) -> Option<Arrow>
-    ensures { result ≡ release_arrow system.now (spm_of_objects objects.now) partition.0 message.now }
+    ensures { result ≡ release_arrow system.now
+        (spm_of_objects objects.now) partition.0 message.now }
 {
     let is_blocked = matches!(objects.phase(message.client.0), ActorPhase::Blocked);
     if !is_service_of(system, partition.0, message.service) || !is_blocked {
@@ -274,7 +276,10 @@ fn push_releases(
     partition: ActorId,
     messages: &[PendingMessage],
 ) -> Result<(), Memory>
-    ensures { IfOk result (λ u. arrows.new.items ≡ arrows.old.items ++ filter_map (release_arrow system.now (spm_of_objects objects.now) partition.0) messages.now) }
+    ensures { IfOk result (λ u.
+        arrows.new.items ≡ arrows.old.items
+        ++ filter_map (release_arrow system.now
+        (spm_of_objects objects.now) partition.0) messages.now) }
 {
     for message in messages {
         let release = release_arrow(system, objects, partition, message);
@@ -290,7 +295,9 @@ fn push_panic(
     objects: &Objects,
     partition: ActorId,
 ) -> Result<(), Memory>
-    ensures { IfOk result (λ u. arrows.new.items ≡ arrows.old.items ++ panic_arrows system.now (spm_of_objects objects.now) partition.0) }
+    ensures { IfOk result (λ u.
+        arrows.new.items
+        ≡ arrows.old.items ++ panic_arrows system.now (spm_of_objects objects.now) partition.0) }
 {
     let messages = objects.messages.as_slice();
     arrows.push(arrow_between(partition, partition, Meaning::Panic))?;
@@ -305,7 +312,8 @@ pub fn arrows_of(
     objects: &Objects,
     entry: &Entry,
 ) -> Result<Vec<Arrow>, Memory>
-    ensures { IfOk result (λ v. v.items ≡ arrows_of system.now (spm_of_objects objects.now) entry.now) }
+    ensures { IfOk result (λ v.
+        v.items ≡ arrows_of system.now (spm_of_objects objects.now) entry.now) }
 {
     let mut arrows = Vec::new(alloc);
     push_arrow(&mut arrows, arrow_of(system, objects, entry))?;

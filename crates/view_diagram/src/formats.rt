@@ -47,7 +47,8 @@ pub fn diagram(
 ) -> Result<SequenceDiagram, Memory>
     requires regions { regions_of memory.now ≡ ranges_of system.now.regions }
     requires few { length trace.now.entries < 2 ^ 31 }
-    ensures { IfOk result (IsDiagram system.now (byte_at memory.now) limit trace.now.entries trace.now.verdict part format) }
+    ensures { IfOk result (IsDiagram system.now (byte_at memory.now) limit trace.now.entries
+        trace.now.verdict part format) }
 {
     let entries = trace.entries.as_slice();
     let arrows = gather(alloc, system, memory, limit, entries, part)?;

@@ -103,7 +103,8 @@ fn placed_arrows(
     place: u32,
     found: &[Arrow],
 ) -> Result<Vec<PlacedArrow>, Memory>
-    ensures { IfOk result (λ v. v.items ≡ map (placed place (spm_of_objects objects.now) last.now.places.items) found.now) }
+    ensures { IfOk result (λ v.
+        v.items ≡ map (placed place (spm_of_objects objects.now) last.now.places.items) found.now) }
 {
     let mut arrows = Vec::new(alloc);
     for arrow in found {
@@ -128,7 +129,9 @@ fn next_arrows(
     entry: &Entry,
 ) -> Result<Vec<PlacedArrow>, Memory>
     requires { checker.now.count < 2 ^ 31 }
-    ensures { IfOk result (λ v. v.items ≡ arrows_at system.now part (checker.now.count + 1) (spm_of_objects checker.now.machine.objects) last.now.places.items entry.now) }
+    ensures { IfOk result (λ v.
+        v.items ≡ arrows_at system.now part (checker.now.count + 1)
+        (spm_of_objects checker.now.machine.objects) last.now.places.items entry.now) }
 {
     let place = checker.count + 1;
     if !is_in_part(part, place) {
@@ -155,7 +158,8 @@ pub fn gather(
 ) -> Result<List<PlacedArrow>, Memory>
     requires regions { regions_of memory.now ≡ ranges_of system.now.regions }
     requires few { length entries.now < 2 ^ 31 }
-    ensures { IfOk result (λ arrows. arrows ≡ arrows_in system.now (byte_at memory.now) limit part entries.now) }
+    ensures { IfOk result (λ arrows.
+        arrows ≡ arrows_in system.now (byte_at memory.now) limit part entries.now) }
 {
     let mut checker = Checker::new(alloc, system, memory)?;
     let mut last = LastEntries::new(alloc, system)?;

@@ -21,7 +21,8 @@ pub fn memory_conditions(
     actor: ActorId,
     call: Call,
 ) -> Result<Vec<Condition>, AllocError>
-    ensures { IfOk result (λ conditions. map told conditions.items ≡ memory_conditions system.now actor.0 call) }
+    ensures { IfOk result (λ conditions.
+        map told conditions.items ≡ memory_conditions system.now actor.0 call) }
 {
     match call {
         Call::Load { address, size } => {

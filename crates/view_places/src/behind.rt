@@ -69,7 +69,8 @@ pub fn behind_place(
 ) -> Result<Place, Memory>
     requires regions { regions_of memory.now ≡ ranges_of system.now.regions }
     requires few { length trace.now.entries < 2 ^ 31 }
-    ensures found { IfOk result (IsPlace system.now (byte_at memory.now) limit trace.now.entries place) }
+    ensures found { IfOk result
+        (IsPlace system.now (byte_at memory.now) limit trace.now.entries place) }
 {
     let entries = trace.entries.as_slice();
     if place as usize > entries.len() {
@@ -99,7 +100,8 @@ pub fn behind_last(
 ) -> Result<StateBehind, Memory>
     requires regions { regions_of memory.now ≡ ranges_of system.now.regions }
     requires few { length trace.now.entries < 2 ^ 31 }
-    ensures found { IfOk result (IsLastLegal system.now (byte_at memory.now) limit trace.now.entries) }
+    ensures found { IfOk result
+        (IsLastLegal system.now (byte_at memory.now) limit trace.now.entries) }
 {
     let entries = trace.entries.as_slice();
     let checker = reached(alloc, system, memory, limit, entries)?;

@@ -36,11 +36,15 @@ pub fn conditions(
     call: Call,
 ) -> Result<Vec<Condition>, AllocError>
     requires { IsMachineOf system.now machine.now }
-    ensures table { actor.0 < actor_count system.now → IfOk result (λ conditions.
-        map told conditions.items ≡ conditions_of system.now (spm_of_objects machine.now.objects) actor.0 call) }
-    ensures say { actor.0 < actor_count system.now → (given : List HandleSeen) → IfOk result (λ conditions.
+    ensures table { actor.0 < actor_count system.now
+        → IfOk result (λ conditions.
+        map told conditions.items
+        ≡ conditions_of system.now (spm_of_objects machine.now.objects) actor.0 call) }
+    ensures say { actor.0 < actor_count system.now → (given : List HandleSeen)
+        → IfOk result (λ conditions.
         SayWhen system.now (state_of machine.now given) actor.0 call (map told conditions.items)) }
-    ensures none { actor_count system.now ≤ actor.0 → IfOk result (λ conditions. conditions.items ≡ []) }
+    ensures none { actor_count system.now ≤ actor.0
+        → IfOk result (λ conditions. conditions.items ≡ []) }
 {
     if actor.0 >= system.actor_count() {
         return Ok(Vec::new(alloc));

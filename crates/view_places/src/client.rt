@@ -102,7 +102,8 @@ fn of_invoke(
     kind: i32,
     are_wrong: bool,
 ) -> [Condition; 4]
-    ensures { map told result ≡ invoke_conditions system.now (spm_of_objects objects.now) actor.0 handle kind are_wrong }
+    ensures { map told result
+        ≡ invoke_conditions system.now (spm_of_objects objects.now) actor.0 handle kind are_wrong }
 {
     let connection = connection_named(objects, actor, handle);
     [
@@ -162,7 +163,9 @@ pub fn client_conditions(
     call: Call,
 ) -> Result<Vec<Condition>, AllocError>
     requires { IsMachineOf system.now machine.now }
-    ensures { IfOk result (λ conditions. map told conditions.items ≡ client_conditions system.now (spm_of_objects machine.now.objects) actor.0 call) }
+    ensures { IfOk result (λ conditions.
+        map told conditions.items
+        ≡ client_conditions system.now (spm_of_objects machine.now.objects) actor.0 call) }
 {
     let objects = &machine.objects;
     match call {

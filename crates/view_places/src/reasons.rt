@@ -103,7 +103,11 @@ fn broken_before(
     count: u32,
     entry: &Entry,
 ) -> Option<Rule>
-    ensures { (given : prelude.List HandleSeen) → MatchOption result ((count < limit) × (may_call system.now (state_of machine.now given).spm entry.now.actor.0 entry.now.call ≡ true)) (λ r. IsRule system.now limit count (state_of machine.now given) entry.now r) }
+    ensures { (given : prelude.List HandleSeen)
+        → MatchOption result ((count < limit)
+        × (may_call system.now (state_of machine.now given).spm
+        entry.now.actor.0 entry.now.call ≡ true))
+        (λ r. IsRule system.now limit count (state_of machine.now given) entry.now r) }
 {
     let actor = entry.actor.0;
     if count >= limit {
@@ -160,7 +164,8 @@ fn gave_handle(phase: ActorPhase, call: Call, answer: Outcome) -> bool
 
 // Whether the outcome of an entry is the answer of an actor that does this, but for the handle that the call gives.
 fn is_answer_but_handle(phase: ActorPhase, entry: &Entry, answer: Outcome) -> bool
-    ensures { result ≡ (gave_handle phase entry.now.call answer && outcome_eq (with_handle (handle_shown entry.now.outcome) answer) entry.now.outcome) }
+    ensures { result ≡ (gave_handle phase entry.now.call answer
+        && outcome_eq (with_handle (handle_shown entry.now.outcome) answer) entry.now.outcome) }
 {
     gave_handle(phase, entry.call, answer)
         && with_handle(handle_shown(entry.outcome), answer) == entry.outcome
@@ -171,7 +176,10 @@ fn is_answer_but_handle(phase: ActorPhase, entry: &Entry, answer: Outcome) -> bo
 fn broken_rule(system: &System, limit: u32, checker: Checker, entry: &Entry) -> Result<Rule, Memory>
     requires kept { IsMachineOf system.now checker.machine }
     requires few { checker.machine.objects.connections_made < 2 ^ 31 }
-    ensures { (handles : prelude.List HandleSeen) → Knows checker.given handles → IsIllegal system.now limit checker.count (state_of checker.machine handles) entry.now → IfOk result (λ r. IsRule system.now limit checker.count (state_of checker.machine handles) entry.now r) }
+    ensures { (handles : prelude.List HandleSeen) → Knows checker.given handles
+        → IsIllegal system.now limit checker.count (state_of checker.machine handles) entry.now
+        → IfOk result (λ r.
+        IsRule system.now limit checker.count (state_of checker.machine handles) entry.now r) }
 {
     if let Some(rule) = broken_before(system, &checker.machine, limit, checker.count, entry) {
         return Ok(rule);
@@ -266,7 +274,8 @@ pub fn why(
 ) -> Result<Finding, Memory>
     requires regions { regions_of memory.now ≡ ranges_of system.now.regions }
     requires few { length trace.now.entries < 2 ^ 31 }
-    ensures { IfOk result (IsFinding system.now (byte_at memory.now) limit trace.now.entries trace.now.verdict) }
+    ensures { IfOk result
+        (IsFinding system.now (byte_at memory.now) limit trace.now.entries trace.now.verdict) }
 {
     let entries = trace.entries.as_slice();
     let checker = reached(alloc, system, memory, limit, entries)?;

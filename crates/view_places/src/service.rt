@@ -27,7 +27,8 @@ fn of_get(
     msg: u32,
 ) -> [Condition; 3]
     requires { IsMachineOf system.now machine.now }
-    ensures { map told result ≡ get_conditions system.now (spm_of_objects machine.now.objects) actor.0 signal msg }
+    ensures { map told result
+        ≡ get_conditions system.now (spm_of_objects machine.now.objects) actor.0 signal msg }
 {
     let service = service_of_signal(system, actor.0, signal);
     let is_empty = match service {
@@ -85,7 +86,9 @@ pub fn service_conditions(
     call: Call,
 ) -> Result<Vec<Condition>, AllocError>
     requires { IsMachineOf system.now machine.now }
-    ensures { IfOk result (λ conditions. map told conditions.items ≡ service_conditions system.now (spm_of_objects machine.now.objects) actor.0 call) }
+    ensures { IfOk result (λ conditions.
+        map told conditions.items
+        ≡ service_conditions system.now (spm_of_objects machine.now.objects) actor.0 call) }
 {
     match call {
         Call::Wait { mask, .. } => Ok(Vec::from_array(alloc, of_wait(system, actor, mask))?),

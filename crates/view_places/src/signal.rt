@@ -102,7 +102,9 @@ pub fn signal_conditions(
     actor: ActorId,
     call: Call,
 ) -> Result<Vec<Condition>, AllocError>
-    ensures { IfOk result (λ conditions. map told conditions.items ≡ signal_conditions system.now (spm_of_objects objects.now) actor.0 call) }
+    ensures { IfOk result (λ conditions.
+        map told conditions.items
+        ≡ signal_conditions system.now (spm_of_objects objects.now) actor.0 call) }
 {
     match call {
         Call::Notify { partition } => Ok(Vec::from_array(alloc, of_notify(system, partition))?),

@@ -76,7 +76,9 @@ pub fn transfer_conditions(
     call: Call,
 ) -> Result<Vec<Condition>, AllocError>
     requires { IsMachineOf system.now machine.now }
-    ensures { IfOk result (λ conditions. map told conditions.items ≡ transfer_conditions system.now (spm_of_objects machine.now.objects) actor.0 call) }
+    ensures { IfOk result (λ conditions.
+        map told conditions.items
+        ≡ transfer_conditions system.now (spm_of_objects machine.now.objects) actor.0 call) }
 {
     match call {
         Call::Read {

@@ -74,8 +74,9 @@ fn bytes_of<F: Files>(
     limit: u32,
     name: &str,
 ) -> Result<Vec<u8>, PartsError>
-    ensures asks { Asks (F.seen files.old) (F.seen files.new) (part_as (λ bytes. bytes.items) result)
-        (λ of. file_at of (record { root = root; steps = [] }) limit name.now) }
+    ensures asks { Asks (F.seen files.old) (F.seen files.new)
+        (part_as (λ bytes. bytes.items) result) (λ of.
+        file_at of (record { root = root; steps = [] }) limit name.now) }
     ensures short { IfOk result (λ bytes. length bytes.items ≤ limit) }
 {
     match files.read(alloc, name, limit) {
