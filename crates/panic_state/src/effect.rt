@@ -35,7 +35,7 @@ fn end_services(system: &System, tables: &mut Tables, partition: ActorId)
 /// 256 messages in.
 ///
 /// The body passes through the state in the middle, the services gone and the partition still there as a client, of which
-/// `panics_fit_midway` of panic_law speaks. No clause says so.
+/// `panics_fit_midway` of law_manager speaks. No clause says so.
 pub fn panic(system: &System, tables: &mut Tables, partition: ActorId)
     requires made { MadeFor tables.old system.now }
     requires partition { partition.0 < length system.now.partitions }
