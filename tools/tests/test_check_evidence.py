@@ -29,8 +29,8 @@ class CheckEvidence(unittest.TestCase):
         self.assertEqual(self.wings_changed(lambda wings: None), [])
 
     def test_a_crate_in_no_wing_and_one_in_two(self):
-        self.assertEqual(self.wings_changed(lambda wings: wings["tests"][0].remove("test_graph")), ["test_graph is in 0 wings"])
-        self.assertEqual(self.wings_changed(lambda wings: wings["laws"][0].append("test_graph")), ["test_graph is in 2 wings"])
+        self.assertEqual(self.wings_changed(lambda wings: wings["tests"][0].remove("test_manager")), ["test_manager is in 0 wings"])
+        self.assertEqual(self.wings_changed(lambda wings: wings["laws"][0].append("test_manager")), ["test_manager is in 2 wings"])
         self.assertEqual(self.wings_changed(lambda wings: wings["laws"][0].append("no_crate")), ["no_crate is in 1 wings"])
 
     def test_a_wing_that_stands_on_another(self):

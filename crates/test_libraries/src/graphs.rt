@@ -1,6 +1,6 @@
 //! Lines, circles and branches that meet: each call of a graph once, and the limit of a search.
 ghost use Rattle.std.specs.Prelude.{◌≡◌, ◌≤◌, Ok, true, length, IfOk};
-ghost use Rattle.test_graph.specs.Tables.{moves_of};
+ghost use Rattle.test_libraries.specs.Tables.{moves_of};
 ghost use Rattle.state_graph.specs.Graphs.{Built, IsDone};
 
 use crate::table::Table;

@@ -1,7 +1,7 @@
 //! Steps that a table lists.
 ghost use Rattle.std.proofs.Common.{rules};
 ghost use Rattle.std.specs.Prelude.{ℕ, ◌≡◌, List};
-ghost use Rattle.test_graph.specs.Tables.{Row, moves_of, target_of};
+ghost use Rattle.test_libraries.specs.Tables.{Row, moves_of, target_of};
 
 use state_graph::Steps;
 use std::alloc::{AllocError, Global};
