@@ -1,0 +1,116 @@
+//! A state as bytes, and back.
+ghost use Rattle.std.specs.Prelude.{◌≡◌, [], ◌∷◌, IfOk};
+ghost use Rattle.ffm_model.specs.Ranges.{ranges_of};
+ghost use Rattle.memory_image.specs.Pieces.{regions_of};
+
+use ffm_model::{
+    ActorId, ActorPhase, Class, ConnPhase, Handle, List, OpenConnection, PendingMessage, Region,
+    SourceFlags, Span, Vectors,
+};
+use machine_calls::{Machine, Objects};
+use memory_image::Image;
+use packed_state::{SlotsInUse, Snapshot, pack, unpack};
+use std::alloc::{AllocError, Global};
+use std::process::Abort;
+use std::test::Fail;
+
+// Four bytes at 0x20000000.
+const REGION: Region = Region {
+    base: 536870912,
+    size: 4,
+    class: Class::NonSecure,
+};
+
+// The bytes of the state, by hand: the connection, the number made, the message, what actors do, doorbell and
+// source, the slots twice, and a change behind two equal bytes.
+const BYTES: [u8; 60] = [
+    1, 0, 1, 0, 2, 255, 112, 17, 1, 0, 1, 254, 0, 8, 1, 1, 0, 1, 1, 0, 0, 1, 255, 2, 0, 0, 32, 2,
+    0, 0, 0, 0, 0, 0, 0, 0, 0, 0, 0, 2, 2, 16, 1, 1, 1, 1, 1, 0, 0, 1, 0, 1, 1, 1, 0, 1, 1, 1, 2,
+    7,
+];
+
+// A client waits for the answer to a request of two bytes.
+fn objects(alloc: Global) -> Result<Objects, AllocError> {
+    let none = Span::default();
+    let given = Span {
+        base: 536870914,
+        len: 2,
+        moved: 0,
+    };
+    Ok(Objects {
+        connections: vec![in alloc;
+            OpenConnection {
+                serial: 0,
+                client: ActorId(1),
+                service: 0,
+                phase: ConnPhase::Busy,
+                rhandle: 70000,
+                handle: Some(Handle(1024)),
+            },
+        ]?,
+        connections_made: 1,
+        messages: vec![in alloc;
+            PendingMessage {
+                service: 0,
+                client: ActorId(1),
+                connection: Some(0),
+                kind: 0,
+                vectors: Vectors {
+                    input: [given, none, none, none],
+                    output: [none, none, none, none],
+                    out_vec: 0,
+                    out_len: 0,
+                },
+                handle: None,
+            },
+        ]?,
+        phases: vec![in alloc; ActorPhase::Waiting { mask: 16 }, ActorPhase::Blocked]?,
+        doorbells: vec![in alloc; true]?,
+        sources: vec![in alloc;
+            SourceFlags {
+                enabled: true,
+                pending: false,
+                asserted: false,
+            },
+        ]?,
+    })
+}
+
+fn first_slot(alloc: Global) -> Result<SlotsInUse, AllocError> {
+    Ok(SlotsInUse {
+        live: vec![in alloc; 0u32]?,
+        uses: vec![in alloc; 1u32]?,
+    })
+}
+
+// The region with zeros.
+#[tactic(auto, unfolding(memory_image::specs::Pieces::fit_an_image))]
+fn zeros(alloc: Global) -> Result<Image, Fail>
+    ensures { IfOk result (λ image. regions_of image ≡ ranges_of (REGION ∷ [])) }
+{
+    let regions = List::of(vec![in alloc; REGION]?);
+    Ok(Image::new(alloc, &regions, &List::of(Vec::new(alloc)))?)
+}
+
+#[test]
+fn states_as_bytes(rt: HostRuntime) -> Result<(), Fail> {
+    let alloc = rt.alloc();
+    let opening = zeros(alloc)?;
+    let mut memory = zeros(alloc)?;
+    memory.store(536870914, 1, 7);
+    let snapshot = Snapshot {
+        machine: Machine {
+            objects: objects(alloc)?,
+            memory,
+        },
+        connections: first_slot(alloc)?,
+        messages: first_slot(alloc)?,
+    };
+    let bytes = pack(alloc, &snapshot, &[REGION], &opening)?;
+    assert!(rt; bytes.as_slice() == BYTES.as_slice());
+    let again = unpack(alloc, &BYTES, &[REGION], &opening)?;
+    assert!(rt; again.machine.memory.load(536870914, 1) == 7);
+    assert!(rt; again.machine.objects.messages.len() == 1);
+    assert!(rt; pack(alloc, &again, &[REGION], &opening)?.as_slice() == BYTES.as_slice());
+    Ok(())
+}
