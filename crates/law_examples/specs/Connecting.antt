@@ -1,6 +1,6 @@
 -- A client that connects to a service, with the programs of both, and three of their runs.
 -- Source: this simulator's.
-use Rattle.std.specs.Prelude.{ℕ, pos, false, List, [], ◌∷◌}
+use Rattle.std.specs.Prelude.{ℕ, pos, false, List, [], ◌∷◌, map}
 use Rattle.ffm_model.specs.declared.constants.TheConstants.{PSA_BLOCK, PSA_IPC_CONNECT}
 use Rattle.ffm_model.specs.declared.machine.Call.TheVariants.{Connect, Wait, Get, Reply, Resume, Stop}
 use Rattle.ffm_model.specs.declared.machine.Entry.{Entry}
@@ -10,9 +10,11 @@ use Rattle.ffm_model.specs.declared.script.CallName.TheVariants as name
 use Rattle.ffm_model.specs.Signed.{minus}
 use Rattle.actor_programs.specs.declared.program.Program.{Program}
 use Rattle.actor_programs.specs.declared.program.Program.TheVariants.{Plain}
+use Rattle.actor_programs.specs.Programs.{parts_of}
 use Rattle.law_examples.specs.ScriptLines.{call, number, register}
 use Rattle.law_examples.specs.Systems.{client, vault}
 use Rattle.law_examples.specs.Writing.{entry, handle, message, sid, status}
+use Rattle.law_scenarios.specs.ByScripts.{Scripts}
 use Rattle.law_scenarios.specs.Interleavings.{schedule_of}
 
 -- the partition waits for a message, and answers it with 0
@@ -29,6 +31,10 @@ client_program = Plain ((call name.Connect (number 0x40 ∷ number 1 ∷ []) ∷
 
 abbrev pub programs : List Program
 programs = vault_program ∷ client_program ∷ []
+
+-- the scripts of both
+abbrev pub scripts : Scripts
+scripts = map parts_of programs
 
 -- the end of a run, where the message has this number for a handle
 abbrev answered : ℕ → List Entry

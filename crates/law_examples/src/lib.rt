@@ -40,6 +40,8 @@ pub use requests::{
     vectors_of_a_request, written_past_the_end,
 };
 pub use restarts::runs_again_after_a_panic;
-pub use scenarios::{names_fix_handles, ranges_are_needed, turns_are_the_freedom};
+pub use scenarios::{
+    names_fix_handles, orders_meet_in_one_state, ranges_are_needed, turns_are_the_freedom,
+};
 pub use signals::{doorbell_rung_twice, interrupt_raised_while_asserted, two_messages_one_signal};
 pub use stateless::{called_without_connection, caller_panics, panicked_without_connection};

@@ -2,15 +2,19 @@
 //! definitions: that each law speaks of something, and that without one of its conditions it is wrong.
 //! No function here does anything.
 
-ghost use Rattle.std.specs.Prelude.{◌≡◌, true, false};
+ghost use Rattle.std.specs.Prelude.{◌≡◌, true, false, Some};
+ghost use Rattle.ffm_model.specs.declared.machine.Call.TheVariants.{Connect};
+ghost use Rattle.ffm_model.specs.declared.machine.Outcome.TheVariants.{Blocked};
 ghost use Rattle.ffm_model.specs.declared.machine.Verdict.TheVariants.{Quiet};
 ghost use Rattle.ffm_model.specs.Names.{names};
 ghost use Rattle.ffm_model.specs.Verdicts.{Legal, judged};
-ghost use Rattle.law_examples.specs.Systems.{vault_system};
-ghost use Rattle.law_examples.specs.Writing.{zeros};
+ghost use Rattle.law_examples.specs.Systems.{client, vault_system};
+ghost use Rattle.law_examples.specs.Writing.{entry, sid, zeros};
+ghost use Rattle.law_scenarios.specs.Explored.{explored, explored_by, first_explored, next_entry};
+ghost use Rattle.law_scenarios.specs.Interleavings.{actors_of};
 ghost use Rattle.law_scenarios.specs.Ranges.{ProgramsFit, VersionsFit, HasBytes};
 ghost use Rattle.scenario_runs.specs.Runs.{RanBy};
-ghost use Rattle.law_examples.specs.Connecting.{client_first, other_handle, programs, scenario_with_turns, vault_first};
+ghost use Rattle.law_examples.specs.Connecting.{client_first, other_handle, programs, scenario_with_turns, scripts, vault_first};
 ghost use Rattle.law_examples.specs.Ranges.{Misfits, loading_program, wide_call, wide_load, wide_memory, wide_program};
 ghost use Rattle.law_examples.specs.Wrong.{FollowWithoutNames, HasOneRunInAnyTurns, RunsWhereLegal};
 
@@ -24,6 +28,17 @@ pub fn turns_are_the_freedom()
     ensures second_order { RanBy vault_system zeros (scenario_with_turns client_first) programs
         true vault_first Quiet }
     ensures one_in_any_turns { HasOneRunInAnyTurns → ⊥ }
+{}
+
+/// The first state of the two tells the client's first entry. Both orders lead to one state, the second
+/// entry by entry.
+pub fn orders_meet_in_one_state()
+    ensures next { next_entry vault_system scripts (first_explored vault_system zeros scripts) client
+        ≡ Some (entry client (Connect (sid 0x40) 1) Blocked) }
+    ensures meet { explored vault_system zeros scripts client_first
+        ≡ explored vault_system zeros scripts vault_first }
+    ensures walk { explored_by vault_system scripts (first_explored vault_system zeros scripts)
+        (actors_of vault_first) ≡ explored vault_system zeros scripts vault_first }
 {}
 
 /// The machine takes any fresh handle, and the programs call with it. So it is wrong, without the names of

@@ -5,6 +5,17 @@ pub mod Orders
 pub mod Single
 pub mod Scheduling
 pub mod Ends
+pub mod Engines
+pub mod NextEntry
+pub mod NextStates
+pub mod Walks
+pub mod Enabled
+pub mod Past
+pub mod SlotsAlike
+pub mod Alike
+pub mod SeenWalks
+pub mod ByScripts
+pub mod Exploring
 pub mod Numbers
 pub mod MachineRanges
 pub mod Plans

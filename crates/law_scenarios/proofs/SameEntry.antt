@@ -117,7 +117,7 @@ error-stays s st a c h =
     elim [ true ↦ λ e. none-is (call_case s st a c h) (alike s st a c h zero_handle ∙ e) | false ↦ λ e. refl ] in
     go (has_call (kind_of s a) c)
 
-effect-one : (s : System) (st : State) (a : ℕ) (c : Call) (h k : Handle) (n : NamesSoFar)
+pub effect-one : (s : System) (st : State) (a : ℕ) (c : Call) (h k : Handle) (n : NamesSoFar)
     → (programmer_error s st a c || option_map_or (handle_eq h) (name_due s st a c n) true) ≡ true
     → (programmer_error s st a c || option_map_or (handle_eq k) (name_due s st a c n) true) ≡ true
     → effect_of s st a c h ≡ effect_of s st a c k
@@ -142,7 +142,7 @@ first : {X : Type 0} (a b c : Bool) (x : X) → IsSome (if a && b && c then Some
 first true b c x h = refl
 first false b c x h = h
 
-step-outcome : (s : System) (st : State) (e : Entry) → IsSome (step s st e) → outcome_eq (effect_of s st e.actor.0 e.call (handle_shown e.outcome)).outcome e.outcome ≡ true
+pub step-outcome : (s : System) (st : State) (e : Entry) → IsSome (step s st e) → outcome_eq (effect_of s st e.actor.0 e.call (handle_shown e.outcome)).outcome e.outcome ≡ true
 unfolding step
 step-outcome s st e h =
     let due = effect_of s st e.actor.0 e.call (handle_shown e.outcome) in

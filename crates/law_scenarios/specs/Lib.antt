@@ -1,5 +1,9 @@
 pub mod Interleavings
 pub mod SingleRun
+pub mod ByScripts
+pub mod Explored
+pub mod Exploring
+pub mod Seen
 pub mod Ranges
 pub mod Fitting
 pub mod Priorities

@@ -1,5 +1,6 @@
-//! The laws of the runs of scenarios: what fixes a run (`turns`), that each number is a value of its field's
-//! type (`ranges`), and that priorities change nothing (`priorities`).
+//! The laws of the runs of scenarios: what fixes a run (`turns`), that a state tells what comes next
+//! (`states`), that each number is a value of its field's type (`ranges`), and that priorities change
+//! nothing (`priorities`).
 //!
 //! The functions here do nothing. The contract of each is a law of the machine of `ffm_model` and of the
 //! programs of its actors.
@@ -7,10 +8,14 @@
 
 mod priorities;
 mod ranges;
+mod states;
 mod turns;
 
 pub use priorities::priority_changes_nothing;
 pub use ranges::{entries_fit_their_fields, files_are_in_range};
+pub use states::{
+    interleavings_go_by_their_states, past_changes_nothing, programs_interleave_as_scripts,
+};
 pub use turns::{
     interleavings_end_as_runs, restarted_runs_are_one, runs_follow_their_actors,
     scheduled_runs_are_one, threaded_runs_are_scheduled,
