@@ -1,4 +1,5 @@
 mod Changed
 mod Fitting
 mod MessageLemmas
+mod Asserted
 pub mod Leaving

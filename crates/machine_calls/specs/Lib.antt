@@ -1,2 +1,3 @@
 pub mod Machine
 pub mod Leaving
+pub mod Signals

@@ -22,7 +22,7 @@ fn is_held(system: &System, partition: u32, message: &PendingMessage, handle: Ha
     ensures { result ≡ (is_service_of system.now partition message.now.service
         && has_handle message.now.handle handle) }
 {
-    is_service_of(system, partition, message.service) && has_handle(message, handle)
+    has_handle(message, handle) && is_service_of(system, partition, message.service)
 }
 
 fn held_by(

@@ -8,13 +8,13 @@ ghost use Rattle.ffm_model.specs.State.{connection_by_serial};
 ghost use Rattle.machine_calls.specs.Machine.{spm_of_objects, state_of, Moves, Does, Gets, IsMachineOf};
 
 use crate::machine::{Machine, Objects};
+use crate::signals::has_signal;
 use ffm_model::{
     ActorId, ActorPhase, Handle, Message, Outcome, PSA_BLOCK, PSA_IPC_CONNECT, PendingMessage,
     System,
 };
 use machine_rules::{
-    MESSAGE_SIZE, assigned_to, client_id_of, read, service_of_signal, sizes_of, skip, words_of,
-    write,
+    MESSAGE_SIZE, client_id_of, read, service_of_signal, sizes_of, skip, words_of, write,
 };
 use memory_image::valid_buffer;
 
@@ -65,7 +65,7 @@ impl Objects {
         ensures messages { self.new.messages ≡ self.old.messages }
         ensures made { self.new.connections_made ≡ self.old.connections_made }
     {
-        if assigned_to(system, actor.0) & mask == 0 {
+        if !has_signal(system, actor.0, mask) {
             return None;
         }
         if timeout < PSA_BLOCK {

@@ -171,6 +171,9 @@ fn first_without_permission<'a>(
         not (list_any (λ pair. pair.connects && is_for pair e.1) (permitted parts.now)))
         (enumerate_from 0 parts.now.connections)))) }
 {
+    if parts.connections.is_empty() {
+        return Ok(None);
+    }
     let names = names_of_pairs(alloc, pairs)?;
     for (place, connection) in parts.connections.as_slice().iter().enumerate() {
         if !is_permitted(&names, connection) {

@@ -24,7 +24,39 @@ use std::alloc::Global;
 #[derive(Clone, Copy)]
 struct Over;
 
-// One turn of an actor: whether it made an entry.
+// Makes the call of an actor's script: whether that made an entry.
+#[inline(never)]
+fn make_entry(
+    spm: &mut Spm,
+    runners: &mut [Runner],
+    scripts: &[Script],
+    actor: ActorId,
+) -> Result<bool, Over>
+    requires exists { actor.0 < actor_count spm.old.opening.system }
+    requires short { length spm.old.history ≤ spm.old.opening.limit }
+    requires driving { Driving scripts.now spm.old.opening spm.old.history runners.old }
+    ensures opening { spm.new.opening ≡ spm.old.opening }
+    ensures driving { Driving scripts.now spm.old.opening spm.new.history runners.new }
+    ensures turned { Turned spm.old.opening spm.old.history actor.0 result spm.new.history }
+{
+    plans_resume_behind_blocked();
+    let at = actor.0 as usize;
+    let runner = &mut runners[at];
+    let call = runner.next(&scripts[at]);
+    match spm.step(actor, call) {
+        Answer::Made { entry, .. } => {
+            runner.after(&entry.outcome);
+            Ok(true)
+        }
+        Answer::Gone => Ok(false),
+        Answer::NotYet => Ok(false),
+        Answer::Over => Err(Over),
+        Answer::Full => Err(Over),
+    }
+}
+
+// One turn of an actor: whether it made an entry. Most turns of a run with many actors end here.
+#[inline(always)]
 fn take_turn(
     spm: &mut Spm,
     runners: &mut [Runner],
@@ -41,20 +73,7 @@ fn take_turn(
     if !spm.enabled(actor) {
         return Ok(false);
     }
-    plans_resume_behind_blocked();
-    let at = actor.0 as usize;
-    let runner = &mut runners[at];
-    let call = runner.next(&scripts[at]);
-    match spm.step(actor, call) {
-        Answer::Made { entry, .. } => {
-            runner.after(&entry.outcome);
-            Ok(true)
-        }
-        Answer::Gone => Ok(false),
-        Answer::NotYet => Ok(false),
-        Answer::Over => Err(Over),
-        Answer::Full => Err(Over),
-    }
+    make_entry(spm, runners, scripts, actor)
 }
 
 // All turns of a run.

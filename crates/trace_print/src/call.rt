@@ -2,7 +2,8 @@
 
 ghost use Rattle.std.specs.Prelude.{◌≡◌, ◌≤◌, length};
 ghost use Rattle.std.specs.Option.{option_map};
-ghost use Rattle.trace_print.specs.Reading.{call_at, event_named, first_by, operand_of, operands_at, spent_of, stop_at};
+ghost use Rattle.ffm_model.specs.Signatures.{signature_in, signatures};
+ghost use Rattle.trace_print.specs.Reading.{call_at, call_with, event_named, first_by, operand_of, operands_at, spent_of, stop_at};
 ghost use Rattle.trace_print.specs.View.{words_of, seen};
 
 use crate::number::{Words, hexadecimal, signed, unsigned, word};
@@ -79,17 +80,29 @@ fn event<'a>(name: &[u8], words: Words<'a>) -> CallAndRest<'a>
     }
 }
 
-/// The call that the first words spell, and the words after it.
+// The call of that name.
 #[tactic(auto, unfolding(crate::specs::Reading::call_by))]
-pub fn call<'a>(words: Words<'a>) -> CallAndRest<'a>
-    ensures { option_map seen result ≡ call_at (words_of words.entry) }
+fn call_named<'a>(name: &[u8], words: Words<'a>) -> CallAndRest<'a>
+    ensures { option_map seen result
+        ≡ call_with (signature_in signatures name.now) name.now (words_of words.entry) }
 {
-    let (word, words) = word(words)?;
-    match signature_of(word) {
+    match signature_of(name) {
         Some((_, name, kinds)) => {
             let (operands, words) = operands(kinds, words)?;
             Some((call_of(name, operands.as_slice()), words))
         }
-        None => event(word, words),
+        None => event(name, words),
     }
+}
+
+/// The call that the first words spell, and the words after it.
+pub fn call<'a>(words: Words<'a>) -> CallAndRest<'a>
+    ensures { option_map seen result ≡ call_at (words_of words.entry) }
+{
+    let (name, words) = word(words)?;
+    // As many lines as make a call that waits, and no signature has their word.
+    if name == b"resume".as_slice() {
+        return Some((Call::Resume, words));
+    }
+    call_named(name, words)
 }

@@ -1,6 +1,6 @@
 //! Words of a line, and the numbers that they spell, each in the one spelling that is printed.
 
-ghost use Rattle.std.specs.Prelude.{◌≡◌, ◌∷◌, ◌++◌, IfSome};
+ghost use Rattle.std.specs.Prelude.{◌≡◌, ◌∷◌, ◌++◌, IfSome, Some};
 ghost use Rattle.std.specs.Option.{option_map};
 ghost use Rattle.trace_print.specs.Numbers.{digit_at, more, with_digit, number_after, unsigned_of, signed_of, hexadecimal_of, negative, positive};
 ghost use Rattle.trace_print.specs.Reading.{word_at, unsigned_at, hexadecimal_at, signed_at};
@@ -17,10 +17,12 @@ pub fn split_once(separator: u8, text: &[u8]) -> (&[u8], Option<&[u8]>)
     ensures parts { parts separator text.now ≡ result.0.now ∷ parts_left separator result.1 }
     ensures joined { IfSome result.1 (λ rest. text.now ≡ result.0.now ++ separator ∷ rest.now) }
 {
-    match text.iter().position(|byte| *byte == separator) {
-        Some(end) => (&text[..end], Some(&text[end + 1..])),
-        None => (text, None),
+    for (end, byte) in text.iter().enumerate() {
+        if *byte == separator {
+            return (&text[..end], Some(&text[end + 1..]));
+        }
     }
+    (text, None)
 }
 
 /// The bytes before the first line feed, and those after it where there is one.
@@ -137,11 +139,26 @@ pub fn unsigned<'a>(words: Words<'a>) -> Option<(u32, Words<'a>)>
     Some((unsigned_of(word)?, words))
 }
 
+// The number of a word of ten bytes that others follow, none of which is a space.
+fn hexadecimal_and_rest(text: &[u8]) -> Option<(u32, Words<'_>)>
+    ensures { IfSome result (λ found. hexadecimal_at (parts 32 text.now) ≡ Some (seen found)) }
+{
+    if text.len() > 10 && text[10] == b' ' {
+        Some((hexadecimal_of(&text[..10])?, Some(&text[11..])))
+    } else {
+        None
+    }
+}
+
 /// The first word as a hexadecimal number, and the words after it.
 pub fn hexadecimal<'a>(words: Words<'a>) -> Option<(u32, Words<'a>)>
     ensures { option_map seen result ≡ hexadecimal_at (words_of words.entry) }
 {
-    let (word, words) = word(words)?;
+    let text = words?;
+    if let Some(found) = hexadecimal_and_rest(text) {
+        return Some(found);
+    }
+    let (word, words) = split_once(b' ', text);
     Some((hexadecimal_of(word)?, words))
 }
 
