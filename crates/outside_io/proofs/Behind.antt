@@ -1,6 +1,6 @@
 -- What a sink that gathers shows, by what its own sink shows.
 use Rattle.std.proofs.Common.{◌≡◌, ℕ, ◌+◌, ◌-◌, ◌<◌, List, [], ◌++◌, Result, Ok, Err, take, drop, length, ap, ◌∙◌, sym, append_assoc, append-nil, arith, subst}
-use Rattle.std.proofs.lemmas.List.{take-append-drop, take_rest, length-drop, take_all, drop-drop}
+use Rattle.std.proofs.lemmas.List.{take-append-drop, length-drop, take_all, drop-drop}
 use Rattle.outside_io.specs.Count.{Rose}
 use Rattle.outside_io.specs.Sink.{SinkSeen, Takes, Took, Puts, Flushes}
 use Rattle.outside_io.specs.Gathering.{behind, seen_through, waiting_in}
@@ -35,9 +35,9 @@ drop_twice : (xs : List ℕ) (i n : ℕ) → drop n (drop i xs) ≡ drop (i + n)
 drop_twice xs i n = drop-drop n i xs
 
 -- one put more of what waits
-pub hand_more : (o a b : SinkSeen) (held : List ℕ) (at n : ℕ) → Took o (behind a (drop at held)) [] → Took a b (take n (take (length held - at) (drop at held))) → Took o (behind b (drop (at + n) held)) []
+pub hand_more : (o a b : SinkSeen) (held : List ℕ) (at n : ℕ) → Took o (behind a (drop at held)) [] → Took a b (take n (drop at held)) → Took o (behind b (drop (at + n) held)) []
 hand_more o a b held at n p (q, s) =
-    let front = front_behind a b (drop at held) n (rw take_rest at q) in
+    let front = front_behind a b (drop at held) n q in
     took_then o (behind a (drop at held)) (behind b (drop (at + n) held)) [] [] p (subst (λ (w : List ℕ). Takes (behind a (drop at held)) (behind b w) []) (drop_twice held at n) front, s)
 
 -- the put of what waits failed

@@ -1,6 +1,6 @@
 -- A sink that gathers bytes before another one: what waits in it, and what it tells.
 -- Source: this project's rule for the outside.
-use Rattle.std.specs.Prelude.{ℕ, List, drop, ◌++◌}
+use Rattle.std.specs.Prelude.{ℕ, List, drop, take, ◌++◌}
 use Rattle.outside_io.specs.Sink.{SinkSeen}
 use Rattle.outside_io.specs.declared.gathering.Gathering.{Gathering}
 
@@ -10,7 +10,7 @@ sink_of gathering = gathering.sink
 
 -- the bytes that were taken and not handed on yet
 abbrev pub waiting_in : {S : Type 0} → Gathering S → List ℕ
-waiting_in gathering = drop gathering.at gathering.held.items
+waiting_in gathering = drop gathering.at (take gathering.len gathering.held)
 
 -- what a sink tells behind which these bytes wait
 abbrev pub behind : SinkSeen → List ℕ → SinkSeen

@@ -1,12 +1,12 @@
 //! Bytes that are gathered before a sink: pieces that find room wait together, and are handed on at
 //! once.
 
-ghost use Rattle.std.specs.Prelude.{◌≡◌, ◌≤◌, [], length};
+ghost use Rattle.std.specs.Prelude.{◌≡◌, ◌+◌, ◌≤◌, ◌++◌, [], drop, length, take};
 ghost use Rattle.std.specs.Bool.{OnFalse, OnTrue};
 ghost use Rattle.outside_io.specs.Sink.{HandsOn, Takes};
+ghost use Rattle.outside_io.specs.declared.gathering.TheConstants.{GATHERED_BYTES};
 
 use crate::sink::{Failed, Sink};
-use arrayvec::ArrayVec;
 
 // As many bytes are gathered at most.
 const GATHERED_BYTES: usize = 8192;
@@ -20,10 +20,32 @@ const GATHERED_BYTES: usize = 8192;
 #[derive(Drop)]
 pub struct Gathering<S> {
     sink: S,
-    held: ArrayVec<u8, GATHERED_BYTES>,
-    // So many of the bytes held were handed on.
+    // The first `len` bytes were gathered. Those after them stay as they are, so that no hand-on writes any.
+    held: [u8; GATHERED_BYTES],
+    len: usize,
+    // So many of the gathered bytes were handed on.
     at: usize,
-    ghost within: { at ≤ length held.items },
+    ghost within: { at ≤ len },
+    ghost room: { len ≤ GATHERED_BYTES },
+}
+
+// The bytes from a place on, of so many.
+fn part_of(held: &[u8], at: usize, len: usize) -> &[u8]
+    requires within { at ≤ len }
+    requires room { len ≤ length held.now }
+    ensures { result.now ≡ drop at (take len held.now) }
+{
+    let gathered = &held[..len];
+    &gathered[at..]
+}
+
+// Puts a piece behind the first so many bytes.
+fn put_behind(held: &mut [u8], len: usize, piece: &[u8])
+    requires { len + length piece.now ≤ length held.old }
+    ensures { take (len + length piece.now) held.new ≡ take len held.old ++ piece.now }
+{
+    let end = len + piece.len();
+    held[len..end].copy_from_slice(piece);
 }
 
 impl<S: Sink> Gathering<S> {
@@ -37,7 +59,8 @@ impl<S: Sink> Gathering<S> {
     {
         Gathering {
             sink,
-            held: ArrayVec::new(),
+            held: [0; GATHERED_BYTES],
+            len: 0,
             at: 0,
         }
     }
@@ -54,11 +77,12 @@ impl<S: Sink> Gathering<S> {
         ensures { HandsOn (seen_through S.seen self.old) (seen_through S.seen self.new)
             result (waiting_in self.new) }
     {
-        while self.at < self.held.len() {
-            self.at += self.sink.put(&self.held.as_slice()[self.at..])?;
+        while self.at < self.len {
+            let waiting = part_of(&self.held, self.at, self.len);
+            self.at += self.sink.put(waiting)?;
         }
-        self.held.clear();
         self.at = 0;
+        self.len = 0;
         Ok(())
     }
 
@@ -69,7 +93,12 @@ impl<S: Sink> Gathering<S> {
         ensures unchanged { OnFalse result (self.new ≡ self.old) }
         ensures same_sink { sink_of self.new ≡ sink_of self.old }
     {
-        self.held.try_extend_from_slice(piece).is_ok()
+        if piece.len() > GATHERED_BYTES - self.len {
+            return false;
+        }
+        put_behind(&mut self.held, self.len, piece);
+        self.len += piece.len();
+        true
     }
 }
 

@@ -1,4 +1,4 @@
-use Rattle.std.proofs.Common.{length, ◌-◌, []}
+use Rattle.std.proofs.Common.{◌-◌, []}
 use Rattle.outside_io.specs.Sink.{Took}
 use Rattle.outside_io.specs.Gathering.{seen_through}
 use Rattle.outside_io.proofs.gathering.Gathering.hand_on.Given as goal
@@ -7,4 +7,4 @@ abbrev pub invariant-loop-self : goal.invariant-loop-self
 invariant-loop-self g l = Took (seen_through g.S.Sink.seen l.initial.self) (seen_through g.S.Sink.seen l.self) []
 
 abbrev pub decreases-loop-self : goal.decreases-loop-self
-decreases-loop-self g l = length l.self.held.items - l.self.at
+decreases-loop-self g l = l.self.len - l.self.at
