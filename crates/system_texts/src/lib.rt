@@ -8,6 +8,6 @@ mod scenario;
 mod system;
 mod words;
 
-pub use lines::listing;
+pub use lines::{admitted, listing};
 pub use scenario::scenario_text;
 pub use system::system_text;

@@ -1,0 +1,4 @@
+pub mod Kept
+pub mod KeptSeen
+pub mod Lines
+pub mod Places

@@ -1,0 +1,7 @@
+-- proofs/explain/value_text/Answers.antt
+-- The text in place of one that tells a place is the line that says so, with the words behind it.
+use Rattle.view_refusals.proofs.ToldLemmas.{told_none}
+use Rattle.view_refusals.proofs.explain.value_text.Goals as goal
+
+pub returns-in_default : goal.returns-in_default
+returns-in_default c = told_none _ _ _ _ c.in_ok-no_place.ensures
