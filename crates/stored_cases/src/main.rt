@@ -5,6 +5,7 @@
 use anyhow::{Context, Result, bail};
 use ffm_model::OpenGate;
 use ffm_top::ffm;
+use file_places::KeptFiles;
 use outside_io::{HostFiles, StdoutSink};
 use sha2::{Digest, Sha256};
 use std::alloc::{AllocError, Global};
@@ -44,10 +45,21 @@ impl Line {
     }
 }
 
+// The words of a line. The last one may hold spaces, between single quotation marks.
 fn words_of(alloc: Global, line: &str) -> Result<Vec<String>, AllocError> {
+    let quoted = line
+        .strip_suffix('\'')
+        .and_then(|line| line.split_once(" '"));
+    let (line, last) = match quoted {
+        Some((line, last)) => (line, Some(last)),
+        None => (line, None),
+    };
     let mut words = Vec::new(alloc);
     for word in line.split(' ') {
         words.push(String::from_str(alloc, word)?)?;
+    }
+    if let Some(last) = last {
+        words.push(String::from_str(alloc, last)?)?;
     }
     Ok(words)
 }
@@ -75,7 +87,10 @@ where
     let status = match kind {
         Line::Heading => return Ok(()),
         Line::Ffm => ffm(rt, rt.alloc(), &words, &mut files, &mut out, &OpenGate),
-        Line::FfmView => ffm_view(rt.alloc(), &words, &mut files, &mut out),
+        Line::FfmView => {
+            let mut files = KeptFiles::of(rt.alloc(), files);
+            ffm_view(rt.alloc(), &words, &mut files, &mut out)
+        }
         Line::Digests => {
             write_digests(rt, &words)?;
             0

@@ -155,7 +155,7 @@ no doorbell asserted
     participant n1 as n1 NS
     n1->>p1: 2 connect VAULT
     Note over p1: 3 wakes: VAULT
-    Note over p1,n1: quiet 8
+    Note over p1,n1: up to entry 3 of 8
 ",
     },
     Case {
@@ -249,10 +249,10 @@ fn puts_that_fail(rt: HostRuntime) -> Result<(), Fail> {
 #[test]
 fn output_that_waits(rt: HostRuntime) -> Result<(), Fail> {
     for case in &CASES {
-        let mut files = files_of(rt.alloc(), &FILES)?;
+        let files = files_of(rt.alloc(), &FILES)?;
         let mut sink: Gathering<MemorySink> = Gathering::of(sink_of(rt.alloc(), 1024, 1024, 1)?);
         let command = case.command;
-        let status = status_of(&rt, rt.alloc(), &OpenGate, command, &mut files, &mut sink)?;
+        let status = status_of(&rt, rt.alloc(), &OpenGate, command, files, &mut sink)?;
         assert!(rt; status == 8 && sink.sink().bytes().is_empty());
         assert!(rt; sink.flush().is_ok());
         assert!(rt; sink.sink().bytes() == case.text.as_bytes());

@@ -105,8 +105,8 @@ fn gathered_run<R: Threads + Wait + Sync>(
     sink: &mut Gathering<MemorySink>,
 ) -> Result<u8, Fail> {
     let scenario = asking_often(alloc, 600)?;
-    let mut files = files_of(alloc, &[("system", VAULT), ("scenario", scenario.as_str())])?;
-    Ok(status_of(rt, alloc, &OpenGate, RUN, &mut files, sink)?)
+    let files = files_of(alloc, &[("system", VAULT), ("scenario", scenario.as_str())])?;
+    Ok(status_of(rt, alloc, &OpenGate, RUN, files, sink)?)
 }
 
 // 8 KiB are gathered: the first line and 240 more, then 240 lines, and the rest is handed on at the end. Each of these

@@ -4,6 +4,7 @@ ghost use Rattle.std.specs.Prelude.{◌<◌};
 
 use ffm_model::{Gate, List, Memory};
 use ffm_top::ffm;
+use file_places::KeptFiles;
 use outside_io::{MemoryFiles, MemorySink, Sink};
 use std::alloc::{AllocError, Global};
 use std::process::Abort;
@@ -69,13 +70,14 @@ pub(crate) fn status_of<R: Threads + Wait + Sync, G: Gate + Sync, S: Sink>(
     alloc: Global,
     gate: &G,
     command: Command,
-    files: &mut MemoryFiles,
+    files: MemoryFiles,
     sink: &mut S,
 ) -> Result<u8, AllocError> {
     let words = words_of(alloc, command.words)?;
+    let mut files = KeptFiles::of(alloc, files);
     Ok(match command.program {
-        Program::Ffm => ffm(rt, alloc, &words, files, sink, gate),
-        Program::View => ffm_view(alloc, &words, files, sink),
+        Program::Ffm => ffm(rt, alloc, &words, &mut files, sink, gate),
+        Program::View => ffm_view(alloc, &words, &mut files, sink),
     })
 }
 
@@ -85,10 +87,10 @@ pub(crate) fn run<R: Threads + Wait + Sync, G: Gate + Sync>(
     alloc: Global,
     gate: &G,
     command: Command,
-    mut files: MemoryFiles,
+    files: MemoryFiles,
     mut sink: MemorySink,
 ) -> Result<Told, AllocError> {
-    let status = status_of(rt, alloc, gate, command, &mut files, &mut sink)?;
+    let status = status_of(rt, alloc, gate, command, files, &mut sink)?;
     let text = sink.bytes().to_vec(alloc)?;
     Ok(Told { status, text })
 }

@@ -2,6 +2,7 @@
 
 use crate::told::{Program, files_of, sink_of};
 use ffm_model::OpenGate;
+use file_places::KeptFiles;
 use outside_io::{MemoryFiles, MemorySink, Words, given_words};
 use std::alloc::Global;
 use std::env::FillError;
@@ -78,7 +79,7 @@ const USAGE: &str =
     "usage: ffm compile SYSTEM | ffm run [--threads] SYSTEM SCENARIO | ffm replay SYSTEM SCENARIO TRACE | ffm audit SYSTEM SCENARIO TRACE | ffm make N\n";
 
 const NO_COMMAND: &str = "error: 'ffm_view' requires a subcommand but one was not provided
-  [subcommands: state, why, diagram, stats, help]
+  [subcommands: state, why, ask, diagram, stats, explain, help]
 
 Usage: ffm_view <COMMAND>
 
@@ -142,22 +143,23 @@ fn ended<R: Threads + Wait + Eprint + Sync>(
     alloc: Global,
     program: Program,
     words: &Given,
-    files: &mut MemoryFiles,
+    files: MemoryFiles,
     sink: &mut MemorySink,
 ) -> ExitCode {
+    let mut files = KeptFiles::of(alloc, files);
     match program {
-        Program::Ffm => ffm_top::program(rt, alloc, words, files, sink, &OpenGate),
-        Program::View => view_commands::program(rt, alloc, words, files, sink),
+        Program::Ffm => ffm_top::program(rt, alloc, words, &mut files, sink, &OpenGate),
+        Program::View => view_commands::program(rt, alloc, words, &mut files, sink),
     }
 }
 
 #[test]
 fn exit_codes(rt: HostRuntime) -> Result<(), Fail> {
     for (program, words, room, status, text) in ENDS {
-        let mut files = files_of(rt.alloc(), &[("system", "")])?;
+        let files = files_of(rt.alloc(), &[("system", "")])?;
         let mut sink = sink_of(rt.alloc(), room, 256, 0)?;
         let words = Given { words };
-        let code = ended(&rt, rt.alloc(), program, &words, &mut files, &mut sink);
+        let code = ended(&rt, rt.alloc(), program, &words, files, &mut sink);
         assert!(rt; code == ExitCode::from(status), "{text}");
         assert!(rt; sink.bytes() == text.as_bytes(), "{text}");
     }

@@ -13,15 +13,17 @@ use Rattle.work_orders.specs.declared.unanswered.Unanswered.{Unanswered}
 use Rattle.work_orders.specs.declared.unanswered.Unanswered.TheVariants as unanswered
 use Rattle.view_commands.specs.declared.files.TraceFiles.{TraceFiles}
 use Rattle.view_commands.specs.declared.top.Answer.{Answer}
-use Rattle.view_commands.specs.Answers.{Answered, AnswersRequest, AnswersWords, Due, EndsWith, IsAnswer, IsShownStatus, IsStatus, Shows, Unfinished, Unread}
+use Rattle.view_commands.specs.Answers.{Answered, AnswersAsked, AnswersWords, Due, EndsWith, IsAnswer, IsShownStatus, IsStatus, Shows, Unfinished, Unread}
 use Rattle.view_commands.specs.Files.{FilesRead, files_of}
+use Rattle.view_commands.specs.declared.words.Asked.{Asked}
+use Rattle.view_commands.specs.declared.words.Asked.TheVariants as asked
 use Rattle.view_commands.specs.declared.words.Request.{Request}
 use Rattle.view_commands.specs.Requests.{AsksFor, IsTold, told_status}
 
 -- ---- the answer to a request
 
 -- the aspect is shown of the files that were read
-pub shown_answer : (r : Request) (a b : FilesSeen) (f : TraceFiles) (text : List ℕ) (status : ℕ) → FilesRead r.names a b (Ok f) → Shows f r.aspect text status → IsAnswer r a b text status
+pub shown_answer : (r : Request) (a b : FilesSeen) (f : TraceFiles) (text : List ℕ) (status : ℕ) → FilesRead r.names a b (Ok f) → Shows f r.aspect text status → IsAnswer (asked.View r) a b text status
 shown_answer r a b f text status read shows = record {
   due = Ok (judge_of Replay f.work.system f.work.scenario f.work.trace.items);
   reads = read.0;
@@ -35,7 +37,7 @@ unshown r a b f read = asks_lost a b (judge_of Replay f.work.system f.work.scena
 -- ---- the answer to the words
 
 -- they ask for this
-pub asked_answer : (words : List (List ℕ)) (r : Request) (a b : FilesSeen) (result : Result Answer Unanswered) → AsksFor words r → AnswersRequest r a b result → AnswersWords words a b result
+pub asked_answer : (words : List (List ℕ)) (r : Asked) (a b : FilesSeen) (result : Result Answer Unanswered) → AsksFor words r → AnswersAsked r a b result → AnswersWords words a b result
 asked_answer words r a b (Ok answer) asks is = inr (r, asks, is)
 asked_answer words r a b (Err unanswered.File) asks is = (r, asks, is)
 asked_answer words r a b (Err unanswered.Memory) asks is = inr (r, asks, is)

@@ -2,4 +2,7 @@ mod Commands
 mod Getters
 mod Parsed
 pub mod Answered
+pub mod CallTexts
+pub mod Explained
 pub mod FilesDue
+pub mod Legal

@@ -9,14 +9,16 @@ use Rattle.outside_io.specs.Words.{AreGiven}
 use Rattle.work_orders.specs.Work.{Work, judge_of}
 use Rattle.work_orders.specs.declared.unanswered.Unanswered.{Unanswered}
 use Rattle.work_orders.specs.declared.unanswered.Unanswered.TheVariants as unanswered
-use Rattle.view_commands.specs.Files.{AreTraceFiles, RefusalDue, files_of, given}
+use Rattle.view_commands.specs.Explains.{IsExplained}
+use Rattle.view_commands.specs.Files.{AreTraceFiles, RefusalDue, files_asked, given}
 use Rattle.view_commands.specs.Views.{IsView, IsViewText, status_of}
 use Rattle.view_commands.specs.Requests.{AsksFor, IsTold}
 use Rattle.view_commands.specs.declared.files.TraceFiles.{TraceFiles}
 use Rattle.view_commands.specs.declared.top.Answer.{Answer}
 use Rattle.view_commands.specs.declared.view.View.{View}
 use Rattle.view_commands.specs.declared.words.Aspect.{Aspect}
-use Rattle.view_commands.specs.declared.words.Request.{Request}
+use Rattle.view_commands.specs.declared.words.Asked.{Asked}
+use Rattle.view_commands.specs.declared.words.Asked.TheVariants as asked
 
 -- 0: shown. 1: a file is refused. 2: the words are no command, or name a place that the trace doesn't
 -- have. 6: the trace is illegal. 7: a file can't be read. 8: the text can't be written. 9: no memory
@@ -30,7 +32,7 @@ IsShownStatus status = (status ≤ 2) ⊎ (status ≡ 6)
 -- the aspect of the files' trace, with its text and its status
 abbrev pub Shows : TraceFiles → Aspect → List ℕ → ℕ → Type 0
 Shows files a text status =
-    (v : View) × IsView files a v × IsViewText v text × (status ≡ status_of v)
+    (v : View) × IsView files a v × IsViewText files.work.system v text × (status ≡ status_of v)
 
 -- the aspect is shown of the trace that the files are to give
 pub record IsShown (due : Result Work Stop) (a : Aspect) (text : List ℕ) (status : ℕ) : Type 0 where
@@ -43,31 +45,36 @@ pub record IsShown (due : Result Work Stop) (a : Aspect) (text : List ℕ) (stat
 abbrev pub ViewDue : Result Work Stop → Aspect → List ℕ → ℕ → Type 0
 ViewDue due a text status = (RefusalDue due text × (status ≡ 1)) ⊎ IsShown due a text status
 
--- the files of a request were read, in order and no other, and the text is due of what they give
+-- what is asked for is due of what the files give
+abbrev pub AskedDue : Asked → Result Work Stop → List ℕ → ℕ → Type 0
+AskedDue (asked.View r) due text status = ViewDue due r.aspect text status
+AskedDue (asked.Explain names) due text status = IsExplained due text status
+
+-- the files that are asked for were read, in order and no other, and the text is due of what they give
 pub record IsAnswer
-    (r : Request) (before after : FilesSeen) (text : List ℕ) (status : ℕ) : Type 0 where
+    (a : Asked) (before after : FilesSeen) (text : List ℕ) (status : ℕ) : Type 0 where
   pub due : Result Work Stop
-  pub reads : Asks before after (given due) (files_of r.names)
-  pub is_due : ViewDue due r.aspect text status
+  pub reads : Asks before after (given due) (files_asked a)
+  pub is_due : AskedDue a due text status
 
 -- the words are no command or ask for help or the version, and no file is read; or what they ask
 -- for is shown
 abbrev pub Due : List (List ℕ) → FilesSeen → FilesSeen → List ℕ → ℕ → Type 0
 Due words before after text status =
     (IsTold words status × (after ≡ before))
-    ⊎ ((r : Request) × AsksFor words r × IsAnswer r before after text status)
+    ⊎ ((a : Asked) × AsksFor words a × IsAnswer a before after text status)
 
 -- a file that the words ask for can't be read: the last one of those in front that were read
 abbrev pub Unread : List (List ℕ) → FilesSeen → FilesSeen → Type 0
 Unread words before after =
-    (r : Request) × AsksFor words r × Asks {A = Work} before after (Err failed) (files_of r.names)
+    (a : Asked) × AsksFor words a × Asks {A = Work} before after (Err failed) (files_asked a)
 
 -- no memory was found, where none of the files that the words ask for was read yet, or some of
 -- those in front
 abbrev pub Unfinished : List (List ℕ) → FilesSeen → FilesSeen → Type 0
 Unfinished words before after =
     (after ≡ before)
-    ⊎ ((r : Request) × AsksFor words r × Asks {A = Work} before after (Err no_memory) (files_of r.names))
+    ⊎ ((a : Asked) × AsksFor words a × Asks {A = Work} before after (Err no_memory) (files_asked a))
 
 -- what these words are answered over these files and this sink
 pub record Answered
@@ -96,12 +103,12 @@ EndsWith told files files_after out out_after status =
 
 -- ---- what the code answers on the way
 
-abbrev pub AnswersRequest : Request → FilesSeen → FilesSeen → Result Answer Unanswered → Type 0
-AnswersRequest r before after (Ok answer) = IsAnswer r before after answer.text.items answer.status
-AnswersRequest r before after (Err unanswered.File) =
-    Asks {A = Work} before after (Err failed) (files_of r.names)
-AnswersRequest r before after (Err unanswered.Memory) =
-    Asks {A = Work} before after (Err no_memory) (files_of r.names)
+abbrev pub AnswersAsked : Asked → FilesSeen → FilesSeen → Result Answer Unanswered → Type 0
+AnswersAsked a before after (Ok answer) = IsAnswer a before after answer.text.items answer.status
+AnswersAsked a before after (Err unanswered.File) =
+    Asks {A = Work} before after (Err failed) (files_asked a)
+AnswersAsked a before after (Err unanswered.Memory) =
+    Asks {A = Work} before after (Err no_memory) (files_asked a)
 
 abbrev pub AnswersWords : List (List ℕ) → FilesSeen → FilesSeen → Result Answer Unanswered → Type 0
 AnswersWords words before after (Ok answer) = Due words before after answer.text.items answer.status

@@ -1,8 +1,9 @@
 -- What the files of a trace say, and which line refuses them.
 -- Source: this simulator's; the refusals are those of `ffm replay`.
-use Rattle.std.specs.Prelude.{◌≡◌, ℕ, List, Result, Ok, Err}
+use Rattle.std.specs.Prelude.{◌≡◌, ℕ, List, Option, None, Some, false, Result, Ok, Err}
+use Rattle.std.specs.Option.{option_map}
 use Rattle.command_words.specs.declared.words.Inspection.TheVariants.{Replay}
-use Rattle.command_words.specs.Words.{Order, judge}
+use Rattle.command_words.specs.Words.{Order, compile, judge, run}
 use Rattle.ffm_model.specs.declared.place.Refusal.{Refusal}
 use Rattle.ffm_model.specs.Reading.{Contents, Reading, Stop, refused}
 use Rattle.judge_command.specs.Replays.{IsTextOf, WrongDue}
@@ -14,6 +15,9 @@ use Rattle.work_orders.specs.declared.work.TraceWork.{TraceWork}
 use Rattle.view_commands.specs.declared.files.NoTrace.{NoTrace}
 use Rattle.view_commands.specs.declared.files.NoTrace.TheVariants as no_trace
 use Rattle.view_commands.specs.declared.files.TraceFiles.{TraceFiles}
+use Rattle.view_commands.specs.declared.words.Asked.{Asked}
+use Rattle.view_commands.specs.declared.words.Asked.TheVariants as asked
+use Rattle.view_commands.specs.declared.words.ExplainedNames.{ExplainedNames}
 use Rattle.view_commands.specs.declared.words.FileNames.{FileNames}
 
 -- a scenario of the system, and the trace whose text the bytes are
@@ -28,6 +32,20 @@ order_of_files names = judge Replay names.system.now names.scenario.now names.tr
 -- which files are read, in which order, and what they give
 abbrev pub files_of : FileNames → Contents → Reading Work
 files_of names of = work_of of (order_of_files names)
+
+-- the files of which the first refusal is told are those of `ffm compile`, `ffm run` or `ffm replay`
+abbrev pub order_with : List ℕ → Option (List ℕ) → Option (List ℕ) → Order
+order_with system None trace = compile system
+order_with system (Some scenario) None = run false system scenario
+order_with system (Some scenario) (Some trace) = judge Replay system scenario trace
+
+abbrev pub order_explained : ExplainedNames → Order
+order_explained names = order_with names.system.now (option_map (λ n. n.now) names.scenario) (option_map (λ n. n.now) names.trace)
+
+-- which files the words ask for, in which order, and what they give
+abbrev pub files_asked : Asked → Contents → Reading Work
+files_asked (asked.View r) of = files_of r.names of
+files_asked (asked.Explain names) of = work_of of (order_explained names)
 
 -- the line of this refusal
 abbrev pub IsRefusalBy : Refusal → NoTrace → Type 0

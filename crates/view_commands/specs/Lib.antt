@@ -1,5 +1,6 @@
 pub mod Requests
 pub mod Answers
 pub mod Diagrams
+pub mod Explains
 pub mod Files
 pub mod Views

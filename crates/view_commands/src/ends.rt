@@ -5,14 +5,15 @@ ghost use Rattle.view_commands.specs.Answers.{EndsWith};
 
 use crate::top::ffm_view;
 use ffm_model::Memory;
-use outside_io::{NamesFailed, Sink, Words, given_words};
+use file_places::KeepsFiles;
+use outside_io::{Sink, Words, given_words};
 use std::alloc::Global;
 use std::io::Eprint;
 use std::process::ExitCode;
 use text_lines::{NO_MEMORY, say_problem};
 
 // The status to end with: the answer to the words, or 9 where no memory was found for them.
-fn status_of<W: Words, F: NamesFailed, S: Sink>(
+fn status_of<W: Words, F: KeepsFiles, S: Sink>(
     alloc: Global,
     words: &W,
     files: &mut F,
@@ -29,7 +30,7 @@ fn status_of<W: Words, F: NamesFailed, S: Sink>(
 
 /// The program: `ffm_view` over the words that it was given. It ends with the answer, or with 9 where no
 /// memory was found for the words. At 2, 7, 8 and 9 it says a line on the standard error.
-pub fn program<R: Eprint, W: Words, F: NamesFailed, S: Sink>(
+pub fn program<R: Eprint, W: Words, F: KeepsFiles, S: Sink>(
     rt: &R,
     alloc: Global,
     words: &W,

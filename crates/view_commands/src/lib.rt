@@ -2,8 +2,10 @@
 //! statuses.
 #![tactic(auto)]
 
+mod calls;
 mod diagrams;
 mod ends;
+mod explaining;
 mod files;
 mod top;
 mod view;
@@ -11,4 +13,4 @@ mod words;
 
 pub use ends::program;
 pub use top::ffm_view;
-pub use words::{Aspect, FileNames, Format, Request, VERSION, request_of};
+pub use words::{Asked, Aspect, ExplainedNames, FileNames, Format, Request, VERSION, asked_of};

@@ -2,16 +2,19 @@
 ghost use Rattle.std.specs.Prelude.{◌≡◌, ◌≢◌, IfOk, map, string_bytes};
 ghost use Rattle.outside_io.specs.Sink.{Hands};
 ghost use Rattle.clap.specs.Words.{kind_of};
-ghost use Rattle.view_commands.specs.Answers.{Answered, AnswersRequest, AnswersWords, IsShownStatus, Shows};
+ghost use Rattle.view_commands.specs.Answers.{Answered, AnswersAsked, AnswersWords, IsShownStatus, Shows};
 ghost use Rattle.view_commands.specs.Files.{AreTraceFiles};
+ghost use Rattle.view_commands.specs.declared.words.Asked.TheVariants as asked;
 ghost use Rattle.view_commands.specs.Requests.{told_status};
 
+use crate::explaining::explained;
 use crate::files::{NoTrace, TraceFiles, read_files};
 use crate::view::view_of;
-use crate::words::{Aspect, Request, request_of};
+use crate::words::{Asked, Aspect, Request, asked_of};
 use clap::Error;
 use clap::error::ErrorKind;
 use ffm_model::Memory;
+use file_places::KeepsFiles;
 use outside_io::{Failed, Files, Sink, put_all};
 use std::alloc::Global;
 use text_lines::{NO_MEMORY, UNREAD, UNWRITTEN};
@@ -19,9 +22,9 @@ use work_orders::Unanswered;
 
 /// A text to be written, and the status to end with.
 #[derive(Drop)]
-struct Answer {
-    text: Vec<u8>,
-    status: u8,
+pub(crate) struct Answer {
+    pub text: Vec<u8>,
+    pub status: u8,
 }
 
 // The status of help and the version, and of words that are no command.
@@ -45,9 +48,9 @@ fn told(alloc: Global, error: &Error) -> Result<Answer, Memory>
 }
 
 // What an aspect shows of the files of a trace.
-fn shown(alloc: Global, files: &TraceFiles, aspect: Aspect) -> Result<Answer, Memory>
+fn shown(alloc: Global, files: &TraceFiles, aspect: Aspect<'_>) -> Result<Answer, Memory>
     requires { AreTraceFiles files.now }
-    ensures { IfOk result (λ answer. Shows files.now aspect answer.text.items answer.status) }
+    ensures { IfOk result (λ answer. Shows files.now aspect.entry answer.text.items answer.status) }
 {
     let view = view_of(alloc, files, aspect)?;
     let status = view.status();
@@ -61,7 +64,8 @@ fn answer_of<F: Files>(
     request: Request<'_>,
     files: &mut F,
 ) -> Result<Answer, Unanswered>
-    ensures answers { AnswersRequest request.entry (F.seen files.old) (F.seen files.new) result }
+    ensures answers { AnswersAsked (asked.View request.entry) (F.seen files.old)
+        (F.seen files.new) result }
     ensures status { IfOk result (λ answer. IsShownStatus answer.status) }
 {
     match read_files(alloc, request.names, files) {
@@ -78,14 +82,33 @@ fn answer_of<F: Files>(
     }
 }
 
+// The answer to what the words ask for.
+fn answer_of_asked<F: KeepsFiles>(
+    alloc: Global,
+    asked: Asked<'_>,
+    files: &mut F,
+) -> Result<Answer, Unanswered>
+    ensures answers { AnswersAsked asked.entry (F.seen files.old) (F.seen files.new) result }
+    ensures status { IfOk result (λ answer. IsShownStatus answer.status) }
+{
+    match asked {
+        Asked::View(request) => answer_of(alloc, request, files),
+        Asked::Explain(names) => explained(alloc, names, files),
+    }
+}
+
 // The answer to the words.
-fn answer_to<F: Files>(alloc: Global, words: &[String], files: &mut F) -> Result<Answer, Unanswered>
+fn answer_to<F: KeepsFiles>(
+    alloc: Global,
+    words: &[String],
+    files: &mut F,
+) -> Result<Answer, Unanswered>
     ensures answers { AnswersWords (map string_bytes words.now)
         (F.seen files.old) (F.seen files.new) result }
     ensures status { IfOk result (λ answer. IsShownStatus answer.status) }
 {
-    match request_of(alloc, words) {
-        Ok(request) => answer_of(alloc, request, files),
+    match asked_of(alloc, words) {
+        Ok(asked) => answer_of_asked(alloc, asked, files),
         Err(error) => match told(alloc, &error) {
             Ok(answer) => Ok(answer),
             Err(Memory) => Err(Unanswered::Memory),
@@ -105,14 +128,14 @@ fn write<S: Sink>(out: &mut S, text: &[u8]) -> Result<(), Failed>
 ///
 /// 0: the text that was asked for, and for `why` that the trace is legal. 6: the trace is illegal, and so there is
 /// no state after the place that was asked for, or `why` says why. 1: a file is refused, by ffm's own line. 2: the
-/// words are no command, or name a place that the trace doesn't have. 7: a file that is asked for can't be read, and
+/// words are no command, or name a place that the trace doesn't have or a call that is none. 7: a file that is asked for can't be read, and
 /// nothing is written. 8: the text can't be written whole. 9: no memory was found, and nothing is written.
 ///
 /// A status below 7 comes with a text: for words that `clap` doesn't take, or that ask for help or the version, with
-/// the status of its answer; for files that are refused with ffm's own line; and else there is what is shown: the
-/// state after the place, or how the trace is judged and why, or counts of its legal entries, or a diagram; or the
+/// the status of its answer; for files that are refused with ffm's own line, behind which `explain` tells in words
+/// what is wrong; and else there is what is shown: the state after the place, or how the trace is judged and why, or what a call is answered, or counts of its legal entries, or a diagram; or the
 /// line that the trace has no such place, or that there is no state after it.
-pub fn ffm_view<F: Files, S: Sink>(
+pub fn ffm_view<F: KeepsFiles, S: Sink>(
     alloc: Global,
     words: &[String],
     files: &mut F,

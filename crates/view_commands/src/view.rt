@@ -4,8 +4,9 @@ ghost use Rattle.ffm_model.specs.Memory.{opening_memory};
 ghost use Rattle.ffm_model.specs.Ranges.{ranges_of};
 ghost use Rattle.memory_image.specs.Pieces.{byte_at, regions_of};
 ghost use Rattle.view_commands.specs.Files.{AreTraceFiles};
-ghost use Rattle.view_commands.specs.Views.{IsView, IsViewText, memory_of, no_place_line, no_state_line, status_of};
+ghost use Rattle.view_commands.specs.Views.{IsFindingOf, IsView, IsViewText, memory_of, no_call_line, no_place_line, no_state_line, status_of};
 
+use crate::calls::{asked, reason_at};
 use crate::diagrams::{format_of, part_asked, place_beyond};
 use crate::files::TraceFiles;
 use crate::words::{Aspect, Format};
@@ -14,7 +15,8 @@ use memory_image::{Image, opening_image};
 use std::alloc::{AllocError, Global};
 use view_diagram::{SequenceDiagram, diagram};
 use view_places::{
-    Finding, Place, StateBehind, behind_last, behind_place, state_text, why, why_text,
+    CallBehind, Finding, Place, StateBehind, ask_text, behind_last, behind_place, legal_entry_text,
+    state_text, why, why_text,
 };
 use view_texts::{TraceCounts, stats, stats_text};
 
@@ -28,6 +30,12 @@ pub enum View {
     /// That there is no state after a place, since an entry up to it is illegal.
     NoState { illegal: u32, place: u32 },
     Why(Finding),
+    /// A legal entry at a place, by its call.
+    LegalEntry { place: u32, call: CallBehind },
+    /// A call that is asked for.
+    Call(CallBehind),
+    /// That a text is no call.
+    NoCall,
     /// A diagram, and its text.
     Diagram(SequenceDiagram, Vec<u8>),
     Stats(TraceCounts),
@@ -62,15 +70,16 @@ fn last_state(alloc: Global, files: &TraceFiles, image: &Image) -> Result<View, 
     Ok(View::State(behind_last(alloc, system, image, limit, &files.trace)?))
 }
 
-fn finding_of(alloc: Global, files: &TraceFiles, image: &Image) -> Result<View, Memory>
+// How the trace is judged, and why.
+pub fn finding_of(alloc: Global, files: &TraceFiles, image: &Image) -> Result<Finding, Memory>
     requires files { AreTraceFiles files.now }
     requires regions { regions_of image.now ≡ ranges_of files.now.work.system.regions }
     requires bytes { byte_at image.now ≡ memory_of files.now }
-    ensures { IfOk result (IsView files.now Aspect.Why) }
+    ensures { IfOk result (IsFindingOf files.now) }
 {
     let system = &files.work.system;
     let limit = files.work.scenario.limit;
-    Ok(View::Why(why(alloc, system, image, limit, &files.trace)?))
+    why(alloc, system, image, limit, &files.trace)
 }
 
 fn counts_of(alloc: Global, files: &TraceFiles, image: &Image) -> Result<View, Memory>
@@ -119,15 +128,17 @@ fn diagram_of(
 }
 
 /// What an aspect shows of a trace. Memory where no memory was found.
-pub fn view_of(alloc: Global, files: &TraceFiles, aspect: Aspect) -> Result<View, Memory>
+pub fn view_of(alloc: Global, files: &TraceFiles, aspect: Aspect<'_>) -> Result<View, Memory>
     requires { AreTraceFiles files.now }
-    ensures { IfOk result (IsView files.now aspect) }
+    ensures { IfOk result (IsView files.now aspect.entry) }
 {
     let image = opening_image(alloc, &files.work.system, &files.work.scenario)?;
     match aspect {
         Aspect::State(Some(place)) => state_at(alloc, files, &image, place),
         Aspect::State(None) => last_state(alloc, files, &image),
-        Aspect::Why => finding_of(alloc, files, &image),
+        Aspect::Why(Some(place)) => reason_at(alloc, files, &image, place),
+        Aspect::Why(None) => Ok(View::Why(finding_of(alloc, files, &image)?)),
+        Aspect::Ask { place, call } => asked(alloc, files, &image, place, call),
         Aspect::Diagram { from, to, format } => diagram_of(alloc, files, &image, from, to, format),
         Aspect::Stats => counts_of(alloc, files, &image),
     }
@@ -147,16 +158,27 @@ fn no_state(alloc: Global, illegal: u32, place: u32) -> Result<String, AllocErro
     )
 }
 
+fn no_call(alloc: Global) -> Result<String, AllocError>
+    ensures { IfOk result (λ line. string_bytes line ≡ no_call_line) }
+{
+    format!(in alloc;
+        "no call: it takes an actor of the system and a call, in one word, as a trace has them before ->\n"
+    )
+}
+
 impl View {
     /// The text of what is shown of a trace over this system.
     pub fn into_text(self, alloc: Global, system: &System) -> Result<Vec<u8>, AllocError>
-        ensures { IfOk result (λ text. IsViewText self text.items) }
+        ensures { IfOk result (λ text. IsViewText system.now self text.items) }
     {
         match self {
             View::State(behind) => state_text(alloc, system, &behind),
             View::NoPlace { place, total } => Ok(no_place(alloc, place, total)?.into_bytes()),
             View::NoState { illegal, place } => Ok(no_state(alloc, illegal, place)?.into_bytes()),
             View::Why(finding) => why_text(alloc, system, &finding),
+            View::LegalEntry { place, call } => legal_entry_text(alloc, system, place, &call),
+            View::Call(call) => ask_text(alloc, system, &call),
+            View::NoCall => Ok(no_call(alloc)?.into_bytes()),
             View::Diagram(_, text) => Ok(text),
             View::Stats(counts) => stats_text(alloc, system, &counts),
         }
@@ -169,6 +191,7 @@ impl View {
         match self {
             View::NoPlace { .. } => 2,
             View::NoState { .. } => 6,
+            View::NoCall => 2,
             View::Why(Finding::Legal(_)) => 0,
             View::Why(_) => 6,
             _ => 0,

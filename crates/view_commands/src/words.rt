@@ -5,8 +5,9 @@ ghost use Rattle.clap.specs.Words.{app_of, fault_of, first_of, found_of, kind_of
 ghost use Rattle.clap.specs.declared.builder.command.Command.TheViews.{out-Command as fields_of};
 ghost use Rattle.clap.specs.declared.builder.value_parser.ValueParser.{ValueParser as ParserSeen};
 ghost use Rattle.view_commands.specs.declared.words.Aspect.{Aspect as AspectSeen};
+ghost use Rattle.view_commands.specs.declared.words.ExplainedNames.{ExplainedNames as ExplainedSeen};
 ghost use Rattle.view_commands.specs.declared.words.FileNames.{FileNames as NamesSeen};
-ghost use Rattle.view_commands.specs.Requests.{told_status, AskNothing, IsTold, AreNamesOf, AsksFor, IsAspectOf, IsFormatAt, IsFormatParser, IsNumberAt, IsRequestOf, diagram_app, file_rule, files_app, format_rule, option_rule, place_rule, state_app, top_app, view_app};
+ghost use Rattle.view_commands.specs.Requests.{told_status, AreExplainedOf, AskNoAspect, AskNothing, IsTold, AreNamesOf, AsksFor, IsAskedOf, IsAspectOf, IsFormatAt, IsFormatParser, IsNumberAt, IsPlaceAt, IsRequestOf, ask_app, diagram_app, explain_app, file_rule, files_app, format_rule, further_rule, option_rule, place_app, place_rule, top_app, view_app};
 
 use clap::error::ErrorKind;
 use clap::{Arg, ArgAction, ArgMatches, Command, Error, value_parser};
@@ -34,10 +35,16 @@ pub enum Format {
 
 /// What is to be shown.
 #[derive(Clone, Copy, Debug, PartialEq, Eq)]
-pub enum Aspect {
+pub enum Aspect<'a> {
     /// The state after the entry at a place, or after the last legal one.
     State(Option<u32>),
-    Why,
+    /// What was due at a legal place, or how the trace is judged and why.
+    Why(Option<u32>),
+    /// The answer to a call, by its text, after the entry at a place.
+    Ask {
+        place: u32,
+        call: &'a str,
+    },
     /// The entries between two places, or from the first and up to the last one.
     Diagram {
         from: Option<u32>,
@@ -47,11 +54,27 @@ pub enum Aspect {
     Stats,
 }
 
-/// What the words ask for.
+/// An aspect of a trace that is asked for.
 #[derive(Clone, Copy, Debug, PartialEq, Eq)]
 pub struct Request<'a> {
     pub names: FileNames<'a>,
-    pub aspect: Aspect,
+    pub aspect: Aspect<'a>,
+}
+
+/// The names of files of which the first refusal is to be told: a system, perhaps with a scenario, and then perhaps with
+/// a trace.
+#[derive(Clone, Copy, Debug, PartialEq, Eq)]
+pub struct ExplainedNames<'a> {
+    pub system: &'a str,
+    pub scenario: Option<&'a str>,
+    pub trace: Option<&'a str>,
+}
+
+/// What the words ask for.
+#[derive(Clone, Copy, Debug, PartialEq, Eq)]
+pub enum Asked<'a> {
+    View(Request<'a>),
+    Explain(ExplainedNames<'a>),
 }
 
 fn file_argument<'a>(alloc: Global, id: &'a str, name: &'a str) -> Arg<'a>
@@ -89,8 +112,8 @@ fn place_option<'a>(alloc: Global, id: &'a str, help: &'a str) -> Arg<'a>
         .help(help)
 }
 
-// The place after which the state is shown.
-fn place_argument<'a>(alloc: Global) -> Arg<'a>
+// The place of an entry; 0 is the opening.
+fn place_argument<'a>(alloc: Global, help: &'a str) -> Arg<'a>
     ensures rule { rule_of result ≡ place_rule }
     ensures own { result.global ≡ false }
 {
@@ -98,15 +121,28 @@ fn place_argument<'a>(alloc: Global) -> Arg<'a>
         .action(ArgAction::Set)
         .value_name("PLACE")
         .value_parser(value_parser!(u32))
-        .help("After this entry, counted from 1; 0 is the opening; by default the last legal one")
+        .help(help)
 }
 
 fn state_command<'a>(alloc: Global) -> Result<Command<'a>, AllocError>
-    ensures app { IfOk result (λ c. app_of c ≡ state_app) }
+    ensures app { IfOk result (λ c. app_of c ≡ place_app (codes "state")) }
     ensures own { IfOk result (λ c. (fields_of c).has_globals ≡ false) }
 {
     let about = "Shows the state after an entry, and at a stall who waits for whom";
-    view_command(alloc, "state", about)?.arg(place_argument(alloc))
+    let help = "After this entry, counted from 1; 0 is the opening; by default the last legal one";
+    view_command(alloc, "state", about)?.arg(place_argument(alloc, help))
+}
+
+fn ask_command<'a>(alloc: Global) -> Result<Command<'a>, AllocError>
+    ensures app { IfOk result (λ c. app_of c ≡ ask_app) }
+    ensures own { IfOk result (λ c. (fields_of c).has_globals ≡ false) }
+{
+    let about = "Tells what the machine answers to a call after an entry";
+    let help = "After this entry, counted from 1; 0 is the opening";
+    let call = "An actor and its call as a trace has them, in one word: 'p1 wait 0xffffffff 0'";
+    view_command(alloc, "ask", about)?
+        .arg(place_argument(alloc, help).required(true))?
+        .arg(file_argument(alloc, "call", "CALL").help(call))
 }
 
 fn format_option<'a>(alloc: Global) -> Arg<'a>
@@ -132,11 +168,12 @@ fn diagram_command<'a>(alloc: Global) -> Result<Command<'a>, AllocError>
 }
 
 fn why_command<'a>(alloc: Global) -> Result<Command<'a>, AllocError>
-    ensures app { IfOk result (λ c. app_of c ≡ files_app (codes "why")) }
+    ensures app { IfOk result (λ c. app_of c ≡ place_app (codes "why")) }
     ensures own { IfOk result (λ c. (fields_of c).has_globals ≡ false) }
 {
     let about = "Says why a trace is illegal, and what the machine answers there";
-    view_command(alloc, "why", about)
+    let help = "Tells what was due at this entry, counted from 1, where the trace is legal so far";
+    view_command(alloc, "why", about)?.arg(place_argument(alloc, help))
 }
 
 fn stats_command<'a>(alloc: Global) -> Result<Command<'a>, AllocError>
@@ -150,13 +187,32 @@ fn stats_command<'a>(alloc: Global) -> Result<Command<'a>, AllocError>
     )
 }
 
+// A file that may be left out, with those after it.
+fn further_argument<'a>(alloc: Global, id: &'a str, name: &'a str) -> Arg<'a>
+    ensures rule { rule_of result ≡ further_rule id.entry.now }
+    ensures own { result.global ≡ false }
+{
+    Arg::new(alloc, id).action(ArgAction::Set).value_name(name)
+}
+
+fn explain_command<'a>(alloc: Global) -> Result<Command<'a>, AllocError>
+    ensures app { IfOk result (λ c. app_of c ≡ explain_app) }
+    ensures own { IfOk result (λ c. (fields_of c).has_globals ≡ false) }
+{
+    Command::new(alloc, "explain")
+        .about("Says in words why ffm refuses these files: where, what is wrong, what is expected")
+        .arg(file_argument(alloc, "system", "SYSTEM"))?
+        .arg(further_argument(alloc, "scenario", "SCENARIO"))?
+        .arg(further_argument(alloc, "trace", "TRACE"))
+}
+
 // The program without its commands.
 fn program<'a>(alloc: Global) -> Command<'a>
     ensures { app_of result ≡ top_app }
 {
     Command::new(alloc, "ffm_view")
         .version(VERSION)
-        .about("Shows what a trace of ffm says: the files are those of ffm replay")
+        .about("Shows what a trace of ffm says, or why ffm refuses files")
         .subcommand_required(true)
 }
 
@@ -167,8 +223,10 @@ fn command_line<'a>(alloc: Global) -> Result<Command<'a>, AllocError>
     program(alloc)
         .subcommand(state_command(alloc)?)?
         .subcommand(why_command(alloc)?)?
+        .subcommand(ask_command(alloc)?)?
         .subcommand(diagram_command(alloc)?)?
-        .subcommand(stats_command(alloc)?)
+        .subcommand(stats_command(alloc)?)?
+        .subcommand(explain_command(alloc)?)
 }
 
 // The word of an argument.
@@ -198,6 +256,13 @@ fn names_of<'a>(found: &ArgMatches<'a>) -> Option<FileNames<'a>>
     })
 }
 
+// The place, which `clap` requires.
+fn place_of(found: &ArgMatches<'_>) -> u32
+    ensures { IsPlaceAt (rows_of (found_of found.now)) result }
+{
+    number_of(found, "place").unwrap_or(0)
+}
+
 fn format_of(found: &ArgMatches<'_>) -> Format
     ensures { IsFormatAt (rows_of (found_of found.now)) result }
 {
@@ -208,14 +273,18 @@ fn format_of(found: &ArgMatches<'_>) -> Format
 }
 
 // What the command of this name shows.
-fn aspect_of(name: &str, found: &ArgMatches<'_>) -> Option<Aspect>
+fn aspect_of<'a>(name: &str, found: &ArgMatches<'a>) -> Option<Aspect<'a>>
     ensures { MatchOption result
         ((a : AspectSeen) → IsAspectOf name.now (rows_of (found_of found.now)) a → ⊥)
         (IsAspectOf name.now (rows_of (found_of found.now))) }
 {
     match name {
         "state" => Some(Aspect::State(number_of(found, "place"))),
-        "why" => Some(Aspect::Why),
+        "why" => Some(Aspect::Why(number_of(found, "place"))),
+        "ask" => Some(Aspect::Ask {
+            place: place_of(found),
+            call: word_of(found, "call")?,
+        }),
         "diagram" => Some(Aspect::Diagram {
             from: number_of(found, "from"),
             to: number_of(found, "to"),
@@ -226,15 +295,40 @@ fn aspect_of(name: &str, found: &ArgMatches<'_>) -> Option<Aspect>
     }
 }
 
-fn request_in<'a>(matches: &ArgMatches<'a>) -> Option<Request<'a>>
-    ensures { MatchOption result (AskNothing (subcommand_rows_of matches.now))
-        (IsRequestOf (subcommand_rows_of matches.now)) }
+// What a command over the files of a trace shows.
+fn request_in<'a>(name: &str, found: &ArgMatches<'a>) -> Option<Request<'a>>
+    ensures { MatchOption result (AskNoAspect name.now (rows_of (found_of found.now)))
+        (IsRequestOf name.now (rows_of (found_of found.now))) }
 {
-    let (name, found) = matches.subcommand()?;
     Some(Request {
         names: names_of(found)?,
         aspect: aspect_of(name, found)?,
     })
+}
+
+// The files of which the first refusal is to be told.
+fn explained_in<'a>(found: &ArgMatches<'a>) -> Option<ExplainedNames<'a>>
+    ensures { MatchOption result
+        ((names : ExplainedSeen) → AreExplainedOf (rows_of (found_of found.now)) names → ⊥)
+        (AreExplainedOf (rows_of (found_of found.now))) }
+{
+    Some(ExplainedNames {
+        system: word_of(found, "system")?,
+        scenario: word_of(found, "scenario"),
+        trace: word_of(found, "trace"),
+    })
+}
+
+fn asked_in<'a>(matches: &ArgMatches<'a>) -> Option<Asked<'a>>
+    ensures { MatchOption result (AskNothing (subcommand_rows_of matches.now))
+        (IsAskedOf (subcommand_rows_of matches.now)) }
+{
+    let (name, found) = matches.subcommand()?;
+    if name == "explain" {
+        Some(Asked::Explain(explained_in(found)?))
+    } else {
+        Some(Asked::View(request_in(name, found)?))
+    }
 }
 
 // The error of words that ask for nothing.
@@ -259,15 +353,15 @@ fn parsed<'a>(alloc: Global, words: &'a [String]) -> Result<ArgMatches<'a>, Erro
 
 /// What the words ask for, of which the first is the program's name. Where they are no command, or ask for help or
 /// the version, the text that `clap` has for that.
-pub fn request_of<'a>(alloc: Global, words: &'a [String]) -> Result<Request<'a>, Error>
+pub fn asked_of<'a>(alloc: Global, words: &'a [String]) -> Result<Asked<'a>, Error>
     ensures asked { IfOk result (AsksFor (map string_bytes words.entry.now)) }
     ensures told { IfErr result (λ e.
         (kind_of e ≡ ErrorKind.OutOfMemory)
         ⊎ IsTold (map string_bytes words.entry.now) (told_status (kind_of e))) }
 {
     let matches = parsed(alloc, words)?;
-    match request_in(&matches) {
-        Some(request) => Ok(request),
+    match asked_in(&matches) {
+        Some(asked) => Ok(asked),
         None => Err(no_command(alloc)?),
     }
 }

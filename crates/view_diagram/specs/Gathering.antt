@@ -1,6 +1,6 @@
 -- The arrows of a part of a trace, and which call each answer belongs to.
 -- Source: this simulator's; the legal entries are those of `judged` of the model. FF-M 1.0: a client is blocked from its call to the answer, so its last entry is the call that is answered.
-use Rattle.std.specs.Prelude.{ℕ, ◌+◌, nat_le, Bool, true, false, ◌&&◌, if◌then◌else◌, List, [], ◌∷◌, ◌++◌, map, replicate, get_or, slice_set, Option, Some, None}
+use Rattle.std.specs.Prelude.{ℕ, ◌+◌, ◌-◌, ◌==◌, nat_le, Bool, true, false, ◌&&◌, if◌then◌else◌, List, [], ◌∷◌, ◌++◌, map, replicate, get_or, slice_get, slice_set, Option, Some, None}
 use Rattle.std.specs.Option.{option_map_or}
 use Rattle.ffm_model.specs.declared.system.System.{System}
 use Rattle.ffm_model.specs.declared.machine.Entry.{Entry}
@@ -17,6 +17,9 @@ use Rattle.view_diagram.specs.declared.gathering.PlacedArrow.{PlacedArrow}
 use Rattle.view_diagram.specs.Arrows.{arrows_of}
 
 -- places are counted from 1
+abbrev pub entry_at : List Entry → ℕ → Option Entry
+entry_at es k = if k == 0 then None else slice_get es (k - 1)
+
 abbrev pub is_in_part : Part → ℕ → Bool
 is_in_part part k = nat_le part.from k && nat_le k part.to
 

@@ -2,3 +2,4 @@ pub mod Arrows
 pub mod Diagrams
 pub mod Gathering
 pub mod Pairs
+pub mod Ends

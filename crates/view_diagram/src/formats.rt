@@ -1,11 +1,13 @@
 //! What a diagram shows, and its text.
-ghost use Rattle.std.specs.Prelude.{◌≡◌, ◌<◌, ◌^◌, IfOk, length};
+ghost use Rattle.std.specs.Prelude.{◌≡◌, ◌<◌, ◌^◌, IfOk, length, string_bytes};
 ghost use Rattle.ffm_model.specs.Ranges.{ranges_of};
 ghost use Rattle.memory_image.specs.Pieces.{byte_at, regions_of};
-ghost use Rattle.view_diagram.specs.Diagrams.{IsDiagram};
+ghost use Rattle.view_diagram.specs.Diagrams.{IsDiagram, IsDiagramText, tail_of};
+ghost use Rattle.view_diagram.specs.Ends.{EndsIn};
 
 use crate::gathering::{Part, PlacedArrow, gather};
 use crate::html::page;
+use crate::labels::end_text;
 use crate::mermaid::mermaid;
 use ffm_model::{List, Memory, System, Trace};
 use machine_check::{Checked, check};
@@ -61,20 +63,42 @@ pub fn diagram(
     })
 }
 
+// The text of arrows in a format, with its end.
+fn written(
+    alloc: Global,
+    system: &System,
+    trace: &Trace,
+    format: Format,
+    end: &str,
+    part: Part,
+    arrows: &[PlacedArrow],
+) -> Result<String, AllocError>
+    ensures { IfOk result (λ text. EndsIn end.now (tail_of format) (string_bytes text)) }
+{
+    match format {
+        Format::Mermaid => mermaid(alloc, system, trace, end, arrows),
+        Format::Html => page(alloc, system, trace, end, part, arrows),
+    }
+}
+
 impl SequenceDiagram {
     /// The text of the diagram of a trace over this system, in UTF-8. At its end it says how the trace ended,
-    /// or the place at which it is illegal.
-    pub fn text(
-        &self,
-        alloc: Global,
-        system: &System,
-        trace: &Trace,
-    ) -> Result<Vec<u8>, AllocError> {
+    /// the place at which it is illegal, or how far the part goes.
+    pub fn text(&self, alloc: Global, system: &System, trace: &Trace) -> Result<Vec<u8>, AllocError>
+        ensures { IfOk result (λ text. IsDiagramText self.now
+            trace.now.verdict (length trace.now.entries) text.items) }
+    {
         let arrows = self.arrows.as_slice();
-        let text = match self.format {
-            Format::Mermaid => mermaid(alloc, system, trace, self.judged, arrows)?,
-            Format::Html => page(alloc, system, trace, self.judged, self.part, arrows)?,
-        };
+        let end = end_text(alloc, trace, self.judged, self.part)?;
+        let text = written(
+            alloc,
+            system,
+            trace,
+            self.format,
+            end.as_str(),
+            self.part,
+            arrows,
+        )?;
         Ok(text.into_bytes())
     }
 }

@@ -1,10 +1,11 @@
 //! The arrows of a part of a trace.
 ghost use Rattle.std.specs.Prelude.{◌≡◌, ◌<◌, ◌+◌, ◌^◌, IfOk, get_or, length, map, replicate, slice_set};
+ghost use Rattle.std.specs.Option.{option_map};
 ghost use Rattle.ffm_model.specs.Actors.{actor_count};
 ghost use Rattle.ffm_model.specs.Ranges.{ranges_of};
 ghost use Rattle.memory_image.specs.Pieces.{byte_at, regions_of};
 ghost use Rattle.machine_calls.specs.Machine.{spm_of_objects};
-ghost use Rattle.view_diagram.specs.Gathering.{answered_place, arrows_at, arrows_in, is_answer, is_in_part, placed};
+ghost use Rattle.view_diagram.specs.Gathering.{answered_place, arrows_at, arrows_in, entry_at, is_answer, is_in_part, placed};
 
 use crate::arrows::{Arrow, Meaning, arrows_of};
 use ffm_model::{ActorId, ActorPhase, Entry, List, Memory, System, Trace};
@@ -30,7 +31,9 @@ pub struct PlacedArrow {
 }
 
 /// The entry at a place, counted from 1.
-pub fn entry_at(trace: &Trace, place: u32) -> Option<&Entry> {
+pub fn entry_at(trace: &Trace, place: u32) -> Option<&Entry>
+    ensures { option_map (λ e. e.now) result ≡ entry_at trace.now.entries place }
+{
     let index = place.checked_sub(1)?;
     trace.entries.as_slice().get(index as usize)
 }

@@ -1,14 +1,16 @@
 //! A diagram as a page of HTML that needs nothing from outside.
 
+ghost use Rattle.std.specs.Prelude.{IfOk, string_bytes};
+ghost use Rattle.view_diagram.specs.Ends.{EndsIn, page_tail};
+
 use crate::drawing::{
     PLACES_WIDTH, drawing_height, drawing_width, lane_width, push_arrows, push_lines, push_places,
 };
+use crate::ends::ended;
 use crate::escapes::push_html;
 use crate::gathering::{Part, PlacedArrow};
-use crate::labels::push_end;
 use crate::lanes::{Lanes, push_word};
 use ffm_model::{ActorId, System, Trace};
-use machine_check::Checked;
 use std::alloc::{AllocError, Global};
 use view_texts::actor_name;
 
@@ -138,19 +140,11 @@ fn push_drawing(
     out.push_str("</svg>\n</div>\n")
 }
 
-fn push_foot(out: &mut String, trace: &Trace, judged: Checked) -> Result<(), AllocError> {
-    out.push_str("<footer>")?;
-    push_end(out, trace, judged)?;
-    out.push_str("</footer>\n</body>\n</html>\n")
-}
-
-/// A page with lanes for the actors and an arrow in each row. The pointer on a row shows the trace's
-/// line of its entry.
-pub fn page(
+// All but the end.
+fn drawn(
     alloc: Global,
     system: &System,
     trace: &Trace,
-    judged: Checked,
     part: Part,
     arrows: &[PlacedArrow],
 ) -> Result<String, AllocError> {
@@ -161,6 +155,22 @@ pub fn page(
     out.push_str(LEGEND)?;
     push_names(&mut out, system, lanes.actors())?;
     push_drawing(alloc, &mut out, system, trace, &lanes, arrows)?;
-    push_foot(&mut out, trace, judged)?;
+    out.push_str("<footer>")?;
     Ok(out)
+}
+
+/// A page with lanes for the actors and an arrow in each row, and then its end. The pointer on a row shows
+/// the trace's line of its entry.
+pub fn page(
+    alloc: Global,
+    system: &System,
+    trace: &Trace,
+    end: &str,
+    part: Part,
+    arrows: &[PlacedArrow],
+) -> Result<String, AllocError>
+    ensures { IfOk result (λ text. EndsIn end.now page_tail (string_bytes text)) }
+{
+    let front = drawn(alloc, system, trace, part, arrows)?;
+    ended(front, end, "</footer>\n</body>\n</html>\n")
 }

@@ -1,6 +1,10 @@
 //! What is written at an arrow.
 
+ghost use Rattle.std.specs.Prelude.{◌≡◌, IfOk, length, string_bytes};
+ghost use Rattle.view_diagram.specs.Ends.{end_of_part, end_text};
+
 use crate::arrows::{Arrow, Meaning};
+use crate::gathering::Part;
 use ffm_model::{
     ActorId, Call, Entry, Outcome, PSA_DOORBELL, PSA_ERROR_COMMUNICATION_FAILURE,
     PSA_ERROR_CONNECTION_BUSY, PSA_ERROR_CONNECTION_REFUSED, PSA_ERROR_PROGRAMMER_ERROR,
@@ -9,7 +13,7 @@ use ffm_model::{
 use machine_check::Checked;
 use std::alloc::{AllocError, Global};
 use trace_print::verdict_word;
-use view_texts::service_name;
+use view_texts::{call_name, service_name};
 
 fn signal_name(system: &System, source: u32) -> &str {
     match system.sources.as_slice().get(source as usize) {
@@ -159,6 +163,15 @@ fn push_wake(
     }
 }
 
+// The call by which a partition panics: its own, or the request that another one answers by PROGRAMMER ERROR.
+fn panicked_call(entry: &Entry, arrow: Arrow) -> &'static str {
+    if entry.actor.0 == arrow.to.0 {
+        call_name(entry.call)
+    } else {
+        "psa_call"
+    }
+}
+
 /// What is written at an arrow of an entry.
 pub fn label(
     alloc: Global,
@@ -188,7 +201,10 @@ pub fn label(
             }
         }
         Meaning::Wake { outcome } => push_wake(&mut out, system, arrow.to, outcome)?,
-        Meaning::Panic => out.push_str("PANIC")?,
+        Meaning::Panic => {
+            out.push_str("PANIC: ")?;
+            out.push_str(panicked_call(entry, arrow))?;
+        }
         Meaning::Release { service, kind } => {
             out.push_str("lost: ")?;
             push_reply(&mut out, system, service, kind, lost_status(kind))?;
@@ -197,11 +213,42 @@ pub fn label(
     Ok(out)
 }
 
-/// Appends how a trace ended, or the place at which it is illegal.
-pub fn push_end(out: &mut String, trace: &Trace, judged: Checked) -> Result<(), AllocError> {
+// That a part ends before the trace does.
+fn end_of_part(alloc: Global, to: u32, count: usize) -> Result<String, AllocError>
+    ensures { IfOk result (λ text. string_bytes text ≡ end_of_part to count) }
+{
+    format!(in alloc; "up to entry {to} of {count}")
+}
+
+/// What stands at the end of a diagram of a part of a trace: the place at which the trace is illegal, or
+/// how it ended, where the part reaches that; else how far the part goes.
+pub fn end_text(
+    alloc: Global,
+    trace: &Trace,
+    judged: Checked,
+    part: Part,
+) -> Result<String, AllocError>
+    ensures { IfOk result (λ text. string_bytes text
+        ≡ end_text trace.now.verdict (length trace.now.entries) judged part) }
+{
     let count = trace.entries.len();
+    let to = part.to;
+    let is_whole = count <= to as usize;
     match judged {
-        Checked::IllegalAt(place) => write!(out, "illegal at {place}"),
-        Checked::Legal => write!(out, "{} {count}", verdict_word(trace.verdict)),
+        Checked::IllegalAt(place) => {
+            if is_whole || place <= to {
+                format!(in alloc; "illegal at {place}")
+            } else {
+                end_of_part(alloc, to, count)
+            }
+        }
+        Checked::Legal => {
+            if is_whole {
+                let word = verdict_word(trace.verdict);
+                format!(in alloc; "{word} {count}")
+            } else {
+                end_of_part(alloc, to, count)
+            }
+        }
     }
 }

@@ -7,6 +7,7 @@
 
 mod arrows;
 mod drawing;
+mod ends;
 mod escapes;
 mod formats;
 mod gathering;

@@ -1,12 +1,15 @@
 //! A diagram as a text of Mermaid.
 
+ghost use Rattle.std.specs.Prelude.{IfOk, string_bytes};
+ghost use Rattle.view_diagram.specs.Ends.{EndsIn, mermaid_tail};
+
 use crate::arrows::Meaning;
+use crate::ends::ended;
 use crate::escapes::push_mermaid;
 use crate::gathering::{PlacedArrow, entry_at};
-use crate::labels::{label, push_end};
+use crate::labels::label;
 use crate::lanes::{Lanes, push_word};
 use ffm_model::{ActorId, Entry, System, Trace};
-use machine_check::Checked;
 use std::alloc::{AllocError, Global};
 use view_texts::actor_name;
 
@@ -57,14 +60,8 @@ fn push_arrow(
     out.push('\n')
 }
 
-// The end, over all actors.
-fn push_foot(
-    out: &mut String,
-    system: &System,
-    actors: &[ActorId],
-    trace: &Trace,
-    judged: Checked,
-) -> Result<(), AllocError> {
+// What stands before the end, which is a note over all actors.
+fn push_foot(out: &mut String, system: &System, actors: &[ActorId]) -> Result<(), AllocError> {
     match (actors.first(), actors.last()) {
         (Some(first), Some(last)) => {
             out.push_str("    Note over ")?;
@@ -73,20 +70,17 @@ fn push_foot(
                 out.push(',')?;
                 push_word(out, system, *last)?;
             }
-            out.push_str(": ")?;
+            out.push_str(": ")
         }
-        _ => out.push_str("%% ")?,
+        _ => out.push_str("%% "),
     }
-    push_end(out, trace, judged)?;
-    out.push('\n')
 }
 
-/// A `sequenceDiagram` with a line for each arrow.
-pub fn mermaid(
+// All but the end.
+fn drawn(
     alloc: Global,
     system: &System,
     trace: &Trace,
-    judged: Checked,
     arrows: &[PlacedArrow],
 ) -> Result<String, AllocError> {
     let lanes = Lanes::of(alloc, system, arrows)?;
@@ -100,6 +94,19 @@ pub fn mermaid(
             push_arrow(alloc, &mut out, system, *placed, entry)?;
         }
     }
-    push_foot(&mut out, system, lanes.actors(), trace, judged)?;
+    push_foot(&mut out, system, lanes.actors())?;
     Ok(out)
+}
+
+/// A `sequenceDiagram` with a line for each arrow, and then its end.
+pub fn mermaid(
+    alloc: Global,
+    system: &System,
+    trace: &Trace,
+    end: &str,
+    arrows: &[PlacedArrow],
+) -> Result<String, AllocError>
+    ensures { IfOk result (λ text. EndsIn end.now mermaid_tail (string_bytes text)) }
+{
+    ended(drawn(alloc, system, trace, arrows)?, end, "\n")
 }

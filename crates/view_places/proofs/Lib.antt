@@ -1,7 +1,10 @@
 pub mod Saying
+pub mod Appended
 pub mod Answers
+pub mod Asked
 pub mod Judged
 pub mod LastPlaces
 pub mod Places
 pub mod Refusals
 pub mod Rules
+pub mod Ranges

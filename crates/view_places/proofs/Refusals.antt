@@ -9,6 +9,7 @@ use Rattle.ffm_model.specs.declared.machine.Call.{Call}
 use Rattle.ffm_model.specs.declared.machine.Call.TheVariants as call
 use Rattle.ffm_model.specs.declared.machine.Entry.{Entry}
 use Rattle.ffm_model.specs.declared.machine.Handle.{Handle}
+use Rattle.ffm_model.specs.declared.machine.Outcome.{Outcome}
 use Rattle.ffm_model.specs.declared.objects.OpenConnection.{OpenConnection}
 use Rattle.ffm_model.specs.declared.objects.Vectors.{Vectors}
 use Rattle.ffm_model.specs.Actors.{kind_of, permits, stateless_at, stateless_index}
@@ -20,7 +21,7 @@ use Rattle.ffm_model.specs.State.{SpmState, State, connection_held}
 use Rattle.ffm_model.specs.Step.{handle_shown}
 use Rattle.law_lists.proofs.Options.{each_made}
 use Rattle.law_lists.proofs.Bools.{if_fails}
-use Rattle.view_places.specs.Why.{IsRule, is_refusal, refusal_shown}
+use Rattle.view_places.specs.Why.{IsRule, IsStepWith, is_refusal, refusal_shown}
 use Rattle.view_places.specs.declared.reasons.Rule.{Rule}
 use Rattle.view_places.specs.declared.reasons.Rule.TheVariants as rule
 use Rattle.view_places.proofs.Answers.{fits_from}
@@ -62,11 +63,17 @@ exactly s st a h kind in_vec in_len out_vec out_len Client None none = refl
 exactly s st a h kind in_vec in_len out_vec out_len Client (Some m) none = none
 exactly s st a h kind in_vec in_len out_vec out_len Device x none = refl
 
-shown_by : (s : System) (limit n : ℕ) (st : State) (e : Entry) (c : Call) (r : Rule) → e.call ≡ c → IsRule s limit n st e r → IfSome (refusal_shown c r) (λ refused. refused ≡ programmer_error s st e.actor.0 c)
-shown_by s limit n st e (call.Invoke h kind in_vec in_len out_vec out_len) (rule.OtherAnswer answer) same breaks =
-    let fit = fits_from s st (record { actor = record { 0 = e.actor.0 }; call = e.call; outcome = answer }) breaks.1.1.0.is_answer.is_step in
+-- the answer with which psa_call is a step is a refusal exactly where the call is one
+pub refusal_by : (s : System) (st : State) (e : Entry) (h : Handle) (kind : ℤ) (in_vec in_len out_vec out_len : ℕ) (answer : Outcome) → e.call ≡ call.Invoke h kind in_vec in_len out_vec out_len → IsStepWith s st e answer
+    → is_refusal answer ≡ programmer_error s st e.actor.0 (call.Invoke h kind in_vec in_len out_vec out_len)
+refusal_by s st e h kind in_vec in_len out_vec out_len answer same is_step =
+    let fit = fits_from s st (record { actor = record { 0 = e.actor.0 }; call = e.call; outcome = answer }) is_step in
     ap is_refusal fit.outcome ∙ ap (λ c. is_refusal (effect_of s st e.actor.0 c (handle_shown answer)).outcome) same
     ∙ exactly s st e.actor.0 h kind in_vec in_len out_vec out_len (kind_of s e.actor.0) (psa_call s st e.actor.0 h kind in_vec in_len out_vec out_len) (by_index s st e.actor.0 h kind in_vec in_len out_vec out_len (stateless_index h))
+
+shown_by : (s : System) (limit n : ℕ) (st : State) (e : Entry) (c : Call) (r : Rule) → e.call ≡ c → IsRule s limit n st e r → IfSome (refusal_shown c r) (λ refused. refused ≡ programmer_error s st e.actor.0 c)
+shown_by s limit n st e (call.Invoke h kind in_vec in_len out_vec out_len) (rule.OtherAnswer answer) same breaks =
+    refusal_by s st e h kind in_vec in_len out_vec out_len answer same breaks.1.1.0.is_answer.is_step
 shown_by s limit n st e c r same breaks = tt
 
 pub refusal_told : (s : System) (limit n : ℕ) (st : State) (e : Entry) (r : Rule) → IsRule s limit n st e r → IfSome (refusal_shown e.call r) (λ refused. refused ≡ programmer_error s st e.actor.0 e.call)

@@ -22,6 +22,7 @@ use Rattle.ffm_model.specs.Verdicts.{Legal, IllegalAt, judged, verdict_of}
 use Rattle.machine_calls.specs.Machine.{state_of}
 use Rattle.machine_check.specs.declared.judging.Checker.{Checker}
 use Rattle.machine_check.specs.Performed.{Knows}
+use Rattle.view_places.specs.StateText.{phase_text}
 use Rattle.view_places.specs.declared.reasons.Finding.{Finding}
 use Rattle.view_places.specs.declared.reasons.Finding.TheVariants as finding
 use Rattle.view_places.specs.declared.reasons.IllegalEntry.{IllegalEntry}
@@ -115,8 +116,9 @@ abbrev pub refusal_shown : Call → Rule → Option Bool
 refusal_shown (call.Invoke h kind in_vec in_len out_vec out_len) (rule.OtherAnswer answer) = Some (is_refusal answer)
 refusal_shown _ _ = None
 
--- what is told of the call of an entry after a state: its conditions, which mean what they say, and whether it is a PROGRAMMER ERROR, where the rule shows that
+-- what is told of the call of an entry after a state: what its actor does there, the call's conditions, which mean what they say, and whether it is a PROGRAMMER ERROR, where the rule shows that
 pub record TellsOfCall (s : System) (st : State) (e : Entry) (i : IllegalEntry) : Type 0 where
+  pub doing : i.doing.items ≡ phase_text s st.spm e.actor.0
   pub table : e.actor.0 < actor_count s → map told i.conditions.items ≡ conditions_of s st.spm e.actor.0 e.call
   pub none : actor_count s ≤ e.actor.0 → i.conditions.items ≡ []
   pub shown : i.is_refused ≡ refusal_shown e.call i.rule

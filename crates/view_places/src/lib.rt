@@ -6,10 +6,13 @@
 #![tactic(auto)]
 
 mod access;
+mod asked_text;
+mod asking;
 mod behind;
 mod calls;
 mod client;
 mod condition;
+mod phases;
 mod reasons;
 mod reasons_text;
 mod service;
@@ -17,7 +20,10 @@ mod signal;
 mod stall;
 mod state;
 mod transfer;
+mod waits;
 
+pub use asked_text::{ask_text, legal_entry_text};
+pub use asking::{CallBehind, PlaceAsked, Reply, ask};
 pub use behind::{Place, StateBehind, behind_last, behind_place};
 pub use calls::conditions;
 pub use condition::Condition;

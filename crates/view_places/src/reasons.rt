@@ -6,23 +6,24 @@ ghost use Rattle.ffm_model.specs.declared.machine.Handle.{Handle as HandleSeen};
 ghost use Rattle.ffm_model.specs.Signals.{may_resume};
 ghost use Rattle.ffm_model.specs.Step.{handle_shown, may_call, outcome_eq, returns_when_due};
 ghost use Rattle.ffm_model.specs.Verdicts.{verdict_eq};
-ghost use Rattle.machine_calls.specs.Machine.{state_of, IsMachineOf};
+ghost use Rattle.machine_calls.specs.Machine.{IsMachineOf, spm_of_objects, state_of};
 ghost use Rattle.machine_check.specs.Performed.{Knows, gave_handle};
 ghost use Rattle.ffm_model.specs.Ranges.{ranges_of};
 ghost use Rattle.memory_image.specs.Pieces.{byte_at, regions_of};
+ghost use Rattle.view_places.specs.StateText.{phase_text};
 ghost use Rattle.view_places.specs.Why.{BreaksRule, IsFinding, IsIllegal, IsRule, is_refusal, refusal_shown, with_handle};
 
 use crate::calls::conditions;
 use crate::condition::Condition;
-use crate::state::put_phase;
+use crate::phases::put_phase;
 use ffm_model::{
     ActorPhase, Call, Entry, Handle, Memory, Message, Outcome, PSA_ERROR_PROGRAMMER_ERROR, System,
     Trace, Verdict,
 };
-use machine_calls::Machine;
+use machine_calls::{Machine, Objects};
 use machine_check::{Checker, reached};
 use memory_image::Image;
-use std::alloc::Global;
+use std::alloc::{AllocError, Global};
 
 /// The rule by which an entry is illegal after those before it: the first that it breaks, in this order.
 #[derive(Clone, Copy, Debug, PartialEq, Eq)]
@@ -94,9 +95,9 @@ fn returns_when_due(call: Call, phase: ActorPhase) -> bool
     }
 }
 
-// The rule that an entry after so many others breaks whatever it answers. None where its call may be made.
+/// The rule that an entry after so many others breaks whatever it answers. None where its call may be made.
 #[tactic(auto, using(crate::proofs::Rules::no_such_actor, crate::proofs::Rules::not_enabled, crate::proofs::Rules::return_due, crate::proofs::Rules::no_return_due, crate::proofs::Rules::may_be_made))]
-fn broken_before(
+pub fn broken_before(
     system: &System,
     machine: &Machine,
     limit: u32,
@@ -151,8 +152,8 @@ fn with_handle(handle: Handle, outcome: Outcome) -> Outcome
     }
 }
 
-// Whether a call with this answer gives a handle: `psa_get`, or the return of `psa_connect`.
-fn gave_handle(phase: ActorPhase, call: Call, answer: Outcome) -> bool
+/// Whether a call with this answer gives a handle: `psa_get`, or the return of `psa_connect`.
+pub fn gave_handle(phase: ActorPhase, call: Call, answer: Outcome) -> bool
     ensures { result ≡ gave_handle phase call answer }
 {
     match call {
@@ -199,8 +200,8 @@ fn broken_rule(system: &System, limit: u32, checker: Checker, entry: &Entry) -> 
     }
 }
 
-// Whether an answer to psa_call tells of a PROGRAMMER ERROR.
-fn is_refusal(answer: Outcome) -> bool
+/// Whether an answer to psa_call tells of a PROGRAMMER ERROR.
+pub fn is_refusal(answer: Outcome) -> bool
     ensures { result ≡ is_refusal answer }
 {
     match answer {
@@ -220,6 +221,21 @@ fn refusal_shown(call: Call, rule: Rule) -> Option<bool>
     }
 }
 
+/// What an actor does.
+pub fn doing(
+    alloc: Global,
+    system: &System,
+    objects: &Objects,
+    actor: u32,
+) -> Result<Vec<u8>, AllocError>
+    ensures { IfOk result (λ text.
+        text.items ≡ phase_text system.now (spm_of_objects objects.now) actor) }
+{
+    let mut text = Vec::new(alloc);
+    put_phase(alloc, &mut text, system, objects, actor)?;
+    Ok(text)
+}
+
 // An entry that is no step after those that were followed, or exceeds the limit.
 fn illegal_entry(
     alloc: Global,
@@ -234,8 +250,7 @@ fn illegal_entry(
     ensures { IfOk result (BreaksRule system.now limit checker entry.now) }
 {
     let place = checker.count + 1;
-    let mut doing = Vec::new(alloc);
-    put_phase(&mut doing, system, &checker.machine.objects, entry.actor.0)?;
+    let doing = doing(alloc, system, &checker.machine.objects, entry.actor.0)?;
     let conditions = conditions(alloc, system, &checker.machine, entry.actor, entry.call)?;
     let rule = broken_rule(system, limit, checker, entry)?;
     Ok(IllegalEntry {

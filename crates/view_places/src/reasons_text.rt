@@ -1,4 +1,10 @@
-//! The text that says why a trace is illegal.
+//! The text that says how a trace is judged, and why.
+ghost use Rattle.std.specs.Prelude.{◌≡◌, ◌++◌, ◌∷◌, [], IfOk, OnOk, codes};
+ghost use Rattle.std.specs.Fmt.{decimal};
+ghost use Rattle.std.specs.List.{flat_map, list_any};
+ghost use Rattle.view_places.specs.WhyText.{actor_line, answer_due, condition_line, condition_lines, conditions_heading, does_hold, due_line, due_lines, handle_line, illegal_text, known_or, mark, rule_words, some_conditions, verdict_due_text, verdict_text, where_not_looked, why_text};
+ghost use Rattle.view_texts.specs.Columns.{joined};
+ghost use Rattle.view_texts.specs.Names.{actor_name};
 
 use crate::condition::Condition;
 use crate::reasons::{Finding, IllegalEntry, Rule};
@@ -8,7 +14,9 @@ use text_lines::{Word, append, append_words};
 use trace_print::verdict_word;
 use view_texts::{actor_name, call_name, put_actor_word, put_entry};
 
-fn rule_words(rule: Rule) -> &'static str {
+fn rule_words(rule: Rule) -> &'static str
+    ensures { result.now ≡ rule_words rule }
+{
     match rule {
         Rule::BeyondLimit => "the run has as many entries as the scenario allows",
         Rule::NoSuchActor => "the system has no such actor",
@@ -23,7 +31,9 @@ fn rule_words(rule: Rule) -> &'static str {
 }
 
 // The answer that is due, where the call may be made.
-fn answer_due(rule: Rule) -> Option<Outcome> {
+fn answer_due(rule: Rule) -> Option<Outcome>
+    ensures { result ≡ answer_due rule }
+{
     match rule {
         Rule::StaleHandle(outcome) | Rule::OtherHandle(outcome) | Rule::OtherAnswer(outcome) => {
             Some(outcome)
@@ -32,7 +42,9 @@ fn answer_due(rule: Rule) -> Option<Outcome> {
     }
 }
 
-fn mark(holds: Option<bool>) -> &'static str {
+fn mark(holds: Option<bool>) -> &'static str
+    ensures { result.now ≡ mark holds }
+{
     match holds {
         Some(true) => "  [x] ",
         Some(false) => "  [ ] ",
@@ -40,83 +52,230 @@ fn mark(holds: Option<bool>) -> &'static str {
     }
 }
 
-// Appends the conditions. One that wasn't looked at holds exactly where the call is refused, unless another one does.
-fn put_conditions(
+fn known_or(holds: Option<bool>, otherwise: Option<bool>) -> Option<bool>
+    ensures { result ≡ known_or holds otherwise }
+{
+    match holds {
+        Some(holds) => Some(holds),
+        None => otherwise,
+    }
+}
+
+fn does_hold(holds: Option<bool>) -> bool
+    ensures { result ≡ does_hold holds }
+{
+    matches!(holds, Some(true))
+}
+
+fn is_some_held(conditions: &[Condition]) -> bool
+    ensures { result ≡ list_any (λ c. does_hold c.holds) conditions.now }
+{
+    conditions
+        .iter()
+        .any(|condition| does_hold(condition.holds))
+}
+
+// What is told of a condition that wasn't looked at: it holds exactly where the call is refused, unless another one does.
+fn where_not_looked(conditions: &[Condition], is_refused: Option<bool>) -> Option<bool>
+    ensures { result ≡ where_not_looked conditions.now is_refused }
+{
+    if is_some_held(conditions) {
+        None
+    } else {
+        is_refused
+    }
+}
+
+fn put_condition(
     text: &mut Vec<u8>,
-    call: Call,
+    condition: &Condition,
+    otherwise: Option<bool>,
+) -> Result<(), AllocError>
+    ensures { OnOk result
+        (text.new.items ≡ text.old.items ++ condition_line otherwise condition.now) }
+{
+    append_words(
+        text,
+        &[
+            Word::Text(mark(known_or(condition.holds, otherwise))),
+            Word::Text(condition.words),
+            Word::Text("\n"),
+        ],
+    )
+}
+
+fn put_condition_lines(
+    text: &mut Vec<u8>,
+    conditions: &[Condition],
+    otherwise: Option<bool>,
+) -> Result<(), AllocError>
+    ensures { OnOk result (text.new.items
+        ≡ text.old.items ++ flat_map (condition_line otherwise) conditions.now) }
+{
+    for condition in conditions {
+        put_condition(text, condition, otherwise)?;
+    }
+    Ok(())
+}
+
+// Appends conditions, each with whether it holds.
+fn put_marked(
+    text: &mut Vec<u8>,
     conditions: &[Condition],
     is_refused: Option<bool>,
-) -> Result<(), AllocError> {
-    if conditions.is_empty() {
-        return Ok(());
-    }
-    let is_known = conditions.iter().any(|c| matches!(c.holds, Some(true)));
-    let otherwise = if is_known { None } else { is_refused };
+) -> Result<(), AllocError>
+    ensures { OnOk result (text.new.items ≡ text.old.items
+        ++ flat_map (condition_line (where_not_looked conditions.now is_refused)) conditions.now) }
+{
+    put_condition_lines(text, conditions, where_not_looked(conditions, is_refused))
+}
+
+#[tactic(auto, unfolding(crate::specs::WhyText::conditions_heading))]
+fn put_heading(text: &mut Vec<u8>, call: Call) -> Result<(), AllocError>
+    ensures { OnOk result (text.new.items ≡ text.old.items ++ conditions_heading call) }
+{
     append_words(
         text,
         &[
             Word::Text(call_name(call)),
             Word::Text(" is a PROGRAMMER ERROR where one of these holds ([x]: holds here)\n"),
         ],
-    )?;
-    for condition in conditions {
-        append_words(
-            text,
-            &[
-                Word::Text(mark(condition.holds.or(otherwise))),
-                Word::Text(condition.words),
-                Word::Text("\n"),
-            ],
-        )?;
-    }
-    Ok(())
+    )
 }
 
-fn put_actor_line(
+fn put_some_conditions(
+    text: &mut Vec<u8>,
+    call: Call,
+    conditions: &[Condition],
+    is_refused: Option<bool>,
+) -> Result<(), AllocError>
+    ensures { OnOk result
+        (text.new.items ≡ text.old.items ++ some_conditions call conditions.now is_refused) }
+{
+    put_heading(text, call)?;
+    put_marked(text, conditions, is_refused)
+}
+
+/// Appends the conditions under which a call is a PROGRAMMER ERROR, each with whether it holds.
+#[tactic(auto, unfolding(crate::specs::WhyText::condition_lines))]
+pub fn put_conditions(
+    text: &mut Vec<u8>,
+    call: Call,
+    conditions: &[Condition],
+    is_refused: Option<bool>,
+) -> Result<(), AllocError>
+    ensures { OnOk result
+        (text.new.items ≡ text.old.items ++ condition_lines call conditions.now is_refused) }
+{
+    if conditions.is_empty() {
+        return Ok(());
+    }
+    put_some_conditions(text, call, conditions, is_refused)
+}
+
+fn put_name(text: &mut Vec<u8>, system: &System, actor: u32) -> Result<(), AllocError>
+    ensures { OnOk result (text.new.items ≡ text.old.items ++ actor_name system.now actor) }
+{
+    append(text, actor_name(system, actor))
+}
+
+fn put_bytes(text: &mut Vec<u8>, bytes: &[u8]) -> Result<(), AllocError>
+    ensures { OnOk result (text.new.items ≡ text.old.items ++ bytes.now) }
+{
+    text.extend_from_slice(bytes)
+}
+
+/// Appends the line of an actor and what it does.
+pub fn put_actor_line(
     text: &mut Vec<u8>,
     system: &System,
-    illegal: &IllegalEntry,
-) -> Result<(), AllocError> {
-    let actor = illegal.entry.actor.0;
-    append_words(
-        text,
-        &[
-            Word::Text("actor   "),
-            Word::Text(actor_name(system, actor)),
-            Word::Text(" ("),
-        ],
-    )?;
+    actor: u32,
+    doing: &[u8],
+) -> Result<(), AllocError>
+    ensures { OnOk result
+        (text.new.items ≡ text.old.items ++ actor_line system.now actor doing.now) }
+{
+    append(text, "actor   ")?;
+    put_name(text, system, actor)?;
+    append(text, " (")?;
     put_actor_word(text, system, actor)?;
     append(text, "), before: ")?;
-    text.extend_from_slice(illegal.doing.as_slice())?;
+    put_bytes(text, doing)?;
     append(text, "\n")
 }
 
-// Whether the answer that is due shows a handle, which may be any fresh one.
-fn shows_handle(rule: Rule) -> bool {
-    matches!(rule, Rule::StaleHandle(_) | Rule::OtherHandle(_))
-}
-
-fn put_due(
+/// Appends the line of an entry with the answer that is due.
+pub fn put_due(
     text: &mut Vec<u8>,
     system: &System,
     entry: &Entry,
     outcome: Outcome,
-    shows_handle: bool,
-) -> Result<(), AllocError> {
+) -> Result<(), AllocError>
+    ensures { OnOk result
+        (text.new.items ≡ text.old.items ++ due_line system.now entry.now outcome) }
+{
     append(text, "due     ")?;
-    put_entry(text, system, &Entry { outcome, ..*entry })?;
-    if shows_handle {
-        return append(text, "        with this handle or any other fresh one\n");
-    }
-    Ok(())
+    put_entry(text, system, &Entry { outcome, ..*entry })
 }
 
+// Appends that the answer may show another handle, where it shows one.
+fn put_handle_line(text: &mut Vec<u8>, rule: Rule) -> Result<(), AllocError>
+    ensures { OnOk result (text.new.items ≡ text.old.items ++ handle_line rule) }
+{
+    match rule {
+        Rule::StaleHandle(_) | Rule::OtherHandle(_) => {
+            append(text, "        with this handle or any other fresh one\n")
+        }
+        _ => Ok(()),
+    }
+}
+
+fn put_due_lines(
+    text: &mut Vec<u8>,
+    system: &System,
+    illegal: &IllegalEntry,
+    due: Option<Outcome>,
+) -> Result<(), AllocError>
+    ensures { OnOk result
+        (text.new.items ≡ text.old.items ++ due_lines system.now illegal.now due) }
+{
+    let Some(outcome) = due else {
+        return Ok(());
+    };
+    put_due(text, system, &illegal.entry, outcome)?;
+    put_handle_line(text, illegal.rule)?;
+    put_conditions(
+        text,
+        illegal.entry.call,
+        illegal.conditions.as_slice(),
+        illegal.is_refused,
+    )
+}
+
+/// Appends the line of a rule.
+pub fn put_rule(text: &mut Vec<u8>, rule: Rule) -> Result<(), AllocError>
+    ensures { OnOk result (text.new.items ≡ text.old.items
+        ++ joined (codes "rule    " ∷ rule_words rule ∷ codes "\n" ∷ [])) }
+{
+    append_words(
+        text,
+        &[
+            Word::Text("rule    "),
+            Word::Text(rule_words(rule)),
+            Word::Text("\n"),
+        ],
+    )
+}
+
+#[tactic(auto, unfolding(crate::specs::WhyText::illegal_text))]
 fn put_illegal(
     text: &mut Vec<u8>,
     system: &System,
     illegal: &IllegalEntry,
-) -> Result<(), AllocError> {
+) -> Result<(), AllocError>
+    ensures { OnOk result
+        (text.new.items ≡ text.old.items ++ illegal_text system.now illegal.now) }
+{
     append_words(
         text,
         &[
@@ -126,41 +285,34 @@ fn put_illegal(
         ],
     )?;
     put_entry(text, system, &illegal.entry)?;
-    put_actor_line(text, system, illegal)?;
-    append_words(
+    put_actor_line(
         text,
-        &[
-            Word::Text("rule    "),
-            Word::Text(rule_words(illegal.rule)),
-            Word::Text("\n"),
-        ],
+        system,
+        illegal.entry.actor.0,
+        illegal.doing.as_slice(),
     )?;
-    match answer_due(illegal.rule) {
-        Some(outcome) => {
-            put_due(
-                text,
-                system,
-                &illegal.entry,
-                outcome,
-                shows_handle(illegal.rule),
-            )?;
-            put_conditions(
-                text,
-                illegal.entry.call,
-                illegal.conditions.as_slice(),
-                illegal.is_refused,
-            )
-        }
-        None => Ok(()),
+    put_rule(text, illegal.rule)?;
+    put_due_lines(text, system, illegal, answer_due(illegal.rule))
+}
+
+fn put_verdict_due(text: &mut Vec<u8>, due: Option<Verdict>) -> Result<(), AllocError>
+    ensures { OnOk result (text.new.items ≡ text.old.items ++ verdict_due_text due) }
+{
+    match due {
+        Some(verdict) => append_words(text, &[Word::Text(verdict_word(verdict)), Word::Text("\n")]),
+        None => append(text, "another entry: some actor can go on\n"),
     }
 }
 
+#[tactic(auto, unfolding(crate::specs::WhyText::verdict_text))]
 fn put_verdict(
     text: &mut Vec<u8>,
     place: u32,
     told: Verdict,
     due: Option<Verdict>,
-) -> Result<(), AllocError> {
+) -> Result<(), AllocError>
+    ensures { OnOk result (text.new.items ≡ text.old.items ++ verdict_text place told due) }
+{
     append_words(
         text,
         &[
@@ -171,20 +323,26 @@ fn put_verdict(
             Word::Text("\ndue     "),
         ],
     )?;
-    match due {
-        Some(verdict) => append_words(text, &[Word::Text(verdict_word(verdict)), Word::Text("\n")]),
-        None => append(text, "another entry: some actor can go on\n"),
-    }
+    put_verdict_due(text, due)
 }
 
-/// The text of how a trace is judged, and why.
-pub fn why_text(alloc: Global, system: &System, finding: &Finding) -> Result<Vec<u8>, AllocError> {
+fn put_legal(text: &mut Vec<u8>, count: u32) -> Result<(), AllocError>
+    ensures { OnOk result (text.new.items ≡ text.old.items
+        ++ joined (codes "legal " ∷ decimal count ∷ codes "\n" ∷ [])) }
+{
+    append_words(
+        text,
+        &[Word::Text("legal "), Word::Number(count), Word::Text("\n")],
+    )
+}
+
+/// The text of how a trace is judged, and why. The only error is want of memory.
+pub fn why_text(alloc: Global, system: &System, finding: &Finding) -> Result<Vec<u8>, AllocError>
+    ensures { IfOk result (λ text. text.items ≡ why_text system.now finding.now) }
+{
     let mut text = Vec::new(alloc);
     match finding {
-        Finding::Legal(count) => append_words(
-            &mut text,
-            &[Word::Text("legal "), Word::Number(*count), Word::Text("\n")],
-        )?,
+        Finding::Legal(count) => put_legal(&mut text, *count)?,
         Finding::Entry(illegal) => put_illegal(&mut text, system, illegal)?,
         Finding::Verdict { place, told, due } => put_verdict(&mut text, *place, *told, *due)?,
     }

@@ -1,179 +1,118 @@
-//! Who waits for whom where no actor can go on.
+//! Who waits for whom where no actor can go on, as a text.
+ghost use Rattle.std.specs.Prelude.{◌≡◌, ◌++◌, IfOk, OnOk};
+ghost use Rattle.std.specs.List.{flat_map};
+ghost use Rattle.machine_calls.specs.Machine.{spm_of_objects};
+ghost use Rattle.view_places.specs.StateText.{answerer_text, blocked_line, circle_line, disabled_text, givers, hindrance, holding_text, name_column, next_in_circle, other_signal, signal_from, signals_from, stall_line, stall_text, stalled_text, stopped_text, waiting_line};
+ghost use Rattle.view_places.specs.Waits.{actors, circle_of, message_awaited, signals_in};
 
-use crate::state::{message_awaited, put_call};
-use ffm_model::{ActorPhase, PSA_DOORBELL, PendingMessage, Source, SourceFlags, System};
+use crate::phases::{put_actor_names, put_call, signal_name};
+use crate::waits::{
+    Signal, Waits, add_where, could_give, flags_at, is_stalled, message_awaited, owner_of,
+    signals_in,
+};
+use dependency_circle::first_circle;
+use ffm_model::{ActorPhase, Handle, PendingMessage, System};
 use machine_calls::Objects;
 use std::alloc::{AllocError, Global};
 use text_lines::{Word, append, append_words};
-use view_texts::{actor_name, longest_actor_name, put_comma, put_left, service_at};
+use view_texts::{actor_name, actor_width, put_left};
 
-// A set with one actor: a bit of a word. A system has at most 49.
-fn only(actor: u32) -> u64 {
-    if actor < 64 { 1u64 << actor } else { 0 }
-}
-
-fn has(set: u64, actor: u32) -> bool {
-    set & only(actor) != 0
-}
-
-fn is_gone(objects: &Objects, actor: u32) -> bool {
-    matches!(
-        objects.phase(actor),
-        ActorPhase::Ended | ActorPhase::Panicked
-    )
-}
-
-// The actors that may use a service and aren't gone.
-fn users(system: &System, objects: &Objects, service: u32) -> u64 {
-    let mut set = 0;
-    for budget in system.budgets.as_slice() {
-        if budget.service == service && !is_gone(objects, budget.client.0) {
-            set |= only(budget.client.0);
-        }
-    }
-    set
-}
-
-// The other partitions that aren't gone.
-fn ringers(system: &System, objects: &Objects, partition: u32) -> u64 {
-    let mut set = 0;
-    for other in 0..system.counts().partitions {
-        if other != partition && !is_gone(objects, other) {
-            set |= only(other);
-        }
-    }
-    set
-}
-
-// The device, where it isn't gone and the source may be asserted.
-fn raisers(system: &System, objects: &Objects, flags: SourceFlags) -> u64 {
-    let device = system.actor_count().saturating_sub(1);
-    if flags.enabled && !is_gone(objects, device) {
-        only(device)
-    } else {
-        0
-    }
-}
-
-// Who could give one of the signals for which a partition waits.
-fn givers(system: &System, objects: &Objects, partition: u32, mask: u32) -> u64 {
-    let mut set = 0;
-    for (place, service) in (0..u32::MAX).zip(system.services.as_slice().iter()) {
-        if service.owner == partition && service.signal & mask != 0 {
-            set |= users(system, objects, place);
-        }
-    }
-    let flags = objects.sources.as_slice();
-    for (source, flags) in system.sources.as_slice().iter().zip(flags.iter()) {
-        if source.owner == partition && source.signal & mask != 0 {
-            set |= raisers(system, objects, *flags);
-        }
-    }
-    if mask & PSA_DOORBELL != 0 {
-        set |= ringers(system, objects, partition);
-    }
-    set
-}
-
-// The partition that could answer a message.
-fn answerer(system: &System, message: &PendingMessage) -> u64 {
-    match service_at(system, message.service) {
-        Some(service) => only(service.owner),
-        None => 0,
-    }
-}
-
-// For which actors an actor waits.
-fn awaited(system: &System, objects: &Objects, actor: u32) -> u64 {
-    match objects.phase(actor) {
-        ActorPhase::Waiting { mask } => givers(system, objects, actor, mask),
-        ActorPhase::Blocked => match message_awaited(objects, actor) {
-            Some(message) => answerer(system, &message),
-            None => 0,
-        },
-        _ => 0,
-    }
-}
-
-// Appends the names of a set's actors.
-fn put_set(text: &mut Vec<u8>, system: &System, set: u64) -> Result<(), AllocError> {
-    let mut is_first = true;
-    for actor in 0..system.actor_count() {
-        if has(set, actor) {
-            put_comma(text, is_first)?;
-            is_first = false;
-            append(text, actor_name(system, actor))?;
-        }
-    }
-    if is_first {
-        append(text, "nobody")
-    } else {
-        Ok(())
-    }
-}
-
-fn put_signal(
-    text: &mut Vec<u8>,
-    system: &System,
-    is_first: &mut bool,
-    name: &str,
-    set: u64,
-) -> Result<(), AllocError> {
-    append(text, if *is_first { " " } else { ", or " })?;
-    *is_first = false;
-    append_words(text, &[Word::Text(name), Word::Text(" from ")])?;
-    put_set(text, system, set)
-}
-
-fn put_source(
-    text: &mut Vec<u8>,
+// The actors that could give a partition's signal.
+fn givers(
+    alloc: Global,
     system: &System,
     objects: &Objects,
-    is_first: &mut bool,
-    source: &Source,
-    flags: SourceFlags,
-) -> Result<(), AllocError> {
-    let set = raisers(system, objects, flags);
-    put_signal(text, system, is_first, source.signal_name.as_str(), set)?;
-    if flags.enabled {
-        Ok(())
-    } else {
-        append(text, " while it is disabled")
+    partition: u32,
+    signal: Signal,
+) -> Result<Vec<u32>, AllocError>
+    ensures { IfOk result (λ found. found.items
+        ≡ givers system.now (spm_of_objects objects.now) partition signal) }
+{
+    let mut found = Vec::new(alloc);
+    for actor in 0..system.actor_count() {
+        let is_giver = could_give(system, objects, partition, signal, actor);
+        add_where(&mut found, is_giver, actor)?;
+    }
+    Ok(found)
+}
+
+// Appends that a signal's source is disabled, where it is.
+fn put_disabled(text: &mut Vec<u8>, objects: &Objects, signal: Signal) -> Result<(), AllocError>
+    ensures { OnOk result
+        (text.new.items ≡ text.old.items ++ disabled_text (spm_of_objects objects.now) signal) }
+{
+    match signal {
+        Signal::Source(place) if !flags_at(objects, place).enabled => {
+            append(text, " while it is disabled")
+        }
+        _ => Ok(()),
     }
 }
 
-// Appends each signal for which a partition waits, and who could give it.
-fn put_waiting(
+// Appends a signal, and who could give it.
+#[tactic(auto, unfolding(crate::specs::StateText::signal_from))]
+fn put_signal(
+    alloc: Global,
     text: &mut Vec<u8>,
     system: &System,
     objects: &Objects,
     partition: u32,
-    mask: u32,
-) -> Result<(), AllocError> {
-    let mut is_first = true;
-    append(text, "waits for")?;
-    for (place, service) in (0..u32::MAX).zip(system.services.as_slice().iter()) {
-        if service.owner == partition && service.signal & mask != 0 {
-            let set = users(system, objects, place);
-            put_signal(text, system, &mut is_first, service.name.as_str(), set)?;
-        }
-    }
-    let flags = objects.sources.as_slice();
-    for (source, flags) in system.sources.as_slice().iter().zip(flags.iter()) {
-        if source.owner == partition && source.signal & mask != 0 {
-            put_source(text, system, objects, &mut is_first, source, *flags)?;
-        }
-    }
-    if mask & PSA_DOORBELL != 0 {
-        let set = ringers(system, objects, partition);
-        put_signal(text, system, &mut is_first, "DOORBELL", set)?;
+    signal: Signal,
+) -> Result<(), AllocError>
+    ensures { OnOk result (text.new.items
+        ≡ text.old.items ++ signal_from system.now (spm_of_objects objects.now) partition signal) }
+{
+    append(text, signal_name(system, signal))?;
+    append(text, " from ")?;
+    let givers = givers(alloc, system, objects, partition, signal)?;
+    put_actor_names(alloc, text, system, givers.as_slice(), "nobody")?;
+    put_disabled(text, objects, signal)
+}
+
+fn put_other_signals(
+    alloc: Global,
+    text: &mut Vec<u8>,
+    system: &System,
+    objects: &Objects,
+    partition: u32,
+    signals: &[Signal],
+) -> Result<(), AllocError>
+    ensures { OnOk result (text.new.items ≡ text.old.items
+        ++ flat_map (other_signal system.now (spm_of_objects objects.now) partition) signals.now) }
+{
+    for signal in signals {
+        append(text, ", or ")?;
+        put_signal(alloc, text, system, objects, partition, *signal)?;
     }
     Ok(())
 }
 
+// Appends these signals, each with who could give it.
+fn put_signals(
+    alloc: Global,
+    text: &mut Vec<u8>,
+    system: &System,
+    objects: &Objects,
+    partition: u32,
+    signals: &[Signal],
+) -> Result<(), AllocError>
+    ensures { OnOk result (text.new.items ≡ text.old.items
+        ++ signals_from system.now (spm_of_objects objects.now) partition signals.now) }
+{
+    match signals {
+        [] => append(text, "no signal"),
+        [first, others @ ..] => {
+            put_signal(alloc, text, system, objects, partition, *first)?;
+            put_other_signals(alloc, text, system, objects, partition, others)
+        }
+    }
+}
+
 // What keeps a partition from answering.
-fn hindrance(objects: &Objects, partition: u32) -> &'static str {
-    match objects.phase(partition) {
+fn hindrance(phase: ActorPhase) -> &'static str
+    ensures { result.now ≡ hindrance phase }
+{
+    match phase {
         ActorPhase::Blocked => "is blocked itself",
         ActorPhase::Waiting { .. } => "waits itself",
         ActorPhase::Ended => "has ended",
@@ -182,192 +121,249 @@ fn hindrance(objects: &Objects, partition: u32) -> &'static str {
     }
 }
 
-// Appends the message for whose answer an actor waits, and what keeps its service from it.
-fn put_blocked(
-    text: &mut Vec<u8>,
-    system: &System,
-    objects: &Objects,
-    message: &PendingMessage,
-) -> Result<(), AllocError> {
-    append(text, "blocked in ")?;
-    put_call(text, system, message)?;
-    let partition = match service_at(system, message.service) {
-        Some(service) => service.owner,
-        None => return Ok(()),
-    };
-    append_words(
-        text,
-        &[Word::Text("; "), Word::Text(actor_name(system, partition))],
-    )?;
-    match message.handle {
+fn put_holding(text: &mut Vec<u8>, handle: Option<Handle>) -> Result<(), AllocError>
+    ensures { OnOk result (text.new.items ≡ text.old.items ++ holding_text handle) }
+{
+    match handle {
         Some(handle) => append_words(
             text,
             &[Word::Text(" holds message "), Word::Signed(handle.0)],
-        )?,
-        None => append(text, " has to take the message")?,
+        ),
+        None => append(text, " has to take the message"),
     }
-    append(text, " and ")?;
-    append(text, hindrance(objects, partition))
 }
 
-fn put_actor_line(
+// Appends which partition has to answer, and what keeps it from that.
+fn put_answerer(
+    text: &mut Vec<u8>,
+    system: &System,
+    objects: &Objects,
+    handle: Option<Handle>,
+    owner: Option<u32>,
+) -> Result<(), AllocError>
+    ensures { OnOk result (text.new.items ≡ text.old.items
+        ++ answerer_text system.now (spm_of_objects objects.now) handle owner) }
+{
+    let Some(partition) = owner else {
+        return Ok(());
+    };
+    append(text, "; ")?;
+    append(text, actor_name(system, partition))?;
+    put_holding(text, handle)?;
+    append(text, " and ")?;
+    append(text, hindrance(objects.phase(partition)))
+}
+
+// Appends the message for whose answer an actor waits, and what keeps its service from it.
+fn put_stopped(
+    text: &mut Vec<u8>,
+    system: &System,
+    objects: &Objects,
+    awaited: Option<PendingMessage>,
+) -> Result<(), AllocError>
+    ensures { OnOk result (text.new.items ≡ text.old.items
+        ++ stopped_text system.now (spm_of_objects objects.now) awaited) }
+{
+    let Some(message) = awaited else {
+        return append(text, "blocked");
+    };
+    append(text, "blocked in ")?;
+    put_call(text, system, &message)?;
+    let owner = owner_of(system, message.service);
+    put_answerer(text, system, objects, message.handle, owner)
+}
+
+#[tactic(auto, unfolding(crate::specs::StateText::name_column))]
+fn put_name(text: &mut Vec<u8>, system: &System, actor: u32) -> Result<(), AllocError>
+    ensures { OnOk result (text.new.items ≡ text.old.items ++ name_column system.now actor) }
+{
+    append(text, "  ")?;
+    put_left(
+        text,
+        Word::Text(actor_name(system, actor)),
+        actor_width(system),
+    )
+}
+
+// Appends a partition's signals in a mask, each with who could give it.
+fn put_signals_in(
+    alloc: Global,
+    text: &mut Vec<u8>,
+    system: &System,
+    objects: &Objects,
+    partition: u32,
+    mask: u32,
+) -> Result<(), AllocError>
+    ensures { OnOk result (text.new.items ≡ text.old.items
+        ++ signals_from system.now (spm_of_objects objects.now) partition
+        (signals_in system.now partition mask)) }
+{
+    let signals = signals_in(alloc, system, partition, mask)?;
+    put_signals(alloc, text, system, objects, partition, signals.as_slice())
+}
+
+fn put_waiting_line(
+    alloc: Global,
     text: &mut Vec<u8>,
     system: &System,
     objects: &Objects,
     actor: u32,
-    width: usize,
-) -> Result<(), AllocError> {
-    let phase = objects.phase(actor);
-    if !matches!(phase, ActorPhase::Blocked | ActorPhase::Waiting { .. }) {
-        return Ok(());
-    }
-    append(text, "  ")?;
-    put_left(text, Word::Text(actor_name(system, actor)), width)?;
-    append(text, "  ")?;
-    if let ActorPhase::Waiting { mask } = phase {
-        put_waiting(text, system, objects, actor, mask)?;
-    } else if let Some(message) = message_awaited(objects, actor) {
-        put_blocked(text, system, objects, &message)?;
-    }
+    mask: u32,
+) -> Result<(), AllocError>
+    ensures { OnOk result (text.new.items
+        ≡ text.old.items ++ waiting_line system.now (spm_of_objects objects.now) actor mask) }
+{
+    put_name(text, system, actor)?;
+    append(text, "  waits for ")?;
+    put_signals_in(alloc, text, system, objects, actor, mask)?;
     append(text, "\n")
 }
 
-fn edge(edges: &[u64], actor: u32) -> u64 {
-    match edges.get(actor as usize) {
-        Some(set) => *set,
-        None => 0,
-    }
+// Appends why an actor that is blocked isn't answered.
+fn put_stop(
+    text: &mut Vec<u8>,
+    system: &System,
+    objects: &Objects,
+    actor: u32,
+) -> Result<(), AllocError>
+    ensures { OnOk result (text.new.items ≡ text.old.items
+        ++ stopped_text system.now (spm_of_objects objects.now)
+        (message_awaited (spm_of_objects objects.now) actor)) }
+{
+    put_stopped(text, system, objects, message_awaited(objects, actor))
 }
 
-// The actors that wait for one of a set.
-fn before(edges: &[u64], set: u64) -> u64 {
-    let mut found = 0;
-    for (actor, awaited) in (0..64).zip(edges.iter()) {
-        if *awaited & set != 0 {
-            found |= only(actor);
-        }
-    }
-    found
+fn put_blocked_line(
+    text: &mut Vec<u8>,
+    system: &System,
+    objects: &Objects,
+    actor: u32,
+) -> Result<(), AllocError>
+    ensures { OnOk result (text.new.items
+        ≡ text.old.items ++ blocked_line system.now (spm_of_objects objects.now) actor) }
+{
+    put_name(text, system, actor)?;
+    append(text, "  ")?;
+    put_stop(text, system, objects, actor)?;
+    append(text, "\n")
 }
 
-// For each number of steps from 0 on, the actors from which so many lead to one actor and no fewer do.
-fn ranks(alloc: Global, edges: &[u64], end: u32) -> Result<Vec<u64>, AllocError> {
-    let mut ranks = Vec::new(alloc);
-    let mut reached = only(end);
-    let mut front = reached;
-    for _ in 0..edges.len() {
-        ranks.push(front)?;
-        let next = before(edges, front);
-        front = next & !reached;
-        reached |= next;
-    }
-    Ok(ranks)
-}
-
-// The least actor of a set.
-fn least(set: u64) -> Option<u32> {
-    (0..64).find(|actor| has(set, *actor))
-}
-
-// The next actor on a shortest way to the one for which the ranks are.
-fn nearest(ranks: &[u64], set: u64) -> Option<u32> {
-    for rank in ranks {
-        if let Some(actor) = least(set & *rank) {
-            return Some(actor);
-        }
-    }
-    None
-}
-
-// Appends a shortest circle of actors that wait for each other, where one leads through this actor. Whether
-// there is one.
-fn put_circle(
+// Appends what an actor waits for.
+#[tactic(auto, unfolding(crate::specs::StateText::stall_line))]
+fn put_stall_line(
     alloc: Global,
     text: &mut Vec<u8>,
     system: &System,
-    edges: &[u64],
-    start: u32,
-) -> Result<bool, AllocError> {
-    let ranks = ranks(alloc, edges, start)?;
-    let mut actor = start;
-    if nearest(ranks.as_slice(), edge(edges, start)).is_none() {
-        return Ok(false);
-    }
-    append_words(
-        text,
-        &[
-            Word::Text("circle: "),
-            Word::Text(actor_name(system, start)),
-        ],
-    )?;
-    for _ in 0..edges.len() {
-        match nearest(ranks.as_slice(), edge(edges, actor)) {
-            Some(next) => {
-                append_words(
-                    text,
-                    &[Word::Text(" -> "), Word::Text(actor_name(system, next))],
-                )?;
-                actor = next;
-            }
-            None => return Ok(true),
+    objects: &Objects,
+    actor: u32,
+) -> Result<(), AllocError>
+    ensures { OnOk result (text.new.items
+        ≡ text.old.items ++ stall_line system.now (spm_of_objects objects.now) actor) }
+{
+    match objects.phase(actor) {
+        ActorPhase::Waiting { mask } => {
+            put_waiting_line(alloc, text, system, objects, actor, mask)
         }
-        if actor == start {
-            break;
-        }
+        ActorPhase::Blocked => put_blocked_line(text, system, objects, actor),
+        _ => Ok(()),
     }
-    append(text, "\n")?;
-    Ok(true)
 }
 
-fn edges(alloc: Global, system: &System, objects: &Objects) -> Result<Vec<u64>, AllocError> {
-    let mut edges = Vec::new(alloc);
+fn put_stall_lines(
+    alloc: Global,
+    text: &mut Vec<u8>,
+    system: &System,
+    objects: &Objects,
+) -> Result<(), AllocError>
+    ensures { OnOk result (text.new.items ≡ text.old.items
+        ++ flat_map (stall_line system.now (spm_of_objects objects.now)) (actors system.now)) }
+{
     for actor in 0..system.actor_count() {
-        edges.push(awaited(system, objects, actor))?;
+        put_stall_line(alloc, text, system, objects, actor)?;
     }
-    Ok(edges)
+    Ok(())
 }
 
-// Appends the first circle that there is.
+fn put_next(text: &mut Vec<u8>, system: &System, actor: u32) -> Result<(), AllocError>
+    ensures { OnOk result (text.new.items ≡ text.old.items ++ next_in_circle system.now actor) }
+{
+    append(text, " -> ")?;
+    append(text, actor_name(system, actor))
+}
+
+fn put_others(text: &mut Vec<u8>, system: &System, actors: &[u32]) -> Result<(), AllocError>
+    ensures { OnOk result
+        (text.new.items ≡ text.old.items ++ flat_map (next_in_circle system.now) actors.now) }
+{
+    for actor in actors {
+        put_next(text, system, *actor)?;
+    }
+    Ok(())
+}
+
+// Appends the actors of a circle, and the first again.
+fn put_circle(text: &mut Vec<u8>, system: &System, circle: &[u32]) -> Result<(), AllocError>
+    ensures { OnOk result
+        (text.new.items ≡ text.old.items ++ circle_line system.now (Some circle.now)) }
+{
+    let [first, others @ ..] = circle else {
+        return append(text, NO_CIRCLE);
+    };
+    append(text, "circle: ")?;
+    append(text, actor_name(system, *first))?;
+    put_others(text, system, others)?;
+    put_next(text, system, *first)?;
+    append(text, "\n")
+}
+
+const NO_CIRCLE: &str =
+    "no circle: they wait for actors that are gone or for signals that nobody gives\n";
+
+// Appends the first circle of those that wait for each other.
+#[tactic(auto, unfolding(crate::specs::Waits::circle_of))]
 fn put_first_circle(
     alloc: Global,
     text: &mut Vec<u8>,
     system: &System,
     objects: &Objects,
-) -> Result<(), AllocError> {
-    let edges = edges(alloc, system, objects)?;
-    for actor in 0..system.actor_count() {
-        if put_circle(alloc, text, system, edges.as_slice(), actor)? {
-            return Ok(());
-        }
+) -> Result<(), AllocError>
+    ensures { OnOk result (text.new.items ≡ text.old.items
+        ++ circle_line system.now (circle_of system.now (spm_of_objects objects.now))) }
+{
+    let waits = Waits { system, objects };
+    match first_circle(alloc, &waits, system.actor_count())? {
+        Some(circle) => put_circle(text, system, circle.as_slice()),
+        None => append(text, NO_CIRCLE),
     }
-    append(
-        text,
-        "no circle: they wait for actors that are gone or for signals that nobody gives\n",
-    )
 }
 
-fn is_some_enabled(objects: &Objects, system: &System) -> bool {
-    (0..system.actor_count()).any(|actor| objects.is_enabled(system, actor))
-}
-
-fn is_some_blocked(objects: &Objects, system: &System) -> bool {
-    (0..system.actor_count()).any(|actor| matches!(objects.phase(actor), ActorPhase::Blocked))
+fn put_stalled(
+    alloc: Global,
+    text: &mut Vec<u8>,
+    system: &System,
+    objects: &Objects,
+) -> Result<(), AllocError>
+    ensures { OnOk result (text.new.items
+        ≡ text.old.items ++ stalled_text system.now (spm_of_objects objects.now)) }
+{
+    append(text, "stalled: no actor can go on\n")?;
+    put_stall_lines(alloc, text, system, objects)?;
+    put_first_circle(alloc, text, system, objects)
 }
 
 /// Appends who waits for whom, where no actor can go on and some is blocked.
+#[tactic(auto, unfolding(crate::specs::StateText::stall_text))]
 pub fn put_stall(
     alloc: Global,
     text: &mut Vec<u8>,
     system: &System,
     objects: &Objects,
-) -> Result<(), AllocError> {
-    if is_some_enabled(objects, system) || !is_some_blocked(objects, system) {
+) -> Result<(), AllocError>
+    ensures { OnOk result (text.new.items
+        ≡ text.old.items ++ stall_text system.now (spm_of_objects objects.now)) }
+{
+    if !is_stalled(system, objects) {
         return Ok(());
     }
-    let width = longest_actor_name(system);
-    append(text, "stalled: no actor can go on\n")?;
-    for actor in 0..system.actor_count() {
-        put_actor_line(text, system, objects, actor, width)?;
-    }
-    put_first_circle(alloc, text, system, objects)
+    put_stalled(alloc, text, system, objects)
 }

@@ -1,12 +1,15 @@
 //! The names of the calls.
 
+ghost use Rattle.std.specs.Prelude.{◌≡◌, ◌<◌, map};
+ghost use Rattle.view_texts.specs.Calls.{call_name, name_at, name_in, place_of};
+
 use ffm_model::Call;
 
 /// How many calls there are.
 pub const CALL_COUNT: usize = 25;
 
 /// The functions of `psa/client.h` and `psa/service.h` and this simulator's own calls, each at its place.
-static CALL_NAMES: [&str; CALL_COUNT] = [
+const CALL_NAMES: [&str; CALL_COUNT] = [
     "psa_framework_version",
     "psa_version",
     "psa_connect",
@@ -35,7 +38,10 @@ static CALL_NAMES: [&str; CALL_COUNT] = [
 ];
 
 /// The place of a call's name among the names.
-pub fn place_of(call: Call) -> usize {
+pub fn place_of(call: Call) -> usize
+    ensures place { result ≡ place_of call }
+    ensures within { result < CALL_COUNT }
+{
     match call {
         Call::FrameworkVersion => 0,
         Call::Version { .. } => 1,
@@ -65,15 +71,25 @@ pub fn place_of(call: Call) -> usize {
     }
 }
 
-/// The name at a place.
-pub fn name_at(place: usize) -> &'static str {
-    match CALL_NAMES.as_slice().get(place) {
+fn name_in(names: &[&'static str], place: usize) -> &'static str
+    ensures { result.now ≡ name_in (map (λ n. n.now) names.now) place }
+{
+    match names.get(place) {
         Some(name) => *name,
         None => "",
     }
 }
 
+/// The name at a place.
+pub fn name_at(place: usize) -> &'static str
+    ensures { result.now ≡ name_at place }
+{
+    name_in(&CALL_NAMES, place)
+}
+
 /// The name of a call.
-pub fn call_name(call: Call) -> &'static str {
+pub fn call_name(call: Call) -> &'static str
+    ensures { result.now ≡ call_name call }
+{
     name_at(place_of(call))
 }

@@ -7,14 +7,15 @@ mod columns;
 mod counts;
 mod counts_text;
 mod names;
+mod numbers;
 mod outcomes;
 
 pub use calls::{CALL_COUNT, call_name, name_at, place_of};
-pub use columns::{pad, put_comma, put_left, put_right};
+pub use columns::{pad, put_left, put_list, put_right};
 pub use counts::{Moved, TraceCounts, Wait, stats};
 pub use counts_text::stats_text;
 pub use names::{
-    actor_name, call_of_kind, longest_actor_name, longest_name, put_actor, put_actor_word,
-    put_service, put_signals, service_at, service_name,
+    actor_name, actor_width, call_of_kind, name_width, put_actor, put_actor_word, put_service,
+    service_name,
 };
 pub use outcomes::{put_entry, put_outcome};

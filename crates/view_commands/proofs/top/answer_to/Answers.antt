@@ -3,7 +3,7 @@ use Rattle.view_commands.proofs.Answered.{asked_answer, told_answer}
 use Rattle.view_commands.proofs.top.answer_to.Goals as goal
 
 pub returns-in-Ok-clause-answers : goal.returns-in-Ok-clause-answers
-returns-in-Ok-clause-answers g c = asked_answer (map string_bytes c.args.words.now) c.in-Ok.request _ _ c.answer_of.result c.in-Ok.ensures.asked c.answer_of.ensures.answers
+returns-in-Ok-clause-answers g c = asked_answer (map string_bytes c.args.words.now) c.in-Ok.asked _ _ c.answer_of_asked.result c.in-Ok.ensures.asked c.answer_of_asked.ensures.answers
 
 pub returns-in-Ok-told-clause-answers : goal.returns-in-Ok-told-clause-answers
 returns-in-Ok-told-clause-answers g c =

@@ -15,6 +15,7 @@ returns c =
       entry = refl;
       rule = c.in_ok-rule.ensures;
       call = λ handles knows illegal. record {
+        doing = c.in_ok-doing.ensures;
         table = λ there. c.in_ok-conditions.ensures.table there;
         none = λ absent. c.in_ok-conditions.ensures.none absent;
         shown = c.refusal_shown.ensures;

@@ -1,0 +1,8 @@
+use Rattle.std.proofs.lemmas.Result.{on_ok_weaker}
+use Rattle.view_places.specs.StateText.{some_sources}
+use Rattle.view_places.proofs.Appended.{step}
+use Rattle.view_places.proofs.state.put_some_sources.Goals as goal
+
+pub returns : goal.returns
+unfolding some_sources
+returns c = on_ok_weaker c.put_in_columns.result (λ e. step _ _ _ _ _ c.in_ok-append.ensures e) c.put_in_columns.ensures
