@@ -14,6 +14,8 @@ pub mod Past
 pub mod SlotsAlike
 pub mod Alike
 pub mod SeenWalks
+pub mod SlotRuns
+pub mod Shown
 pub mod ByScripts
 pub mod Exploring
 pub mod Numbers

@@ -4,6 +4,7 @@ pub mod ByScripts
 pub mod Explored
 pub mod Exploring
 pub mod Seen
+pub mod Shown
 pub mod Ranges
 pub mod Fitting
 pub mod Priorities

@@ -9,7 +9,9 @@ use ffm_model::{
 };
 use machine_calls::{Machine, Objects};
 use memory_image::Image;
-use packed_state::{SlotsInUse, Snapshot, pack, unpack};
+use packed_state::{
+    Contexts, Engine, Holding, Point, SlotName, SlotsInUse, Snapshot, pack, unpack,
+};
 use std::alloc::{AllocError, Global};
 use std::process::Abort;
 use std::test::Fail;
@@ -22,11 +24,11 @@ const REGION: Region = Region {
 };
 
 // The bytes of the state, by hand: the connection, the number made, the message, what actors do, doorbell and
-// source, the slots twice, and a change behind two equal bytes.
-const BYTES: [u8; 60] = [
+// source, the slots twice, a change behind two equal bytes, and the two engines.
+const BYTES: [u8; 76] = [
     1, 0, 1, 0, 2, 255, 112, 17, 1, 0, 1, 254, 0, 8, 1, 1, 0, 1, 1, 0, 0, 1, 255, 2, 0, 0, 32, 2,
-    0, 0, 0, 0, 0, 0, 0, 0, 0, 0, 0, 2, 2, 16, 1, 1, 1, 1, 1, 0, 0, 1, 0, 1, 1, 1, 0, 1, 1, 1, 2,
-    7,
+    0, 0, 0, 0, 0, 0, 0, 0, 0, 0, 0, 2, 2, 16, 1, 1, 1, 1, 1, 0, 0, 1, 0, 1, 1, 1, 1, 0, 1, 1, 1,
+    1, 2, 7, 2, 0, 5, 16, 254, 44, 1, 3, 0, 1, 1, 0, 0, 0,
 ];
 
 // A client waits for the answer to a request of two bytes.
@@ -78,9 +80,39 @@ fn objects(alloc: Global) -> Result<Objects, AllocError> {
 
 fn first_slot(alloc: Global) -> Result<SlotsInUse, AllocError> {
     Ok(SlotsInUse {
-        live: vec![in alloc; 0u32]?,
+        live: vec![in alloc;
+            SlotName {
+                index: 0,
+                generation: 1,
+            },
+        ]?,
         uses: vec![in alloc; 1u32]?,
     })
+}
+
+// A partition's script at its fourth line, and a client's context at its start.
+fn engines(alloc: Global) -> Result<Vec<Engine>, AllocError> {
+    let mut registers = [0; 16];
+    registers[0] = 16;
+    registers[2] = 300;
+    Ok(vec![in alloc;
+        Engine::Holding(Holding {
+            at: Point {
+                registers,
+                place: 3,
+            },
+            table: Vec::new(alloc),
+        }),
+        Engine::Turning(Contexts {
+            points: vec![in alloc;
+                Point {
+                    registers: [0; 16],
+                    place: 0,
+                },
+            ]?,
+            turn: 0,
+        }),
+    ]?)
 }
 
 // The region with zeros.
@@ -105,6 +137,7 @@ fn states_as_bytes(rt: HostRuntime) -> Result<(), Fail> {
         },
         connections: first_slot(alloc)?,
         messages: first_slot(alloc)?,
+        engines: engines(alloc)?,
     };
     let bytes = pack(alloc, &snapshot, &[REGION], &opening)?;
     assert!(rt; bytes.as_slice() == BYTES.as_slice());
