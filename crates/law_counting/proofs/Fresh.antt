@@ -390,42 +390,57 @@ run-named s m es w h =
 record Numbers (t : SlotName) : Type 0 where
   pub small : t.index < 512
   pub first : 1 ≤ t.generation
-  pub last : t.generation < last_generation
+
+-- its name is a number that a handle may have
+abbrev IsLow : ℕ → SlotName → Type 0
+IsLow base t = t.generation * 1024 + t.index + base ≤ 0x3fffffff
 
 at-most : (x n : ℕ) → bit (not (nat_le x n)) ≤ 0 → x ≤ n
 at-most x n h = grind (arith, nat_tests)
 
 -- a slot of a list whose slots are all among those taken
-numbers : (ts all : List SlotName) (i : ℕ) → Taken all → ((p : SlotName → Bool) → count_by p ts ≤ count_by p all) → i < length ts → length all < last_generation → Numbers (get_or ts i no_slot)
-numbers ts all i h inside lt few =
+numbers : (ts all : List SlotName) (i : ℕ) → Taken all → ((p : SlotName → Bool) → count_by p ts ≤ count_by p all) → i < length ts → Numbers (get_or ts i no_slot)
+numbers ts all i h inside lt =
     let t : SlotName = get_or ts i no_slot in
     record {
       small = small_from t.index (omega (arith, member-counts (λ u. not (nat_lt u.index 512)) ts i no_slot lt, inside (λ u. not (nat_lt u.index 512)), h.small));
       first = positive_from t.generation (omega (arith, member-counts (λ u. u.generation == 0) ts i no_slot lt, inside (λ u. u.generation == 0), h.positive));
-      last =
-          let bound : t.generation ≤ length all =
-          at-most t.generation (length all) (omega (arith, member-counts (λ u. not (nat_le u.generation (length all))) ts i no_slot lt, inside (λ u. not (nat_le u.generation (length all))), h.bounded)) in
-          omega (arith, bound, few);
     }
 
-in-range : (x : ℕ) → 1 ≤ x → x ≤ 0x3fffffff → (int_le (pos 1) (pos x) && int_le (pos x) (pos 0x3fffffff)) ≡ true
-in-range x low high =
-    let one : int_le (pos 1) (pos x) ≡ true = grind arith in
-    let two : int_le (pos x) (pos 0x3fffffff) ≡ true = grind arith in
-    and_from (int_le (pos 1) (pos x)) (int_le (pos x) (pos 0x3fffffff)) one two
+-- where fewer slots were taken than there are generations
+low-name : (base : ℕ) (ts all : List SlotName) (i : ℕ) → base ≤ 512 → Taken all → ((p : SlotName → Bool) → count_by p ts ≤ count_by p all) → i < length ts → length all < last_generation → IsLow base (get_or ts i no_slot)
+low-name base ts all i small h inside lt few =
+    let t : SlotName = get_or ts i no_slot in
+    let n : Numbers t = numbers ts all i h inside lt in
+    let bound : t.generation ≤ length all =
+    at-most t.generation (length all) (omega (arith, member-counts (λ u. not (nat_le u.generation (length all))) ts i no_slot lt, inside (λ u. not (nat_le u.generation (length all))), h.bounded)) in
+    omega (arith, bound, few, n.small, small)
 
-fresh-name : (st : State) (base : ℕ) (t : SlotName) → base ≤ 512 → Numbers t → was_shown base st.handles_given t ≡ false → fresh st (name_of base t) ≡ true
-fresh-name st base t few n off =
+-- a handle's number isn't above the last one that a handle may have
+abbrev IsInRange : Handle → Type 0
+IsInRange h = int_le h.0 (pos 0x3fffffff) ≡ true
+
+-- a name that is due: it is fresh where it is in range, and in range where the run is short enough
+record Due (es : List Entry) (st : State) (h : Handle) : Type 0 where
+  pub new : IsInRange h → fresh st h ≡ true
+  pub range : length es ≤ MAX_ENTRIES → IsInRange h
+
+in-range : (base : ℕ) (t : SlotName) → IsLow base t → IsInRange (name_of base t)
+in-range base t low = grind (arith, low)
+
+fresh-name : (st : State) (base : ℕ) (t : SlotName) → Numbers t → was_shown base st.handles_given t ≡ false → IsInRange (name_of base t) → fresh st (name_of base t) ≡ true
+fresh-name st base t n off high =
+    let one : int_le (pos 1) (name_of base t).0 ≡ true = grind (arith, n.first) in
     and_from (int_le (pos 1) (name_of base t).0 && int_le (name_of base t).0 (pos 0x3fffffff)) (not (was_shown base st.handles_given t))
-    (in-range (t.generation * 1024 + t.index + base) (omega (arith, n.first)) (omega (arith, n.small, n.last, few))) (ap not off)
+    (and_from (int_le (pos 1) (name_of base t).0) (int_le (name_of base t).0 (pos 0x3fffffff)) one high) (ap not off)
 
 pub off-second : (x y : Bool) → x ≡ true → bit (x && y) ≡ 0 → y ≡ false
 off-second true y e h = off_from y h
 off-second false y e h = cc
 
 -- at the return of psa_connect
-connection-due : (s : System) (es : List Entry) (w : NamedState) (a n : ℕ) → Named s es w → length es ≤ MAX_ENTRIES → phase_of w.state.spm a ≡ Connected n → fresh w.state (name_of 0 (get_or w.names.connections n no_slot)) ≡ true
-connection-due s es w a n h limit phase =
+connection-due : (s : System) (es : List Entry) (w : NamedState) (a n : ℕ) → Named s es w → phase_of w.state.spm a ≡ Connected n → Due es w.state (name_of 0 (get_or w.names.connections n no_slot))
+connection-due s es w a n h phase =
     let b : SpmState = w.state.spm in
     let ts : List SlotName = w.names.connections in
     let alive : Live b a n = live s _ b a n h.balanced phase in
@@ -440,13 +455,15 @@ connection-due s es w a n h limit phase =
     let off : was_shown 0 w.state.handles_given (get_or ts c.serial no_slot) ≡ false =
     off-second (is_none c.handle) _ none (omega (arith, test)) in
     let inside : n < length ts = omega (arith, alive.below, h.few.connection_slots) in
-    fresh-name w.state 0 (get_or ts n no_slot) (omega arith) (numbers ts ts n h.conns (λ p. omega arith) inside (omega (arith, h.few.connection_slots, h.few.connections, limit)))
-    (ap (λ x. was_shown 0 w.state.handles_given (get_or ts x no_slot)) (sym alive.serial) ∙ off)
+    record {
+      new = fresh-name w.state 0 (get_or ts n no_slot) (numbers ts ts n h.conns (λ p. omega arith) inside) (ap (λ x. was_shown 0 w.state.handles_given (get_or ts x no_slot)) (sym alive.serial) ∙ off);
+      range = λ limit. in-range 0 (get_or ts n no_slot) (low-name 0 ts ts n (omega arith) h.conns (λ p. omega arith) inside (omega (arith, h.few.connection_slots, h.few.connections, limit)));
+    }
 
 -- at psa_get
-message-due : (s : System) (es : List Entry) (w : NamedState) (v : ℕ) → Named s es w → length es ≤ MAX_ENTRIES → position_or_len (is_undelivered v) w.state.spm.messages < length w.state.spm.messages
-    → fresh w.state (name_of 512 (get_or w.names.messages (position_or_len (is_undelivered v) w.state.spm.messages) no_slot)) ≡ true
-message-due s es w v h limit below =
+message-due : (s : System) (es : List Entry) (w : NamedState) (v : ℕ) → Named s es w → position_or_len (is_undelivered v) w.state.spm.messages < length w.state.spm.messages
+    → Due es w.state (name_of 512 (get_or w.names.messages (position_or_len (is_undelivered v) w.state.spm.messages) no_slot))
+message-due s es w v h below =
     let ms : List PendingMessage = w.state.spm.messages in
     let ts : List SlotName = w.names.messages in
     let given : List Handle = w.state.handles_given in
@@ -457,36 +474,39 @@ message-due s es w v h limit below =
     let none : is_none m.handle ≡ true = (and_parts (is_none m.handle) (m.service == v) waits).0 in
     let test : bit (is_none m.handle && was_shown 512 given (get_or ts j no_slot)) ≤ 0 = omega (arith, slots-member (wrongly_waiting given) ms ts j nobody h.few.message_slots below, h.waiting) in
     let off : was_shown 512 given (get_or ts j no_slot) ≡ false = off-second (is_none m.handle) _ none (omega (arith, test)) in
-    fresh-name w.state 512 (get_or ts j no_slot) (omega arith)
-    (numbers ts w.names.past_messages j h.past h.inside (omega (arith, below, h.few.message_slots)) (omega (arith, h.few.messages, h.few.connections, limit))) off
+    let inside : j < length ts = omega (arith, below, h.few.message_slots) in
+    record {
+      new = fresh-name w.state 512 (get_or ts j no_slot) (numbers ts w.names.past_messages j h.past h.inside inside) off;
+      range = λ limit. in-range 512 (get_or ts j no_slot) (low-name 512 ts w.names.past_messages j (omega arith) h.past h.inside inside (omega (arith, h.few.messages, h.few.connections, limit)));
+    }
 
-due-at-return : (s : System) (es : List Entry) (w : NamedState) (a : ℕ) (h : Handle) (p : ActorPhase) → Named s es w → length es ≤ MAX_ENTRIES → phase_of w.state.spm a ≡ p → name_at_return w.names p ≡ Some h → fresh w.state h ≡ true
-due-at-return s es w a h (Connected n) k limit phase e =
+due-at-return : (s : System) (es : List Entry) (w : NamedState) (a : ℕ) (h : Handle) (p : ActorPhase) → Named s es w → phase_of w.state.spm a ≡ p → name_at_return w.names p ≡ Some h → Due es w.state h
+due-at-return s es w a h (Connected n) k phase e =
     let it : name_of 0 (get_or w.names.connections n no_slot) ≡ h = cc in
-    subst (λ (x : Handle). fresh w.state x ≡ true) it (connection-due s es w a n k limit phase)
-due-at-return s es w a h _ k limit phase e = cc
+    subst (λ (x : Handle). Due es w.state x) it (connection-due s es w a n k phase)
+due-at-return s es w a h _ k phase e = cc
 
-due-at-get : (s : System) (es : List Entry) (w : NamedState) (o : Option ℕ) (h : Handle) → Named s es w → length es ≤ MAX_ENTRIES
-    → option_map (λ j. name_of 512 (get_or w.names.messages j no_slot)) (option_and_then (λ i. position (is_undelivered i) w.state.spm.messages) o) ≡ Some h → fresh w.state h ≡ true
-due-at-get s es w None h k limit e = cc
-due-at-get s es w (Some v) h k limit e =
+due-at-get : (s : System) (es : List Entry) (w : NamedState) (o : Option ℕ) (h : Handle) → Named s es w
+    → option_map (λ j. name_of 512 (get_or w.names.messages j no_slot)) (option_and_then (λ i. position (is_undelivered i) w.state.spm.messages) o) ≡ Some h → Due es w.state h
+due-at-get s es w None h k e = cc
+due-at-get s es w (Some v) h k e =
     let ms : List PendingMessage = w.state.spm.messages in
     let j : ℕ = position_or_len (is_undelivered v) ms in
     let name : Handle = name_of 512 (get_or w.names.messages j no_slot) in
-    let go : (x : Bool) → nat_lt j (length ms) ≡ x → option_map (λ i. name_of 512 (get_or w.names.messages i no_slot)) (cond x (Some j) None) ≡ Some h → fresh w.state h ≡ true =
+    let go : (x : Bool) → nat_lt j (length ms) ≡ x → option_map (λ i. name_of 512 (get_or w.names.messages i no_slot)) (cond x (Some j) None) ≡ Some h → Due es w.state h =
     elim [
       | true ↦ λ less f.
           let below : j < length ms = grind (arith, nat_tests) in
           let it : name ≡ h = cc in
-          subst (λ (x : Handle). fresh w.state x ≡ true) it (message-due s es w v k limit below)
+          subst (λ (x : Handle). Due es w.state x) it (message-due s es w v k below)
       | false ↦ λ less f. cc
     ] in
     go (nat_lt j (length ms)) refl e
 
-due-fresh : (s : System) (es : List Entry) (w : NamedState) (a : ℕ) (c : Call) (h : Handle) → Named s es w → length es ≤ MAX_ENTRIES → name_due s w.state a c w.names ≡ Some h → fresh w.state h ≡ true
-due-fresh s es w a call.Resume h k limit e = due-at-return s es w a h (phase_of w.state.spm a) k limit refl e
-due-fresh s es w a (call.Get signal msg) h k limit e = due-at-get s es w (service_of_signal s a signal) h k limit e
-due-fresh s es w a _ h k limit e = cc
+due-fresh : (s : System) (es : List Entry) (w : NamedState) (a : ℕ) (c : Call) (h : Handle) → Named s es w → name_due s w.state a c w.names ≡ Some h → Due es w.state h
+due-fresh s es w a call.Resume h k e = due-at-return s es w a h (phase_of w.state.spm a) k refl e
+due-fresh s es w a (call.Get signal msg) h k e = due-at-get s es w (service_of_signal s a signal) h k e
+due-fresh s es w a _ h k e = cc
 
 -- in each named state of a run
 pub run-names : (s : System) (m : ByteMap) (es : List Entry) (w : NamedState) → named_after s m es ≡ Some w → NamesFit s es w
@@ -495,7 +515,8 @@ run-names s m es w h =
     record {
       distinct = λ x. names-distinct w.names x k.conns k.past;
       given = k.has;
-      due = λ a c x limit e. due-fresh s es w a c x k limit e;
+      new = λ a c x e. (due-fresh s es w a c x k e).new;
+      due = λ a c x limit e. let d = due-fresh s es w a c x k e in d.new (d.range limit);
     }
 
 pub run-takes : (s : System) (m : ByteMap) (es : List Entry) (w : NamedState) → named_after s m es ≡ Some w → TakesFew es w
