@@ -1,5 +1,5 @@
 -- What a call makes of the checker's state.
--- Source: FF-M 1.0, by the machine's definitions. These serve the checker's own proof; public contracts cite `Knows` alone.
+-- Source: FF-M 1.0, by the machine's definitions. Public contracts cite `Knows` and `Performs`; the others serve the checker's own proof.
 use Rattle.std.specs.Prelude.{ℕ, ℤ, pos, int_le, not, ◌≡◌, ◌&&◌, Bool, true, false, List, [], ◌∷◌, ◌++◌, Option, Some, None, Result, Ok, Err, if◌then◌else◌}
 use Rattle.std.specs.List.{list_any}
 use Rattle.std.specs.BTreeSet.{BTreeSet, contains}

@@ -60,6 +60,15 @@ impl Desk {
         Desk { count, turn: 0 }
     }
 
+    /// A desk for this many contexts, where this one has the turn.
+    pub fn at(count: u32, turn: u32) -> Desk
+        requires few { count ≤ 8 }
+        requires within { turn < count }
+        ensures { result ≡ record { count = count; turn = turn } }
+    {
+        Desk { count, turn }
+    }
+
     /// The context whose turn it is.
     pub fn turn(&self) -> u32
         ensures turn { result ≡ self.now.turn }
