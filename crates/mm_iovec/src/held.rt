@@ -1,6 +1,7 @@
 //! The table of the messages that a partition holds.
 
 use crate::holder::Holder;
+use crate::item::HeldItem;
 use crate::line::{MmLine, MmStep};
 use crate::steps;
 use crate::table::{self, Messages};
@@ -34,11 +35,13 @@ impl Model for Held {
 }
 
 impl Held {
-    ghost use Rattle.std.specs.Prelude.{◌≡◌, ◌<◌, ◌↔◌, ℕ, [], false, length};
+    ghost use Rattle.std.specs.Prelude.{◌≡◌, ◌<◌, ◌↔◌, ℕ, [], false, length, map, true};
     ghost use Rattle.ffm_model.specs.declared.machine.Call.TheVariants as call;
     ghost use Rattle.ffm_model.specs.declared.machine.Outcome.TheVariants as outcome;
     ghost use Rattle.ffm_model.specs.Held.{holder_of, table_behind, without};
     ghost use Rattle.ffm_model.specs.HeldPlans.{Holding, table_noted};
+    ghost use Rattle.mm_iovec.specs.HeldView.{can_hold};
+    ghost use Rattle.mm_iovec.specs.Items.{message_of};
     ghost use Rattle.mm_iovec.specs.Lines.{can_do, engine_line, engine_step, step_of, table_of};
 
     /// A partition of a system, which holds no message. It has to be one of the system's.
@@ -50,6 +53,29 @@ impl Held {
             holder: Holder::of(system, partition),
             messages: ArrayVec::new(),
         }
+    }
+
+    /// The messages that are held, the older ones first.
+    pub fn messages(&self) -> &[HeldItem]
+        ensures { map message_of result.now ≡ self.now.table }
+    {
+        self.messages.as_slice()
+    }
+
+    /// Holds these messages, the older ones first, in place of its own, and says whether it can: at most
+    /// 304, and where the heap is too small for windows none that has an output vector mapped. Else
+    /// nothing changes.
+    pub fn hold(&mut self, messages: &[HeldItem]) -> bool
+        ensures can { result ≡ can_hold self.old.holder (map message_of messages.now) }
+        ensures held { result ≡ true
+            → self.new ≡ record self.old { table = map message_of messages.now } }
+        ensures kept { result ≡ false → self.new ≡ self.old }
+    {
+        if !table::can_hold(&self.holder, messages) {
+            return false;
+        }
+        table::replace(&mut self.messages, messages);
+        true
     }
 
     /// Takes in a message that `psa_get` got by a signal, its vectors fresh, where the signal is a

@@ -1,5 +1,5 @@
 //! The partition whose messages are held.
-ghost use Rattle.std.specs.Prelude.{◌≡◌, ◌+◌, ◌<◌, ◌≤◌, ◌^◌, ◌==◌, IfSome, length, map, filter, find, slice_get};
+ghost use Rattle.std.specs.Prelude.{◌≡◌, ◌+◌, ◌<◌, ◌≤◌, ◌^◌, ◌==◌, IfSome, length, map, filter, find, nat_lt, slice_get};
 ghost use Rattle.std.specs.Option.{option_map};
 ghost use Rattle.ffm_model.specs.Held.{holder_of, input_window, is_mappable, output_window, window, window_size};
 ghost use Rattle.mm_iovec.specs.Items.{message_of, own_services, service_of, vector_of};
@@ -122,6 +122,13 @@ impl Holder {
         ensures { result ≡ window_size self.now }
     {
         self.heap / 8
+    }
+
+    /// Whether the heap is large enough for windows.
+    pub(crate) fn has_windows(&self) -> bool
+        ensures { result ≡ nat_lt 0 (window_size self.now) }
+    {
+        self.window_size() > 0
     }
 
     // The address of the window at a place among the eight.

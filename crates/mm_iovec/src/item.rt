@@ -1,19 +1,25 @@
 //! A message that is held.
 ghost use Rattle.std.specs.Prelude.{◌≡◌, map};
 ghost use Rattle.ffm_model.specs.Held.{HeldMessage, fresh_vector, is_mapped, touched, vector_at, with_input, with_output};
+ghost use Rattle.mm_iovec.specs.HeldView.{is_output_unmapped};
 ghost use Rattle.mm_iovec.specs.Items.{message_of, state_of, vector_of};
 
 use crate::vector::{HeldVector, VectorState, set_state, touch, vector_at};
 use ffm_model::{Handle, Message};
 
-/// A message: its handle and kind, whether its service's vectors may be mapped, and its vectors.
+/// A message that a partition got and hasn't answered.
 #[derive(Clone, Copy)]
-pub(crate) struct HeldItem {
-    pub(crate) handle: Handle,
-    pub(crate) kind: i32,
-    pub(crate) mm: bool,
-    pub(crate) input: [HeldVector; 4],
-    pub(crate) output: [HeldVector; 4],
+pub struct HeldItem {
+    /// The handle by which `psa_get` gave it.
+    pub handle: Handle,
+    /// Its type: 0 or more for a request, less for a connection or its end.
+    pub kind: i32,
+    /// Whether the vectors of its service may be mapped.
+    pub mm: bool,
+    /// Its input vectors; one that isn't there has size 0.
+    pub input: [HeldVector; 4],
+    /// Its output vectors; one that isn't there has size 0.
+    pub output: [HeldVector; 4],
 }
 
 impl Default for HeldItem {
@@ -103,4 +109,11 @@ pub(crate) fn output_at(item: &HeldItem, index: u32) -> HeldVector
     ensures { vector_of result ≡ vector_at (message_of item.now).output index }
 {
     vector_at(&item.output, index)
+}
+
+/// Whether no output vector of a message is mapped.
+pub(crate) fn is_output_unmapped(item: &HeldItem) -> bool
+    ensures { result ≡ is_output_unmapped (message_of item.now) }
+{
+    item.output.iter().all(|vector| !vector.is_mapped())
 }

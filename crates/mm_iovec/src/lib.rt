@@ -11,4 +11,6 @@ mod table;
 mod vector;
 
 pub use held::Held;
+pub use item::HeldItem;
 pub use line::{MmLine, MmStep};
+pub use vector::{HeldVector, VectorState};

@@ -1,18 +1,23 @@
 //! The messages that are held, in the order in which they were got.
-ghost use Rattle.std.specs.Prelude.{◌≡◌, ◌<◌, ◌++◌, ◌∷◌, [], length, map, true, position, slice_set};
+ghost use Rattle.std.specs.Prelude.{◌≡◌, ◌<◌, ◌≤◌, ◌++◌, ◌∷◌, [], length, map, true, position, slice_set};
+ghost use Rattle.std.specs.List.{list_all};
 ghost use Rattle.std.specs.Option.{option_copied, option_map};
 ghost use Rattle.ffm_model.specs.declared.machine.Call.TheVariants as call;
 ghost use Rattle.ffm_model.specs.Held.{can_map_in, can_map_out, can_unmap_in, can_unmap_out, changed_at, held, input_size, is_held_as, is_input_free, is_output_free, is_refused, touched, window_size, with_input, with_message_of, with_output, without};
+ghost use Rattle.mm_iovec.specs.HeldView.{can_hold, is_output_unmapped};
 ghost use Rattle.mm_iovec.specs.Items.{message_of, service_of, state_of};
 
 use crate::holder::{Holder, HolderService};
-use crate::item::{HeldItem, input_at, output_at};
+use crate::item::{HeldItem, input_at, is_output_unmapped, output_at};
 use crate::vector::VectorState;
 use arrayvec::ArrayVec;
 use ffm_model::{Handle, Message, PSA_MAX_IOVEC};
 
-/// The messages. A system has at most 304 at once.
-pub(crate) type Messages = ArrayVec<HeldItem, 304>;
+/// A system has at most so many messages at once.
+pub(crate) const MOST_HELD: usize = 304;
+
+/// The messages.
+pub(crate) type Messages = ArrayVec<HeldItem, MOST_HELD>;
 
 // ---- look-ups
 
@@ -124,6 +129,20 @@ pub(crate) fn is_output_refused(items: &[HeldItem], handle: Handle, index: u32) 
     }
 }
 
+// Whether no message has an output vector mapped.
+fn are_outputs_unmapped(items: &[HeldItem]) -> bool
+    ensures { result ≡ list_all is_output_unmapped (map message_of items.now) }
+{
+    items.iter().all(|item| is_output_unmapped(item))
+}
+
+/// Whether a partition can hold these messages.
+pub(crate) fn can_hold(holder: &Holder, items: &[HeldItem]) -> bool
+    ensures { result ≡ can_hold holder.now (map message_of items.now) }
+{
+    items.len() <= MOST_HELD && (holder.has_windows() || are_outputs_unmapped(items))
+}
+
 // ---- changes
 
 // The item at a place is written over.
@@ -197,4 +216,13 @@ pub(crate) fn touch_output(items: &mut Messages, handle: Handle, index: u32)
         let item = items.as_slice()[place];
         put(items, place, item.with_output_touched(index));
     }
+}
+
+/// These messages stand in place of those that were held.
+pub(crate) fn replace(items: &mut Messages, others: &[HeldItem])
+    requires { length others.now ≤ MOST_HELD }
+    ensures { items.new.items ≡ others.now }
+{
+    items.clear();
+    let _fits = items.try_extend_from_slice(others);
 }

@@ -5,20 +5,24 @@ ghost use Rattle.mm_iovec.specs.Items.{state_of, vector_of};
 
 /// What has become of a vector.
 #[derive(Clone, Copy)]
-pub(crate) enum VectorState {
+pub enum VectorState {
     /// `psa_read`, `psa_skip` or `psa_write` used it.
     Used,
+    /// No call has used it, and it was never mapped.
     Fresh,
+    /// Its bytes stand in its window.
     Mapped,
     /// It was mapped, and is no more.
     Unmapped,
 }
 
-/// A vector: its size in bytes, and what has become of it.
+/// A vector of a message that is held.
 #[derive(Clone, Copy)]
-pub(crate) struct HeldVector {
-    pub(crate) size: u32,
-    pub(crate) state: VectorState,
+pub struct HeldVector {
+    /// Its size in bytes, as `psa_get` told it.
+    pub size: u32,
+    /// What has become of it.
+    pub state: VectorState,
 }
 
 impl Default for HeldVector {

@@ -1,7 +1,7 @@
 mod PlanLaws
 mod ContextLaws
-mod HeldLaws
-mod ResumeLaws
+pub mod HeldLaws
+pub mod ResumeLaws
 pub mod StepLemmas
 pub mod ContextLemmas
 pub mod ClientLemmas

@@ -3,5 +3,6 @@ pub mod ActorPlans
 pub mod Clients
 pub mod Partitions
 pub mod Standing
+pub mod SmallRunners
 pub mod Driving
 pub mod Workers

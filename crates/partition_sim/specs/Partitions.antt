@@ -1,23 +1,14 @@
 -- Where the script of a partition stands, and when a runner is in step with it.
 -- Source: this simulator's script language; FF-M 1.1, mapped vectors (MM-IOVEC).
-use Rattle.std.specs.Prelude.{ℕ, ◌≡◌, Bool, true, false, List, Option, slice_get, slice_set}
+use Rattle.std.specs.Prelude.{ℕ, ◌≡◌, Bool, true, false, List, Option, slice_get}
 use Rattle.ffm_model.specs.declared.machine.Call.{Call}
-use Rattle.ffm_model.specs.declared.machine.Call.TheVariants as call
 use Rattle.ffm_model.specs.declared.machine.Outcome.{Outcome}
 use Rattle.ffm_model.specs.declared.script.Instruction.{Instruction}
-use Rattle.ffm_model.specs.Held.{Holder, HeldMessage}
+use Rattle.ffm_model.specs.Held.{Holder}
 use Rattle.ffm_model.specs.HeldPlans.{Holding, held_arrived, held_call, held_engine, holding_none}
 use Rattle.ffm_model.specs.Plans.{engine_after}
 use Rattle.ffm_model.specs.Records.{ends_blocked}
-use Rattle.ffm_model.specs.ScriptRuns.{place_behind, point}
-
-abbrev pub holding : List ℕ → ℕ → List HeldMessage → Holding
-holding registers place table = record { at = point registers place; table = table }
-
--- after psa_read for map_in, r0 is the window that it filled
-abbrev pub with_window : Call → List ℕ → List ℕ
-with_window (call.Read h index buffer len) registers = slice_set registers 0 buffer
-with_window _ registers = registers
+use Rattle.ffm_model.specs.ScriptRuns.{place_behind}
 
 -- what contracts see of a partition's runner: the partition, where its script stands and the messages that it holds, whether a call waits for its return, and whether it stands at its next call; of that call the line, the call, and where the script goes on after it
 pub record PartitionStanding : Type 0 where

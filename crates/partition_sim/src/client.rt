@@ -9,10 +9,10 @@ ghost use Rattle.ffm_model.specs.ScriptRuns.{Point, arrived, behind, start};
 ghost use Rattle.ffm_model.specs.Scripts.{IsPart};
 ghost use Rattle.partition_sim.specs.Clients.{AtCall, EachAtCall, EachReaches, Reaches, call_from, first_context};
 
-use crate::calls::{is_blocked, is_stop};
 use crate::context::Context;
 use ffm_model::{Call, Outcome, Part, Script};
 use ns_contexts::Desk;
+use script_engines::{is_blocked, is_stop};
 use std::marker::Model;
 
 fn is_spent(call: Call) -> bool

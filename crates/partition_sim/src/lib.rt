@@ -2,15 +2,13 @@
 //! by workers over a manager that is shared. With laws of the plans by which they call.
 #![tactic(auto)]
 
-mod calls;
 mod client;
 mod context;
-mod held_lines;
 mod laws;
-mod lines;
 mod partition;
 mod runner;
 mod scheduled;
+mod turn_runner;
 mod workers;
 
 pub use laws::{one_context_is_a_script, plans_resume_behind_blocked, scripts_that_map_nothing};

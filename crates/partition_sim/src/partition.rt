@@ -1,94 +1,11 @@
 //! The runner of a partition's script.
-ghost use Rattle.std.specs.Prelude.{◌≡◌, IfNone, IfSome, None, Some, if◌then◌else◌, slice_get};
-ghost use Rattle.ffm_model.specs.HeldPlans.{held_arrived, held_call, held_step};
-ghost use Rattle.ffm_model.specs.ScriptRuns.{local_step, point};
+ghost use Rattle.std.specs.Prelude.{◌≡◌, if◌then◌else◌};
 ghost use Rattle.ffm_model.specs.Scripts.{IsPart};
-ghost use Rattle.partition_sim.specs.Partitions.{holding};
 
-use crate::calls::{call_of, is_blocked};
-use crate::context::run_lines;
-use crate::held_lines::{map_call, map_effect, note_held, unless_refused};
-use crate::lines::{MOST_LINES, place_behind};
 use ffm_model::{Call, Instruction, Outcome, System};
 use mm_iovec::Held;
+use script_engines::{held_arrive, held_call, is_blocked, line_at, note_held, place_behind};
 use std::marker::Model;
-
-// Does the line at a place where it maps or unmaps and makes no call, and says where it leads.
-#[tactic(auto, unfolding(ffm_model::specs::HeldPlans::held_step, ffm_model::specs::ScriptRuns::local_step))]
-fn map_step(
-    held: &mut Held,
-    registers: &mut [u32; 16],
-    script: &[Instruction],
-    place: usize,
-) -> Option<usize>
-    ensures leads { IfSome result (λ to.
-        held_step held.old.holder script.now (holding registers.old place held.old.table)
-        ≡ Some (holding registers.new to held.new.table)) }
-    ensures makes { local_step script.now (point registers.old place) ≡ None
-        → IfNone result
-        (held_step held.old.holder script.now (holding registers.old place held.old.table) ≡ None) }
-    ensures kept { IfNone result (registers.new ≡ registers.old) }
-    ensures held { IfNone result (held.new ≡ held.old) }
-    ensures holder { held.new.holder ≡ held.old.holder }
-{
-    match script.get(place) {
-        Some(Instruction::Map { name, operands }) => {
-            map_effect(held, registers, place, *name, operands)
-        }
-        _ => None,
-    }
-}
-
-// Does lines up to the next call, and says where it is.
-fn run_held(
-    held: &mut Held,
-    registers: &mut [u32; 16],
-    script: &[Instruction],
-    place: usize,
-) -> usize
-    requires { IsPart script.now }
-    ensures arrived { holding registers.new result held.new.table
-        ≡ held_arrived held.old.holder script.now (holding registers.old place held.old.table) }
-    ensures holder { held.new.holder ≡ held.old.holder }
-{
-    let mut place = place;
-    let mut left = MOST_LINES;
-    loop {
-        let (at, more) = run_lines(script, registers, place, left);
-        if more == 0 {
-            return at;
-        }
-        let Some(to) = map_step(held, registers, script, at) else {
-            return at;
-        };
-        place = to;
-        left = more - 1;
-    }
-}
-
-#[tactic(auto, using(std::proofs::lemmas::Option::slice_get_cases))]
-fn line_at(script: &[Instruction], place: usize) -> Option<Instruction>
-    ensures { result ≡ slice_get script.now place }
-{
-    script.get(place).copied()
-}
-
-// The call that is made at a place.
-#[tactic(auto, unfolding(ffm_model::specs::HeldPlans::held_call))]
-fn held_call(held: &mut Held, registers: &[u32; 16], script: &[Instruction], place: usize) -> Call
-    ensures call { result ≡ held_call held.old.holder script.now
-        (holding registers.now place held.old.table) }
-    ensures held { held.new ≡ held.old }
-{
-    match script.get(place) {
-        Some(Instruction::Map { name, operands }) => map_call(held, registers, *name, operands),
-        Some(Instruction::Make { name, operands }) => {
-            unless_refused(held, call_of(*name, registers, operands))
-        }
-        Some(_) => Call::Stop { spent: true },
-        None => Call::Stop { spent: false },
-    }
-}
 
 // The call that is due: the return of a call that waits for it, else that of the script.
 fn call_due(waiting: bool, call: Call) -> Call
@@ -119,7 +36,8 @@ pub struct PartitionRunner {
 }
 
 impl Model for PartitionRunner {
-    ghost use Rattle.partition_sim.specs.Partitions.{PartitionStanding, holding};
+    ghost use Rattle.partition_sim.specs.Partitions.{PartitionStanding};
+    ghost use Rattle.script_engines.specs.Holdings.{holding};
 
     ghost Value = { PartitionStanding };
 
@@ -171,7 +89,7 @@ impl PartitionRunner {
         if self.ready {
             return;
         }
-        let place = run_held(&mut self.held, &mut self.registers, script, self.place);
+        let place = held_arrive(&mut self.held, &mut self.registers, script, self.place);
         self.place = place;
         self.line = line_at(script, place);
         self.call = held_call(&mut self.held, &self.registers, script, place);

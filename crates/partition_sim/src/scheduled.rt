@@ -15,7 +15,7 @@ ghost use Rattle.partition_sim.specs.Driving.{AreNew, Driving, HaveContexts, IsD
 use crate::client::ClientRunner;
 use crate::laws::{one_context_is_a_script, plans_resume_behind_blocked, scripts_that_map_nothing};
 use crate::partition::PartitionRunner;
-use crate::runner::Runner;
+use crate::turn_runner::TurnRunner;
 use ffm_model::{ActorId, ActorKind, Answer, Instruction, List, Memory, Script, System};
 use spm_core::Spm;
 use std::alloc::Global;
@@ -28,7 +28,7 @@ struct Over;
 #[inline(never)]
 fn make_entry(
     spm: &mut Spm,
-    runners: &mut [Runner],
+    runners: &mut [TurnRunner],
     scripts: &[Script],
     actor: ActorId,
 ) -> Result<bool, Over>
@@ -59,7 +59,7 @@ fn make_entry(
 #[inline(always)]
 fn take_turn(
     spm: &mut Spm,
-    runners: &mut [Runner],
+    runners: &mut [TurnRunner],
     scripts: &[Script],
     actor: ActorId,
 ) -> Result<bool, Over>
@@ -79,7 +79,7 @@ fn take_turn(
 // All turns of a run.
 fn run_turns(
     spm: &mut Spm,
-    runners: &mut [Runner],
+    runners: &mut [TurnRunner],
     scripts: &[Script],
     schedule: &[ActorId],
     count: u32,
@@ -131,10 +131,13 @@ fn holds_messages(system: &System, actor: ActorId, script: &Script) -> bool
     }
 }
 
-// A runner for each actor, with as many contexts as its script has parts. One with room for all messages
-// that a partition may hold is large, so only a script that maps has it. The vector doesn't grow, and each
-// runner is built here as its kind, which saves the moves out of `Runner::new`.
-fn new_runners(alloc: Global, system: &System, scripts: &[Script]) -> Result<Vec<Runner>, Memory>
+// A runner for each actor, with as many contexts as its script has parts. Only one whose script maps has room
+// for the messages that a partition holds. The vector doesn't grow.
+fn new_runners(
+    alloc: Global,
+    system: &System,
+    scripts: &[Script],
+) -> Result<Vec<TurnRunner>, Memory>
     requires count { length scripts.now ≡ actor_count system.now }
     requires contexts { HaveContexts system.now scripts.now }
     ensures { IfOk result (λ v. AreNew system.now scripts.now (actor_count system.now) v.items) }
@@ -146,10 +149,12 @@ fn new_runners(alloc: Global, system: &System, scripts: &[Script]) -> Result<Vec
     for a in 0..count {
         let script = &scripts[a as usize];
         if holds_messages(system, ActorId(a), script) {
-            runners.push_reserved(Runner::Partition(PartitionRunner::new(system, a)));
+            let partition = PartitionRunner::new(system, a);
+            let runner = TurnRunner::of_partition(alloc, partition)?;
+            runners.push_reserved(runner);
         } else {
             let contexts = script.parts.len() as u32;
-            runners.push_reserved(Runner::Client(ClientRunner::new(contexts)));
+            runners.push_reserved(TurnRunner::of_contexts(ClientRunner::new(contexts)));
         }
     }
     Ok(runners)

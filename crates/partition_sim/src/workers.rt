@@ -7,10 +7,10 @@ ghost use Rattle.spm_core.specs.Manager.{is_resume};
 ghost use Rattle.partition_sim.specs.Standing.{role_of};
 ghost use Rattle.partition_sim.specs.Workers.{IsFinished, IsFresh, IsGood, actors_of, roles_of, scripts_of};
 
-use crate::calls::is_stop;
 use crate::laws::plans_resume_behind_blocked;
 use crate::runner::Runner;
 use ffm_model::{Answer, Api, Call, Gate, List, Script};
+use script_engines::is_stop;
 use std::sync::Wait;
 
 /// Runs one actor's script over a shared manager, by the actor's pass.

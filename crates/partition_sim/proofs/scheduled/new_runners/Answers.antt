@@ -1,12 +1,13 @@
-use Rattle.std.proofs.Common.{◌≡◌, ◌<◌, [], length, ap, sym, ◌∙◌, arith}
+use Rattle.std.proofs.Common.{◌≡◌, ◌<◌, [], length, ap, sym, ◌∙◌, subst, arith}
 use Rattle.std.proofs.lemmas.List.{get_or_read}
 use Rattle.ffm_model.specs.declared.system.ActorKind.TheVariants as kind
 use Rattle.ffm_model.specs.Actors.{actor_count, kind_of}
-use Rattle.partition_sim.specs.declared.runner.Runner.TheVariants as runner
+use Rattle.partition_sim.specs.declared.runner.Runner.{Runner}
 use Rattle.partition_sim.specs.ActorPlans.{needs_messages, parts_at}
+use Rattle.partition_sim.specs.Driving.{Serves}
 use Rattle.partition_sim.proofs.ScheduleLemmas.{new-turns, new-partition, new-push}
 use Rattle.partition_sim.proofs.scheduled.new_runners.Goals as goal
-use Rattle.partition_sim.proofs.scheduled.new_runners.Goals.{then-holds_messages, else-holds_messages}
+use Rattle.partition_sim.proofs.scheduled.new_runners.Goals.{then-holds_messages+in_ok-runner, else-holds_messages}
 
 pub loop-a-preserved : goal.loop-a-preserved
 loop-a-preserved c =
@@ -19,11 +20,13 @@ loop-a-preserved c =
     let script : c.index-scripts-a.result ≡ parts_at scripts a = get_or_read scripts a c.index-scripts-a.result inside c.index-scripts-a.is [] in
     let one : kind_of s a ≡ kind.Partition → length (parts_at scripts a) ≡ 1 = λ is. c.requires.contexts a below (λ client. cc (is, client)) in
     let needs : c.holds_messages.result ≡ needs_messages (kind_of s a) (parts_at scripts a) = rw script at c.holds_messages.ensures in
+    let P : Runner → Type 0 = λ r. Serves s scripts a [] r in
     elim c.if-holds_messages.branch [
-      | then-holds_messages w ↦ rw w.runners-is
+      | then-holds_messages+in_ok-runner w ↦ rw w.runners-is
           (record {
             made = rw w.push_reserved.ensures.items
-                (new-push s scripts a _ (runner.Partition w.new.result) (new-partition s scripts a w.new.result one (sym needs ∙ w.if-holds_messages.true) w.new.ensures) i.made);
+                (new-push s scripts a _ _
+                (subst P (sym w.in_ok-runner.ensures) (new-partition s scripts a w.new-partition.result one (sym needs ∙ w.if-holds_messages.true) w.new-partition.ensures)) i.made);
             room = omega (arith, i.room, w.push_reserved.ensures.capacity);
           })
       | else-holds_messages w ↦ (
@@ -31,8 +34,9 @@ loop-a-preserved c =
           rw w.runners-is
           (record {
             made = rw w.push_reserved-else-holds_messages.ensures.items
-                (new-push s scripts a _ (runner.Client w.new-else-holds_messages.result)
-                (new-turns s scripts a w.new-else-holds_messages.result c.one_context_is_a_script.ensures.call c.scripts_that_map_nothing.ensures.call one (sym needs ∙ w.if-holds_messages.false) (w.new-else-holds_messages.ensures.follows (parts_at scripts a) long)) i.made);
+                (new-push s scripts a _ _
+                (subst P (sym w.of_contexts.ensures)
+                (new-turns s scripts a w.new.result c.one_context_is_a_script.ensures.call c.scripts_that_map_nothing.ensures.call one (sym needs ∙ w.if-holds_messages.false) (w.new.ensures.follows (parts_at scripts a) long))) i.made);
             room = omega (arith, i.room, w.push_reserved-else-holds_messages.ensures.capacity);
           }))
     ]

@@ -1,7 +1,7 @@
 use Rattle.std.proofs.Common.{refl, ap, ap₂, sym, ◌∙◌, List, ℕ}
 use Rattle.ffm_model.specs.Held.{HeldMessage}
 use Rattle.mm_iovec.specs.HeldView.{HeldView}
-use Rattle.partition_sim.specs.Partitions.{holding}
+use Rattle.script_engines.specs.Holdings.{holding}
 use Rattle.partition_sim.proofs.HeldLemmas.{behind-blocked, behind-answer}
 use Rattle.partition_sim.proofs.partition.PartitionRunner.after.Goals as goal
 

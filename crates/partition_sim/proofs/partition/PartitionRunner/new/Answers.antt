@@ -1,7 +1,7 @@
 use Rattle.std.proofs.Common.{refl, ap}
 use Rattle.std.specs.Prelude.{replicate}
 use Rattle.mm_iovec.specs.HeldView.{HeldView}
-use Rattle.partition_sim.specs.Partitions.{holding}
+use Rattle.script_engines.specs.Holdings.{holding}
 use Rattle.partition_sim.proofs.HeldLemmas.{opened}
 use Rattle.partition_sim.proofs.partition.PartitionRunner.new.Goals as goal
 

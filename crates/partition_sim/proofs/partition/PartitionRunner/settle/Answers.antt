@@ -3,7 +3,8 @@ use Rattle.ffm_model.specs.declared.script.Instruction.{Instruction}
 use Rattle.ffm_model.specs.Held.{Holder}
 use Rattle.ffm_model.specs.HeldPlans.{held_call}
 use Rattle.mm_iovec.specs.HeldView.{HeldView}
-use Rattle.partition_sim.specs.Partitions.{PartitionStanding, holding}
+use Rattle.script_engines.specs.Holdings.{holding}
+use Rattle.partition_sim.specs.Partitions.{PartitionStanding}
 use Rattle.partition_sim.proofs.HeldLemmas.{asked}
 use Rattle.partition_sim.proofs.partition.PartitionRunner.settle.Goals as goal
 
@@ -13,10 +14,10 @@ returns-then-self c = rw (← c.self.view_is) (λ p os f. f.stands c.if-self.tru
 pub returns : goal.returns
 returns c = rw (← c.self.view_is) (
     let script : List Instruction = c.args.script.now in
-    let lines = c.run_held-place.ensures in
-    let held : HeldView = c.run_held-place.new.held in
-    let place = c.run_held-place.result in
-    let call = c.held_call-self-inside.ensures.call ∙ ap (λ (p : Holder). held_call p script (holding c.run_held-place.new.registers place held.table)) lines.holder in
+    let lines = c.held_arrive-place.ensures in
+    let held : HeldView = c.held_arrive-place.new.held in
+    let place = c.held_arrive-place.result in
+    let call = c.held_call-self-inside.ensures.call ∙ ap (λ (p : Holder). held_call p script (holding c.held_arrive-place.new.registers place held.table)) lines.holder in
     let old : PartitionStanding = record {
       holder = c.self.inside.held.holder;
       at = holding c.self.inside.registers c.self.inside.place c.self.inside.held.table;
@@ -28,7 +29,7 @@ returns c = rw (← c.self.view_is) (
     } in
     let new : PartitionStanding = record {
       holder = held.holder;
-      at = holding c.run_held-place.new.registers place held.table;
+      at = holding c.held_arrive-place.new.registers place held.table;
       waiting = c.self.inside.waiting;
       ready = true;
       line = c.line_at-self-inside.result;

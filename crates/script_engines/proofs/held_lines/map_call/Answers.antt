@@ -1,7 +1,7 @@
 use Rattle.std.proofs.Common.{refl, ap, ◌∙◌}
 use Rattle.ffm_model.specs.HeldPlans.{Holding, call_made}
-use Rattle.partition_sim.specs.Partitions.{holding}
-use Rattle.partition_sim.proofs.held_lines.map_call.Goals as goal
+use Rattle.script_engines.specs.Holdings.{holding}
+use Rattle.script_engines.proofs.held_lines.map_call.Goals as goal
 
 pub returns-clause-call : goal.returns-clause-call
 returns-clause-call c = λ place.

@@ -1,5 +1,5 @@
-use Rattle.partition_sim.proofs.StepLemmas.{fits-at, local-found, local-none}
-use Rattle.partition_sim.proofs.context.local_step.Goals as goal
+use Rattle.script_engines.proofs.StepLemmas.{fits-at, local-found, local-none}
+use Rattle.script_engines.proofs.script.local_step.Goals as goal
 
 pub line_effect-requires-clause-fits : goal.line_effect-requires-clause-fits
 line_effect-requires-clause-fits c = fits-at _ _ _ c.requires c.if-place-script.false

@@ -2,8 +2,8 @@ use Rattle.std.proofs.Common.{◌≡◌, ◌≤◌, List}
 use Rattle.ffm_model.specs.Held.{Holder, HeldMessage}
 use Rattle.ffm_model.specs.HeldPlans.{held_steps}
 use Rattle.ffm_model.specs.ScriptRuns.{local_steps, point}
-use Rattle.partition_sim.specs.Partitions.{holding}
-use Rattle.partition_sim.proofs.context.run_lines.Given as goal
+use Rattle.script_engines.specs.Holdings.{holding}
+use Rattle.script_engines.proofs.script.run_lines.Given as goal
 
 abbrev pub invariant-loop-left : goal.invariant-loop-left
 invariant-loop-left l = record {

@@ -1,7 +1,7 @@
 use Rattle.std.proofs.Common.{refl}
 use Rattle.ffm_model.specs.HeldPlans.{Holding}
-use Rattle.partition_sim.specs.Partitions.{holding}
-use Rattle.partition_sim.proofs.held_lines.map_effect.Goals as goal
+use Rattle.script_engines.specs.Holdings.{holding}
+use Rattle.script_engines.proofs.held_lines.map_effect.Goals as goal
 
 pub returns-clause-leads : goal.returns-clause-leads
 returns-clause-leads c =

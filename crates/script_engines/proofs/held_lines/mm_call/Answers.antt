@@ -1,6 +1,6 @@
 use Rattle.std.proofs.Common.{◌∙◌, inl, inr}
-use Rattle.partition_sim.proofs.HeldLemmas.{unmap-in-call, map-out-call}
-use Rattle.partition_sim.proofs.held_lines.mm_call.Goals as goal
+use Rattle.script_engines.proofs.HeldLemmas.{unmap-in-call, map-out-call}
+use Rattle.script_engines.proofs.held_lines.mm_call.Goals as goal
 
 pub returns-in-UnmapIn-clause-call : goal.returns-in-UnmapIn-clause-call
 returns-in-UnmapIn-clause-call c = λ x e. elim c.in-UnmapIn.is [

@@ -4,9 +4,9 @@ use Rattle.ffm_model.specs.HeldPlans.{Holding, led_to}
 use Rattle.mm_iovec.specs.declared.line.MmStep.{MmStep}
 use Rattle.mm_iovec.specs.HeldView.{HeldView}
 use Rattle.mm_iovec.specs.Lines.{engine_step}
-use Rattle.partition_sim.specs.Partitions.{holding}
-use Rattle.partition_sim.proofs.HeldLemmas.{call-keeps, fault-keeps}
-use Rattle.partition_sim.proofs.held_lines.mm_effect.Goals as goal
+use Rattle.script_engines.specs.Holdings.{holding}
+use Rattle.script_engines.proofs.HeldLemmas.{call-keeps, fault-keeps}
+use Rattle.script_engines.proofs.held_lines.mm_effect.Goals as goal
 
 pub returns-in-Calls : goal.returns-in-Calls
 returns-in-Calls c =

@@ -4,7 +4,7 @@ ghost use Rattle.ffm_model.specs.declared.script.Instruction.TheVariants as inst
 ghost use Rattle.ffm_model.specs.Held.{Holder, is_refused};
 ghost use Rattle.ffm_model.specs.HeldPlans.{Holding, call_made, handle_operand, led_to, line_step, number_operand, registers_noted};
 ghost use Rattle.mm_iovec.specs.Lines.{can_do, engine_line, maps_in, table_of};
-ghost use Rattle.partition_sim.specs.Partitions.{holding, with_window};
+ghost use Rattle.script_engines.specs.Holdings.{holding, with_window};
 
 use crate::calls::{note, put, value_of};
 use ffm_model::{Call, Handle, Instruction, MapName, Operand, Outcome};

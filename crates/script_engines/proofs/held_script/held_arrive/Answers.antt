@@ -1,7 +1,7 @@
 use Rattle.std.proofs.Common.{◌<◌, refl, sym, ◌∙◌, arith}
-use Rattle.partition_sim.specs.Partitions.{holding}
-use Rattle.partition_sim.proofs.HeldLemmas.{held-begins, held-none, held-one, held-zero}
-use Rattle.partition_sim.proofs.partition.run_held.Goals as goal
+use Rattle.script_engines.specs.Holdings.{holding}
+use Rattle.script_engines.proofs.HeldLemmas.{held-begins, held-none, held-one, held-zero}
+use Rattle.script_engines.proofs.held_script.held_arrive.Goals as goal
 
 pub loop-place-init : goal.loop-place-init
 loop-place-init c = record {

@@ -1,7 +1,7 @@
 use Rattle.std.proofs.Common.{◌≡◌}
 use Rattle.ffm_model.specs.HeldPlans.{held_arrived, held_steps}
-use Rattle.partition_sim.specs.Partitions.{holding}
-use Rattle.partition_sim.proofs.partition.run_held.Given as goal
+use Rattle.script_engines.specs.Holdings.{holding}
+use Rattle.script_engines.proofs.held_script.held_arrive.Given as goal
 
 abbrev pub invariant-loop-place : goal.invariant-loop-place
 invariant-loop-place l = record {

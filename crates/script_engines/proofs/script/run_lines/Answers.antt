@@ -1,7 +1,7 @@
 use Rattle.std.proofs.Common.{sym, ◌∙◌, arith}
-use Rattle.partition_sim.proofs.HeldLemmas.{held-one, held-local}
-use Rattle.partition_sim.proofs.StepLemmas.{steps-one, steps-zero}
-use Rattle.partition_sim.proofs.context.run_lines.Goals as goal
+use Rattle.script_engines.proofs.HeldLemmas.{held-one, held-local}
+use Rattle.script_engines.proofs.StepLemmas.{steps-one, steps-zero}
+use Rattle.script_engines.proofs.script.run_lines.Goals as goal
 use Rattle.ffm_model.proofs.ScriptLemmas.{steps-none}
 
 pub loop-left-preserved : goal.loop-left-preserved
