@@ -9,6 +9,7 @@ use ffm_model::{
 };
 use machine_calls::{Machine, Objects};
 use memory_image::Image;
+use mm_iovec::{HeldItem, HeldVector, VectorState};
 use packed_state::{
     Contexts, Engine, Holding, Point, SlotName, SlotsInUse, Snapshot, pack, unpack,
 };
@@ -145,5 +146,72 @@ fn states_as_bytes(rt: HostRuntime) -> Result<(), Fail> {
     assert!(rt; again.machine.memory.load(536870914, 1) == 7);
     assert!(rt; again.machine.objects.messages.len() == 1);
     assert!(rt; pack(alloc, &again, &[REGION], &opening)?.as_slice() == BYTES.as_slice());
+    Ok(())
+}
+
+// The script of a partition that holds a request, of whose vectors the first input of eight bytes is mapped.
+fn holder(alloc: Global) -> Result<Engine, AllocError> {
+    let none = HeldVector {
+        size: 0,
+        state: VectorState::Used,
+    };
+    let mapped = HeldVector {
+        size: 8,
+        state: VectorState::Mapped,
+    };
+    Ok(Engine::Holding(Holding {
+        at: Point {
+            registers: [0; 16],
+            place: 7,
+        },
+        table: vec![in alloc;
+            HeldItem {
+                handle: Handle(600),
+                kind: 0,
+                mm: true,
+                input: [mapped, none, none, none],
+                output: [none, none, none, none],
+            },
+        ]?,
+    }))
+}
+
+// No object, no slot and no change, and one engine: where it stands, and its message, by hand.
+const HOLDER: [u8; 37] = [
+    0, 0, 0, 0, 0, 0, 0, 0, 0, 0, 0, 1, 0, 0, 7, 1, 254, 176, 4, 0, 1, 8, 2, 0, 1, 0, 1, 0, 1, 0,
+    1, 0, 1, 0, 1, 0, 1,
+];
+
+fn no_slots(alloc: Global) -> SlotsInUse {
+    SlotsInUse {
+        live: Vec::new(alloc),
+        uses: Vec::new(alloc),
+    }
+}
+
+#[test]
+fn held_messages_as_bytes(rt: HostRuntime) -> Result<(), Fail> {
+    let alloc = rt.alloc();
+    let opening = zeros(alloc)?;
+    let snapshot = Snapshot {
+        machine: Machine {
+            objects: Objects {
+                connections: Vec::new(alloc),
+                connections_made: 0,
+                messages: Vec::new(alloc),
+                phases: Vec::new(alloc),
+                doorbells: Vec::new(alloc),
+                sources: Vec::new(alloc),
+            },
+            memory: zeros(alloc)?,
+        },
+        connections: no_slots(alloc),
+        messages: no_slots(alloc),
+        engines: vec![in alloc; holder(alloc)?.copy_of(alloc)?]?,
+    };
+    let bytes = pack(alloc, &snapshot, &[REGION], &opening)?;
+    assert!(rt; bytes.as_slice() == HOLDER.as_slice());
+    let again = unpack(alloc, &HOLDER, &[REGION], &opening)?;
+    assert!(rt; pack(alloc, &again, &[REGION], &opening)?.as_slice() == HOLDER.as_slice());
     Ok(())
 }
