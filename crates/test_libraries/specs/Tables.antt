@@ -20,5 +20,6 @@ abbrev pub moves_of : ℕ × List Row → Moves
 moves_of x = record {
   is_state = λ s. length s ≡ 1;
   leads = λ s a t. (a < x.0) × Leads (target_of x.1 (slice_index s 0) a) t;
+  none = λ s a. target_of x.1 (slice_index s 0) a ≡ None;
   count = x.0;
 }
