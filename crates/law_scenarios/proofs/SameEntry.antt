@@ -138,6 +138,11 @@ third true true false x h = h
 third true false c x h = cc
 third false b c x h = cc
 
+second : {X : Type 0} (a b c : Bool) (x : X) → IsSome (if a && b && c then Some x else None) → b ≡ true
+second true true c x h = refl
+second true false c x h = h
+second false b c x h = cc
+
 first : {X : Type 0} (a b c : Bool) (x : X) → IsSome (if a && b && c then Some x else None) → a ≡ true
 first true b c x h = refl
 first false b c x h = h
@@ -153,6 +158,12 @@ unfolding step
 step-may s st e h =
     let due = effect_of s st e.actor.0 e.call (handle_shown e.outcome) in
     first (may_call s st.spm e.actor.0 e.call) (handle_allowed s st e.actor.0 e.call (handle_shown e.outcome)) (outcome_eq due.outcome e.outcome) due.state h
+
+pub step-allowed : (s : System) (st : State) (e : Entry) → IsSome (step s st e) → handle_allowed s st e.actor.0 e.call (handle_shown e.outcome) ≡ true
+unfolding step
+step-allowed s st e h =
+    let due = effect_of s st e.actor.0 e.call (handle_shown e.outcome) in
+    second (may_call s st.spm e.actor.0 e.call) (handle_allowed s st e.actor.0 e.call (handle_shown e.outcome)) (outcome_eq due.outcome e.outcome) due.state h
 
 -- the actor of a step is one of the system, and enabled
 pub step-actor : (s : System) (st : State) (e : Entry) → IsSome (step s st e) → nat_lt e.actor.0 (actor_count s) ≡ true
