@@ -1,12 +1,13 @@
 #!/usr/bin/env python3
-"""Finds ffm, or ffm_view, where it is built, or builds it without proofs, and runs it.
+"""Finds ffm, ffm_view or ffm_explore where it is built, or builds it without proofs, and runs it.
 
     python3 tools/ffm_program.py ffm run SYSTEM SCENARIO
     python3 tools/ffm_program.py ffm --many FILE      runs each line of FILE, a command's words, with one program
     python3 tools/ffm_program.py ffm --build          builds where no program fits the sources, and runs nothing
     python3 tools/ffm_program.py ffm --which          tells the program that would be run
 
-tools/try_ffm.sh and tools/try_ffm_view.sh call it with the name of the program. The program is the first of these:
+tools/try_ffm.sh, tools/try_ffm_view.sh and tools/try_ffm_explore.sh call it with the name of the program. The program is
+the first of these:
 
 1. crates/NAME/out/NAME, the proved one that .ci/run and `rt run` leave, where no source of it is younger; or, in a
    folder that tools/pack.sh made, bin/NAME;
@@ -29,7 +30,11 @@ import tempfile
 import time
 
 TOP = pathlib.Path(__file__).resolve().parents[1]
-FIRST_WORDS = {"ffm": ["compile", "FILE"], "ffm_view": ["state", "FILE", "FILE", "FILE"]}
+FIRST_WORDS = {
+    "ffm": ["compile", "FILE"],
+    "ffm_view": ["state", "FILE", "FILE", "FILE"],
+    "ffm_explore": ["all", "FILE", "FILE"],
+}
 BUILD_SECONDS = 1800
 
 

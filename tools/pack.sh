@@ -27,7 +27,7 @@ room=$(mktemp -d)
 trap 'rm -rf "$room"' EXIT
 folder="$room/ffm-${commit:0:12}"
 mkdir -p "$folder/bin"
-for name in $(grep -oE '^(ffm|ffm_view)\b' "$top/crates.txt"); do
+for name in $(grep -oE '^(ffm|ffm_view|ffm_explore)\b' "$top/crates.txt"); do
     program="$top/crates/$name/out/$name"
     [ "$(python3 "$top/tools/ffm_program.py" "$name" --which 2>&1)" = "$program" ] || stop "$program isn't there, or a source is younger"
     cp "$program" "$folder/bin"

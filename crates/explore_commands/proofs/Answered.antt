@@ -1,0 +1,129 @@
+-- What is due of the words and the files, out of what was read and found.
+-- Source: this simulator's.
+use Rattle.std.proofs.Common.{◌≡◌, ◌≢◌, ℕ, ◌<◌, List, [], arith, inl, inr, refl, subst, sym}
+use Rattle.std.specs.Prelude.{◌⊎◌, Option, None, Some, Result, Ok, Err, IfOk, MatchResult}
+use Rattle.clap.specs.Words.{kind_of}
+use Rattle.clap.specs.declared.error.Error.{Error}
+use Rattle.clap.specs.declared.error.kind.ErrorKind.TheVariants as kind
+use Rattle.outside_io.specs.Files.{Asks, FilesSeen, stopped}
+use Rattle.outside_io.specs.Sink.{Hands, SinkSeen}
+use Rattle.outside_io.proofs.FilesSteps.{asks_lost, asks_unrefused}
+use Rattle.ffm_model.specs.declared.place.Refusal.{Refusal}
+use Rattle.ffm_model.specs.declared.machine.Memory.{Memory}
+use Rattle.ffm_model.specs.Reading.{refused}
+use Rattle.text_lines.specs.Refusals.{refusal_line}
+use Rattle.work_orders.specs.Work.{Work, run_of}
+use Rattle.work_orders.specs.declared.unanswered.Unanswered.{Unanswered}
+use Rattle.work_orders.specs.declared.unanswered.Unanswered.TheVariants as unanswered
+use Rattle.work_orders.specs.declared.work.RunWork.{RunWork}
+use Rattle.explore_commands.specs.declared.top.Answer.{Answer}
+use Rattle.explore_commands.specs.Answers.{Answered, AnswersRequest, AnswersWords, Due, EndsWith, IsFound, IsFoundStatus, IsStatus, Unfinished, Unread, files_asked}
+use Rattle.explore_commands.specs.declared.words.Request.{Request}
+use Rattle.explore_commands.specs.Requests.{AsksFor, IsTold, told_status}
+
+-- ---- the answer to a request
+
+-- an answer, or that no memory was found for it
+pub answer_or : (P : Answer → Type 0) (r : Result Answer Memory) (answer : Result Answer Unanswered) → MatchResult r (λ a. answer ≡ Ok a) (λ e. answer ≡ Err unanswered.Memory) → IfOk r P
+    → MatchResult answer P (λ e. e ≡ unanswered.Memory)
+answer_or P (Ok a) answer is p = subst (λ x. MatchResult x P (λ e. e ≡ unanswered.Memory)) (sym is) p
+answer_or P (Err m) answer is p = subst (λ x. MatchResult x P (λ e. e ≡ unanswered.Memory)) (sym is) refl
+
+-- the files were read, and this is found, or no memory was
+pub found_answer : (r : Request) (a b : FilesSeen) (w : RunWork) (answer : Result Answer Unanswered) → Asks a b (Ok (run_of w.threads w.system w.scenario w.programs)) (files_asked r)
+    → MatchResult answer (λ x. IsFound w.system w.scenario w.programs r.question x.text.items x.status) (λ e. e ≡ unanswered.Memory) → AnswersRequest r a b answer
+found_answer r a b w (Ok x) asks found = record { due = Ok (run_of w.threads w.system w.scenario w.programs); reads = asks; is_due = found }
+found_answer r a b w (Err e) asks found = subst (λ x. AnswersRequest r a b (Err x)) (sym found) (asks_lost a b (run_of w.threads w.system w.scenario w.programs) (files_asked r) asks)
+
+-- a file is refused, or no memory was found for the line
+pub refused_answer : (r : Request) (a b : FilesSeen) (f : Refusal) (answer : Result Answer Unanswered) → Asks {A = Work} a b (Err (stopped (refused f))) (files_asked r)
+    → MatchResult answer (λ x. (x.text.items ≡ refusal_line f) × (x.status ≡ 1)) (λ e. e ≡ unanswered.Memory) → AnswersRequest r a b answer
+refused_answer r a b f (Ok x) asks is = record { due = Err (refused f); reads = asks; is_due = is }
+refused_answer r a b f (Err e) asks is = subst (λ x. AnswersRequest r a b (Err x)) (sym is) (asks_unrefused a b (refused f) (files_asked r) asks)
+
+-- ---- the answer to the words
+
+-- they ask for this
+pub asked_answer : (words : List (List ℕ)) (r : Request) (a b : FilesSeen) (result : Result Answer Unanswered) → AsksFor words r → AnswersRequest r a b result → AnswersWords words a b result
+asked_answer words r a b (Ok answer) asks is = inr (r, asks, is)
+asked_answer words r a b (Err unanswered.File) asks is = (r, asks, is)
+asked_answer words r a b (Err unanswered.Memory) asks is = inr (r, asks, is)
+
+-- they ask for nothing, and were answered
+told_answer : (words : List (List ℕ)) (e : Error) (a : FilesSeen) (answer : Answer) → (kind_of e ≡ kind.OutOfMemory) ⊎ IsTold words (told_status (kind_of e)) → answer.status ≡ told_status (kind_of e)
+    → kind_of e ≢ kind.OutOfMemory → AnswersWords words a a (Ok answer)
+told_answer words e a answer (inl memory) status other = absurd (other memory)
+told_answer words e a answer (inr told) status other = inl (subst (IsTold words) (sym status) told, refl)
+
+-- and so they were, or no memory was found
+pub told_words : (words : List (List ℕ)) (e : Error) (a : FilesSeen) (r : Result Answer Memory) (answer : Result Answer Unanswered) → MatchResult r (λ x. answer ≡ Ok x) (λ m. answer ≡ Err unanswered.Memory)
+    → (kind_of e ≡ kind.OutOfMemory) ⊎ IsTold words (told_status (kind_of e)) → IfOk r (λ x. x.status ≡ told_status (kind_of e)) → IfOk r (λ x. kind_of e ≢ kind.OutOfMemory) → AnswersWords words a a answer
+told_words words e a (Ok x) answer is told status other = subst (AnswersWords words a a) (sym is) (told_answer words e a x told status other)
+told_words words e a (Err m) answer is told status other = subst (AnswersWords words a a) (sym is) (inl refl)
+
+-- ---- what is made of files and sink
+
+is_status : (status : ℕ) → IsFoundStatus status → IsStatus status
+is_status status (inl few) = inl few
+is_status status (inr more) = inr (omega arith, omega arith)
+
+below_seven : (status : ℕ) → IsFoundStatus status → status < 7
+below_seven status (inl few) = omega arith
+below_seven status (inr more) = omega arith
+
+not_both : (status : ℕ) → status < 7 → (status ≡ 7) ⊎ (status ≡ 9) → ⊥
+not_both status lt (inl seven) = omega arith
+not_both status lt (inr nine) = omega arith
+
+-- the text was written whole
+pub answered_whole : (words : List (List ℕ)) (f g : FilesSeen) (out after : SinkSeen) (text : List ℕ) (status : ℕ) → Due words f g text status → IsFoundStatus status → Hands {E = Unit {0}} out after (Ok (tt {0})) text → Answered words f g out after status
+answered_whole words f g out after text status due is hands =
+    let lt : status < 7 = below_seven status is in
+    record {
+      status_is = is_status status is;
+      whole = λ _. (text, due, hands);
+      part = λ eight. absurd (omega arith);
+      nothing = λ e. absurd (not_both status lt e);
+      unread = λ seven. absurd (omega arith);
+      unfinished = λ nine. absurd (omega arith);
+    }
+
+-- it wasn't
+pub answered_part : (words : List (List ℕ)) (f g : FilesSeen) (out after : SinkSeen) (text : List ℕ) (status : ℕ) → Due words f g text status → Hands {T = Unit {0}} out after (Err (tt {0})) text → Answered words f g out after 8
+answered_part words f g out after text status due hands = record {
+  status_is = inr (omega arith, omega arith);
+  whole = λ lt. absurd (omega arith);
+  part = λ _. (text, status, due, hands);
+  nothing = λ e. absurd (elim e [ inl seven ↦ omega arith | inr nine ↦ omega arith ]);
+  unread = λ seven. absurd (omega arith);
+  unfinished = λ nine. absurd (omega arith);
+}
+
+-- a file wasn't read
+pub answered_unread : (words : List (List ℕ)) (f g : FilesSeen) (out : SinkSeen) → Unread words f g → Answered words f g out out 7
+answered_unread words f g out unread = record {
+  status_is = inr (omega arith, omega arith);
+  whole = λ lt. absurd (omega arith);
+  part = λ eight. absurd (omega arith);
+  nothing = λ _. refl;
+  unread = λ _. unread;
+  unfinished = λ nine. absurd (omega arith);
+}
+
+-- no memory was found
+pub answered_unfinished : (words : List (List ℕ)) (f g : FilesSeen) (out : SinkSeen) → Unfinished words f g → Answered words f g out out 9
+answered_unfinished words f g out unfinished = record {
+  status_is = inr (omega arith, omega arith);
+  whole = λ lt. absurd (omega arith);
+  part = λ eight. absurd (omega arith);
+  nothing = λ _. refl;
+  unread = λ seven. absurd (omega arith);
+  unfinished = λ _. unfinished;
+}
+
+-- ---- the program
+
+-- no memory was found for its words
+pub ends_unread : (told : Option (List (List ℕ))) (f : FilesSeen) (out : SinkSeen) → EndsWith told f f out out 9
+ends_unread None f out = ([], tt, answered_unfinished [] f f out (inl refl))
+ends_unread (Some given) f out = (given, inl refl, answered_unfinished given f f out (inl refl))

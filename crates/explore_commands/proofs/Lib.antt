@@ -1,0 +1,5 @@
+mod Commands
+mod Getters
+mod Parsed
+pub mod Answered
+pub mod Found

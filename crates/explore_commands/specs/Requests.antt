@@ -1,0 +1,83 @@
+-- What the words of the command line ask for, as `clap` reads them.
+-- Source: this simulator's command line; `clap` defines which lists of words a command takes, and what they give to its arguments.
+use Rattle.std.specs.Prelude.{◌≡◌, ◌⊎◌, [], ℕ, List, Option, None, Some, true, pos, codes, unwrap_or, MatchOption}
+use Rattle.std.specs.Str.Parse.{ParsesUnsigned}
+use Rattle.std.specs.declared.num.ParseIntError.{ParseIntError}
+use Rattle.clap.specs.Words.{App, IsAmong, ReadsOne, Row, Rule, Text, fault_of, first_of, new_app, new_rule, one_of, subcommand_of, with_rule, with_subcommand}
+use Rattle.clap.specs.Simple.{new_shape}
+use Rattle.clap.specs.declared.builder.action.ArgAction.TheVariants.{Set}
+use Rattle.clap.specs.declared.builder.value_parser.ValueParser.TheVariants as parser
+use Rattle.clap.specs.declared.error.kind.ErrorKind.{ErrorKind}
+use Rattle.clap.specs.declared.error.kind.ErrorKind.TheVariants as kind
+use Rattle.explore_commands.specs.declared.words.FileNames.{FileNames}
+use Rattle.explore_commands.specs.declared.words.Question.{Question}
+use Rattle.explore_commands.specs.declared.words.Question.TheVariants.{All, Stall, Panic}
+use Rattle.explore_commands.specs.declared.words.Request.{Request}
+use Rattle.explore_commands.specs.declared.words.TheConstants.{STATES}
+
+-- ---- the commands and their arguments
+
+-- a file's name
+abbrev pub file_rule : Text → Rule
+file_rule id = record (new_rule id) { required = true; action = Some Set; value_names = 1 }
+
+-- how many states there may be, after an option
+abbrev pub states_rule : Rule
+states_rule = record (new_rule (codes "states")) { long = Some (codes "states"); action = Some Set; value_names = 1; parser = Some (parser.Signed (pos 1) (pos 4294967295)) }
+
+-- a command over a system and a scenario
+abbrev pub command_app : Text → App
+command_app name = with_rule (with_rule (with_rule (new_app name) (file_rule (codes "system"))) (file_rule (codes "scenario"))) states_rule
+
+-- one of the commands has to be named; there is a version
+abbrev pub top_app : App
+top_app = record (new_app (codes "ffm_explore")) { top = record (new_shape (codes "ffm_explore")) { has_version = true; subcommand_required = true } }
+
+abbrev pub explore_app : App
+explore_app = with_subcommand (with_subcommand (with_subcommand top_app (command_app (codes "all")).top) (command_app (codes "stall")).top) (command_app (codes "panic")).top
+
+-- ---- what the words give
+
+-- the number that an argument has, where it is given
+abbrev pub IsNumberAt : List Row → Text → Option ℕ → Type 0
+IsNumberAt rows id n = MatchOption (one_of id rows) (n ≡ None) (λ text. ReadsOne {E = ParseIntError} (ParsesUnsigned 32 10) text n)
+
+pub record AreNamesOf (rows : List Row) (names : FileNames) : Type 0 where
+  pub system : first_of (codes "system") rows ≡ Some names.system.now
+  pub scenario : first_of (codes "scenario") rows ≡ Some names.scenario.now
+
+abbrev pub IsQuestionOf : Text → Question → Type 0
+IsQuestionOf name All = name ≡ codes "all"
+IsQuestionOf name Stall = name ≡ codes "stall"
+IsQuestionOf name Panic = name ≡ codes "panic"
+
+-- as many states as are asked for, and else a million
+abbrev pub AreStates : List Row → ℕ → Type 0
+AreStates rows states = (n : Option ℕ) × IsNumberAt rows (codes "states") n × (states ≡ unwrap_or n STATES)
+
+-- a command and its arguments ask for this
+abbrev pub IsRequestOf : Option (Text × List Row) → Request → Type 0
+IsRequestOf None r = ⊥
+IsRequestOf (Some found) r = IsQuestionOf found.0 r.question × AreNamesOf found.1 r.names × AreStates found.1 r.states
+
+-- nothing is asked for by a command and its arguments
+abbrev pub AskNothing : Option (Text × List Row) → Type 0
+AskNothing found = (r : Request) → IsRequestOf found r → ⊥
+
+-- `clap` takes the words, and what they give to the arguments asks for this
+abbrev pub AsksFor : List Text → Request → Type 0
+AsksFor words r = (fault_of explore_app words ≡ []) × IsRequestOf (subcommand_of explore_app words) r
+
+-- help and the version are asked for; all else that `clap` doesn't take is a mistake
+abbrev pub told_status : ErrorKind → ℕ
+told_status kind.DisplayHelp = 0
+told_status kind.DisplayVersion = 0
+told_status _ = 2
+
+-- `clap` doesn't take the words, by an error of this kind, or nothing is asked for
+abbrev pub IsRefusedBy : List Text → ErrorKind → Type 0
+IsRefusedBy words k = IsAmong k (fault_of explore_app words) ⊎ ((k ≡ kind.MissingSubcommand) × AskNothing (subcommand_of explore_app words))
+
+-- the words are no command, or ask for help or the version
+abbrev pub IsTold : List Text → ℕ → Type 0
+IsTold words status = (k : ErrorKind) × IsRefusedBy words k × (status ≡ told_status k)

@@ -1,0 +1,14 @@
+//! The commands of `ffm_explore`: the words of its command line, the files that they name, the texts
+//! and the statuses.
+#![tactic(auto)]
+
+mod ends;
+mod exploring;
+mod texts;
+mod top;
+mod words;
+
+pub use ends::program;
+pub use exploring::{Findings, found_of};
+pub use top::ffm_explore;
+pub use words::{FileNames, Question, Request, STATES, VERSION, asked_of};

@@ -1,0 +1,157 @@
+//! The top call.
+ghost use Rattle.std.specs.Prelude.{◌≡◌, ◌≢◌, Err, IfOk, MatchResult, Ok, map, string_bytes};
+ghost use Rattle.outside_io.specs.Sink.{Hands};
+ghost use Rattle.clap.specs.Words.{kind_of};
+ghost use Rattle.explore_commands.specs.Answers.{Answered, AnswersRequest, AnswersWords, IsFound, IsFoundStatus};
+ghost use Rattle.text_lines.specs.Refusals.{refusal_line};
+ghost use Rattle.work_orders.specs.View.{IsRun};
+ghost use Rattle.explore_commands.specs.Requests.{told_status};
+
+use crate::exploring::found_of;
+use crate::words::{Request, asked_of};
+use clap::Error;
+use clap::error::ErrorKind;
+use command_words::Command;
+use ffm_model::{Memory, PartsError, Refusal};
+use outside_io::{Failed, Files, Sink, put_all};
+use std::alloc::Global;
+use text_lines::{NO_MEMORY, UNREAD, UNWRITTEN, refusal_line};
+use work_orders::{RunWork, Unanswered, Work, work_of};
+
+/// A text to be written, and the status to end with.
+#[derive(Drop)]
+pub(crate) struct Answer {
+    pub text: Vec<u8>,
+    pub status: u8,
+}
+
+// The status of help and the version, and of words that are no command.
+fn told_status(error: &Error) -> u8
+    ensures status { result ≡ told_status (kind_of error.now) }
+    ensures few { IsFoundStatus result }
+{
+    if error.use_stderr() { 2 } else { 0 }
+}
+
+// The answer of clap to words that are no command, or that ask for help or the version.
+fn told(alloc: Global, error: &Error) -> Result<Answer, Memory>
+    ensures status { IfOk result (λ answer. answer.status ≡ told_status (kind_of error.now)) }
+    ensures few { IfOk result (λ answer. IsFoundStatus answer.status) }
+    ensures kind { IfOk result (λ answer. kind_of error.now ≢ ErrorKind.OutOfMemory) }
+{
+    if error.kind() == ErrorKind::OutOfMemory {
+        return Err(Memory);
+    }
+    let text = error.to_string(alloc)?.into_bytes();
+    let status = told_status(error);
+    Ok(Answer { text, status })
+}
+
+// The answer to the refusal of a file.
+fn refused(alloc: Global, refusal: &Refusal) -> Result<Answer, Memory>
+    ensures { IfOk result (λ answer.
+        (answer.text.items ≡ refusal_line refusal.now) × (answer.status ≡ 1)) }
+{
+    Ok(Answer {
+        text: refusal_line(alloc, refusal)?,
+        status: 1,
+    })
+}
+
+// What is found of a scenario's interleavings.
+#[tactic(auto, using(crate::proofs::Found::is_found))]
+fn found(alloc: Global, work: RunWork, request: Request<'_>) -> Result<Answer, Memory>
+    requires { IsRun work }
+    ensures found { IfOk result (λ answer. IsFound work.system work.scenario work.programs
+        request.entry.question answer.text.items answer.status) }
+    ensures status { IfOk result (λ answer. IsFoundStatus answer.status) }
+{
+    // `clap` takes no 0.
+    let states = request.states.max(1);
+    let (system, found) = found_of(alloc, work, request.question, states)?;
+    Ok(Answer {
+        text: found.text(alloc, &system)?,
+        status: found.status(),
+    })
+}
+
+// An answer, or that no memory was found.
+fn or_memory(answer: Result<Answer, Memory>) -> Result<Answer, Unanswered>
+    ensures { MatchResult answer (λ a. result ≡ Ok a) (λ e. result ≡ Err Unanswered.Memory) }
+{
+    match answer {
+        Ok(answer) => Ok(answer),
+        Err(Memory) => Err(Unanswered::Memory),
+    }
+}
+
+// The answer to what is asked for.
+fn answer_of<F: Files>(
+    alloc: Global,
+    request: Request<'_>,
+    files: &mut F,
+) -> Result<Answer, Unanswered>
+    ensures answers { AnswersRequest request.entry (F.seen files.old) (F.seen files.new) result }
+    ensures status { IfOk result (λ answer. IsFoundStatus answer.status) }
+{
+    let command = Command::Run {
+        threads: true,
+        system: request.names.system,
+        scenario: request.names.scenario,
+    };
+    match work_of(alloc, command, files) {
+        Ok(Work::Run(work)) => or_memory(found(alloc, work, request)),
+        Ok(_) => unreachable!(),
+        Err(PartsError::Refused(refusal)) => or_memory(refused(alloc, &refusal)),
+        Err(PartsError::ReadFault) => Err(Unanswered::File),
+        Err(PartsError::Memory) => Err(Unanswered::Memory),
+    }
+}
+
+// The answer to the words.
+fn answer_to<F: Files>(alloc: Global, words: &[String], files: &mut F) -> Result<Answer, Unanswered>
+    ensures answers { AnswersWords (map string_bytes words.now)
+        (F.seen files.old) (F.seen files.new) result }
+    ensures status { IfOk result (λ answer. IsFoundStatus answer.status) }
+{
+    match asked_of(alloc, words) {
+        Ok(request) => answer_of(alloc, request, files),
+        Err(error) => or_memory(told(alloc, &error)),
+    }
+}
+
+// Writes a text whole.
+fn write<S: Sink>(out: &mut S, text: &[u8]) -> Result<(), Failed>
+    ensures { Hands (S.seen out.old) (S.seen out.new) result text.now }
+{
+    put_all(out, text)?;
+    out.flush()
+}
+
+/// Explores what the words ask for over these files: writes the text, and answers the status to end
+/// with.
+///
+/// 0: each run ends and none stalls, or no state is as sought; or help or the version was asked for. 1:
+/// a file is refused, by ffm's own line. 2: the words are no command. 4: some run stalls, or a state
+/// that is sought was found. 5: not all is explored, since the limit of states was met or memory was
+/// refused. 6: no run stalls, but some goes on for ever, or as far as it may. 7: a file can't be read,
+/// and nothing is written. 8: the text can't be written whole. 9: no memory was found, and nothing is
+/// written.
+pub fn ffm_explore<F: Files, S: Sink>(
+    alloc: Global,
+    words: &[String],
+    files: &mut F,
+    out: &mut S,
+) -> u8
+    ensures { Answered (map string_bytes words.now)
+        (F.seen files.old) (F.seen files.new) (S.seen out.old) (S.seen out.new) result }
+{
+    match answer_to(alloc, words, files) {
+        Ok(answer) => match write(out, answer.text.as_slice()) {
+            Ok(()) => answer.status,
+            Err(Failed) => UNWRITTEN,
+        },
+        Err(Unanswered::File) => UNREAD,
+        Err(Unanswered::Memory) => NO_MEMORY,
+    }
+}
