@@ -1,19 +1,19 @@
 #!/usr/bin/env python3
 """Runs the commands of the pages as a new user would, and compares what comes with what the pages show.
 
-    python3 tools/run_page_commands.py [--program FILE] [--view FILE] [PAGE ..]
+    python3 tools/run_page_commands.py [--program FILE] [--view FILE] [--explore FILE] [PAGE ..]
 
 Run at the top of the repository. Takes README.md, docs/*.md and the README.md of the examples, or the pages that are
 named. The blocks of commands of a page are run in their order on a copy of the repository: the first at its top, and
 each further one in the folder in which the one before it ended. Where the commands say ffm, the FILE of --program is
-run, and where they say ffm_view that of --view, the proved programs; with no FILE it is tools/try_ffm.sh or
-tools/try_ffm_view.sh, which takes a minute or two at its first call. The CI, what needs its libraries, and git are not
-run, and told.
+run, where they say ffm_view that of --view, and where ffm_explore that of --explore, the proved programs; with no FILE
+it is tools/try_ffm.sh, tools/try_ffm_view.sh or tools/try_ffm_explore.sh, which takes a minute or two at its first call.
+The CI, what needs its libraries, and git are not run, and told.
 
 What the page shows is looked for in what its commands wrote, and in the texts that stand beside the examples they
 name. Compared are:
 - blocks of lines that ffm writes: they come, in this order;
-- the block after commands of ffm_view and of tools/rule_of_line.py: it is all that they write, where a line `..`
+- the block after commands of ffm_view, ffm_explore and tools/rule_of_line.py: it is all that they write, where a line `..`
   stands for any lines;
 - lines of a trace or an audit in the first cells of a table: they come, and one with its number after it, as in
   `quiet 31` (32), is that line; `..` stands for anything;
@@ -37,10 +37,10 @@ from dataclasses import dataclass, field
 from example_files import GUIDED, examples
 
 COMMAND = re.compile(
-    r"ffm (?:compile|run|replay|audit|make)\b|ffm_view \w+ (?![A-Z])"
+    r"ffm (?:compile|run|replay|audit|make)\b|ffm_(?:view|explore) \w+ (?![A-Z])"
     r"|(?:python3|rt|git|jq|sed|awk|grep|diff|\(?cd|export) |tools/|\.ci/run|set -eu"
 )
-WHOLE = re.compile(r"^(?:ffm_view|python3 tools/rule_of_line\.py) ", re.M)
+WHOLE = re.compile(r"^(?:ffm_view|ffm_explore|python3 tools/rule_of_line\.py) ", re.M)
 NOT_RUN = re.compile(r"\.ci/run|tools/list_axioms|\brt (ci|version)\b|\bgit ")
 ENTRY = r"(?:p\d+|n\d+|dev) [a-z_]+\b[^`]*"
 VERDICT = r"(?:quiet|stalled|full|legal|illegal|clean|restart) \d+"
@@ -247,7 +247,7 @@ def examples_of(commands):
 
 
 def wrong_wholes(parts, outputs, commands):
-    """The blocks after commands of ffm_view and of tools/rule_of_line.py that aren't what these write."""
+    """The blocks after commands of ffm_view, ffm_explore and tools/rule_of_line.py that aren't what these write."""
     written = {block.line: output.text for block, output in zip(commands, outputs)}
     blocks = [part for part in parts if part.is_block]
     for before, block in zip(blocks, blocks[1:]):
@@ -299,13 +299,14 @@ def main():
     parser = argparse.ArgumentParser(description=__doc__.splitlines()[0])
     parser.add_argument("--program", type=pathlib.Path, help="the proved ffm")
     parser.add_argument("--view", type=pathlib.Path, help="the proved ffm_view")
+    parser.add_argument("--explore", type=pathlib.Path, help="the proved ffm_explore")
     parser.add_argument("pages", nargs="*", type=pathlib.Path)
     arguments = parser.parse_args()
     of_examples = [pathlib.Path("examples/README.md"), *sorted(GUIDED.glob("*/README.md"))]
     all_pages = [pathlib.Path("README.md"), *sorted(pathlib.Path("docs").glob("*.md")), *of_examples]
     count = 0
     with tempfile.TemporaryDirectory() as folder:
-        shell = Shell(folder, {"ffm": arguments.program, "ffm_view": arguments.view})
+        shell = Shell(folder, {"ffm": arguments.program, "ffm_view": arguments.view, "ffm_explore": arguments.explore})
         for page in arguments.pages or all_pages:
             for part, words in wrong_of(page, shell):
                 print(f"{page}:{part.line}: {words}", flush=True)

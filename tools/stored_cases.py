@@ -10,8 +10,9 @@ from: `hand`, written by hand from the rules and formats, `machine`, told by the
 Compared are:
 - stdout beside data/: it has the lines of commands.txt, and after each command its text and its status;
 - the files of a case, but for README.md: each is named by a sha256sum line of the case, with the digest that it has;
-- the texts of `ffm replay` and `ffm audit`: they are those of plain_machine.py, of `ffm run` those of plain_run.py, and of
-  `ffm compile` those of plain_listing.py, but where ffm refuses a file. A run with threads is judged by plain_machine.py;
+- the texts of `ffm replay` and `ffm audit`: they are those of plain_machine.py, of `ffm run` those of plain_run.py, of
+  `ffm compile` those of plain_listing.py, and of `ffm_explore` those of plain_explore.py, but where a file or the words are
+  refused. A run with threads is judged by plain_machine.py;
 - a case without `hand` in its source: it has such texts alone;
 - trace.txt, listing.txt and audit.txt of a case, where a command of it writes them: they are its text;
 - each example has those commands, and a row in examples/README.md.
@@ -32,6 +33,7 @@ import sys
 import tempfile
 from dataclasses import dataclass
 
+import plain_explore
 import plain_listing
 import plain_machine
 import plain_run
@@ -43,6 +45,7 @@ LIST = pathlib.Path("examples/README.md")
 HEADING = re.compile(r"# (\w+/\w+): [^\n]*\.")
 DIGESTS, PAGE = "sha256sum", "README.md"
 RUN_STATUSES, JUDGED = (0, 4, 5), {"replay": False, "audit": True}
+NO_RESTARTS = b" scenario /restarts\n"
 # The files that hold what a command writes, with its words before the name of the case's folder, and the other files.
 WRITTEN = {"trace.txt": ("run", ["system.json", "scenario.json"]), "listing.txt": ("compile", ["system.json"]),
            "audit.txt": ("audit", ["system.json", "scenario.json", "trace.txt"])}
@@ -59,7 +62,7 @@ class Command:
         return self.line.split(" ")
 
     def is_checksums(self):
-        """Whether it writes the checksums of files, and is no command of `ffm` or `ffm_view`."""
+        """Whether it writes the checksums of files, and is no command of `ffm`, `ffm_view` or `ffm_explore`."""
         return self.words()[0] == DIGESTS
 
     def files(self):
@@ -132,7 +135,7 @@ def sources():
 def judged_again(command):
     """What plain_machine.py says of a judged trace; None where ffm refuses a file that stands before the trace."""
     is_of_trace = command.text.startswith(b"refused") and command.text.split()[3] == b"trace"
-    if command.status == 1 and not is_of_trace and not command.text.endswith(b" scenario /restarts\n"):
+    if command.status == 1 and not is_of_trace and not command.text.endswith(NO_RESTARTS):
         return None
     try:
         status, text = plain_machine.answer_of_files(*command.files(), JUDGED[command.words()[1]], DATA)
@@ -152,9 +155,23 @@ def run_again(command):
     return (command.status, command.text.decode()) if status == 0 else (status, text)
 
 
+def explored_again(command):
+    """What plain_explore.py says of all interleavings; None where ffm_explore refuses a file or tells how it is called."""
+    _, question, *words = command.words()
+    if question not in plain_explore.QUESTIONS or "--help" in words or command.status == 1 and not command.text.endswith(NO_RESTARTS):
+        return None
+    *names, _, states = words if "--states" in words else [*words, "--states", plain_explore.STATES]
+    try:
+        return plain_explore.answer_of_files(*names, question, int(states), DATA)
+    except plain_machine.NotTaken as wrong:
+        return wrong.args[0], ""
+
+
 def read_again(command):
     """The status and the text of a command by a second reading; None where none can tell."""
     program, word = [*command.words(), ""][:2]
+    if program == "ffm_explore" and command.status != 2:
+        return explored_again(command)
     if program != "ffm" or command.status == 2:
         return None
     if word in JUDGED:

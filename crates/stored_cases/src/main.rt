@@ -3,6 +3,7 @@
 #![tactic(auto)]
 
 use anyhow::{Context, Result, bail};
+use explore_commands::ffm_explore;
 use ffm_model::OpenGate;
 use ffm_top::ffm;
 use file_places::KeptFiles;
@@ -28,6 +29,9 @@ enum Line {
     /// A command of `ffm_view`.
     FfmView,
 
+    /// A command of `ffm_explore`.
+    FfmExplore,
+
     /// A command that writes the SHA-256 digests of the files that it names.
     Digests,
 }
@@ -39,6 +43,7 @@ impl Line {
             "#" => Some(Line::Heading),
             "ffm" => Some(Line::Ffm),
             "ffm_view" => Some(Line::FfmView),
+            "ffm_explore" => Some(Line::FfmExplore),
             "sha256sum" => Some(Line::Digests),
             _ => None,
         }
@@ -91,6 +96,7 @@ where
             let mut files = KeptFiles::of(rt.alloc(), files);
             ffm_view(rt.alloc(), &words, &mut files, &mut out)
         }
+        Line::FfmExplore => ffm_explore(rt.alloc(), &words, &mut files, &mut out),
         Line::Digests => {
             write_digests(rt, &words)?;
             0

@@ -1,0 +1,92 @@
+"""Tests of tools/plain_explore.py, beside the stored texts with which tools/stored_cases.py compares it."""
+
+import json
+import pathlib
+import subprocess
+import sys
+import tempfile
+import unittest
+
+TOOLS = pathlib.Path(__file__).resolve().parents[1]
+STORED = TOOLS.parent / "crates/stored_cases/data"
+sys.path.insert(0, str(TOOLS))
+
+import plain_explore
+import plain_run
+from plain_machine import Machine, read_scenario, read_system
+from plain_script import plans_of
+
+TWO_CALLS = {"scripts": [{"actor": "NS", "lines": ["version 1", "version 2"]}]}
+
+
+def text(*lines):
+    return "".join(f"{line}\n" for line in lines)
+
+
+class PlainExplore(unittest.TestCase):
+    def setUp(self):
+        folder = tempfile.TemporaryDirectory()
+        self.addCleanup(folder.cleanup)
+        self.stand = pathlib.Path(folder.name)
+
+    def answer(self, scenario, *words, clients=("NS",)):
+        (self.stand / "system.json").write_text(json.dumps({"isolation_level": 1, "manifests": [], "clients": list(clients)}))
+        (self.stand / "scenario.json").write_text(json.dumps(scenario))
+        return self.tool("system.json", "scenario.json", *words)
+
+    def tool(self, *words):
+        command = [sys.executable, str(TOOLS / "plain_explore.py"), *words]
+        done = subprocess.run(command, cwd=self.stand, capture_output=True, text=True, check=False)
+        return done.returncode, done.stdout or done.stderr
+
+    def test_without_actors_there_is_one_state(self):
+        told = text("states 1 steps 0", "quiet 1", "stalled 0", "panics 0", "longest 0", "complete")
+        self.assertEqual(self.answer({}, clients=()), (0, told))
+
+    def test_clients_without_calls_end_in_any_order(self):
+        told = text("states 4 steps 4", "quiet 1", "stalled 0", "panics 0", "longest 2", "complete")
+        self.assertEqual(self.answer({}, clients=("A", "B")), (0, told))
+
+    def test_states_at_the_event_limit_are_not_expanded(self):
+        told = text("states 2 steps 1", "quiet 0", "stalled 0", "panics 0", "full 1 NS", "complete")
+        self.assertEqual(self.answer(TWO_CALLS | {"event_limit": 1}), (6, told))
+
+    def test_the_limit_of_states_cuts_a_search_short(self):
+        unfinished = "unfinished: every schedule of up to 1 events was explored"
+        told = text("states 2 steps 1", "quiet 0 so far", "stalled 0 so far", "panics 0 so far", "depth 1", unfinished)
+        self.assertEqual(self.answer(TWO_CALLS, "--states", "2"), (5, told))
+        self.assertEqual(self.answer(TWO_CALLS, "panic", "--states", "2"), (5, text("unknown", unfinished)))
+
+    def test_restarts_are_refused(self):
+        self.assertEqual(self.answer({"restarts": 1}), (1, text("refused 4 BadValue scenario /restarts")))
+
+    def test_a_file_that_is_not_there_is_named(self):
+        self.assertEqual(self.tool("none.json", "scenario.json"), (7, text("none.json: No such file or directory")))
+
+
+class Turns(unittest.TestCase):
+    """In the turns of a run each event is that of the run, also of functions, which go by their loop."""
+
+    def follow(self, system, scenario):
+        said, tree, told = read_system(system, STORED), *(json.loads((STORED / name).read_text()) for name in (system, scenario))
+        limit, memory = read_scenario(STORED / scenario)
+        run = plain_run.Run(said, memory, plans_of(said, tree, tree["manifests"], told))
+        state = plain_explore.State(Machine(said, memory), [plain_explore.begun(plan) for plan in plans_of(said, tree, tree["manifests"], told)])
+        while run.machine.verdict(len(run.entries), limit) is None:
+            for actor in filter(run.machine.enabled, range(len(run.plans))):
+                run.turn(actor)
+                state = state.after(actor)
+                self.assertEqual(run.machine.memory, state.machine.memory)
+                self.assertEqual([phase[0] for phase in run.machine.phases], [phase[0] for phase in state.machine.phases])
+
+    def test_functions(self):
+        for scenario in ("successor", "labels_and_registers", "no_function", "status_of_no_connection"):
+            self.follow("functions/sums/system.json", f"functions/sums/{scenario}.json")
+
+    def test_examples(self):
+        for example in ("client_threads", "mapped_vectors", "interrupt_handlers", "key_store"):
+            self.follow(f"guided/{example}/system.json", f"guided/{example}/scenario.json")
+
+
+if __name__ == "__main__":
+    unittest.main()
