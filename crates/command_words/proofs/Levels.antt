@@ -58,23 +58,23 @@ abbrev stopped_at : Text → List Text → Walk
 stopped_at name words = record (walk_from nothing_held) { stopped = Some (name, words) }
 
 -- each word after a subcommand's name is one of the subcommand's
-walked_behind : (c : List Rule) (names : Names) (name : Text) (before words : List Text)
+walked_after : (c : List Rule) (names : Names) (name : Text) (before words : List Text)
     → fold (walked c names) (stopped_at name before) words ≡ stopped_at name (before ++ words)
 unfolding clap_on_literals
-walked_behind c names name before [] = ap (stopped_at name) (sym (append-nil before))
-walked_behind c names name before (word ∷ words) =
-    walked_behind c names name (before ++ word ∷ []) words ∙ ap (stopped_at name) (append_assoc before (word ∷ []) words)
+walked_after c names name before [] = ap (stopped_at name) (sym (append-nil before))
+walked_after c names name before (word ∷ words) =
+    walked_after c names name (before ++ word ∷ []) words ∙ ap (stopped_at name) (append_assoc before (word ∷ []) words)
 
-passes_behind : (s : Shape) (names : Names) (name : Text) (before words : List Text) → walk_passes s names (stopped_at name before) words ≡ true
+passes_after : (s : Shape) (names : Names) (name : Text) (before words : List Text) → walk_passes s names (stopped_at name before) words ≡ true
 unfolding clap_on_literals
-passes_behind s names name before [] = refl
-passes_behind s names name before (word ∷ words) = passes_behind s names name (before ++ word ∷ []) words
+passes_after s names name before [] = refl
+passes_after s names name before (word ∷ words) = passes_after s names name (before ++ word ∷ []) words
 
 module _ (a : App) (name : Text) (s : Shape) (words : List Text)
     (met : walked a.top.rules (names_of a) (walk_from nothing_held) name ≡ stopped_at name [])
     (found : find (λ s. answers_to name (label_of s)) a.subs ≡ Some s) where
   walk_is : walk a.top.rules (names_of a) nothing_held (name ∷ words) ≡ stopped_at name words
-  walk_is = ap (λ w. fold (walked a.top.rules (names_of a)) w words) met ∙ walked_behind a.top.rules (names_of a) name [] words
+  walk_is = ap (λ w. fold (walked a.top.rules (names_of a)) w words) met ∙ walked_after a.top.rules (names_of a) name [] words
 
   stop_is : stop_after a.top.rules (names_of a) (name ∷ words) ≡ Some (name, words)
   stop_is = ap (λ (w : Walk). w.stopped) walk_is
@@ -87,5 +87,5 @@ module _ (a : App) (name : Text) (s : Shape) (words : List Text)
       → level_passes s [] nothing_held words false ≡ true → built_takes a nothing_held (name ∷ words) ≡ true
   takes_at turn ends level =
       let passes : walk_passes a.top (names_of a) (walk_from nothing_held) (name ∷ words) ≡ true =
-      passes_on a.top (names_of a) (walk_from nothing_held) (stopped_at name []) name words turn met (passes_behind a.top (names_of a) name [] words) in
+      passes_on a.top (names_of a) (walk_from nothing_held) (stopped_at name []) name words turn met (passes_after a.top (names_of a) name [] words) in
       rw (walk_is, found, level, passes) ends

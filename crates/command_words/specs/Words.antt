@@ -65,15 +65,15 @@ trace_words how [] = None
 trace_words how (system ∷ words) = trace_over how system words
 
 -- the number that n and the decimal digits after it spell, where it is at most the limit
-abbrev pub rounds_behind : ℕ → List ℕ → Option ℕ
-rounds_behind n [] = Some n
-rounds_behind n (d ∷ ds) =
-    if is_digit d 10 && nat_le (n * 10 + digit_value d) MAX_ROUNDS then rounds_behind (n * 10 + digit_value d) ds else None
+abbrev pub rounds_after : ℕ → List ℕ → Option ℕ
+rounds_after n [] = Some n
+rounds_after n (d ∷ ds) =
+    if is_digit d 10 && nat_le (n * 10 + digit_value d) MAX_ROUNDS then rounds_after (n * 10 + digit_value d) ds else None
 
 -- a number from 1 to the limit, in decimal digits without a leading zero
 unfoldable pub rounds_of : List ℕ → Option ℕ
 rounds_of [] = None
-rounds_of (d ∷ ds) = if d == 48 then None else rounds_behind 0 (d ∷ ds)
+rounds_of (d ∷ ds) = if d == 48 then None else rounds_after 0 (d ∷ ds)
 
 -- N
 abbrev pub make_words : List (List ℕ) → Option Order

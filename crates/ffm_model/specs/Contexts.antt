@@ -71,8 +71,8 @@ abbrev pub caller : List (List Instruction) → Contexts → ℕ
 caller scripts x = unwrap_or (picked_context scripts x) x.turn
 
 -- the outcome goes to the caller alone, and the turn to the context after it; the local lines of the others still count from where they were
-unfoldable pub contexts_behind : List (List Instruction) → Outcome → Contexts → Contexts
-contexts_behind scripts o x =
+unfoldable pub contexts_then : List (List Instruction) → Outcome → Contexts → Contexts
+contexts_then scripts o x =
     let k = caller scripts x in
     let script = script_of scripts k in
     record {
@@ -84,7 +84,7 @@ contexts_behind scripts o x =
 
 -- the contexts of a client as an engine
 abbrev pub context_engine : List (List Instruction) → Engine Contexts
-context_engine scripts = record { call = contexts_call scripts; behind = contexts_behind scripts }
+context_engine scripts = record { call = contexts_call scripts; behind = contexts_then scripts }
 
 -- the plan of a client with these scripts
 abbrev pub context_plan : List (List Instruction) → Plan

@@ -136,10 +136,10 @@ with_message_of v m t =
     else t
 
 -- what psa_get and psa_reply make of the table
-abbrev pub table_behind : Holder → Call → Outcome → List HeldMessage → List HeldMessage
-table_behind p (call.Get signal msg) (outcome.Got m) t = option_map_or (λ v. with_message_of v m t) (find (λ v. v.signal == signal) p.services) t
-table_behind p (call.Reply h status) outcome.Done t = without h t
-table_behind p _ _ t = t
+abbrev pub table_after : Holder → Call → Outcome → List HeldMessage → List HeldMessage
+table_after p (call.Get signal msg) (outcome.Got m) t = option_map_or (λ v. with_message_of v m t) (find (λ v. v.signal == signal) p.services) t
+table_after p (call.Reply h status) outcome.Done t = without h t
+table_after p _ _ t = t
 
 -- psa_read, psa_skip and psa_write touch their vector
 abbrev pub table_touched : Call → List HeldMessage → List HeldMessage

@@ -13,8 +13,8 @@ use Rattle.ffm_model.specs.declared.script.MapName.TheVariants.{MapIn, UnmapIn, 
 use Rattle.ffm_model.specs.declared.script.Instruction.{Instruction}
 use Rattle.ffm_model.specs.declared.script.Instruction.TheVariants as line
 use Rattle.ffm_model.specs.Plans.{Plan, Engine, plan_of}
-use Rattle.ffm_model.specs.ScriptRuns.{Point, point, start, most_lines, value_of, line_effect, line_call, handle_of, noted, place_behind}
-use Rattle.ffm_model.specs.Held.{Holder, HeldMessage, input_window, output_window, input_size, changed_at, with_input, with_output, table_behind, table_touched, is_refused, can_map_in, can_map_out, can_unmap_in, can_unmap_out}
+use Rattle.ffm_model.specs.ScriptRuns.{Point, point, start, most_lines, value_of, line_effect, line_call, handle_of, noted, place_after}
+use Rattle.ffm_model.specs.Held.{Holder, HeldMessage, input_window, output_window, input_size, changed_at, with_input, with_output, table_after, table_touched, is_refused, can_map_in, can_map_out, can_unmap_in, can_unmap_out}
 use Rattle.ffm_model.specs.Held.VectorState.{mapped, unmapped}
 
 -- where the script stands, and the messages that it holds
@@ -101,24 +101,24 @@ held_call p script x = option_map_or (λ i. call_made (line_step p x i)) (slice_
 abbrev pub table_noted : Holder → Option Instruction → Call → Outcome → List HeldMessage → List HeldMessage
 table_noted p (Some (line.Map MapIn operands)) (call.Read h index buffer len) o t = changed_at h (with_input mapped index) t
 table_noted p (Some (line.Map UnmapOut operands)) (call.Write h index buffer len) o t = changed_at h (with_output unmapped index) t
-table_noted p i c o t = table_behind p c o (table_touched c t)
+table_noted p i c o t = table_after p c o (table_touched c t)
 
 -- the registers after it: r0 is the window after map_in
 abbrev pub registers_noted : Option Instruction → Call → Outcome → List ℕ → List ℕ
 registers_noted (Some (line.Map MapIn operands)) (call.Read h index buffer len) o registers = slice_set (noted o registers) 0 buffer
 registers_noted i c o registers = noted o registers
 
-unfoldable pub held_behind : Holder → List Instruction → Outcome → Holding → Holding
-held_behind p script o x =
+unfoldable pub held_after : Holder → List Instruction → Outcome → Holding → Holding
+held_after p script o x =
     let i = slice_get script x.at.place in
     let c = held_call p script x in
-    record { at = point (registers_noted i c o x.at.registers) (place_behind script x.at.place); table = table_noted p i c o x.table }
+    record { at = point (registers_noted i c o x.at.registers) (place_after script x.at.place); table = table_noted p i c o x.table }
 
 -- ---- the plan
 
 -- the script of a partition as an engine
 abbrev pub held_engine : Holder → List Instruction → Engine Holding
-held_engine p script = record { call = λ x. held_call p script (held_arrived p script x); behind = λ o x. held_behind p script o (held_arrived p script x) }
+held_engine p script = record { call = λ x. held_call p script (held_arrived p script x); behind = λ o x. held_after p script o (held_arrived p script x) }
 
 -- the plan of a partition with this script
 abbrev pub held_plan : Holder → List Instruction → Plan

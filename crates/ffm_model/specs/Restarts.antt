@@ -42,8 +42,8 @@ is_mmio NonSecure = false
 is_mmio (Mmio owner writable) = true
 
 -- the memory that a run from m leaves
-abbrev pub memory_behind : System → ByteMap → List Entry → ByteMap
-memory_behind s m es = option_map_or (λ st. st.memory) (after s m es) m
+abbrev pub memory_after : System → ByteMap → List Entry → ByteMap
+memory_after s m es = option_map_or (λ st. st.memory) (after s m es) m
 
 -- MMIO bytes stay as the last run left them, and all other memory is as it was first
 abbrev pub memory_reset : System → ByteMap → ByteMap → ByteMap
@@ -58,7 +58,7 @@ module _ (s : System) (IsRun : ByteMap → FinishedRun → Type 0) (first : Byte
   RunsFrom m left [] = ⊥
   RunsFrom m left (r ∷ []) = IsRun m r × ((nat_lt 0 left && ends_panicked s m r) ≡ false)
   RunsFrom m left (r ∷ q ∷ rs) =
-      IsRun m r × ((nat_lt 0 left && ends_panicked s m r) ≡ true) × RunsFrom (memory_reset s first (memory_behind s m r.entries)) (left - 1) (q ∷ rs)
+      IsRun m r × ((nat_lt 0 left && ends_panicked s m r) ≡ true) × RunsFrom (memory_reset s first (memory_after s m r.entries)) (left - 1) (q ∷ rs)
 
   -- all runs with so many restarts at most
   abbrev pub Runs : ℕ → List FinishedRun → Type 0

@@ -149,12 +149,12 @@ noted outcome.Done registers = registers
 noted outcome.Panicked registers = registers
 
 -- the place after the line at a place; after the last line it stays
-abbrev pub place_behind : List Instruction → ℕ → ℕ
-place_behind script place = if nat_lt place (length script) then place + 1 else place
+abbrev pub place_after : List Instruction → ℕ → ℕ
+place_after script place = if nat_lt place (length script) then place + 1 else place
 
 -- after the call that was made at a point
 abbrev pub behind : List Instruction → Outcome → Point → Point
-behind script o p = point (noted o p.registers) (place_behind script p.place)
+behind script o p = point (noted o p.registers) (place_after script p.place)
 
 -- a script as an engine: it stands at a point, and goes on to its next call from there
 abbrev pub script_engine : List Instruction → Engine Point

@@ -65,8 +65,8 @@ abbrev pub work_call : Work → Call
 work_call w = if w.pending then call.Resume else function_call_at w.lines w.handle (reached w)
 
 -- after a call; a blocked call stays pending, and the outcome of its return counts as its own
-abbrev pub work_behind : Work → Outcome → Work
-work_behind w o =
+abbrev pub work_after : Work → Outcome → Work
+work_after w o =
     if is_blocked_outcome o
     then record w { pending = true }
     else record w { budget = most_lines; at = point (noted o (reached w).registers) ((reached w).place + 1); pending = false }
@@ -85,8 +85,8 @@ pub data Stage : Type 0 where
   working : Work → Stage
 
 -- the reply ends the round
-abbrev pub stage_behind : Work → Outcome → Stage
-stage_behind w o = if returns_at w.lines (reached w) then idle (reached w).registers else working (work_behind w o)
+abbrev pub stage_after : Work → Outcome → Stage
+stage_after w o = if returns_at w.lines (reached w) then idle (reached w).registers else working (work_after w o)
 
 -- from a stage on, the entries are the rest of a round and further rounds
 abbrev pub SfnRunFrom : SfnPartition → Stage → List Entry → Type 0
@@ -98,7 +98,7 @@ SfnRunFrom p (waiting registers) (e ∷ es) =
 SfnRunFrom p (signalled registers signals) (e ∷ es) =
     (v : SfnService) × ((lowest p.services signals ≡ Some v) × ((e.call ≡ call.Get v.signal p.base)
     × ((m : Message) × ((e.outcome ≡ outcome.Got m) × SfnRunFrom p (working (begun v m registers)) es))))
-SfnRunFrom p (working w) (e ∷ es) = (e.call ≡ work_call w) × SfnRunFrom p (stage_behind w e.outcome) es
+SfnRunFrom p (working w) (e ∷ es) = (e.call ≡ work_call w) × SfnRunFrom p (stage_after w e.outcome) es
 
 -- the partition's entries are a run of its functions
 abbrev pub SfnRun : SfnPartition → List Entry → Type 0

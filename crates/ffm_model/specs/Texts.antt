@@ -14,10 +14,10 @@ unfoldable pub is_name : List ℕ → Bool
 is_name s = nat_lt 0 (length s) && nat_le (length s) 64 && not (is_ascii_digit (slice_index s 0)) && not (bytes_eq s (codes "device")) && list_all is_word_byte s
 
 -- the number that hexadecimal digits spell after those that spell n
-abbrev pub hex_behind : ℕ → List ℕ → Option ℕ
-hex_behind n [] = Some n
-hex_behind n (d ∷ ds) = if is_digit d 16 then hex_behind (n * 16 + digit_value d) ds else None
+abbrev pub hex_after : ℕ → List ℕ → Option ℕ
+hex_after n [] = Some n
+hex_after n (d ∷ ds) = if is_digit d 16 then hex_after (n * 16 + digit_value d) ds else None
 
 -- `0x` and one to eight hexadecimal digits of either case
 unfoldable pub hex_number : List ℕ → Option ℕ
-hex_number s = if nat_lt 2 (length s) && nat_le (length s) 10 && (slice_index s 0 == 48) && (slice_index s 1 == 120) then hex_behind 0 (drop 2 s) else None
+hex_number s = if nat_lt 2 (length s) && nat_le (length s) 10 && (slice_index s 0 == 48) && (slice_index s 1 == 120) then hex_after 0 (drop 2 s) else None

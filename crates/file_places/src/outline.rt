@@ -175,7 +175,7 @@ impl Scanner<'_> {
     }
 
     // Behind a value.
-    fn step_behind(&mut self) {
+    fn step_after(&mut self) {
         self.next = if self.open.is_empty() {
             Next::Nothing
         } else {
@@ -228,7 +228,7 @@ impl Scanner<'_> {
                 node.span.to = self.at;
             }
         }
-        self.step_behind();
+        self.step_after();
     }
 
     // Whether this byte closes the innermost object or list.
@@ -242,7 +242,7 @@ impl Scanner<'_> {
         match lexeme_at(rest_of(self.bytes, from)) {
             Lexeme::Value { kind, len } => {
                 self.keep(kind, len)?;
-                self.step_behind();
+                self.step_after();
                 Ok(())
             }
             Lexeme::Wrong { at, cause } => Err(self.fault_at(from.saturating_add(at), cause)),

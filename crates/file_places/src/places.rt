@@ -88,7 +88,7 @@ const SHOWN_BEFORE: usize = 100;
 const SHOWN_BEHIND: usize = 100;
 
 // Up to here a line is shown: no character is cut.
-fn cut_behind(bytes: &[u8], line: Span, at: usize) -> usize {
+fn cut_after(bytes: &[u8], line: Span, at: usize) -> usize {
     let most = at.saturating_add(SHOWN_BEHIND);
     if line.to <= most {
         return line.to;
@@ -138,7 +138,7 @@ fn put_carets(text: &mut String, bytes: &[u8]) -> Result<(), AllocError> {
 pub fn put_line(text: &mut String, bytes: &[u8], place: Span) -> Result<(), AllocError> {
     let line = line_around(bytes, place.from);
     let from = cut_before(bytes, line, place.from);
-    let to = cut_behind(bytes, line, place.from);
+    let to = cut_after(bytes, line, place.from);
     let marked = part_of(bytes, place.from, place.to.min(to));
     writeln!(text, "  | {}", Shown(part_of(bytes, from, to)))?;
     text.push_str("  | ")?;

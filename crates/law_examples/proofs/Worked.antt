@@ -6,9 +6,9 @@ use Rattle.ffm_model.specs.declared.machine.Entry.{Entry}
 use Rattle.ffm_model.specs.declared.machine.Outcome.{Outcome}
 use Rattle.ffm_model.specs.declared.machine.Outcome.TheVariants.{Got}
 use Rattle.ffm_model.specs.declared.machine.Verdict.TheVariants.{Quiet}
-use Rattle.ffm_model.specs.Contexts.{contexts_behind, contexts_call, first_from, next_calls}
+use Rattle.ffm_model.specs.Contexts.{contexts_then, contexts_call, first_from, next_calls}
 use Rattle.ffm_model.specs.Held.{changed_at, without}
-use Rattle.ffm_model.specs.HeldPlans.{held_arrived, held_behind, held_call, held_step, held_steps}
+use Rattle.ffm_model.specs.HeldPlans.{held_arrived, held_after, held_call, held_step, held_steps}
 use Rattle.ffm_model.specs.Names.{names}
 use Rattle.ffm_model.specs.Plans.{engine_after, plan_of}
 use Rattle.ffm_model.specs.Records.{ends_blocked, entries_of}
@@ -38,15 +38,15 @@ Calls programs es a = ProgramRun vault_system a (get_or programs a (Plain [])) (
 
 -- each holds by computing: the partition has five calls, and the client three
 pub client_first_programmed : AreProgrammed vault_system programs client_first
-unfolding step changed_at without held_step held_steps held_arrived held_call held_behind engine_after plan_of ends_blocked first_from next_calls contexts_call contexts_behind local_step local_steps arrived call_at
+unfolding step changed_at without held_step held_steps held_arrived held_call held_after engine_after plan_of ends_blocked first_from next_calls contexts_call contexts_then local_step local_steps arrived call_at
 client_first_programmed = both (Calls programs client_first) (refl, (refl, (refl, (refl, (refl, tt))))) (refl, (refl, (refl, tt)))
 
 pub other_handle_programmed : AreProgrammed vault_system programs other_handle
-unfolding step changed_at without held_step held_steps held_arrived held_call held_behind engine_after plan_of ends_blocked first_from next_calls contexts_call contexts_behind local_step local_steps arrived call_at
+unfolding step changed_at without held_step held_steps held_arrived held_call held_after engine_after plan_of ends_blocked first_from next_calls contexts_call contexts_then local_step local_steps arrived call_at
 other_handle_programmed = both (Calls programs other_handle) (refl, (refl, (refl, (refl, (refl, tt))))) (refl, (refl, (refl, tt)))
 
 vault_first_programmed : AreProgrammed vault_system programs vault_first
-unfolding step changed_at without held_step held_steps held_arrived held_call held_behind engine_after plan_of ends_blocked first_from next_calls contexts_call contexts_behind local_step local_steps arrived call_at
+unfolding step changed_at without held_step held_steps held_arrived held_call held_after engine_after plan_of ends_blocked first_from next_calls contexts_call contexts_then local_step local_steps arrived call_at
 vault_first_programmed = both (Calls programs vault_first) (refl, (refl, (refl, (refl, (refl, tt))))) (refl, (refl, (refl, tt)))
 
 pub client_first_run : RanBy vault_system zeros (scenario_with_turns client_first) programs true client_first Quiet
@@ -68,11 +68,11 @@ other_handle_ran = refl
 -- ---- numbers out of range
 
 wide_call_programmed : AreProgrammed vault_system wide_program wide_call
-unfolding step changed_at without held_step held_steps held_arrived held_call held_behind engine_after plan_of ends_blocked first_from next_calls contexts_call contexts_behind local_step local_steps arrived call_at
+unfolding step changed_at without held_step held_steps held_arrived held_call held_after engine_after plan_of ends_blocked first_from next_calls contexts_call contexts_then local_step local_steps arrived call_at
 wide_call_programmed = both (Calls wide_program wide_call) (refl, tt) (refl, (refl, tt))
 
 wide_load_programmed : AreProgrammed vault_system loading_program wide_load
-unfolding step changed_at without held_step held_steps held_arrived held_call held_behind engine_after plan_of ends_blocked first_from next_calls contexts_call contexts_behind local_step local_steps arrived call_at
+unfolding step changed_at without held_step held_steps held_arrived held_call held_after engine_after plan_of ends_blocked first_from next_calls contexts_call contexts_then local_step local_steps arrived call_at
 wide_load_programmed = both (Calls loading_program wide_load) (refl, tt) (refl, (refl, tt))
 
 pub wide_call_run : RanBy vault_system zeros (scenario_with_turns wide_call) wide_program true wide_call Quiet

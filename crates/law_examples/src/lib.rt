@@ -35,7 +35,7 @@ pub use panics::{
     programmer_error_answered_to_a_partition,
 };
 pub use requests::{
-    bytes_moved_in_order, descriptor_changed_behind_the_call, one_request_served,
+    bytes_moved_in_order, descriptor_changed_after_the_call, one_request_served,
     reach_of_a_partition, request_answered_with_programmer_error, rhandle_of_a_connection,
     vectors_of_a_request, written_past_the_end,
 };

@@ -74,7 +74,7 @@ pub fn written_past_the_end()
 
 /// Descriptors of vectors are read once, at `psa_call`: another client that changes one afterwards
 /// doesn't move the output.
-pub fn descriptor_changed_behind_the_call()
+pub fn descriptor_changed_after_the_call()
     ensures run { verdict_of two_clients_system request_memory
         4096 descriptor_changed ≡ Some Quiet }
     ensures named { names two_clients_system request_memory descriptor_changed ≡ true }

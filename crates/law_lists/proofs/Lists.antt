@@ -13,9 +13,9 @@ append_none xs [] all h none = sym (append-nil xs) ∙ h
 append_none xs (y ∷ ys) all h none = absurd (omega arith)
 
 -- the item after those in front
-pub slice_get-behind : {X : Type 0} (front : List X) (x : X) (xs : List X) (k : ℕ) → length front ≡ k → slice_get (front ++ x ∷ xs) k ≡ Some x
-slice_get-behind [] x xs k e = rw (← e) refl
-slice_get-behind (y ∷ ys) x xs k e = rw (← e) (slice_get-behind ys x xs (length ys) refl)
+pub slice_get-after : {X : Type 0} (front : List X) (x : X) (xs : List X) (k : ℕ) → length front ≡ k → slice_get (front ++ x ∷ xs) k ≡ Some x
+slice_get-after [] x xs k e = rw (← e) refl
+slice_get-after (y ∷ ys) x xs k e = rw (← e) (slice_get-after ys x xs (length ys) refl)
 
 -- an item, and those after it
 pub drop-item : {X : Type 0} (xs : List X) (i : ℕ) (x : X) → i < length xs → x ≡ get_or xs i x → drop i xs ≡ x ∷ drop (i + 1) xs

@@ -1,5 +1,5 @@
 mod Lost
 mod Midway
 mod TablesMidway
-pub mod Behind
+pub mod After
 pub mod Naming

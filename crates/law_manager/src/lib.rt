@@ -8,4 +8,4 @@ mod panics;
 mod standing;
 
 pub use panics::panics_fit_midway;
-pub use standing::{tables_have_names, tables_stand_behind_events, tables_stand_in_runs};
+pub use standing::{tables_have_names, tables_stand_after_events, tables_stand_in_runs};

@@ -43,7 +43,7 @@ pub fn tables_stand_in_runs()
 /// the event gives; `quiet` of an event that gives none, as each call but `psa_get`, and as the panic of a
 /// partition, also of one that a reply leaves to its caller; and `get` of `psa_get`. `step` says it of each step,
 /// the return of `psa_connect` included, where connections and messages fit the system, as in every state of a run.
-pub fn tables_stand_behind_events()
+pub fn tables_stand_after_events()
     ensures event { (s : System) (d new : TablesView) (bytes after : List Bytes) (st next : State)
         (shown : List Handle)
         → AreKept d → AreKept new → Stands d bytes st → KeepsNames s d new → next.spm ≡ spm_of new

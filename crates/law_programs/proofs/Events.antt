@@ -19,9 +19,9 @@ use Rattle.law_programs.proofs.Copies.{inputs-are-copied, outputs-are-copied}
 use Rattle.law_programs.proofs.Lengths.{lengths-are-told}
 
 -- after what is no step there is no state
-none-behind : (s : System) (xs : List Entry) (P : Type 0) → IsSome (fold (step_on s) None xs) → P
-none-behind s [] P h = cc
-none-behind s (x ∷ xs) P h = none-behind s xs P h
+none-after : (s : System) (xs : List Entry) (P : Type 0) → IsSome (fold (step_on s) None xs) → P
+none-after s [] P h = cc
+none-after s (x ∷ xs) P h = none-after s xs P h
 
 runs-front : (plan : Plan) (os : List Outcome) (xs ys : List Entry) → RunFrom plan os (xs ++ ys) → RunFrom plan os xs
 runs-front plan os [] ys r = tt
@@ -40,11 +40,11 @@ each-is-event s m a script es e later inside own run planned =
     let R : Type 0 = (old : State) × (new : State) × IsEvent s m a script es e old new in
     let last : (old : State) → after s m es ≡ Some old → (o : Option State) → step s old e ≡ o → IsSome (fold (step_on s) o later) → R =
     λ old before. elim [
-      | None ↦ λ behind h. none-behind s later R h
+      | None ↦ λ behind h. none-after s later R h
       | Some new ↦ λ behind h. (old, new, record { partition = inside; own = own; before = before; behind = behind; run = front })
     ] in
     let go : (o : Option State) → after s m es ≡ o → IsSome (fold (step_on s) o (e ∷ later)) → R =
-    elim [ None ↦ λ before h. none-behind s (e ∷ later) R h | Some old ↦ λ before h. last old before (step s old e) refl h ] in
+    elim [ None ↦ λ before h. none-after s (e ∷ later) R h | Some old ↦ λ before h. last old before (step s old e) refl h ] in
     go (after s m es) refl (subst (λ (o : Option State). IsSome o) (fold-append (step_on s) (Some (opening s m)) es (e ∷ later)) run)
 
 -- an event among the entries is the last one of those up to it

@@ -32,7 +32,7 @@ use Rattle.ffm_model.specs.Records.{ends_blocked, entries_of, is_blocked_outcome
 use Rattle.ffm_model.specs.Step.{after, handle_shown, may_call, step}
 use Rattle.ffm_model.specs.Held.{Holder, HeldMessage, held, holder_of, holds, is_mapped, is_or_was_mapped, touched, vector_at, with_input, with_output, with_state}
 use Rattle.ffm_model.specs.Held.VectorState.{mapped, unmapped}
-use Rattle.ffm_model.specs.HeldPlans.{Holding, holding_none, held_arrived, held_behind, held_call, held_engine, held_plan, table_noted}
+use Rattle.ffm_model.specs.HeldPlans.{Holding, holding_none, held_arrived, held_after, held_call, held_engine, held_plan, table_noted}
 use Rattle.law_counting.proofs.Balance.{Balanced}
 use Rattle.law_counting.proofs.Events.{EachKind}
 use Rattle.law_counting.proofs.Parts.{flipped, is_itself, same_or_not}
@@ -43,9 +43,9 @@ use Rattle.law_counting.proofs.Turns.{Turned, Turns, is_sound, kinds-turn}
 use Rattle.law_programs.specs.Windows.{WasUnmapped}
 use Rattle.law_programs.proofs.Changes.{effect-changes, is_vector_call}
 use Rattle.law_programs.proofs.Fits.{AreHeld, Fits, holds-at, map_out-held, mapped-input, mapped-is, mapped-unwritten, told-more, touched-apart, touched-input, touched-output, unmap_in-held, unmapped-output}
-use Rattle.law_programs.proofs.Lines.{arrived-has, behind-table, other-keeps, plan-call, read-noted, runs-back, skip-noted, write-noted}
+use Rattle.law_programs.proofs.Lines.{arrived-has, after-table, other-keeps, plan-call, read-noted, runs-back, skip-noted, write-noted}
 use Rattle.law_programs.proofs.Messages.{AreWaiting, HoldsStill, IsKept, others-kept, own-kept, waiting-kept}
-use Rattle.law_programs.proofs.Own.{AreGiven, Behind, get-behind, read-behind, reply-behind, skip-behind, write-behind}
+use Rattle.law_programs.proofs.Own.{AreGiven, After, get-after, read-after, reply-after, skip-after, write-after}
 use Rattle.law_programs.proofs.Tables.{changed-count, large-there, moved-here}
 use Rattle.law_counting.proofs.Owners.{is-partition, service-owned}
 use Rattle.law_counting.proofs.OwnSteps.{Own, own-step}
@@ -159,12 +159,12 @@ still-held T s b new a t still all k x e = let old = all k x e in record { messa
 -- a call that concerns no message
 other-follows : (T : Handle → ℕ → ℕ → Type 0) (s : System) (a : ℕ) (script : List Instruction) (x : Holding) (o : Outcome) (new : State) → (is_panicked (phase_of new.spm a) ≡ false → AreHeld s new.spm a T x.table) → AreGiven x.table new.handles_given
     → is_vector_call (held_call (holder_of s a) script (held_arrived (holder_of s a) script x)) ≡ false → (b : Bool) → is_blocked_outcome o ≡ b
-    → Follows s a T script (if b then x else held_behind (holder_of s a) script o (held_arrived (holder_of s a) script x)) b new
+    → Follows s a T script (if b then x else held_after (holder_of s a) script o (held_arrived (holder_of s a) script x)) b new
 other-follows T s a script x o new all given off true e = record { held = all; given = given; waits = λ z. off }
 other-follows T s a script x o new all given off false e =
     let p : Holder = holder_of s a in
     let y : Holding = held_arrived p script x in
-    let same : y.table ≡ (held_behind p script o y).table = sym (behind-table p script o y ∙ other-keeps p (slice_get script y.at.place) (held_call p script y) o y.table off) in
+    let same : y.table ≡ (held_after p script o y).table = sym (after-table p script o y ∙ other-keeps p (slice_get script y.at.place) (held_call p script y) o y.table off) in
     record {
       held = λ alive. subst (AreHeld s new.spm a T) same (arrived-held T s new.spm a script x (all alive));
       given = subst (λ (t : List HeldMessage). AreGiven t new.handles_given) same (arrived-given s a script x new.handles_given given);
@@ -185,43 +185,43 @@ unmapped-moved p T x m index i len same maps fits =
     ap (λ (j : ℕ). (get_or (output_moved m index len).output j no_span).moved) same
     ∙ (ap (λ (v : Span). v.moved) (moved-here m.vectors.output (moved_by (output_at m index) len) index there) ∙ omega (arith, moved))
 
-vector-behind : (T : Handle → ℕ → ℕ → Type 0) (s : System) (st new : State) (a : ℕ) (script : List Instruction) (x : Holding) (o : Outcome) (c : Call) → kind_of s a ≡ kind.Partition → Balanced s (times st.handles_given) st.spm → AreWaiting st.spm.messages
+vector-after : (T : Handle → ℕ → ℕ → Type 0) (s : System) (st new : State) (a : ℕ) (script : List Instruction) (x : Holding) (o : Outcome) (c : Call) → kind_of s a ≡ kind.Partition → Balanced s (times st.handles_given) st.spm → AreWaiting st.spm.messages
     → AreHeld s st.spm a T x.table → AreGiven x.table st.handles_given → is_vector_call c ≡ true → held_call (holder_of s a) script x ≡ c
     → ((operands : List Operand) (h : Handle) (index buffer len : ℕ) → slice_get script x.at.place ≡ Some (line.Map UnmapOut operands) → c ≡ call.Write h index buffer len → T h index len) → Own s st new a c o
-    → Behind s a T (table_noted (holder_of s a) (slice_get script x.at.place) c o x.table) o new
-vector-behind T s st new a script x o (call.Get signal msg) partition balanced waiting all given on is now own =
-    subst (λ (t : List HeldMessage). Behind s a T t o new) (sym (noted-get (holder_of s a) (slice_get script x.at.place) signal msg o x.table))
-    (get-behind T s st new a signal msg o x.table partition balanced waiting (λ v found. service-owned s a signal v found) all given own)
-vector-behind T s st new a script x o (call.Read h index buffer len) partition balanced waiting all given on is now own =
-    read-noted (holder_of s a) (slice_get script x.at.place) h index buffer len o x.table (λ (t : List HeldMessage). Behind s a T t o new)
-    (read-behind T s st new a h index buffer len o x.table (touched index) (touched-input index) partition balanced all given own)
-    (read-behind T s st new a h index buffer len o x.table (with_state mapped index) (mapped-input index) partition balanced all given own)
-vector-behind T s st new a script x o (call.Skip h index len) partition balanced waiting all given on is now own =
-    subst (λ (t : List HeldMessage). Behind s a T t o new) (sym (skip-noted (holder_of s a) (slice_get script x.at.place) h index len o x.table))
-    (skip-behind T s st new a h index len o x.table (touched index) (touched-input index) partition balanced all given own)
-vector-behind T s st new a script x o (call.Write h index buffer len) partition balanced waiting all given on is now own =
-    write-noted (holder_of s a) script x h index buffer len o (λ (t : List HeldMessage). Behind s a T t o new) is
-    (λ off. write-behind T s st new a h index buffer len o x.table (touched index)
+    → After s a T (table_noted (holder_of s a) (slice_get script x.at.place) c o x.table) o new
+vector-after T s st new a script x o (call.Get signal msg) partition balanced waiting all given on is now own =
+    subst (λ (t : List HeldMessage). After s a T t o new) (sym (noted-get (holder_of s a) (slice_get script x.at.place) signal msg o x.table))
+    (get-after T s st new a signal msg o x.table partition balanced waiting (λ v found. service-owned s a signal v found) all given own)
+vector-after T s st new a script x o (call.Read h index buffer len) partition balanced waiting all given on is now own =
+    read-noted (holder_of s a) (slice_get script x.at.place) h index buffer len o x.table (λ (t : List HeldMessage). After s a T t o new)
+    (read-after T s st new a h index buffer len o x.table (touched index) (touched-input index) partition balanced all given own)
+    (read-after T s st new a h index buffer len o x.table (with_state mapped index) (mapped-input index) partition balanced all given own)
+vector-after T s st new a script x o (call.Skip h index len) partition balanced waiting all given on is now own =
+    subst (λ (t : List HeldMessage). After s a T t o new) (sym (skip-noted (holder_of s a) (slice_get script x.at.place) h index len o x.table))
+    (skip-after T s st new a h index len o x.table (touched index) (touched-input index) partition balanced all given own)
+vector-after T s st new a script x o (call.Write h index buffer len) partition balanced waiting all given on is now own =
+    write-noted (holder_of s a) script x h index buffer len o (λ (t : List HeldMessage). After s a T t o new) is
+    (λ off. write-after T s st new a h index buffer len o x.table (touched index)
     (λ y few at. touched-output index y.output (holds-off x.table h index (λ m. is_or_was_mapped (vector_at m.output index).state) y off few at))
     (λ y m few at fits i same e. absurd (touched-apart index y.output i (holds-off x.table h index (λ m. is_or_was_mapped (vector_at m.output index).state) y off few at) e same)) partition balanced all given own)
     (λ operands line can.
     let maps : (y : HeldMessage) → held x.table h ≡ Some y → is_mapped (vector_at y.output index).state ≡ true =
     λ y at. (and_parts (is_mapped (vector_at y.output index).state) (nat_le len (vector_at y.output index).size) (holds-at x.table h index (λ m. is_mapped (vector_at m.output index).state && nat_le len (vector_at m.output index).size) y can at)).0 in
-    write-behind T s st new a h index buffer len o x.table (with_state unmapped index) (λ y few at. unmapped-output index y.output (maps y at))
+    write-after T s st new a h index buffer len o x.table (with_state unmapped index) (λ y few at. unmapped-output index y.output (maps y at))
     (λ y m few at fits i same e. (len, subst (λ (j : ℕ). T h j len) (sym same) (now operands h index buffer len line refl), unmapped-moved (holder_of s a) (T h) y m index i len same (maps y at) fits)) partition balanced all given own)
-vector-behind T s st new a script x o (call.Reply h status) partition balanced waiting all given on is now own =
-    subst (λ (t : List HeldMessage). Behind s a T t o new) (sym (noted-reply (holder_of s a) (slice_get script x.at.place) h status o x.table))
-    (reply-behind T s st new a h status o x.table partition balanced all given own)
-vector-behind T s st new a script x o _ partition balanced waiting all given on is now own = cc
+vector-after T s st new a script x o (call.Reply h status) partition balanced waiting all given on is now own =
+    subst (λ (t : List HeldMessage). After s a T t o new) (sym (noted-reply (holder_of s a) (slice_get script x.at.place) h status o x.table))
+    (reply-after T s st new a h status o x.table partition balanced all given own)
+vector-after T s st new a script x o _ partition balanced waiting all given on is now own = cc
 
 vector-follows : (T : Handle → ℕ → ℕ → Type 0) (s : System) (a : ℕ) (script : List Instruction) (x : Holding) (o : Outcome) (new : State)
-    → Behind s a T (table_noted (holder_of s a) (slice_get script (held_arrived (holder_of s a) script x).at.place) (held_call (holder_of s a) script (held_arrived (holder_of s a) script x)) o (held_arrived (holder_of s a) script x).table) o new
-    → (b : Bool) → is_blocked_outcome o ≡ b → Follows s a T script (if b then x else held_behind (holder_of s a) script o (held_arrived (holder_of s a) script x)) b new
+    → After s a T (table_noted (holder_of s a) (slice_get script (held_arrived (holder_of s a) script x).at.place) (held_call (holder_of s a) script (held_arrived (holder_of s a) script x)) o (held_arrived (holder_of s a) script x).table) o new
+    → (b : Bool) → is_blocked_outcome o ≡ b → Follows s a T script (if b then x else held_after (holder_of s a) script o (held_arrived (holder_of s a) script x)) b new
 vector-follows T s a script x o new behind true e = let bad : true ≡ false = sym e ∙ behind.ends in cc
 vector-follows T s a script x o new behind false e =
     let p : Holder = holder_of s a in
     let y : Holding = held_arrived p script x in
-    let same = sym (behind-table p script o y) in
+    let same = sym (after-table p script o y) in
     record {
       held = λ alive. subst (AreHeld s new.spm a T) same (behind.held alive);
       given = subst (λ (t : List HeldMessage). AreGiven t new.handles_given) same behind.given;
@@ -249,7 +249,7 @@ quiet-held T s a st new e t event off all alive =
 own-by : (T : Handle → ℕ → ℕ → Type 0) (s : System) (a : ℕ) (script : List Instruction) (x : Holding) (st new : State) (e : Entry) (blocked quiet : Bool) → OwnEvent s a st new e → Follows s a T script x blocked st
     → e.call ≡ (if blocked then call.Resume else held_call (holder_of s a) script (held_arrived (holder_of s a) script x)) → is_vector_call e.call ≡ quiet
     → ((operands : List Operand) (h : Handle) (index buffer len : ℕ) → slice_get script (held_arrived (holder_of s a) script x).at.place ≡ Some (line.Map UnmapOut operands) → e.call ≡ call.Write h index buffer len → T h index len)
-    → Follows s a T script (if is_blocked_outcome e.outcome then x else held_behind (holder_of s a) script e.outcome (held_arrived (holder_of s a) script x)) (is_blocked_outcome e.outcome) new
+    → Follows s a T script (if is_blocked_outcome e.outcome then x else held_after (holder_of s a) script e.outcome (held_arrived (holder_of s a) script x)) (is_blocked_outcome e.outcome) new
 own-by T s a script x st new e true quiet event old is q now =
     other-follows T s a script x e.outcome new (quiet-held T s a st new e x.table event (ap is_vector_call is) old.held) (λ k. omega (arith, old.given k, event.grown k)) (old.waits refl) (is_blocked_outcome e.outcome) refl
 own-by T s a script x st new e false false event old is q now =
@@ -260,7 +260,7 @@ own-by T s a script x st new e false true event old is q now =
     let own = own-step s st new e a (held_call p script y) event.is_step event.mine is in
     let all : AreHeld s st.spm a T y.table = arrived-held T s st.spm a script x (old.held (may-alive s st.spm a (held_call p script y) own.may)) in
     vector-follows T s a script x e.outcome new
-    (vector-behind T s st new a script y e.outcome (held_call p script y) event.partition event.balanced event.waiting all (arrived-given s a script x st.handles_given old.given) (ap is_vector_call (sym is) ∙ q) refl (λ operands h index buffer len line write. now operands h index buffer len line (is ∙ write)) own)
+    (vector-after T s st new a script y e.outcome (held_call p script y) event.partition event.balanced event.waiting all (arrived-given s a script x st.handles_given old.given) (ap is_vector_call (sym is) ∙ q) refl (λ operands h index buffer len line write. now operands h index buffer len line (is ∙ write)) own)
     (is_blocked_outcome e.outcome) refl
 
 -- ---- each step

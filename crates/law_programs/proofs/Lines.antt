@@ -16,9 +16,9 @@ use Rattle.ffm_model.specs.declared.script.Instruction.TheVariants as line
 use Rattle.ffm_model.specs.Plans.{Plan, RunFrom, Engine, engine_after, plan_of}
 use Rattle.ffm_model.specs.Records.{ends_blocked, outcomes_of}
 use Rattle.ffm_model.specs.ScriptRuns.{most_lines, line_call}
-use Rattle.ffm_model.specs.Held.{Holder, HeldMessage, can_map_in, can_map_out, can_unmap_in, can_unmap_out, changed_at, input_size, input_window, is_refused, output_window, table_behind, table_touched, touched, with_input, with_output}
+use Rattle.ffm_model.specs.Held.{Holder, HeldMessage, can_map_in, can_map_out, can_unmap_in, can_unmap_out, changed_at, input_size, input_window, is_refused, output_window, table_after, table_touched, touched, with_input, with_output}
 use Rattle.ffm_model.specs.Held.VectorState.{mapped, unmapped}
-use Rattle.ffm_model.specs.HeldPlans.{Holding, call_made, handle_operand, held_arrived, held_behind, held_call, held_step, held_steps, led_to, line_step, map_line, next_line, number_operand, table_noted}
+use Rattle.ffm_model.specs.HeldPlans.{Holding, call_made, handle_operand, held_arrived, held_after, held_call, held_step, held_steps, led_to, line_step, map_line, next_line, number_operand, table_noted}
 use Rattle.ffm_model.specs.HeldPlans.LineStep.{leads, makes}
 use Rattle.law_programs.proofs.Changes.{is_vector_call}
 
@@ -74,12 +74,12 @@ arrived-has p script P x keeps old = steps-has p script P most_lines x keeps old
 -- ---- the table after a call
 
 -- no other call changes it
-pub other-noted : (p : Holder) (i : Option Instruction) (c : Call) (o : Outcome) (t : List HeldMessage) → is_vector_call c ≡ false → table_noted p i c o t ≡ table_behind p c o (table_touched c t)
+pub other-noted : (p : Holder) (i : Option Instruction) (c : Call) (o : Outcome) (t : List HeldMessage) → is_vector_call c ≡ false → table_noted p i c o t ≡ table_after p c o (table_touched c t)
 other-noted p (Some (line.Map MapIn operands)) (call.Read h index buffer len) o t off = cc
 other-noted p (Some (line.Map UnmapOut operands)) (call.Write h index buffer len) o t off = cc
 other-noted p _ _ o t off = refl
 
-other-same : (p : Holder) (c : Call) (o : Outcome) (t : List HeldMessage) → is_vector_call c ≡ false → table_behind p c o (table_touched c t) ≡ t
+other-same : (p : Holder) (c : Call) (o : Outcome) (t : List HeldMessage) → is_vector_call c ≡ false → table_after p c o (table_touched c t) ≡ t
 other-same p (call.Get signal msg) o t off = cc
 other-same p (call.Read h index buffer len) o t off = cc
 other-same p (call.Skip h index len) o t off = cc
@@ -200,6 +200,6 @@ pub plan-call : {X : Type 0} (m : Engine X) (x : X) (os : List Outcome) (b : Boo
 unfolding plan_of
 plan-call m x os b e = ap (λ (y : Bool). if y then call.Resume else m.call (engine_after m x os)) e
 
-pub behind-table : (p : Holder) (script : List Instruction) (o : Outcome) (x : Holding) → (held_behind p script o x).table ≡ table_noted p (slice_get script x.at.place) (held_call p script x) o x.table
-unfolding held_behind
-behind-table p script o x = refl
+pub after-table : (p : Holder) (script : List Instruction) (o : Outcome) (x : Holding) → (held_after p script o x).table ≡ table_noted p (slice_get script x.at.place) (held_call p script x) o x.table
+unfolding held_after
+after-table p script o x = refl

@@ -27,9 +27,9 @@ use Rattle.ffm_model.specs.State.{State, handle_eq}
 use Rattle.ffm_model.specs.Plans.{PlanRun}
 use Rattle.ffm_model.specs.Records.{ends_blocked, entries_of, is_blocked_outcome, outcomes_of}
 use Rattle.ffm_model.specs.Step.{after, step}
-use Rattle.ffm_model.specs.Held.{Holder, HolderService, HeldMessage, HeldVector, VectorState, changed_at, fresh_vector, held, holder_of, is_fresh, is_held_as, is_mappable, is_mapped, is_output_free, most_held, table_behind, touched, vector_at, with_input, with_message_of, with_output, with_state, without}
+use Rattle.ffm_model.specs.Held.{Holder, HolderService, HeldMessage, HeldVector, VectorState, changed_at, fresh_vector, held, holder_of, is_fresh, is_held_as, is_mappable, is_mapped, is_output_free, most_held, table_after, touched, vector_at, with_input, with_message_of, with_output, with_state, without}
 use Rattle.ffm_model.specs.Held.VectorState.{used, mapped, unmapped}
-use Rattle.ffm_model.specs.HeldPlans.{Holding, held_arrived, held_behind, held_call, held_engine, held_plan, holding_none, table_noted}
+use Rattle.ffm_model.specs.HeldPlans.{Holding, held_arrived, held_after, held_call, held_engine, held_plan, holding_none, table_noted}
 use Rattle.ffm_model.proofs.StepLemmas.{after-push}
 use Rattle.law_counting.proofs.Parts.{flipped, is_itself, same_or_not}
 use Rattle.law_counting.proofs.Resume.{times}
@@ -39,7 +39,7 @@ use Rattle.law_programs.proofs.Changes.{is_vector_call}
 use Rattle.law_programs.proofs.Copies.{at-event, outputs-are-copied, tested}
 use Rattle.law_programs.proofs.Fits.{holds-at, mappable}
 use Rattle.law_programs.proofs.Kept.{Kept, arrived-given, run-kept, standing, step-grows}
-use Rattle.law_programs.proofs.Lines.{arrived-has, behind-table, other-keeps, plan-call, read-noted, runs-back, skip-noted, unmap_out-call}
+use Rattle.law_programs.proofs.Lines.{arrived-has, after-table, other-keeps, plan-call, read-noted, runs-back, skip-noted, unmap_out-call}
 use Rattle.law_programs.proofs.Own.{AreGiven, get-new}
 use Rattle.law_counting.proofs.Walk.{handle-same}
 use Rattle.law_programs.proofs.Tables.{changed-other, changed-same, is_unmapped, none-held, same_handle, without-other, without-same}
@@ -132,7 +132,7 @@ got-gone : (o : Option HolderService) (m : Message) (t : List HeldMessage) (k : 
 got-gone None m t k i apart gone = gone
 got-gone (Some v) m t k i apart gone = kept-gone v m t k i (nat_lt (length t) most_held) apart gone
 
-get-gone : (p : Holder) (signal msg : ℕ) (o : Outcome) (t : List HeldMessage) (k : Handle) (i : ℕ) → ((m : Message) → o ≡ outcome.Got m → handle_eq m.handle k ≡ false) → Gone t k i → Gone (table_behind p (call.Get signal msg) o t) k i
+get-gone : (p : Holder) (signal msg : ℕ) (o : Outcome) (t : List HeldMessage) (k : Handle) (i : ℕ) → ((m : Message) → o ≡ outcome.Got m → handle_eq m.handle k ≡ false) → Gone t k i → Gone (table_after p (call.Get signal msg) o t) k i
 get-gone p signal msg (outcome.Got m) t k i new gone = got-gone (find (λ v. v.signal == signal) p.services) m t k i (new m refl) gone
 get-gone p signal msg _ t k i new gone = gone
 
@@ -142,7 +142,7 @@ without-gone h k i t few gone y e =
     (λ same. let none : held (without h t) h ≡ None = without-same h t few in let some : held (without h t) h ≡ Some y = ap (held (without h t)) same ∙ e in cc)
     (λ apart. gone y (sym (without-other h k apart t) ∙ e))
 
-reply-gone : (p : Holder) (h : Handle) (status : Status) (o : Outcome) (t : List HeldMessage) (k : Handle) (i : ℕ) → count_by (is_held_as h) t ≤ 1 → Gone t k i → Gone (table_behind p (call.Reply h status) o t) k i
+reply-gone : (p : Holder) (h : Handle) (status : Status) (o : Outcome) (t : List HeldMessage) (k : Handle) (i : ℕ) → count_by (is_held_as h) t ≤ 1 → Gone t k i → Gone (table_after p (call.Reply h status) o t) k i
 reply-gone p h status outcome.Done t k i few gone = without-gone h k i t few gone
 reply-gone p h status _ t k i few gone = gone
 
@@ -238,16 +238,16 @@ fresh-call s a script y st new e false kind h mine waits is signal msg m get got
 
 answered-gone : (p : Holder) (script : List Instruction) (x : Holding) (o : Outcome) (k : Handle) (i : ℕ) (b : Bool) → ((h : Handle) → count_by (is_held_as h) (held_arrived p script x).table ≤ 1)
     → ((signal msg : ℕ) (m : Message) → held_call p script (held_arrived p script x) ≡ call.Get signal msg → o ≡ outcome.Got m → handle_eq m.handle k ≡ false) → Gone x.table k i
-    → Gone (if b then x else held_behind p script o (held_arrived p script x)).table k i
+    → Gone (if b then x else held_after p script o (held_arrived p script x)).table k i
 answered-gone p script x o k i true few new gone = gone
 answered-gone p script x o k i false few new gone =
     let y : Holding = held_arrived p script x in
-    subst (λ (u : List HeldMessage). Gone u k i) (sym (behind-table p script o y)) (noted-gone p (slice_get script y.at.place) (held_call p script y) o y.table k i few new (arrived-gone p script x k i gone))
+    subst (λ (u : List HeldMessage). Gone u k i) (sym (after-table p script o y)) (noted-gone p (slice_get script y.at.place) (held_call p script y) o y.table k i few new (arrived-gone p script x k i gone))
 
 -- what an unmap_out leaves
 record Unmapped (s : System) (a : ℕ) (script : List Instruction) (x : Holding) (o : Outcome) (k : Handle) (i : ℕ) (given : List Handle) : Type 0 where
   shown : 1 ≤ times given k
-  behind : Gone (if is_blocked_outcome o then x else held_behind (holder_of s a) script o (held_arrived (holder_of s a) script x)).table k i
+  behind : Gone (if is_blocked_outcome o then x else held_after (holder_of s a) script o (held_arrived (holder_of s a) script x)).table k i
   message : HeldMessage
   at : held (held_arrived (holder_of s a) script x).table k ≡ Some message
   maps : is_mapped (vector_at message.output i).state ≡ true
@@ -264,11 +264,11 @@ unmapped-now s m a script es e st new k i n event given now =
     let maps : (z : HeldMessage) → held y.table k ≡ Some z → is_mapped (vector_at z.output i).state ≡ true =
     λ z there. (and_parts (is_mapped (vector_at z.output i).state) (nat_le n (vector_at z.output i).size) (holds-at y.table k i fact z can there)).0 in
     let done : e.outcome ≡ outcome.Done = (outputs-are-copied s m a script es e st new now.operands k i now.buffer n event now.at_line now.is_write).answered in
-    let table : (held_behind p script e.outcome y).table ≡ changed_at k (with_output unmapped i) y.table =
-    behind-table p script e.outcome y ∙ ap₂ (λ (l : Option Instruction) (c : Call). table_noted p l c e.outcome y.table) now.at_line at.call_made in
+    let table : (held_after p script e.outcome y).table ≡ changed_at k (with_output unmapped i) y.table =
+    after-table p script e.outcome y ∙ ap₂ (λ (l : Option Instruction) (c : Call). table_noted p l c e.outcome y.table) now.at_line at.call_made in
     record {
       shown = held-given y.table st.handles_given k test.message given test.at;
-      behind = subst (λ (b : Bool). Gone (if b then standing s a script (outcomes_of (entries_of a es)) else held_behind p script e.outcome y).table k i) (sym (ap is_blocked_outcome done))
+      behind = subst (λ (b : Bool). Gone (if b then standing s a script (outcomes_of (entries_of a es)) else held_after p script e.outcome y).table k i) (sym (ap is_blocked_outcome done))
           (subst (λ (u : List HeldMessage). Gone u k i) (sym table) (set-gone k i y.table maps));
       message = test.message;
       at = test.at;
@@ -277,7 +277,7 @@ unmapped-now s m a script es e st new k i n event given now =
 
 own-once : (s : System) (m : ByteMap) (a : ℕ) (script : List Instruction) (es : List Entry) (e : Entry) (st new : State) → IsEvent s m a script es e st new
     → (PlanRun (held_plan (holder_of s a) script) (entries_of a es) → OnceAt s a script es (standing s a script (outcomes_of (entries_of a es))) st)
-    → OnceAt s a script (es ++ e ∷ []) (if is_blocked_outcome e.outcome then standing s a script (outcomes_of (entries_of a es)) else held_behind (holder_of s a) script e.outcome (standing_at s a script es)) new
+    → OnceAt s a script (es ++ e ∷ []) (if is_blocked_outcome e.outcome then standing s a script (outcomes_of (entries_of a es)) else held_after (holder_of s a) script e.outcome (standing_at s a script es)) new
 own-once s m a script es e st new event before =
     let p : Holder = holder_of s a in
     let os : List Outcome = outcomes_of (entries_of a es) in

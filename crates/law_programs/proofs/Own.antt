@@ -33,7 +33,7 @@ use Rattle.ffm_model.specs.ServiceCalls.{get_of, message_size, output_moved, rea
 use Rattle.ffm_model.specs.Calls.{call_case, error_effect, effect_of}
 use Rattle.ffm_model.specs.Step.{handle_allowed, handle_shown, outcome_eq, message_eq}
 use Rattle.ffm_model.specs.Records.{is_blocked_outcome}
-use Rattle.ffm_model.specs.Held.{Holder, HolderService, HeldMessage, HeldVector, changed_at, fresh_vector, held, holder_of, is_held_as, most_held, table_behind, vector_at, with_message_of, without}
+use Rattle.ffm_model.specs.Held.{Holder, HolderService, HeldMessage, HeldVector, changed_at, fresh_vector, held, holder_of, is_held_as, most_held, table_after, vector_at, with_message_of, without}
 use Rattle.ffm_model.proofs.StepLemmas.{effect-has}
 use Rattle.law_counting.proofs.Balance.{Balanced}
 use Rattle.law_counting.proofs.Events.{caller-running}
@@ -57,7 +57,7 @@ own-has Q s st a c h kind error made = effect-has Q s st a c h (subst (λ (k : A
 abbrev pub AreGiven : List HeldMessage → List Handle → Type 0
 AreGiven t given = (k : Handle) → count_by (is_held_as k) t ≤ times given k
 
-pub record Behind (s : System) (a : ℕ) (T : Handle → ℕ → ℕ → Type 0) (t : List HeldMessage) (o : Outcome) (new : State) : Type 0 where
+pub record After (s : System) (a : ℕ) (T : Handle → ℕ → ℕ → Type 0) (t : List HeldMessage) (o : Outcome) (new : State) : Type 0 where
   pub held : is_panicked (phase_of new.spm a) ≡ false → AreHeld s new.spm a T t
   pub given : AreGiven t new.handles_given
   pub ends : is_blocked_outcome o ≡ false
@@ -65,16 +65,16 @@ pub record Behind (s : System) (a : ℕ) (T : Handle → ℕ → ℕ → Type 0)
 not-blocked : (d o : Outcome) → is_blocked_outcome d ≡ false → outcome_eq d o ≡ true → is_blocked_outcome o ≡ false
 not-blocked d o off e = sym (blocked-alike d o e) ∙ off
 
-own-behind : (T : Handle → ℕ → ℕ → Type 0) (s : System) (st new : State) (a : ℕ) (c : Call) (o : Outcome) (t : List HeldMessage) → kind_of s a ≡ Partition → Own s st new a c o
-    → (outcome_eq outcome.Panicked o ≡ true → Behind s a T t o (record st { spm = panic_effect s st.spm a }))
-    → IfSome (call_case s st a c (handle_shown o)) (λ e. outcome_eq e.outcome o ≡ true → Behind s a T t o e.state) → Behind s a T t o new
-own-behind T s st new a c o t kind own error made =
-    subst (λ (x : State). Behind s a T t o x) own.state (own-has (λ (e : Effect). outcome_eq e.outcome o ≡ true → Behind s a T t o e.state) s st a c (handle_shown o) kind error made own.outcome)
+own-after : (T : Handle → ℕ → ℕ → Type 0) (s : System) (st new : State) (a : ℕ) (c : Call) (o : Outcome) (t : List HeldMessage) → kind_of s a ≡ Partition → Own s st new a c o
+    → (outcome_eq outcome.Panicked o ≡ true → After s a T t o (record st { spm = panic_effect s st.spm a }))
+    → IfSome (call_case s st a c (handle_shown o)) (λ e. outcome_eq e.outcome o ≡ true → After s a T t o e.state) → After s a T t o new
+own-after T s st new a c o t kind own error made =
+    subst (λ (x : State). After s a T t o x) own.state (own-has (λ (e : Effect). outcome_eq e.outcome o ≡ true → After s a T t o e.state) s st a c (handle_shown o) kind error made own.outcome)
 
 -- after a PROGRAMMER ERROR it is panicked
-dead-behind : (T : Handle → ℕ → ℕ → Type 0) (s : System) (st : State) (a : ℕ) (o : Outcome) (t : List HeldMessage) → Balanced s (times st.handles_given) st.spm → phase_of st.spm a ≡ Running → AreGiven t st.handles_given → outcome_eq outcome.Panicked o ≡ true
-    → Behind s a T t o (record st { spm = panic_effect s st.spm a })
-dead-behind T s st a o t balanced running given e = record {
+dead-after : (T : Handle → ℕ → ℕ → Type 0) (s : System) (st : State) (a : ℕ) (o : Outcome) (t : List HeldMessage) → Balanced s (times st.handles_given) st.spm → phase_of st.spm a ≡ Running → AreGiven t st.handles_given → outcome_eq outcome.Panicked o ≡ true
+    → After s a T t o (record st { spm = panic_effect s st.spm a })
+dead-after T s st a o t balanced running given e = record {
   held = λ alive. self-dead s (times st.handles_given) st.spm a (AreHeld s (panic_effect s st.spm a) a T t) balanced running alive;
   given = given;
   ends = not-blocked outcome.Panicked o refl e;
@@ -85,45 +85,45 @@ changed-given h f t given keep all k = omega (arith, changed-count h k f keep t,
 
 -- ---- psa_read, psa_skip and psa_write
 
-pub read-behind : (T : Handle → ℕ → ℕ → Type 0) (s : System) (st new : State) (a : ℕ) (h : Handle) (index buffer len : ℕ) (o : Outcome) (t : List HeldMessage) (g : List HeldVector → List HeldVector) → InputUse g index → kind_of s a ≡ Partition
-    → Balanced s (times st.handles_given) st.spm → AreHeld s st.spm a T t → AreGiven t st.handles_given → Own s st new a (call.Read h index buffer len) o → Behind s a T (changed_at h (λ m. record m { input = g m.input }) t) o new
-read-behind T s st new a h index buffer len o t g turn kind balanced all given own =
+pub read-after : (T : Handle → ℕ → ℕ → Type 0) (s : System) (st new : State) (a : ℕ) (h : Handle) (index buffer len : ℕ) (o : Outcome) (t : List HeldMessage) (g : List HeldVector → List HeldVector) → InputUse g index → kind_of s a ≡ Partition
+    → Balanced s (times st.handles_given) st.spm → AreHeld s st.spm a T t → AreGiven t st.handles_given → Own s st new a (call.Read h index buffer len) o → After s a T (changed_at h (λ m. record m { input = g m.input }) t) o new
+read-after T s st new a h index buffer len o t g turn kind balanced all given own =
     let f : HeldMessage → HeldMessage = λ m. record m { input = g m.input } in
     let kept : AreGiven (changed_at h f t) st.handles_given = changed-given h f t st.handles_given (λ m. refl) given in
-    own-behind T s st new a (call.Read h index buffer len) o (changed_at h f t) kind own
-    (dead-behind T s st a o (changed_at h f t) balanced (caller-running s st.spm a (call.Read h index buffer len) (λ p. refl) own.may) kept)
-    (read-made s st a h index buffer len (λ e. outcome_eq e.outcome o ≡ true → Behind s a T (changed_at h f t) o e.state)
+    own-after T s st new a (call.Read h index buffer len) o (changed_at h f t) kind own
+    (dead-after T s st a o (changed_at h f t) balanced (caller-running s st.spm a (call.Read h index buffer len) (λ p. refl) own.may) kept)
+    (read-made s st a h index buffer len (λ e. outcome_eq e.outcome o ≡ true → After s a T (changed_at h f t) o e.state)
     (λ m request e. record {
       held = λ alive. moved-held T s st.spm a h _ m f t (λ y. refl) (request-is s st.spm a h index m request).held (λ x at fits. input-fits (T h) (holder_of s a) g index _ x m turn fits) all;
       given = kept;
       ends = not-blocked ((read_of st h index buffer len m).outcome) o refl e;
     }))
 
-pub skip-behind : (T : Handle → ℕ → ℕ → Type 0) (s : System) (st new : State) (a : ℕ) (h : Handle) (index len : ℕ) (o : Outcome) (t : List HeldMessage) (g : List HeldVector → List HeldVector) → InputUse g index → kind_of s a ≡ Partition
-    → Balanced s (times st.handles_given) st.spm → AreHeld s st.spm a T t → AreGiven t st.handles_given → Own s st new a (call.Skip h index len) o → Behind s a T (changed_at h (λ m. record m { input = g m.input }) t) o new
-skip-behind T s st new a h index len o t g turn kind balanced all given own =
+pub skip-after : (T : Handle → ℕ → ℕ → Type 0) (s : System) (st new : State) (a : ℕ) (h : Handle) (index len : ℕ) (o : Outcome) (t : List HeldMessage) (g : List HeldVector → List HeldVector) → InputUse g index → kind_of s a ≡ Partition
+    → Balanced s (times st.handles_given) st.spm → AreHeld s st.spm a T t → AreGiven t st.handles_given → Own s st new a (call.Skip h index len) o → After s a T (changed_at h (λ m. record m { input = g m.input }) t) o new
+skip-after T s st new a h index len o t g turn kind balanced all given own =
     let f : HeldMessage → HeldMessage = λ m. record m { input = g m.input } in
     let kept : AreGiven (changed_at h f t) st.handles_given = changed-given h f t st.handles_given (λ m. refl) given in
-    own-behind T s st new a (call.Skip h index len) o (changed_at h f t) kind own
-    (dead-behind T s st a o (changed_at h f t) balanced (caller-running s st.spm a (call.Skip h index len) (λ p. refl) own.may) kept)
-    (skip-made s st a h index len (λ e. outcome_eq e.outcome o ≡ true → Behind s a T (changed_at h f t) o e.state)
+    own-after T s st new a (call.Skip h index len) o (changed_at h f t) kind own
+    (dead-after T s st a o (changed_at h f t) balanced (caller-running s st.spm a (call.Skip h index len) (λ p. refl) own.may) kept)
+    (skip-made s st a h index len (λ e. outcome_eq e.outcome o ≡ true → After s a T (changed_at h f t) o e.state)
     (λ m request e. record {
       held = λ alive. moved-held T s st.spm a h _ m f t (λ y. refl) (request-is s st.spm a h index m request).held (λ x at fits. input-fits (T h) (holder_of s a) g index _ x m turn fits) all;
       given = kept;
       ends = not-blocked ((skip_of st.spm h index len m).outcome) o refl e;
     }))
 
-pub write-behind : (T : Handle → ℕ → ℕ → Type 0) (s : System) (st new : State) (a : ℕ) (h : Handle) (index buffer len : ℕ) (o : Outcome) (t : List HeldMessage) (g : List HeldVector → List HeldVector)
+pub write-after : (T : Handle → ℕ → ℕ → Type 0) (s : System) (st new : State) (a : ℕ) (h : Handle) (index buffer len : ℕ) (o : Outcome) (t : List HeldMessage) (g : List HeldVector → List HeldVector)
     → ((x : HeldMessage) → nat_lt index PSA_MAX_IOVEC ≡ true → held t h ≡ Some x → OutputUse g index x.output)
     → ((x : HeldMessage) (m : PendingMessage) → nat_lt index PSA_MAX_IOVEC ≡ true → held t h ≡ Some x → Fits (holder_of s a) (T h) x m → (i : ℕ) → i ≡ index → is_unmapped (vector_at (g x.output) i).state ≡ true
     → (n : ℕ) × T h i n × ((get_or (output_moved m index len).output i no_span).moved ≡ n)) → kind_of s a ≡ Partition
-    → Balanced s (times st.handles_given) st.spm → AreHeld s st.spm a T t → AreGiven t st.handles_given → Own s st new a (call.Write h index buffer len) o → Behind s a T (changed_at h (λ m. record m { output = g m.output }) t) o new
-write-behind T s st new a h index buffer len o t g turn here kind balanced all given own =
+    → Balanced s (times st.handles_given) st.spm → AreHeld s st.spm a T t → AreGiven t st.handles_given → Own s st new a (call.Write h index buffer len) o → After s a T (changed_at h (λ m. record m { output = g m.output }) t) o new
+write-after T s st new a h index buffer len o t g turn here kind balanced all given own =
     let f : HeldMessage → HeldMessage = λ m. record m { output = g m.output } in
     let kept : AreGiven (changed_at h f t) st.handles_given = changed-given h f t st.handles_given (λ m. refl) given in
-    own-behind T s st new a (call.Write h index buffer len) o (changed_at h f t) kind own
-    (dead-behind T s st a o (changed_at h f t) balanced (caller-running s st.spm a (call.Write h index buffer len) (λ p. refl) own.may) kept)
-    (write-made s st a h index buffer len (λ e. outcome_eq e.outcome o ≡ true → Behind s a T (changed_at h f t) o e.state)
+    own-after T s st new a (call.Write h index buffer len) o (changed_at h f t) kind own
+    (dead-after T s st a o (changed_at h f t) balanced (caller-running s st.spm a (call.Write h index buffer len) (λ p. refl) own.may) kept)
+    (write-made s st a h index buffer len (λ e. outcome_eq e.outcome o ≡ true → After s a T (changed_at h f t) o e.state)
     (λ m request e.
     let is = request-is s st.spm a h index m request in
     record {
@@ -144,20 +144,20 @@ reply-held T s st a h t new balanced given all still k x e =
     cc)
     (λ apart. let old = all k x (sym (without-other h k apart t) ∙ e) in record { message = old.message; found = still k old.message apart old.found; fits = old.fits })
 
-pub reply-behind : (T : Handle → ℕ → ℕ → Type 0) (s : System) (st new : State) (a : ℕ) (h : Handle) (status : Status) (o : Outcome) (t : List HeldMessage) → kind_of s a ≡ Partition
-    → Balanced s (times st.handles_given) st.spm → AreHeld s st.spm a T t → AreGiven t st.handles_given → Own s st new a (call.Reply h status) o → Behind s a T (table_behind (holder_of s a) (call.Reply h status) o t) o new
-reply-behind T s st new a h status o t kind balanced all given own =
+pub reply-after : (T : Handle → ℕ → ℕ → Type 0) (s : System) (st new : State) (a : ℕ) (h : Handle) (status : Status) (o : Outcome) (t : List HeldMessage) → kind_of s a ≡ Partition
+    → Balanced s (times st.handles_given) st.spm → AreHeld s st.spm a T t → AreGiven t st.handles_given → Own s st new a (call.Reply h status) o → After s a T (table_after (holder_of s a) (call.Reply h status) o t) o new
+reply-after T s st new a h status o t kind balanced all given own =
     let limit : Handle → ℕ = times st.handles_given in
     let p : Holder = holder_of s a in
-    own-behind T s st new a (call.Reply h status) o (table_behind p (call.Reply h status) o t) kind own
+    own-after T s st new a (call.Reply h status) o (table_after p (call.Reply h status) o t) kind own
     (λ e.
-    let same : t ≡ table_behind p (call.Reply h status) o t = ap (λ (x : Outcome). table_behind p (call.Reply h status) x t) (sym (panicked-is o e)) in
-    subst (λ (u : List HeldMessage). Behind s a T u o (record st { spm = panic_effect s st.spm a })) same
-    (dead-behind T s st a o t balanced (caller-running s st.spm a (call.Reply h status) (λ p. refl) own.may) given e))
-    (reply-made s st a h status.0 (λ e. outcome_eq e.outcome o ≡ true → Behind s a T (table_behind p (call.Reply h status) o t) o e.state)
+    let same : t ≡ table_after p (call.Reply h status) o t = ap (λ (x : Outcome). table_after p (call.Reply h status) x t) (sym (panicked-is o e)) in
+    subst (λ (u : List HeldMessage). After s a T u o (record st { spm = panic_effect s st.spm a })) same
+    (dead-after T s st a o t balanced (caller-running s st.spm a (call.Reply h status) (λ p. refl) own.may) given e))
+    (reply-made s st a h status.0 (λ e. outcome_eq e.outcome o ≡ true → After s a T (table_after p (call.Reply h status) o t) o e.state)
     (λ m there e.
-    let same : without h t ≡ table_behind p (call.Reply h status) o t = ap (λ (x : Outcome). table_behind p (call.Reply h status) x t) (sym (done-is o e)) in
-    subst (λ (u : List HeldMessage). Behind s a T u o (reply_of s st h status.0 m).state) same
+    let same : without h t ≡ table_after p (call.Reply h status) o t = ap (λ (x : Outcome). table_after p (call.Reply h status) x t) (sym (done-is o e)) in
+    subst (λ (u : List HeldMessage). After s a T u o (reply_of s st h status.0 m).state) same
     (record {
       held = reply-leaves s st.spm h status.0 m (λ (b : SpmState). is_panicked (phase_of b a) ≡ false → AreHeld s b a T (without h t))
           (λ alive. reply-held T s st a h t _ balanced given all (λ k n apart found. settled-still s limit st.spm a a h k status.0 m n balanced there apart found))
@@ -274,11 +274,11 @@ got-in : (T : Handle → ℕ → ℕ → Type 0) (s : System) (st : State) (a v 
 got-in T s st a v first k t got all given None = got-old T s st a v first k t got all given
 got-in T s st a v first k t got all given (Some w) = got-if T s st a v first k w t got all given (nat_lt (length t) most_held)
 
-got-behind : (T : Handle → ℕ → ℕ → Type 0) (s : System) (st : State) (a signal msg v : ℕ) (first : PendingMessage) (t : List HeldMessage) (o : Outcome) → kind_of s a ≡ Partition → Balanced s (times st.handles_given) st.spm → AreWaiting st.spm.messages
+got-after : (T : Handle → ℕ → ℕ → Type 0) (s : System) (st : State) (a signal msg v : ℕ) (first : PendingMessage) (t : List HeldMessage) (o : Outcome) → kind_of s a ≡ Partition → Balanced s (times st.handles_given) st.spm → AreWaiting st.spm.messages
     → ((v : ℕ) → service_of_signal s a signal ≡ Some v → is_service_of s a v ≡ true) → AreHeld s st.spm a T t → AreGiven t st.handles_given
     → service_of_signal s a signal ≡ Some v → find (is_undelivered v) st.spm.messages ≡ Some first → valid_buffer s a msg message_size ≡ true → handle_allowed s st a (call.Get signal msg) (handle_shown o) ≡ true
-    → outcome_eq (get_of s st v msg (handle_shown o) first).outcome o ≡ true → Behind s a T (table_behind (holder_of s a) (call.Get signal msg) o t) o (get_of s st v msg (handle_shown o) first).state
-got-behind T s st a signal msg v first t (outcome.Got k) kind balanced waiting owned all given found place room allowed e =
+    → outcome_eq (get_of s st v msg (handle_shown o) first).outcome o ≡ true → After s a T (table_after (holder_of s a) (call.Get signal msg) o t) o (get_of s st v msg (handle_shown o) first).state
+got-after T s st a signal msg v first t (outcome.Got k) kind balanced waiting owned all given found place room allowed e =
     let got : IsGot s st a v first k = record {
       balanced = balanced;
       owned = owned v found;
@@ -289,17 +289,17 @@ got-behind T s st a signal msg v first t (outcome.Got k) kind balanced waiting o
     } in
     let all_of = got-in T s st a v first k t got all given (find (λ w. w.signal == signal) (holder_of s a).services) in
     record { held = λ alive. all_of.held; given = all_of.given; ends = refl }
-got-behind T s st a signal msg v first t _ kind balanced waiting owned all given found place room allowed e = cc
+got-after T s st a signal msg v first t _ kind balanced waiting owned all given found place room allowed e = cc
 
-pub get-behind : (T : Handle → ℕ → ℕ → Type 0) (s : System) (st new : State) (a signal msg : ℕ) (o : Outcome) (t : List HeldMessage) → kind_of s a ≡ Partition → Balanced s (times st.handles_given) st.spm → AreWaiting st.spm.messages
+pub get-after : (T : Handle → ℕ → ℕ → Type 0) (s : System) (st new : State) (a signal msg : ℕ) (o : Outcome) (t : List HeldMessage) → kind_of s a ≡ Partition → Balanced s (times st.handles_given) st.spm → AreWaiting st.spm.messages
     → ((v : ℕ) → service_of_signal s a signal ≡ Some v → is_service_of s a v ≡ true) → AreHeld s st.spm a T t → AreGiven t st.handles_given → Own s st new a (call.Get signal msg) o
-    → Behind s a T (table_behind (holder_of s a) (call.Get signal msg) o t) o new
-get-behind T s st new a signal msg o t kind balanced waiting owned all given own =
+    → After s a T (table_after (holder_of s a) (call.Get signal msg) o t) o new
+get-after T s st new a signal msg o t kind balanced waiting owned all given own =
     let p : Holder = holder_of s a in
-    own-behind T s st new a (call.Get signal msg) o (table_behind p (call.Get signal msg) o t) kind own
+    own-after T s st new a (call.Get signal msg) o (table_after p (call.Get signal msg) o t) kind own
     (λ e.
-    let same : t ≡ table_behind p (call.Get signal msg) o t = ap (λ (x : Outcome). table_behind p (call.Get signal msg) x t) (sym (panicked-is o e)) in
-    subst (λ (u : List HeldMessage). Behind s a T u o (record st { spm = panic_effect s st.spm a })) same
-    (dead-behind T s st a o t balanced (caller-running s st.spm a (call.Get signal msg) (λ p. refl) own.may) given e))
-    (get-made s st a signal msg (handle_shown o) (λ e. outcome_eq e.outcome o ≡ true → Behind s a T (table_behind p (call.Get signal msg) o t) o e.state)
-    (λ v first found place room e. got-behind T s st a signal msg v first t o kind balanced waiting owned all given found place room own.allowed e))
+    let same : t ≡ table_after p (call.Get signal msg) o t = ap (λ (x : Outcome). table_after p (call.Get signal msg) x t) (sym (panicked-is o e)) in
+    subst (λ (u : List HeldMessage). After s a T u o (record st { spm = panic_effect s st.spm a })) same
+    (dead-after T s st a o t balanced (caller-running s st.spm a (call.Get signal msg) (λ p. refl) own.may) given e))
+    (get-made s st a signal msg (handle_shown o) (λ e. outcome_eq e.outcome o ≡ true → After s a T (table_after p (call.Get signal msg) o t) o e.state)
+    (λ v first found place room e. got-after T s st a signal msg v first t o kind balanced waiting owned all given found place room own.allowed e))

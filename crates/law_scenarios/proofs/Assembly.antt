@@ -20,7 +20,7 @@ use Rattle.script_asm.specs.declared.first_words.Head.{Head}
 use Rattle.script_asm.specs.declared.first_words.Head.TheVariants as head
 use Rattle.script_asm.specs.Device.{device_script, raise, raised}
 use Rattle.script_asm.specs.Lines.{Line, passed, label, order, assembled, assembled_lines, filled, has_line, instruction_at, instruction_of, line_then, lines_of, made_from, made_of, may_map, one_word, operands_of, place_of, script_or_refusal, script_read, three_words, two_words}
-use Rattle.script_asm.specs.Words.{Word, decimal_behind, decimal_number, head_of, negated, negative_number, number_of, operand_of, register_of}
+use Rattle.script_asm.specs.Words.{Word, decimal_after, decimal_number, head_of, negated, negative_number, number_of, operand_of, register_of}
 use Rattle.law_scenarios.specs.Ranges.{LineFits, OperandFits, PartsFit}
 use Rattle.law_scenarios.proofs.Digits.{hex-fits}
 use Rattle.law_scenarios.proofs.Numbers.{zero-fits}
@@ -28,12 +28,12 @@ use Rattle.law_scenarios.proofs.Openings.{RaiseFits}
 
 -- ---- numbers
 
-decimal-behind : (limit n : ℕ) (ds : List ℕ) → n ≤ limit → IfSome (decimal_behind limit n ds) (λ v. v ≤ limit)
-decimal-behind limit n [] h = h
-decimal-behind limit n (d ∷ ds) h =
+decimal-after : (limit n : ℕ) (ds : List ℕ) → n ≤ limit → IfSome (decimal_after limit n ds) (λ v. v ≤ limit)
+decimal-after limit n [] h = h
+decimal-after limit n (d ∷ ds) h =
     let m : ℕ = n * 10 + digit_value d in
-    let go : (b : Bool) → (is_digit d 10 && nat_le m limit) ≡ b → IfSome (if b then decimal_behind limit m ds else None) (λ v. v ≤ limit) = elim [
-      | true ↦ λ e. (let short : nat_le m limit ≡ true = (and_parts (is_digit d 10) (nat_le m limit) e).1 in decimal-behind limit m ds (let few : m ≤ limit = grind (arith, nat_tests) in few))
+    let go : (b : Bool) → (is_digit d 10 && nat_le m limit) ≡ b → IfSome (if b then decimal_after limit m ds else None) (λ v. v ≤ limit) = elim [
+      | true ↦ λ e. (let short : nat_le m limit ≡ true = (and_parts (is_digit d 10) (nat_le m limit) e).1 in decimal-after limit m ds (let few : m ≤ limit = grind (arith, nat_tests) in few))
       | false ↦ λ e. tt
     ] in
     go (is_digit d 10 && nat_le m limit) refl
@@ -41,7 +41,7 @@ decimal-behind limit n (d ∷ ds) h =
 decimal-fits : (limit : ℕ) (w : Word) → IfSome (decimal_number limit w) (λ v. v ≤ limit)
 unfolding decimal_number
 decimal-fits limit [] = tt
-decimal-fits limit (d ∷ ds) = decimal-behind limit 0 (d ∷ ds) (omega arith)
+decimal-fits limit (d ∷ ds) = decimal-after limit 0 (d ∷ ds) (omega arith)
 
 negated-fits : (n : ℕ) → IfSome (negated n) IsU32
 negated-fits n =

@@ -6,7 +6,7 @@ use Rattle.std.specs.Option.{option_map}
 use Rattle.std.proofs.lemmas.Bool.{and_parts}
 use Rattle.std.proofs.lemmas.Bool.Decides.{nat_tests}
 use Rattle.ffm_model.specs.Scenarios.{hex_byte, hex_bytes}
-use Rattle.ffm_model.specs.Texts.{hex_behind, hex_number}
+use Rattle.ffm_model.specs.Texts.{hex_after, hex_number}
 use Rattle.ffm_model.specs.TraceText.{IsU32}
 use Rattle.law_scenarios.proofs.Numbers.{AreBytes, byte-first, no-bytes}
 
@@ -30,13 +30,13 @@ scaled-more zero m = omega arith
 scaled-more (suc k) m = omega (arith, scaled-more k (m * 16))
 
 -- so many digits at most, after those that spell a number below m
-hex-behind : (ds : List ℕ) (k n m : ℕ) → length ds ≤ k → n < m → IfSome (hex_behind n ds) (λ v. v < scaled m k)
-hex-behind [] k n m h less = omega (arith, less, scaled-more k m)
-hex-behind (d ∷ ds) zero n m h less = absurd (omega arith)
-hex-behind (d ∷ ds) (suc k) n m h less =
-    chosen (λ v. v < scaled (m * 16) k) (is_digit d 16) (hex_behind (n * 16 + digit_value d) ds) (λ e.
+hex-after : (ds : List ℕ) (k n m : ℕ) → length ds ≤ k → n < m → IfSome (hex_after n ds) (λ v. v < scaled m k)
+hex-after [] k n m h less = omega (arith, less, scaled-more k m)
+hex-after (d ∷ ds) zero n m h less = absurd (omega arith)
+hex-after (d ∷ ds) (suc k) n m h less =
+    chosen (λ v. v < scaled (m * 16) k) (is_digit d 16) (hex_after (n * 16 + digit_value d) ds) (λ e.
     let digit : digit_value d < 16 = below (digit_value d) 16 e in
-    hex-behind ds k (n * 16 + digit_value d) (m * 16) (omega arith) (next n m (digit_value d) less digit)) where
+    hex-after ds k (n * 16 + digit_value d) (m * 16) (omega arith) (next n m (digit_value d) less digit)) where
       next : (n m v : ℕ) → n < m → v < 16 → n * 16 + v < m * 16
       next n m v less digit = omega arith
 
@@ -44,10 +44,10 @@ hex-behind (d ∷ ds) (suc k) n m h less =
 pub hex-fits : (text : List ℕ) → IfSome (hex_number text) IsU32
 unfolding hex_number
 hex-fits text =
-    chosen IsU32 _ (hex_behind 0 (drop 2 text)) (λ e.
+    chosen IsU32 _ (hex_after 0 (drop 2 text)) (λ e.
     let most : nat_le (length text) 10 ≡ true = (and_parts (nat_lt 2 (length text)) _ (and_parts _ _ (and_parts _ _ e).0).0).1 in
     let few : length text ≤ 10 = grind (arith, nat_tests) in
-    hex-behind (drop 2 text) 8 0 1 (omega (arith, length-drop 2 text)) (omega arith))
+    hex-after (drop 2 text) 8 0 1 (omega (arith, length-drop 2 text)) (omega arith))
 
 -- ---- bytes
 

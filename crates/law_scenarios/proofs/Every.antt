@@ -13,7 +13,7 @@ use Rattle.ffm_model.specs.declared.system.System.{System}
 use Rattle.ffm_model.specs.Actors.{actor_count, counts_of}
 use Rattle.ffm_model.specs.Memory.{ByteMap, opening_memory}
 use Rattle.ffm_model.specs.Reach.{covers}
-use Rattle.ffm_model.specs.Restarts.{FinishedRun, RunsFrom, is_mmio, memory_behind, memory_reset}
+use Rattle.ffm_model.specs.Restarts.{FinishedRun, RunsFrom, is_mmio, memory_after, memory_reset}
 use Rattle.ffm_model.specs.State.{State, opening}
 use Rattle.ffm_model.specs.Step.{Run, after}
 use Rattle.ffm_model.specs.TraceText.{EntryFits, IsU32, IsI32}
@@ -38,8 +38,8 @@ have_fitting_entries s m programs v fit bytes c threads es verdict ran = (run-fi
 
 -- ---- restarts
 
-behind-fits : (s : System) (m : ByteMap) (es : List Entry) → HasBytes m → RunFits s (Some (opening s m)) es → HasBytes (memory_behind s m es)
-behind-fits s m es bytes f =
+then-fits : (s : System) (m : ByteMap) (es : List Entry) → HasBytes m → RunFits s (Some (opening s m)) es → HasBytes (memory_after s m es)
+then-fits s m es bytes f =
     let go : (o : Option State) → ((st : State) → o ≡ Some st → StateFits st) → HasBytes (option_map_or (λ st. st.memory) o m) = elim [ None ↦ λ h. bytes | Some st ↦ λ h. (h st refl).bytes ] in
     go (after s m es) f.last
 
@@ -50,14 +50,14 @@ module _ (s : System) (c : Scenario) (programs : List Program) (threads : Bool) 
   IsRun : ByteMap → FinishedRun → Type 0
   IsRun m r = RanBy s m c programs threads r.entries r.verdict
 
-  next-fits : (m : ByteMap) (r : FinishedRun) → HasBytes m → RanBy s m c programs threads r.entries r.verdict → HasBytes (memory_reset s first (memory_behind s m r.entries))
-  next-fits m r own ran = reset-fits s first (memory_behind s m r.entries) bytes (behind-fits s m r.entries own (run-fits s m programs v fit own r.entries ran.is_run ran.programmed))
+  next-fits : (m : ByteMap) (r : FinishedRun) → HasBytes m → RanBy s m c programs threads r.entries r.verdict → HasBytes (memory_reset s first (memory_after s m r.entries))
+  next-fits m r own ran = reset-fits s first (memory_after s m r.entries) bytes (then-fits s m r.entries own (run-fits s m programs v fit own r.entries ran.is_run ran.programmed))
 
   pub runs-fit : (m : ByteMap) (left : ℕ) (rs : List FinishedRun) → HasBytes m → RunsFrom s (λ m r. RanBy s m c programs threads r.entries r.verdict) first m left rs → AllByRecursion (λ r. AllByRecursion (EntryFits (counts_of s)) r.entries) rs
   runs-fit m left [] own h = tt
   runs-fit m left (r ∷ []) own h = (have_fitting_entries s m programs v fit own c threads r.entries r.verdict h.0, tt)
   runs-fit m left (r ∷ q ∷ rs) own h =
-      (have_fitting_entries s m programs v fit own c threads r.entries r.verdict h.0, runs-fit (memory_reset s first (memory_behind s m r.entries)) (left - 1) (q ∷ rs) (next-fits m r own h.0) h.2)
+      (have_fitting_entries s m programs v fit own c threads r.entries r.verdict h.0, runs-fit (memory_reset s first (memory_after s m r.entries)) (left - 1) (q ∷ rs) (next-fits m r own h.0) h.2)
 
 pub have_fitting_runs : (s : System) (c : Scenario) (programs : List Program) (restarts : ℕ) → HaveFittingRuns s c programs restarts
 have_fitting_runs s c programs restarts v fit bytes threads rs h = runs-fit s c programs threads (opening_memory c.memory) v fit bytes (opening_memory c.memory) restarts rs bytes h

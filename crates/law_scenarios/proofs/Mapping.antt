@@ -20,9 +20,9 @@ use Rattle.ffm_model.specs.declared.script.Instruction.{Instruction}
 use Rattle.ffm_model.specs.declared.script.Instruction.TheVariants as line
 use Rattle.ffm_model.specs.declared.script.MapName.{MapName}
 use Rattle.ffm_model.specs.declared.script.MapName.TheVariants.{MapIn, UnmapIn, MapOut, UnmapOut}
-use Rattle.ffm_model.specs.Held.{Holder, HolderService, HeldMessage, HeldVector, VectorState, can_map_in, can_map_out, can_unmap_in, can_unmap_out, changed_at, fresh_vector, held, holds, input_size, is_input_free, input_window, is_fresh, is_held_as, is_mappable, is_mapped, is_refused, most_held, no_vector, output_window, table_behind, table_touched, touched, vector_at, window, window_size, with_message_of, with_state, without}
+use Rattle.ffm_model.specs.Held.{Holder, HolderService, HeldMessage, HeldVector, VectorState, can_map_in, can_map_out, can_unmap_in, can_unmap_out, changed_at, fresh_vector, held, holds, input_size, is_input_free, input_window, is_fresh, is_held_as, is_mappable, is_mapped, is_refused, most_held, no_vector, output_window, table_after, table_touched, touched, vector_at, window, window_size, with_message_of, with_state, without}
 use Rattle.ffm_model.specs.Held.VectorState.{used, mapped, unmapped}
-use Rattle.ffm_model.specs.HeldPlans.{Holding, LineStep, leads, makes, call_made, handle_operand, held_arrived, held_behind, held_call, held_engine, held_plan, held_step, held_steps, holding_none, led_to, line_step, map_line, number_operand, other_line, registers_noted, table_noted}
+use Rattle.ffm_model.specs.HeldPlans.{Holding, LineStep, leads, makes, call_made, handle_operand, held_arrived, held_after, held_call, held_engine, held_plan, held_step, held_steps, holding_none, led_to, line_step, map_line, number_operand, other_line, registers_noted, table_noted}
 use Rattle.ffm_model.specs.ScriptRuns.{Point, line_call, line_effect, most_lines, noted}
 use Rattle.ffm_model.specs.TraceText.{CallFits, IsU32, OutcomeFits}
 use Rattle.law_scenarios.specs.Ranges.{LineFits}
@@ -107,16 +107,16 @@ touch-fits p (call.Skip h i len) t all = changed-fits p h _ t (λ m own. own) al
 touch-fits p (call.Write h i buffer len) t all = changed-fits p h _ t (λ m own. touched-fits p i m.output own) all
 touch-fits p _ t all = all
 
-behind-fits : (p : Holder) (c : Call) (o : Outcome) (t : List HeldMessage) → TableFits p t → TableFits p (table_behind p c o t)
-behind-fits p (call.Get signal msg) (outcome.Got m) t all =
+then-fits : (p : Holder) (c : Call) (o : Outcome) (t : List HeldMessage) → TableFits p t → TableFits p (table_after p c o t)
+then-fits p (call.Get signal msg) (outcome.Got m) t all =
     elim (find (λ v. v.signal == signal) p.services) as (λ (x : Option HolderService). TableFits p (option_map_or (λ v. with_message_of v m t) x t)) [ None ↦ all | Some v ↦ taken-fits p v m t all ]
-behind-fits p (call.Reply h status) outcome.Done t all = gone-fits p h t all
-behind-fits p _ _ t all = all
+then-fits p (call.Reply h status) outcome.Done t all = gone-fits p h t all
+then-fits p _ _ t all = all
 
 noted-table : (p : Holder) (i : Option Instruction) (c : Call) (o : Outcome) (t : List HeldMessage) → TableFits p t → TableFits p (table_noted p i c o t)
 noted-table p (Some (line.Map MapIn operands)) (call.Read h index buffer len) o t all = changed-fits p h _ t (λ m own. own) all
 noted-table p (Some (line.Map UnmapOut operands)) (call.Write h index buffer len) o t all = changed-fits p h _ t (λ m own. state-put p unmapped index m.output (λ never. absurd (cc)) own) all
-noted-table p i c o t all = behind-fits p c o (table_touched c t) (touch-fits p c t all)
+noted-table p i c o t all = then-fits p c o (table_touched c t) (touch-fits p c t all)
 
 -- ---- lines
 
@@ -257,8 +257,8 @@ module _ (p : Holder) (script : List Instruction) (ends : RamEnds p) (lines : Al
   registers-fit (Some (line.Map MapIn operands)) (call.Read h index buffer len) o registers fits h' all = register-put (noted o registers) 0 buffer fits.1.1.0 (noted-fits o registers h' all)
   registers-fit i c o registers fits h all = noted-fits o registers h all
 
-  goes : (o : Outcome) (x : Holding) → OutcomeFits o → HoldingFits p x → HoldingFits p (held_behind p script o x)
-  unfolding held_behind
+  goes : (o : Outcome) (x : Holding) → OutcomeFits o → HoldingFits p x → HoldingFits p (held_after p script o x)
+  unfolding held_after
   goes o x h f = record {
     registers = registers-fit (slice_get script x.at.place) (held_call p script x) o x.at.registers (call-fits x f) h f.registers;
     table = noted-table p (slice_get script x.at.place) (held_call p script x) o x.table f.table;

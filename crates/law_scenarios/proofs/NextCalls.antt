@@ -8,7 +8,7 @@ use Rattle.ffm_model.specs.declared.machine.Outcome.{Outcome}
 use Rattle.ffm_model.specs.declared.machine.Outcome.TheVariants as outcome
 use Rattle.ffm_model.specs.Functions.{SfnService, SfnPartition, function_registers, lowest}
 use Rattle.ffm_model.specs.Plans.{Plan, RunFrom}
-use Rattle.ffm_model.specs.SfnRuns.{SfnRunFrom, Stage, idle, waiting, signalled, working, begun, stage_behind, sfn_partition}
+use Rattle.ffm_model.specs.SfnRuns.{SfnRunFrom, Stage, idle, waiting, signalled, working, begun, stage_after, sfn_partition}
 use Rattle.actor_programs.specs.declared.program.Program.{Program}
 use Rattle.actor_programs.specs.declared.program.Program.TheVariants.{Plain, Functions}
 use Rattle.partition_sim.specs.ActorPlans.{plan_of_role, role_at}
@@ -52,7 +52,7 @@ functions-fix p (signalled registers signals) (x ∷ xs) us vs e f g h =
     let moved : SfnRunFrom p (working (begun g.0 of_h.0 registers)) (xs ++ f ∷ vs) = subst (λ (v : SfnService). SfnRunFrom p (working (begun v of_h.0 registers)) (xs ++ f ∷ vs)) (sym service) of_h.1.1 in
     functions-fix p (working (begun g.0 of_g.0 registers)) xs us vs e f of_g.1.1 (subst (λ (m : Message). SfnRunFrom p (working (begun g.0 m registers)) (xs ++ f ∷ vs)) (sym message) moved)
 functions-fix p (working w) [] us vs e f g h = g.0 ∙ sym h.0
-functions-fix p (working w) (x ∷ xs) us vs e f g h = functions-fix p (stage_behind w x.outcome) xs us vs e f g.1 h.1
+functions-fix p (working w) (x ∷ xs) us vs e f g h = functions-fix p (stage_after w x.outcome) xs us vs e f g.1 h.1
 
 -- ---- both
 

@@ -24,7 +24,7 @@ use Rattle.ffm_model.specs.declared.script.Operand.{Operand}
 use Rattle.ffm_model.specs.declared.script.Operand.TheVariants.{Register, Number}
 use Rattle.ffm_model.specs.declared.script.Operation.{Operation}
 use Rattle.ffm_model.specs.declared.script.Operation.TheVariants.{Set, Add, Sub, And, Or, Xor}
-use Rattle.ffm_model.specs.Contexts.{Contexts, context_engine, context_plan, contexts_behind, contexts_call, caller, is_spent, next_calls, opening_contexts, picked_context, script_of}
+use Rattle.ffm_model.specs.Contexts.{Contexts, context_engine, context_plan, contexts_then, contexts_call, caller, is_spent, next_calls, opening_contexts, picked_context, script_of}
 use Rattle.ffm_model.specs.Plans.{Engine, Plan, engine_after, engine_answered, plan_of}
 use Rattle.ffm_model.specs.Records.{ends_blocked, is_blocked_outcome}
 use Rattle.ffm_model.specs.ScriptRuns.{Point, arrived, call_at, call_of, changed, line_call, line_effect, local_step, local_steps, most_lines, noted, start, value_of, with_message}
@@ -220,8 +220,8 @@ contexts-call parts x h all =
     ] in
     go (picked_context parts x)
 
-contexts-go : (parts : List (List Instruction)) (o : Outcome) (x : Contexts) → PartsFit parts → OutcomeFits o → ContextsFit x → ContextsFit (contexts_behind parts o x)
-unfolding contexts_behind
+contexts-go : (parts : List (List Instruction)) (o : Outcome) (x : Contexts) → PartsFit parts → OutcomeFits o → ContextsFit x → ContextsFit (contexts_then parts o x)
+unfolding contexts_then
 contexts-go parts o x h fits all =
     let k : ℕ = caller parts x in
     let lines : AllByRecursion LineFits (script_of parts k) = part-fits parts k h in

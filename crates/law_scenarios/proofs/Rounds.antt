@@ -17,7 +17,7 @@ use Rattle.ffm_model.specs.declared.script.SfnInstruction.TheVariants.{Plain, Re
 use Rattle.ffm_model.specs.Functions.{SfnPartition, SfnService, answer, asserts, function_call_at, function_effect, function_line_call, function_registers, function_step, function_steps, lowest, returns_at, signals_in}
 use Rattle.ffm_model.specs.Records.{is_blocked_outcome}
 use Rattle.ffm_model.specs.ScriptRuns.{Point, most_lines, noted, point}
-use Rattle.ffm_model.specs.SfnRuns.{SfnRunFrom, Stage, Work, begun, idle, reached, signalled, stage_behind, waiting, work_behind, work_call, working}
+use Rattle.ffm_model.specs.SfnRuns.{SfnRunFrom, Stage, Work, begun, idle, reached, signalled, stage_after, waiting, work_after, work_call, working}
 use Rattle.ffm_model.specs.TraceText.{CallFits, IsI32, IsU32, MessageFits, OutcomeFits}
 use Rattle.law_scenarios.specs.Ranges.{FunctionLineFits}
 use Rattle.law_scenarios.proofs.Numbers.{signed-fits, zero-fits}
@@ -90,7 +90,7 @@ work-call-fits : (w : Work) → WorkFits w → CallFits (work_call w)
 work-call-fits w f =
     elim w.pending as (λ (b : Bool). CallFits (if b then call.Resume else function_call_at w.lines w.handle (reached w))) [ true ↦ tt | false ↦ call-at-fits w.lines w.handle (reached w) f.lines f.handle (reached-fits w f) ]
 
-work-goes : (w : Work) (o : Outcome) → OutcomeFits o → WorkFits w → WorkFits (work_behind w o)
+work-goes : (w : Work) (o : Outcome) → OutcomeFits o → WorkFits w → WorkFits (work_after w o)
 work-goes w o h f =
     elim (is_blocked_outcome o) as (λ (b : Bool). WorkFits (if b then record w { pending = true } else record w { budget = most_lines; at = point (noted o (reached w).registers) ((reached w).place + 1); pending = false })) [
       | true ↦ record { lines = f.lines; handle = f.handle; registers = f.registers }
@@ -108,9 +108,9 @@ StageFits (working w) = WorkFits w
 pub first-stage : StageFits (idle function_registers)
 first-stage = All-replicate IsU32 14 0 zero-fits
 
-stage-goes : (w : Work) (o : Outcome) → OutcomeFits o → WorkFits w → StageFits (stage_behind w o)
+stage-goes : (w : Work) (o : Outcome) → OutcomeFits o → WorkFits w → StageFits (stage_after w o)
 stage-goes w o h f =
-    elim (returns_at w.lines (reached w)) as (λ (b : Bool). StageFits (if b then idle (reached w).registers else working (work_behind w o))) [ true ↦ reached-fits w f | false ↦ work-goes w o h f ]
+    elim (returns_at w.lines (reached w)) as (λ (b : Bool). StageFits (if b then idle (reached w).registers else working (work_after w o))) [ true ↦ reached-fits w f | false ↦ work-goes w o h f ]
 
 abbrev pub Answered : List Entry → Type 0
 Answered es = AllByRecursion (λ e. OutcomeFits e.outcome) es
@@ -131,4 +131,4 @@ round-calls p f (signalled registers signals) (x ∷ xs) us e h run all =
     let begins : WorkFits (begun run.0 got.0 registers) = record { lines = service.1; handle = message.0.1.0; registers = message-noted got.0 registers message h } in
     round-calls p f (working (begun run.0 got.0 registers)) xs us e begins got.1.1 all.1
 round-calls p f (working w) [] us e h run all = subst CallFits (sym run.0) (work-call-fits w h)
-round-calls p f (working w) (x ∷ xs) us e h run all = round-calls p f (stage_behind w x.outcome) xs us e (stage-goes w x.outcome all.0 h) run.1 all.1
+round-calls p f (working w) (x ∷ xs) us e h run all = round-calls p f (stage_after w x.outcome) xs us e (stage-goes w x.outcome all.0 h) run.1 all.1

@@ -18,7 +18,7 @@ use Rattle.ffm_model.specs.Memory.{ByteMap, opening_memory}
 use Rattle.ffm_model.specs.PartitionRam.{heap_of, ram_base, ram_size_of}
 use Rattle.ffm_model.specs.Plans.{PlanRun}
 use Rattle.ffm_model.specs.Records.{entries_of}
-use Rattle.ffm_model.specs.Restarts.{FinishedRun, RunsFrom, ends_panicked, is_ended, memory_behind, memory_reset}
+use Rattle.ffm_model.specs.Restarts.{FinishedRun, RunsFrom, ends_panicked, is_ended, memory_after, memory_reset}
 use Rattle.ffm_model.specs.Schedule.{IsNext, Scheduled, Turns, enabled_in, turn_at}
 use Rattle.ffm_model.specs.SfnRuns.{SfnRun, sfn_partition, sfn_service_at, sfn_services_from}
 use Rattle.ffm_model.specs.Signals.{is_panicked}
@@ -117,8 +117,8 @@ module _ (s : System) (qs : List Partition) (fits : DoFit s qs) (same : aside qs
       ap₂ (λ (n : ℕ) (o : Option State). is_ended r.verdict && option_map_or (λ st. list_any (λ p. is_panicked (phase_of st.spm p)) (range_with_len 0 n)) o false)
       (count-same s.partitions qs same) (after-same s qs fits same m r.entries)
 
-  behind-same : (m : ByteMap) (es : List Entry) → memory_behind other m es ≡ memory_behind s m es
-  behind-same m es = ap (λ (o : Option State). option_map_or (λ st. st.memory) o m) (after-same s qs fits same m es)
+  then-same : (m : ByteMap) (es : List Entry) → memory_after other m es ≡ memory_after s m es
+  then-same m es = ap (λ (o : Option State). option_map_or (λ st. st.memory) o m) (after-same s qs fits same m es)
 
   module _ (c : Scenario) (programs : List Program) (threads : Bool) (first : ByteMap) where
     OfSystem : System → ByteMap → FinishedRun → Type 0
@@ -129,11 +129,11 @@ module _ (s : System) (qs : List Partition) (fits : DoFit s qs) (same : aside qs
     runs-alike m left [] h = h
     runs-alike m left (r ∷ []) h = (ran-alike m c programs threads r.entries r.verdict h.0, ap (λ (b : Bool). nat_lt 0 left && b) (panicked-same m r) ∙ h.1)
     runs-alike m left (r ∷ q ∷ rs) h =
-        let next : ByteMap = memory_reset s first (memory_behind s m r.entries) in
+        let next : ByteMap = memory_reset s first (memory_after s m r.entries) in
         let rest : RunsFrom other (λ m r. RanBy other m c programs threads r.entries r.verdict) first next (left - 1) (q ∷ rs) = runs-alike next (left - 1) (q ∷ rs) h.2 in (
           ran-alike m c programs threads r.entries r.verdict h.0,
           ap (λ (b : Bool). nat_lt 0 left && b) (panicked-same m r) ∙ h.1,
-          subst (λ (x : ByteMap). RunsFrom other (λ m r. RanBy other m c programs threads r.entries r.verdict) first (memory_reset s first x) (left - 1) (q ∷ rs)) (sym (behind-same m r.entries)) rest,
+          subst (λ (x : ByteMap). RunsFrom other (λ m r. RanBy other m c programs threads r.entries r.verdict) first (memory_reset s first x) (left - 1) (q ∷ rs)) (sym (then-same m r.entries)) rest,
         )
 
 pub run_alike : (s : System) (partitions : List Partition) → RunAlike s partitions

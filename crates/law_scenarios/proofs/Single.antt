@@ -12,7 +12,7 @@ use Rattle.ffm_model.specs.declared.machine.Verdict.TheVariants.{Quiet, Stalled,
 use Rattle.ffm_model.specs.declared.scenario.Scenario.{Scenario}
 use Rattle.ffm_model.specs.Actors.{actor_count}
 use Rattle.ffm_model.specs.Memory.{ByteMap, opening_memory}
-use Rattle.ffm_model.specs.Restarts.{FinishedRun, RunsFrom, ends_panicked, memory_behind, memory_reset}
+use Rattle.ffm_model.specs.Restarts.{FinishedRun, RunsFrom, ends_panicked, memory_after, memory_reset}
 use Rattle.ffm_model.specs.Schedule.{Scheduled}
 use Rattle.ffm_model.specs.State.{State, opening}
 use Rattle.ffm_model.specs.Step.{Run, after, step, step_on}
@@ -130,9 +130,9 @@ module _ (s : System) (IsRun : ByteMap → FinishedRun → Type 0) (first : Byte
       absurd (true≢false (sym g.1 ∙ ap (λ (z : FinishedRun). nat_lt 0 left && ends_panicked s m z) (one m r q g.0 h.0) ∙ h.1))
   same-runs m left (r ∷ x ∷ rs) (q ∷ y ∷ qs) g h =
       let same : r ≡ q = one m r q g.0 h.0 in
-      let moved : RunsFrom s IsRun first (memory_reset s first (memory_behind s m r.entries)) (left - 1) (y ∷ qs) =
-      subst (λ (z : FinishedRun). RunsFrom s IsRun first (memory_reset s first (memory_behind s m z.entries)) (left - 1) (y ∷ qs)) (sym same) h.2 in
-      let rest : (x ∷ rs) ≡ (y ∷ qs) = same-runs (memory_reset s first (memory_behind s m r.entries)) (left - 1) (x ∷ rs) (y ∷ qs) g.2 moved in
+      let moved : RunsFrom s IsRun first (memory_reset s first (memory_after s m r.entries)) (left - 1) (y ∷ qs) =
+      subst (λ (z : FinishedRun). RunsFrom s IsRun first (memory_reset s first (memory_after s m z.entries)) (left - 1) (y ∷ qs)) (sym same) h.2 in
+      let rest : (x ∷ rs) ≡ (y ∷ qs) = same-runs (memory_reset s first (memory_after s m r.entries)) (left - 1) (x ∷ rs) (y ∷ qs) g.2 moved in
       ap (λ (z : FinishedRun). z ∷ x ∷ rs) same ∙ ap (λ (zs : List FinishedRun). q ∷ zs) rest
 
 same-finished : (s : System) (c : Scenario) (programs : List Program) (m : ByteMap) (r q : FinishedRun) → RanBy s m c programs false r.entries r.verdict → RanBy s m c programs false q.entries q.verdict → r ≡ q

@@ -105,8 +105,8 @@ stopped-has : {A : Type 0} (P : A → Type 0) (r : Result A Refusal) → IfOk r 
 stopped-has P (Ok x) h = h
 stopped-has P (Err e) h = tt
 
-behind-has : {A : Type 0} (P : A → Type 0) (front : List PathStep) (r : Result A PartRefusal) → IfOk r P → IfOk (behind front r) P
-behind-has P front r h = stopped-has P _ (placed-has P root.System front r h)
+after-has : {A : Type 0} (P : A → Type 0) (front : List PathStep) (r : Result A PartRefusal) → IfOk r P → IfOk (behind front r) P
+after-has P front r h = stopped-has P _ (placed-has P root.System front r h)
 
 manifest-in-fits : (bytes : List ℕ) → IfOk (manifest_in bytes) ManifestFits
 unfolding manifest_in
@@ -114,11 +114,11 @@ manifest-in-fits bytes = past ManifestFits (or_refuse JSON (tree_of bytes)) _ ma
 
 named-fits : (of : Contents) (k : ℕ) (name : List ℕ) → IfOk (manifest_named of k name).gives ManifestFits
 unfolding manifest_named
-named-fits of k name = reads-past ManifestFits (file_at of (manifest_place k) 1048576 name) _ (λ bytes. behind-has ManifestFits (at_manifest k) (manifest_in bytes) (manifest-in-fits bytes))
+named-fits of k name = reads-past ManifestFits (file_at of (manifest_place k) 1048576 name) _ (λ bytes. after-has ManifestFits (at_manifest k) (manifest_in bytes) (manifest-in-fits bytes))
 
 item-fits : (of : Contents) (k : ℕ) (d : Data) → IfOk (manifest_item of k d).gives ManifestFits
 item-fits of k d =
-    let go : (o : Option (List ℕ)) → IfOk (manifest_from of k o d).gives ManifestFits = elim [ Some name ↦ named-fits of k name | None ↦ behind-has ManifestFits (at_manifest k) (manifest_of d) (manifest-fits d) ] in
+    let go : (o : Option (List ℕ)) → IfOk (manifest_from of k o d).gives ManifestFits = elim [ Some name ↦ named-fits of k name | None ↦ after-has ManifestFits (at_manifest k) (manifest_of d) (manifest-fits d) ] in
     go (as_str d)
 
 manifests-fit : (of : Contents) (ds : Items) (front : List Manifest) (k : ℕ) → AllByRecursion ManifestFits front → IfOk (manifests_after of front k ds).gives (AllByRecursion ManifestFits)
@@ -144,7 +144,7 @@ parts-fit : (of : Contents) (d : Data) → IfOk (parts_of of d).gives PartsFit
 unfolding parts_of
 parts-fit of d =
     reads-past PartsFit (asks_nothing (behind [] (level_of d))) _ (λ level.
-    reads (AllByRecursion ManifestFits) PartsFit (manifests_of of d) _ (all-manifests-fit of d) (λ manifests h. behind-has PartsFit [] (parts_with level manifests d) (parts-with-fit level manifests d h)))
+    reads (AllByRecursion ManifestFits) PartsFit (manifests_of of d) _ (all-manifests-fit of d) (λ manifests h. after-has PartsFit [] (parts_with level manifests d) (parts-with-fit level manifests d h)))
 
 pub system-of-fits : (of : Contents) (bytes : List ℕ) → IfOk (system_of of bytes).gives PartsFit
 unfolding system_of

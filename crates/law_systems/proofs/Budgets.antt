@@ -4,7 +4,7 @@ use Rattle.std.specs.List.{AllByRecursion as Each, enumerate_from, list_any}
 use Rattle.std.specs.Option.{option_map, option_map_or}
 use Rattle.std.proofs.lemmas.Option.{slice_get-map}
 use Rattle.std.proofs.lemmas.Bool.{not_from_false, and_from, or_left, or_right, or_cases, false≢true}
-use Rattle.law_lists.proofs.Lists.{slice_get-behind, map_nil, AllByRecursion-weaker, AllByRecursion-append}
+use Rattle.law_lists.proofs.Lists.{slice_get-after, map_nil, AllByRecursion-weaker, AllByRecursion-append}
 use Rattle.law_lists.proofs.Bools.{if_passes}
 use Rattle.ffm_model.specs.declared.system.Budget.{Budget}
 use Rattle.ffm_model.specs.declared.system.Service.{Service}
@@ -27,7 +27,7 @@ use Rattle.ffm_model.proofs.RuleLemmas.{only_if_nil}
 numbered_get : {A B : Type 0} (f : A → B) (k : ℕ) (xs : List A) (front : List B) → length front ≡ k → Each (λ e. slice_get (front ++ map f xs) e.0 ≡ Some (f e.1)) (enumerate_from k xs)
 numbered_get f k [] front e = tt
 numbered_get f k (x ∷ xs) front e = (
-  slice_get-behind front (f x) (map f xs) k e,
+  slice_get-after front (f x) (map f xs) k e,
   subst (λ ys. Each (λ e. slice_get ys e.0 ≡ Some (f e.1)) (enumerate_from (k + 1) xs)) (append_assoc front (f x ∷ []) (map f xs))
       (numbered_get f (k + 1) xs (front ++ f x ∷ []) (let l = length-append front (f x ∷ []) in omega arith)),
 )
@@ -108,8 +108,8 @@ of_client p e from =
     permitted_allowed p e.0 e.1 (λ v. v.nonsecure)
     (AllByRecursion-weaker (λ x. x.manifest < 0 + length p.manifests) (λ x. x.value.nonsecure ≡ true → x.manifest ≡ e.0 → ⊥) (λ x below used same. omega arith) (services_in p) (items_below (λ m. m.services) 0 p.manifests))
 
-clients_behind : (p : PartsRecord) → Each (λ e. length p.manifests ≤ e.0) (enumerate_from (length p.manifests) p.clients)
-clients_behind p =
+clients_after : (p : PartsRecord) → Each (λ e. length p.manifests ≤ e.0) (enumerate_from (length p.manifests) p.clients)
+clients_after p =
     AllByRecursion-weaker (λ e. (length p.manifests ≤ e.0) × (e.0 < length p.manifests + length p.clients)) (λ e. length p.manifests ≤ e.0) (λ e h. h.0)
     (enumerate_from (length p.manifests) p.clients) (numbers_of (length p.manifests) p.clients)
 
@@ -129,7 +129,7 @@ of_partitions : (p : PartsRecord) → self_dependencies p ≡ [] → Each (Allow
 of_partitions p rule = flat_each (NoneOwn p) (Allowed (services_without_index p)) (permitted_to_partition (services_in p)) (of_partition p) 0 p.manifests (none_own p rule)
 
 of_clients : (p : PartsRecord) → Each (AllowedAmong p (length p.manifests) (actors_of p)) (to_clients p)
-of_clients p = flat_each (λ e. length p.manifests ≤ e.0) (Allowed (services_without_index p)) (permitted_to_client (services_in p)) (of_client p) (length p.manifests) p.clients (clients_behind p)
+of_clients p = flat_each (λ e. length p.manifests ≤ e.0) (Allowed (services_without_index p)) (permitted_to_client (services_in p)) (of_client p) (length p.manifests) p.clients (clients_after p)
 
 all_allowed : (p : PartsRecord) → self_dependencies p ≡ [] → Each (AllowedAmong p 0 (actors_of p)) (permitted p)
 all_allowed p rule =
@@ -150,7 +150,7 @@ all_in_order p rule =
     (flat_pairs (NoneOwn p) (Allowed (services_without_index p)) ComesBefore (permitted_to_partition (services_in p)) (of_partition p)
     (λ e h. permitted_in_order e.0 e.1.name (depends_on e.1) (services_in p)) (later_actor (services_without_index p)) 0 p.manifests (none_own p rule))
     (flat_pairs (λ e. length p.manifests ≤ e.0) (Allowed (services_without_index p)) ComesBefore (permitted_to_client (services_in p)) (of_client p)
-    (λ e h. permitted_in_order e.0 e.1 (λ v. v.nonsecure) (services_in p)) (later_actor (services_without_index p)) (length p.manifests) p.clients (clients_behind p))
+    (λ e h. permitted_in_order e.0 e.1 (λ v. v.nonsecure) (services_in p)) (later_actor (services_without_index p)) (length p.manifests) p.clients (clients_after p))
     (across_from (AllowedAmong p 0 (0 + length p.manifests)) (AllowedAmong p (length p.manifests) (actors_of p)) ComesBefore
     (λ a b h k. later_actor (services_without_index p) h.number k.number a b (let l : h.number < 0 + length p.manifests = h.below in let m : length p.manifests ≤ k.number = k.from in omega arith) h.holds k.holds)
     (to_partitions p) (to_clients p) (of_partitions p rule) (of_clients p))

@@ -18,7 +18,7 @@ use Rattle.ffm_model.specs.Compiled.{index_for, services_from, stated_indices, s
 use Rattle.law_systems.proofs.Lists.{all_from}
 use Rattle.law_systems.proofs.Numbered.{each_unnumbered}
 use Rattle.law_lists.proofs.Tests.{list_any-left, list_any-right}
-use Rattle.law_lists.proofs.Lists.{slice_get-behind, AllByRecursion-weaker}
+use Rattle.law_lists.proofs.Lists.{slice_get-after, AllByRecursion-weaker}
 use Rattle.ffm_model.proofs.RuleLemmas.{rounded_up}
 
 -- ---- services of a partition
@@ -73,7 +73,7 @@ fit_from services level k base [] front rest e h owned = tt
 fit_from services level k base (m ∷ ms) front rest e h owned =
     let ram : Region = record { base = base; size = ram_needed m; class = Ram (domain_at level m.rot (k + 1)) } in
     let behind = rams_from level (k + 1) (base + ram_needed m) ms ++ rest in
-    let bytes : option_map_or (λ (r : Region). r.size) (slice_get (front ++ ram ∷ behind) k) 0 ≡ ram_needed m = ap (λ o. option_map_or (λ (r : Region). r.size) o 0) (slice_get-behind front ram behind k e) in
+    let bytes : option_map_or (λ (r : Region). r.size) (slice_get (front ++ ram ∷ behind) k) 0 ≡ ram_needed m = ap (λ o. option_map_or (λ (r : Region). r.size) o 0) (slice_get-after front ram behind k e) in
     let heap : m.heap_size ≤ ram_needed m = heap_in_ram m in (
       (
         functions_by m.sfn _ _ (ram_needed m) bytes owned.0 (λ functions. stack_in_ram m (h.0.stack_size functions)),

@@ -3,7 +3,7 @@ use Rattle.std.proofs.Common.{ℕ, suc, ◌≡◌, ◌+◌, ◌<◌, ◌≤◌, 
 use Rattle.std.specs.List.{AllByRecursion as Each, enumerate_from, list_any}
 use Rattle.std.specs.Option.{option_map_or}
 use Rattle.std.proofs.lemmas.Bool.{not_from_false, or_left, or_right, cases_eq}
-use Rattle.law_lists.proofs.Lists.{slice_get-behind, AllByRecursion-weaker}
+use Rattle.law_lists.proofs.Lists.{slice_get-after, AllByRecursion-weaker}
 use Rattle.ffm_model.specs.declared.constants.TheConstants.{RAM_BASE}
 use Rattle.ffm_model.specs.declared.system.Region.{Region}
 use Rattle.ffm_model.specs.declared.system.Partition.{Partition}
@@ -30,7 +30,7 @@ rams_found level k base [] front rest e = tt
 rams_found level k base (m ∷ ms) front rest e =
     let ram : Region = record { base = base; size = ram_needed m; class = Ram (domain_at level m.rot (k + 1)) } in
     let behind = rams_from level (k + 1) (base + ram_needed m) ms ++ rest in (
-      own_domain (domain_at level m.rot (k + 1)) (slice_get (front ++ ram ∷ behind) k) ram (slice_get-behind front ram behind k e) (eq-eqb _ _ refl),
+      own_domain (domain_at level m.rot (k + 1)) (slice_get (front ++ ram ∷ behind) k) ram (slice_get-after front ram behind k e) (eq-eqb _ _ refl),
       subst (λ (regions : List Region). Each (HasRam regions) (map (partition_of level) (enumerate_from (k + 1) ms))) (append_assoc front (ram ∷ []) behind)
           (rams_found level (k + 1) (base + ram_needed m) ms (front ++ ram ∷ []) rest (let l = length-append front (ram ∷ []) in omega arith)),
     )

@@ -4,7 +4,7 @@ use Rattle.std.specs.Prelude.{nat_le}
 use Rattle.std.specs.List.{AllByRecursion as Each, list_any, list_all, enumerate_from, range_with_len}
 use Rattle.std.specs.Option.{option_map_or}
 use Rattle.std.proofs.lemmas.Bool.{or_left, or_right, and_from, not_from_false, false_from_ne_true, false≢true}
-use Rattle.law_lists.proofs.Lists.{slice_get-behind, map_nil, AllByRecursion-weaker, AllByRecursion-append}
+use Rattle.law_lists.proofs.Lists.{slice_get-after, map_nil, AllByRecursion-weaker, AllByRecursion-append}
 use Rattle.law_lists.proofs.Bools.{if_passes}
 use Rattle.ffm_model.specs.declared.system.Service.{Service}
 use Rattle.ffm_model.specs.ManifestItems.{ManifestRecord, ServiceRecord, IsManifest, IsService}
@@ -156,7 +156,7 @@ connected_from taken k [] front e = tt
 connected_from taken k (x ∷ xs) front e =
     let i : ℕ = index_for taken x.value in
     let v : Service = service_of i x in (
-      λ h. no_index taken x _ (slice_get-behind front v (services_from (i ∷ taken) xs) k e) h,
+      λ h. no_index taken x _ (slice_get-after front v (services_from (i ∷ taken) xs) k e) h,
       subst (λ vs. Each (Connected vs) (enumerate_from (k + 1) xs)) (append_assoc front (v ∷ []) (services_from (i ∷ taken) xs))
           (connected_from (i ∷ taken) (k + 1) xs (front ++ v ∷ []) (let l = length-append front (v ∷ []) in omega arith)),
     )

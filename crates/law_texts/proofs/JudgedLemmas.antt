@@ -56,7 +56,7 @@ same-entry xs ys x y us vs es p q n =
 
 -- ---- a trace as far as it was judged
 
-record Behind (s : System) (m : ByteMap) (limit : ℕ) (es done left : List Entry) (n : ℕ) (st : State) : Type 0 where
+record After (s : System) (m : ByteMap) (limit : ℕ) (es done left : List Entry) (n : ℕ) (st : State) : Type 0 where
   parts : es ≡ done ++ left
   count : length done ≡ n
   state : after s m done ≡ Some st
@@ -83,7 +83,7 @@ never-legal : (j : Judgement) (i : ℕ) → j ≡ IllegalAt i → j ≡ Legal �
 never-legal j i e f = true≢false (ap is-legal (sym f ∙ e))
 
 -- it is wrong at the next place, and not legal
-wrong-next : (s : System) (m : ByteMap) (limit : ℕ) (es done left : List Entry) (n : ℕ) (st : State) (v : Verdict) (j : Judgement) → Behind s m limit es done left n st
+wrong-next : (s : System) (m : ByteMap) (limit : ℕ) (es done left : List Entry) (n : ℕ) (st : State) (v : Verdict) (j : Judgement) → After s m limit es done left n st
     → j ≡ IllegalAt (n + 1) → MayBeWrong s m limit es (n + 1) → (IsLegal s m limit es v → ⊥) → Comes s m limit es v j
 wrong-next s m limit es done left n st v j b is wrong not = record {
   sound = λ e. absurd (never-legal j (n + 1) is e);
@@ -95,17 +95,17 @@ wrong-next s m limit es done left n st v j b is wrong not = record {
 
 -- ---- after all entries
 
-at-end : (s : System) (m : ByteMap) (limit : ℕ) (es done : List Entry) (n : ℕ) (st : State) → Behind s m limit es done [] n st → es ≡ done
+at-end : (s : System) (m : ByteMap) (limit : ℕ) (es done : List Entry) (n : ℕ) (st : State) → After s m limit es done [] n st → es ≡ done
 at-end s m limit es done n st b = b.parts ∙ append-nil done
 
-end-verdict : (s : System) (m : ByteMap) (limit : ℕ) (es done : List Entry) (n : ℕ) (st : State) → Behind s m limit es done [] n st → verdict_of s m limit es ≡ verdict_at s limit n st.spm
+end-verdict : (s : System) (m : ByteMap) (limit : ℕ) (es done : List Entry) (n : ℕ) (st : State) → After s m limit es done [] n st → verdict_of s m limit es ≡ verdict_at s limit n st.spm
 end-verdict s m limit es done n st b =
     let whole : es ≡ done = at-end s m limit es done n st b in
     ap (λ (l : List Entry). verdict_of s m limit l) whole
     ∙ ap (λ (o : Option State). option_and_then (λ x. verdict_at s limit (length done) x.spm) o) b.state
     ∙ ap (λ (k : ℕ). verdict_at s limit k st.spm) b.count
 
-ended : (s : System) (m : ByteMap) (limit : ℕ) (es done : List Entry) (n : ℕ) (st : State) (v : Verdict) → Behind s m limit es done [] n st → (b : Bool)
+ended : (s : System) (m : ByteMap) (limit : ℕ) (es done : List Entry) (n : ℕ) (st : State) (v : Verdict) → After s m limit es done [] n st → (b : Bool)
     → option_map_or (verdict_eq v) (verdict_at s limit n st.spm) false ≡ b → Comes s m limit es v (if b then Legal else IllegalAt (n + 1))
 ended s m limit es done n st v b true e =
     let whole : es ≡ done = at-end s m limit es done n st b in
@@ -126,13 +126,13 @@ ended s m limit es done n st v b false e =
 
 -- ---- one entry further
 
-long : (s : System) (m : ByteMap) (limit : ℕ) (es done : List Entry) (e : Entry) (left : List Entry) (n : ℕ) (st : State) → Behind s m limit es done (e ∷ left) n st → n < length es
+long : (s : System) (m : ByteMap) (limit : ℕ) (es done : List Entry) (e : Entry) (left : List Entry) (n : ℕ) (st : State) → After s m limit es done (e ∷ left) n st → n < length es
 long s m limit es done e left n st b =
     let whole : length es ≡ length done + length (e ∷ left) = ap (λ (l : List Entry). length l) b.parts ∙ length-append done (e ∷ left) in
     omega (arith, whole, b.count)
 
 -- the run up to an entry
-run-to : (s : System) (m : ByteMap) (limit : ℕ) (es done : List Entry) (e : Entry) (left : List Entry) (n : ℕ) (st : State) → Behind s m limit es done (e ∷ left) n st
+run-to : (s : System) (m : ByteMap) (limit : ℕ) (es done : List Entry) (e : Entry) (left : List Entry) (n : ℕ) (st : State) → After s m limit es done (e ∷ left) n st
     → after s m es ≡ fold (step_on s) (step s st e) left
 run-to s m limit es done e left n st b =
     ap (after s m) b.parts ∙ fold-append (step_on s) (Some (opening s m)) done (e ∷ left) ∙ ap (λ (o : Option State). fold (step_on s) (step_on s o e) left) b.state
@@ -145,7 +145,7 @@ none-some None e h = true≢false (sym h)
 none-some (Some x) e h = cc
 
 -- the entry that is a step isn't wrong
-step-right : (s : System) (m : ByteMap) (limit : ℕ) (es done : List Entry) (e : Entry) (left : List Entry) (n : ℕ) (st new : State) → Behind s m limit es done (e ∷ left) n st
+step-right : (s : System) (m : ByteMap) (limit : ℕ) (es done : List Entry) (e : Entry) (left : List Entry) (n : ℕ) (st new : State) → After s m limit es done (e ∷ left) n st
     → n < limit → step s st e ≡ Some new → MayBeWrong s m limit es (n + 1) → ⊥
 step-right s m limit es done e left n st new b below is (inl w) =
     let count : length done ≡ length w.before = omega (arith, b.count, w.place) in
@@ -157,8 +157,8 @@ step-right s m limit es done e left n st new b below is (inr (inl w)) = absurd (
 step-right s m limit es done e left n st new b below is (inr (inr w)) = absurd (omega (arith, w, long s m limit es done e left n st b))
 
 -- after it
-further : (s : System) (m : ByteMap) (limit : ℕ) (es done : List Entry) (e : Entry) (left : List Entry) (n : ℕ) (st new : State) → Behind s m limit es done (e ∷ left) n st
-    → n < limit → step s st e ≡ Some new → Behind s m limit es (done ++ e ∷ []) left (n + 1) new
+further : (s : System) (m : ByteMap) (limit : ℕ) (es done : List Entry) (e : Entry) (left : List Entry) (n : ℕ) (st new : State) → After s m limit es done (e ∷ left) n st
+    → n < limit → step s st e ≡ Some new → After s m limit es (done ++ e ∷ []) left (n + 1) new
 further s m limit es done e left n st new b below is = record {
   parts = b.parts ∙ sym (append_assoc done (e ∷ []) left);
   count = length-append done (e ∷ []) ∙ ap (λ (k : ℕ). k + 1) b.count;
@@ -172,7 +172,7 @@ further s m limit es done e left n st new b below is = record {
 }
 
 -- after n entries, the judgement of the others is plain
-judged-plainly : (s : System) (m : ByteMap) (limit : ℕ) (v : Verdict) (es done left : List Entry) (n : ℕ) (st : State) → Behind s m limit es done left n st
+judged-plainly : (s : System) (m : ByteMap) (limit : ℕ) (v : Verdict) (es done left : List Entry) (n : ℕ) (st : State) → After s m limit es done left n st
     → Comes s m limit es v (judged_from s limit v n left st)
 judged-plainly s m limit v es done [] n st b = ended s m limit es done n st v b _ refl
 judged-plainly s m limit v es done (e ∷ left) n st b =

@@ -9,7 +9,7 @@ use Rattle.std.specs.Str.Parse.{AllDigits, digits_value_after}
 use Rattle.std.proofs.lemmas.Bool.Decides.{nat_tests}
 use Rattle.std.proofs.lemmas.Fmt.{decimal_is_IsNumeral}
 use Rattle.ffm_model.specs.declared.script.Operand.TheVariants.{Number}
-use Rattle.script_asm.specs.Words.{decimal_behind, decimal_number, is_blank, number_of, operand_of, words_of}
+use Rattle.script_asm.specs.Words.{decimal_after, decimal_number, is_blank, number_of, operand_of, words_of}
 use Rattle.law_texts.proofs.Scenario.{rounds_line}
 
 -- ---- words
@@ -36,7 +36,7 @@ grows : (n : ℕ) (ds : List ℕ) → n ≤ digits_value_after 10 n ds
 grows n [] = omega arith
 grows n (b ∷ bs) = omega (arith, grows (n * 10 + digit_value b) bs)
 
-digits-again : (limit n : ℕ) (ds : List ℕ) → AllDigits 10 ds → digits_value_after 10 n ds ≤ limit → decimal_behind limit n ds ≡ Some (digits_value_after 10 n ds)
+digits-again : (limit n : ℕ) (ds : List ℕ) → AllDigits 10 ds → digits_value_after 10 n ds ≤ limit → decimal_after limit n ds ≡ Some (digits_value_after 10 n ds)
 digits-again limit n [] d le = refl
 digits-again limit n (b ∷ ds) d le =
     let m : ℕ = n * 10 + digit_value b in

@@ -87,8 +87,8 @@ lexemes_in hole (Some text) = lex between text
 abbrev pub lexemes_of : Lexeme → List Piece → List Lexeme
 lexemes_of hole pieces = flat_map (lexemes_in hole) pieces
 
-behind-string : (ws u : List ℕ) → (ws ++ 34 ∷ []) ++ u ≡ ws ++ 34 ∷ u
-behind-string ws u = append_assoc ws (34 ∷ []) u
+after-string : (ws u : List ℕ) → (ws ++ 34 ∷ []) ++ u ≡ ws ++ 34 ∷ u
+after-string ws u = append_assoc ws (34 ∷ []) u
 
 -- ---- pieces that stand for themselves, whatever follows
 
@@ -134,8 +134,8 @@ rest-clean p ps c = record {
 piece-quoted : (ws : List ℕ) (p : Piece) (ps : List Piece) (u : List ℕ) → list_all is_plain ws ≡ true → AreClean (p ∷ ps) → quoted outside (filled ws p ++ u) ≡ filled ws p ++ quoted outside u
 unfolding quoted is_run_byte is_fraction_byte
 piece-quoted ws None ps u e c =
-    ap (λ (text : List ℕ). 34 ∷ quoted in_string text) (behind-string ws u)
-    ∙ ap (λ (text : List ℕ). 34 ∷ text) (quoted-plain ws u e ∙ sym (behind-string ws (quoted outside u)))
+    ap (λ (text : List ℕ). 34 ∷ quoted in_string text) (after-string ws u)
+    ∙ ap (λ (text : List ℕ). 34 ∷ text) (quoted-plain ws u e ∙ sym (after-string ws (quoted outside u)))
 piece-quoted ws (Some text) ps u e c = (first-same _ _ _ _ (c.quotes u)).0
 
 pub text-quoted : (ws : List ℕ) (pieces : List Piece) (u : List ℕ) → list_all is_plain ws ≡ true → AreClean pieces
@@ -152,7 +152,7 @@ piece-lexed : (ws : List ℕ) (p : Piece) (ps : List Piece) (u : List ℕ) → l
     → lex between (filled ws p ++ u) ≡ lexemes_in (lexer.token (token.string ws)) p ++ lex between u
 unfolding lex
 piece-lexed ws None ps u e c =
-    ap (λ (text : List ℕ). lexer.token (lexer.string_token (content plain text)) ∷ lex lexer.in_string text) (behind-string ws u)
+    ap (λ (text : List ℕ). lexer.token (lexer.string_token (content plain text)) ∷ lex lexer.in_string text) (after-string ws u)
     ∙ ap₂ (λ (o : Option (List ℕ)) (rest : List Lexeme). lexer.token (lexer.string_token o) ∷ rest) (content-plain ws u e) (lexed-plain ws u e)
 piece-lexed ws (Some text) ps u e c = (first-same _ _ _ _ (c.lexes u)).0
 

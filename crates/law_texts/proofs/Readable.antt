@@ -10,7 +10,7 @@ use Rattle.ffm_model.specs.Actors.{counts_of}
 use Rattle.ffm_model.specs.Compiled.{compiled}
 use Rattle.ffm_model.specs.Memory.{ByteMap, opening_memory}
 use Rattle.ffm_model.specs.Reading.{Contents, Stop, asks_nothing, file_at}
-use Rattle.ffm_model.specs.Restarts.{FinishedRun, RunsFrom, memory_behind, memory_reset}
+use Rattle.ffm_model.specs.Restarts.{FinishedRun, RunsFrom, memory_after, memory_reset}
 use Rattle.ffm_model.specs.Scenarios.{scenario_in}
 use Rattle.ffm_model.specs.Systems.{stopped, system_of}
 use Rattle.ffm_model.specs.TraceText.{EntryFits}
@@ -115,7 +115,7 @@ module _ (s : System) (c : Scenario) (programs : List Program) (threads : Bool) 
   all-readable m left [] h fits = tt
   all-readable m left (r ∷ []) h fits = (one-readable s c programs threads m r few h.0 fits.0, tt)
   all-readable m left (r ∷ q ∷ rs) h fits =
-      (one-readable s c programs threads m r few h.0 fits.0, all-readable (memory_reset s first (memory_behind s m r.entries)) (left - 1) (q ∷ rs) h.2 fits.1)
+      (one-readable s c programs threads m r few h.0 fits.0, all-readable (memory_reset s first (memory_after s m r.entries)) (left - 1) (q ∷ rs) h.2 fits.1)
 
 pub run-readable : (of : Contents) (threads : Bool) (system scenario : List ℕ) (w : Work) (f : RunFiles of threads system scenario w) (runs : List FinishedRun) → AreRuns f.s f.c f.programs threads f.c.restarts runs → AllByRecursion (IsReadable f.s) runs
 run-readable of threads system scenario w f runs ran =

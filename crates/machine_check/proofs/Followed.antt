@@ -19,7 +19,7 @@ use Rattle.law_lists.proofs.Options.{some-value}
 use Rattle.machine_calls.specs.Machine.{state_of}
 use Rattle.machine_check.specs.declared.judging.Checker.{Checker}
 use Rattle.machine_check.specs.Checking.{Accepts, ChecksTo, IsAccepted, Starts, Stops}
-use Rattle.machine_check.specs.Reaching.{IsBehind, IsReached}
+use Rattle.machine_check.specs.Reaching.{IsAfter, IsReached}
 use Rattle.machine_check.proofs.Judged.{either}
 
 -- ---- entry by entry
@@ -28,8 +28,8 @@ pub there : {X : Type 0} (o : Option X) (x : X) → o ≡ Some x → IsSome o
 there o x e = rw e refl
 
 -- before the first entry
-pub behind_none : (s : System) (m : ByteMap) (c : Checker) → Starts s m c → IsBehind s m [] c
-behind_none s m c start = record {
+pub after_none : (s : System) (m : ByteMap) (c : Checker) → Starts s m c → IsAfter s m [] c
+after_none s m c start = record {
   count = start.count;
   handles = [];
   knows = start.knows;
@@ -39,13 +39,13 @@ behind_none s m c start = record {
 }
 
 -- the entry is a step after those before it, or none, as it is at their state
-pub one_more : (s : System) (m : ByteMap) (front : List Entry) (c : Checker) (k : IsBehind s m front c) (e : Entry) → after s m (front ++ e ∷ []) ≡ step s (state_of c.machine k.handles) e
+pub one_more : (s : System) (m : ByteMap) (front : List Entry) (c : Checker) (k : IsAfter s m front c) (e : Entry) → after s m (front ++ e ∷ []) ≡ step s (state_of c.machine k.handles) e
 one_more s m front c k e = after-push s m front e ∙ ap (option_and_then (λ x. step s x e)) k.state
 
 -- the entry was accepted
-pub behind_more : (s : System) (m : ByteMap) (limit : ℕ) (front : List Entry) (old new : Checker) (k : IsBehind s m front old) (e : Entry)
-    → IsAccepted s limit old k.handles e new → IsBehind s m (front ++ e ∷ []) new
-behind_more s m limit front old new k e it = record {
+pub after_more : (s : System) (m : ByteMap) (limit : ℕ) (front : List Entry) (old new : Checker) (k : IsAfter s m front old) (e : Entry)
+    → IsAccepted s limit old k.handles e new → IsAfter s m (front ++ e ∷ []) new
+after_more s m limit front old new k e it = record {
   count = omega (arith, it.count, k.count, length-append front (e ∷ []));
   handles = it.given;
   knows = it.knows;
@@ -55,7 +55,7 @@ behind_more s m limit front old new k e it = record {
 }
 
 -- the entry was not accepted
-pub stopped : (s : System) (m : ByteMap) (limit : ℕ) (front rest es : List Entry) (old new : Checker) (k : IsBehind s m front old) (e : Entry) (b : Bool)
+pub stopped : (s : System) (m : ByteMap) (limit : ℕ) (front rest es : List Entry) (old new : Checker) (k : IsAfter s m front old) (e : Entry) (b : Bool)
     → es ≡ front ++ e ∷ rest → old.count ≤ limit → Accepts s limit old k.handles e (Ok b) new → b ≡ false → Stops s m limit es new.count
 stopped s m limit front rest es old new k e true parts within accepts is = absurd cc
 stopped s m limit front rest es old new k e false parts within accepts is = record {
@@ -86,14 +86,14 @@ pub below_length : (s : System) (m : ByteMap) (limit : ℕ) (es : List Entry) (n
 below_length s m limit es n k = omega (arith, k.count, ap (λ (l : List Entry). length l) k.parts, length-append k.front (k.entry ∷ k.rest))
 
 -- the entries in front of the one that is none lead to it
-pub part_reached : (s : System) (m : ByteMap) (limit : ℕ) (es : List Entry) (n : ℕ) (c : Checker) → Stops s m limit es n → IsBehind s m (take n es) c → IsReached s m limit es c
+pub part_reached : (s : System) (m : ByteMap) (limit : ℕ) (es : List Entry) (n : ℕ) (c : Checker) → Stops s m limit es n → IsAfter s m (take n es) c → IsReached s m limit es c
 part_reached s m limit es n c k behind =
     let below : n < length es = below_length s m limit es n k in
     let same : c.count ≡ n = behind.count ∙ length-take-le n es (omega arith) in
     record {
       few = omega (arith, same);
       within = omega (arith, same, k.within);
-      behind = subst (λ i. IsBehind s m (take i es) c) (sym same) behind;
+      behind = subst (λ i. IsAfter s m (take i es) c) (sym same) behind;
       last = inr (⊎_elim (λ (full : n ≡ limit). inl (same ∙ full)) (λ (none : after s m (k.front ++ k.entry ∷ []) ≡ None). inr (ap (λ i. after s m (take (i + 1) es)) same ∙ ap (after s m) (next_taken s m limit es n k) ∙ none)) k.next);
     }
 
@@ -113,22 +113,22 @@ no_second_stop s m limit es n i k again =
 -- ---- the judgement
 
 -- the entries of a run within the limit leave it to those after them
-pub judged_behind : (s : System) (limit : ℕ) (v : Verdict) (n : ℕ) (front back : List Entry) (st new : State) → fold (step_on s) (Some st) front ≡ Some new → n + length front ≤ limit
+pub judged_after : (s : System) (limit : ℕ) (v : Verdict) (n : ℕ) (front back : List Entry) (st new : State) → fold (step_on s) (Some st) front ≡ Some new → n + length front ≤ limit
     → judged_from s limit v n (front ++ back) st ≡ judged_from s limit v (n + length front) back new
-judged_behind s limit v n [] back st new is within =
+judged_after s limit v n [] back st new is within =
     let same : st ≡ new = cc in
     ap (judged_from s limit v n back) same ∙ ap (λ i. judged_from s limit v i back new) (omega arith)
-judged_behind s limit v n (e ∷ es) back st new is within =
+judged_after s limit v n (e ∷ es) back st new is within =
     let place : n + 1 + length es ≡ n + length (e ∷ es) = omega arith in
     let go : (o : Option State) → fold (step_on s) o es ≡ Some new
     → option_map_or (λ x. judged_from s limit v (n + 1) (es ++ back) x) o (IllegalAt (n + 1)) ≡ judged_from s limit v (n + 1 + length es) back new = elim [
       | None ↦ λ h. absurd (let none = none-stays s es in cc)
-      | Some mid ↦ λ h. judged_behind s limit v (n + 1) es back mid new h (omega arith)
+      | Some mid ↦ λ h. judged_after s limit v (n + 1) es back mid new h (omega arith)
     ] in
     cond-false (nat_le limit n) _ _ (lt-leb limit n (omega arith)) ∙ go (step s st e) is ∙ ap (λ i. judged_from s limit v i back new) place
 
 -- all entries were followed: the verdict decides
-pub all_checked : (s : System) (m : ByteMap) (limit : ℕ) (es : List Entry) (v : Verdict) (c : Checker) → IsBehind s m es c → c.count ≤ limit → ChecksTo s limit v (judged s m limit es v) c []
+pub all_checked : (s : System) (m : ByteMap) (limit : ℕ) (es : List Entry) (v : Verdict) (c : Checker) → IsAfter s m es c → c.count ≤ limit → ChecksTo s limit v (judged s m limit es v) c []
 all_checked s m limit es v c behind within =
     let st = state_of c.machine behind.handles in
     record {
@@ -137,7 +137,7 @@ all_checked s m limit es v c behind within =
       kept = behind.kept;
       made = behind.made;
       judged =
-          ap (λ l. judged_from s limit v 0 l (opening s m)) (sym (append-nil es)) ∙ judged_behind s limit v 0 es [] (opening s m) st behind.state (omega (arith, behind.count))
+          ap (λ l. judged_from s limit v 0 l (opening s m)) (sym (append-nil es)) ∙ judged_after s limit v 0 es [] (opening s m) st behind.state (omega (arith, behind.count))
           ∙ ap (λ n. judged_from s limit v n [] st) (omega (arith, behind.count));
     }
 
@@ -146,7 +146,7 @@ pub part_checked : (s : System) (m : ByteMap) (limit : ℕ) (es : List Entry) (v
 part_checked s m limit es v n k =
     let it = some-value (after s m k.front) k.run in
     let left : judged s m limit es v ≡ judged_from s limit v n (k.entry ∷ k.rest) it.0 =
-    ap (λ l. judged_from s limit v 0 l (opening s m)) k.parts ∙ judged_behind s limit v 0 k.front (k.entry ∷ k.rest) (opening s m) it.0 it.1 (omega (arith, k.count, k.within))
+    ap (λ l. judged_from s limit v 0 l (opening s m)) k.parts ∙ judged_after s limit v 0 k.front (k.entry ∷ k.rest) (opening s m) it.0 it.1 (omega (arith, k.count, k.within))
     ∙ ap (λ i. judged_from s limit v i (k.entry ∷ k.rest) it.0) (omega (arith, k.count)) in
     left ∙ ⊎_elim (λ (full : n ≡ limit). cond-true (nat_le limit n) _ _ (le-leb limit n (omega arith)))
     (λ (none : after s m (k.front ++ k.entry ∷ []) ≡ None).

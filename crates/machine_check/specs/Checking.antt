@@ -15,7 +15,7 @@ use Rattle.machine_check.specs.declared.judging.Followed.{Followed}
 use Rattle.machine_check.specs.declared.judging.Followed.TheVariants as followed
 use Rattle.machine_calls.specs.Machine.{state_of, IsMachineOf}
 use Rattle.machine_check.specs.Performed.{Knows}
-use Rattle.machine_check.specs.Reaching.{IsBehind}
+use Rattle.machine_check.specs.Reaching.{IsAfter}
 
 -- the judgement of the whole trace is that of the entries left, from the state and the count that are kept
 pub record ChecksTo (s : System) (limit : ℕ) (v : Verdict) (j : Judgement) (c : Checker) (left : List Entry) : Type 0 where
@@ -62,5 +62,5 @@ pub record Stops (s : System) (m : ByteMap) (limit : ℕ) (es : List Entry) (n :
 
 -- all entries are within the limit and lead to the state that is kept, or so many do and no more
 abbrev pub Follows : System → ByteMap → ℕ → List Entry → Followed → Type 0
-Follows s m limit es (followed.All c) = IsBehind s m es c × (c.count ≤ limit)
+Follows s m limit es (followed.All c) = IsAfter s m es c × (c.count ≤ limit)
 Follows s m limit es (followed.Part n) = Stops s m limit es n

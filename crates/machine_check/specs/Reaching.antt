@@ -14,7 +14,7 @@ use Rattle.machine_check.specs.declared.judging.Checker.{Checker}
 use Rattle.machine_check.specs.Performed.{Knows}
 
 -- the entries are a run, and the state after them is the one that is kept
-pub record IsBehind (s : System) (m : ByteMap) (es : List Entry) (c : Checker) : Type 0 where
+pub record IsAfter (s : System) (m : ByteMap) (es : List Entry) (c : Checker) : Type 0 where
   pub count : c.count ≡ length es
   pub handles : List Handle
   pub knows : Knows c.given handles
@@ -30,7 +30,7 @@ IsLast s m limit es n = (n ≡ length es) ⊎ ((n ≡ limit) ⊎ (after s m (tak
 pub record IsReached (s : System) (m : ByteMap) (limit : ℕ) (es : List Entry) (c : Checker) : Type 0 where
   pub few : c.count ≤ length es
   pub within : c.count ≤ limit
-  pub behind : IsBehind s m (take c.count es) c
+  pub behind : IsAfter s m (take c.count es) c
   pub last : IsLast s m limit es c.count
 
 -- the outcome with which an actor's call is a step; none where it is one with no outcome

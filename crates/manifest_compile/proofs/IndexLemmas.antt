@@ -68,8 +68,8 @@ turned false true = refl
 turned false false = refl
 
 -- one index more, after the others
-pub taken_behind : (taken : List ℕ) (i : ℕ) (xs : List (Located ServiceRecord)) → services_from (i ∷ taken) xs ≡ services_from (taken ++ i ∷ []) xs
-taken_behind taken i xs = services_same (i ∷ taken) (taken ++ i ∷ []) xs (λ j. turned (i == j) (is_taken taken j) ∙ sym (list_any-append (λ t. t == j) taken (i ∷ [])))
+pub taken_after : (taken : List ℕ) (i : ℕ) (xs : List (Located ServiceRecord)) → services_from (i ∷ taken) xs ≡ services_from (taken ++ i ∷ []) xs
+taken_after taken i xs = services_same (i ∷ taken) (taken ++ i ∷ []) xs (λ j. turned (i == j) (is_taken taken j) ∙ sym (list_any-append (λ t. t == j) taken (i ∷ [])))
 
 -- one service more
 pub services_more : (front front_2 want : List Service) (taken taken_2 : List ℕ) (x : Located ServiceRecord) (rest all : List (Located ServiceRecord)) (i : ℕ) (v : Service)
@@ -78,7 +78,7 @@ pub services_more : (front front_2 want : List Service) (taken taken_2 : List �
 services_more front front_2 want taken taken_2 x rest all i v a b c d e so_far =
     ap₂ (λ f t. f ++ services_from t rest) d e
     ∙ append_assoc front (v ∷ []) (services_from (taken ++ i ∷ []) rest)
-    ∙ ap (λ vs. front ++ v ∷ vs) (sym (taken_behind taken i rest))
+    ∙ ap (λ vs. front ++ v ∷ vs) (sym (taken_after taken i rest))
     ∙ ap (λ w. front ++ w ∷ services_from (i ∷ taken) rest) c
     ∙ ap (λ j. front ++ service_of j x ∷ services_from (j ∷ taken) rest) b
     ∙ ap (λ xs. front ++ services_from taken xs) (sym a)

@@ -10,9 +10,9 @@ use Rattle.manifest_compile.proofs.GraphLemmas.{each_at}
 abbrev pub HasPlace : List ManifestRecord → Located ServiceRecord → Type 0
 HasPlace ms x = (x.manifest < length ms) × ((d : ManifestRecord) → x.item < length (get_or ms x.manifest d).services)
 
-get_behind : (front : List ManifestRecord) (m : ManifestRecord) (ms : List ManifestRecord) (k : ℕ) (d : ManifestRecord) → length front ≡ k → get_or (front ++ m ∷ ms) k d ≡ m
-get_behind [] m ms k d e = rw (← e) refl
-get_behind (y ∷ ys) m ms k d e = rw (← e) (get_behind ys m ms (length ys) d refl)
+get_after : (front : List ManifestRecord) (m : ManifestRecord) (ms : List ManifestRecord) (k : ℕ) (d : ManifestRecord) → length front ≡ k → get_or (front ++ m ∷ ms) k d ≡ m
+get_after [] m ms k d e = rw (← e) refl
+get_after (y ∷ ys) m ms k d e = rw (← e) (get_after ys m ms (length ys) d refl)
 
 items_in : (k i : ℕ) (xs : List ServiceRecord) → Each (λ x. (x.manifest ≡ k) × (x.item < i + length xs)) (located_in k i xs)
 items_in k i [] = tt
@@ -24,7 +24,7 @@ items_in k i (x ∷ xs) = (
 here : (front : List ManifestRecord) (m : ManifestRecord) (ms : List ManifestRecord) (k : ℕ) (x : Located ServiceRecord) → length front ≡ k → x.manifest ≡ k → x.item < 0 + length m.services → HasPlace (front ++ m ∷ ms) x
 here front m ms k x e is below = (
   let all : length (front ++ m ∷ ms) ≡ length front + length (m ∷ ms) = length-append front (m ∷ ms) in omega (arith, all),
-  λ d. rw (is, get_behind front m ms k d e) (omega arith),
+  λ d. rw (is, get_after front m ms k d e) (omega arith),
 )
 
 places_from : (front : List ManifestRecord) (k : ℕ) (ms : List ManifestRecord) → length front ≡ k → Each (HasPlace (front ++ ms)) (located_from (λ m. m.services) k ms)

@@ -19,25 +19,25 @@ behind bs = drop (prefix_len is_run_byte bs) bs
 run_from : (b : ℕ) (bs : List ℕ) → is_run_byte b ≡ true → run (b ∷ bs) ≡ b ∷ run bs
 run_from b bs is = rw (is, one-add) refl
 
-behind_from : (b : ℕ) (bs : List ℕ) → is_run_byte b ≡ true → behind (b ∷ bs) ≡ behind bs
-behind_from b bs is = rw (is, one-add) refl
+after_from : (b : ℕ) (bs : List ℕ) → is_run_byte b ≡ true → behind (b ∷ bs) ≡ behind bs
+after_from b bs is = rw (is, one-add) refl
 
 no_run_from : (b : ℕ) (bs : List ℕ) → is_run_byte b ≡ false → run (b ∷ bs) ≡ []
 no_run_from b bs is = rw is refl
 
-all_behind : (b : ℕ) (bs : List ℕ) → is_run_byte b ≡ false → behind (b ∷ bs) ≡ b ∷ bs
-all_behind b bs is = rw is refl
+all_after : (b : ℕ) (bs : List ℕ) → is_run_byte b ≡ false → behind (b ∷ bs) ≡ b ∷ bs
+all_after b bs is = rw is refl
 
 in_run_at : (marked : Bool) (b : ℕ) (bs : List ℕ) (t : Bool) → is_run_byte b ≡ t → quoted (in_run marked) bs ≡ run bs ++ (marks marked ++ quoted outside (behind bs))
     → quoted (in_run marked) (b ∷ bs) ≡ run (b ∷ bs) ++ (marks marked ++ quoted outside (behind (b ∷ bs)))
 unfolding quoted
 in_run_at marked b bs true is later =
     let step : quoted (in_run marked) (b ∷ bs) ≡ b ∷ quoted (in_run marked) bs = rw is refl in
-    step ∙ ap (λ x. b ∷ x) later ∙ sym (rw (run_from b bs is, behind_from b bs is) refl)
+    step ∙ ap (λ x. b ∷ x) later ∙ sym (rw (run_from b bs is, after_from b bs is) refl)
 in_run_at marked b bs false is later =
     let step : quoted (in_run marked) (b ∷ bs) ≡ marks marked ++ b ∷ quoted (after_other b) bs = rw is refl in
     let other : quoted outside (b ∷ bs) ≡ b ∷ quoted (after_other b) bs = rw is refl in
-    step ∙ sym (rw (no_run_from b bs is, all_behind b bs is, other) refl)
+    step ∙ sym (rw (no_run_from b bs is, all_after b bs is, other) refl)
 
 in_run_is : (marked : Bool) (bs : List ℕ) → quoted (in_run marked) bs ≡ run bs ++ (marks marked ++ quoted outside (behind bs))
 unfolding quoted
@@ -54,7 +54,7 @@ whole_run b bs is =
     let marked : Bool = is_marked (b ∷ run bs) in
     let first : quoted outside (b ∷ bs) ≡ marks marked ++ b ∷ quoted (in_run marked) bs = rw is refl in
     let later : quoted outside (b ∷ bs) ≡ marks marked ++ b ∷ (run bs ++ (marks marked ++ quoted outside (behind bs))) = first ∙ ap (λ x. marks marked ++ b ∷ x) (in_run_is marked bs) in
-    rw (run_from b bs is, behind_from b bs is) (later ∙ simp append_assoc)
+    rw (run_from b bs is, after_from b bs is) (later ∙ simp append_assoc)
 
 -- the run at the front, if there is one, with its marks, and what follows it
 first_run : (bytes : List ℕ) → (0 < length bytes → is_run_byte (get_or bytes 0 0) ≡ true) → quote bytes ≡ with_marks (run bytes) ++ quote (behind bytes)

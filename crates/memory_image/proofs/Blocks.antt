@@ -41,17 +41,17 @@ counted_block p i n xs =
     ∙ ap (λ k. k + count_by p (drop (i + n) xs)) (sym (ones-mask_l p (chunk i n xs))))
 
 -- a search that may pass over the first n places goes on after them
-pub found_behind : (p : ℕ × ℕ → Bool) (xs ys : List ℕ) (n k : ℕ) → n ≤ length xs → length xs ≡ length ys
+pub found_after : (p : ℕ × ℕ → Bool) (xs ys : List ℕ) (n k : ℕ) → n ≤ length xs → length xs ≡ length ys
     → position_or_len p (zip xs ys) ≡ n + position_or_len p (drop n (zip xs ys)) → Some k ≡ position p (zip (slice_range xs n (length xs)) (slice_range ys n (length ys)))
     → (n + k < length xs) × (Some (n + k) ≡ position p (zip xs ys))
-found_behind p xs ys n k room same passed found =
+found_after p xs ys n k room same passed found =
     let rest = drop n (zip xs ys) in
     let place = told _ _ k (sym (found ∙ ap (position p) (zip_rest n xs ys))) in
     grind (arith, nat_tests, length-drop n (zip xs ys), length-zip xs ys, place.0, place.1)
 
-pub none_behind : (p : ℕ × ℕ → Bool) (xs ys : List ℕ) (n : ℕ) → n ≤ length xs → length xs ≡ length ys
+pub none_after : (p : ℕ × ℕ → Bool) (xs ys : List ℕ) (n : ℕ) → n ≤ length xs → length xs ≡ length ys
     → position_or_len p (zip xs ys) ≡ n + position_or_len p (drop n (zip xs ys)) → None ≡ position p (zip (slice_range xs n (length xs)) (slice_range ys n (length ys)))
     → None ≡ position p (zip xs ys)
-none_behind p xs ys n room same passed none =
+none_after p xs ys n room same passed none =
     let there = none ∙ ap (position p) (zip_rest n xs ys) in
     grind (arith, nat_tests, length-drop n (zip xs ys), length-zip xs ys, there)

@@ -13,9 +13,9 @@ use Rattle.memory_image.specs.Pieces.{byte_at, range_of, IsPut, regions_of}
 use Rattle.ffm_model.proofs.TestLemmas.{holds_at}
 use Rattle.memory_image.proofs.Stored.{stored, regions-kept}
 
-read_behind : (p r : Bytes) (ps : List Bytes) (x n : ℕ) → share_no_byte (range_of p) (range_of r) ≡ true → has_range x 1 (range_of r) ≡ true
+read_after : (p r : Bytes) (ps : List Bytes) (x n : ℕ) → share_no_byte (range_of p) (range_of r) ≡ true → has_range x 1 (range_of r) ≡ true
     → byte_at ps x ≡ n → byte_at (p ∷ ps) x ≡ n
-read_behind p r ps x n apart range rest = rw rest (grind (arith, nat_tests))
+read_after p r ps x n apart range rest = rw rest (grind (arith, nat_tests))
 
 -- the byte at an address is that of the piece that has it
 pub byte_of : (ps : List Bytes) (i : ℕ) (d : Bytes) (x : ℕ) → i < length ps → each_pair share_no_byte (regions_of ps) ≡ true
@@ -26,7 +26,7 @@ byte_of (p ∷ ps) (suc i) d x below apart range =
     let inside : i < length ps = omega arith in
     let apart_from : share_no_byte (range_of p) (range_of (get_or ps i d)) ≡ true =
     holds_at (λ r. share_no_byte (range_of p) (range_of r)) ps i d inside (sym (list_all-map (share_no_byte (range_of p)) range_of ps) ∙ (and_parts _ _ apart).0) in
-    read_behind p (get_or ps i d) ps x _ apart_from range (byte_of ps i d x inside (and_parts _ _ apart).1 range)
+    read_after p (get_or ps i d) ps x _ apart_from range (byte_of ps i d x inside (and_parts _ _ apart).1 range)
 
 -- a part of a list that the memory agrees with
 part_read : (m : ByteMap) (c : List ℕ) (o at len : ℕ) → o + len ≤ length c → ((x y : ℕ) → at ≤ x → x < at + len → x + o ≡ y + at → m x ≡ slice_index c y)

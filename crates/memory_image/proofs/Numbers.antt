@@ -14,8 +14,8 @@ pub fits_word : (k b r : ℕ) → k ≤ 3 → b < 256 → r < 256 ^ k → b + 25
 fits_word k b r few byte small = let most : 256 ^ k ≤ 16777216 = pow_three k few in omega arith
 
 -- after the first of at most four bytes there are at most three
-pub few_behind : (bytes : List ℕ) → length bytes ≤ 4 → length (take (length bytes - 1) (drop 1 bytes)) ≤ 3
-few_behind bytes few = omega (arith, length-take {A = ℕ})
+pub few_after : (bytes : List ℕ) → length bytes ≤ 4 → length (take (length bytes - 1) (drop 1 bytes)) ≤ 3
+few_after bytes few = omega (arith, length-take {A = ℕ})
 
 -- one more word is stored
 pub words_step : (m n all : ByteMap) (at k w : ℕ) (ws : List ℕ) → k < length ws → w ≡ get_or ws k 0 → n ≡ store_number m (at + 4 * k) 4 w

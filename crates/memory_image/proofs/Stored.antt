@@ -38,9 +38,9 @@ put_head p q ps at bs put x =
     let range : has_range at (length bs) (range_of p) ≡ true = put.inside in
     rw (address, long, here) (grind (arith, nat_tests))
 
-put_behind : (p r : Bytes) (ps qs : List Bytes) (at : ℕ) (bs : List ℕ) → share_no_byte (range_of p) (range_of r) ≡ true → has_range at (length bs) (range_of r) ≡ true → (x : ℕ)
+put_after : (p r : Bytes) (ps qs : List Bytes) (at : ℕ) (bs : List ℕ) → share_no_byte (range_of p) (range_of r) ≡ true → has_range at (length bs) (range_of r) ≡ true → (x : ℕ)
     → byte_at qs x ≡ write_bytes (byte_at ps) at bs x → byte_at (p ∷ qs) x ≡ write_bytes (byte_at (p ∷ ps)) at bs x
-put_behind p r ps qs at bs apart range x rest = rw rest (grind (arith, nat_tests))
+put_after p r ps qs at bs apart range x rest = rw rest (grind (arith, nat_tests))
 
 pub stored : (ps : List Bytes) (i : ℕ) (q d : Bytes) (at : ℕ) (bs : List ℕ) → i < length ps → each_pair share_no_byte (regions_of ps) ≡ true → IsPut (get_or ps i d) q at bs
     → (x : ℕ) → byte_at (set ps i q) x ≡ write_bytes (byte_at ps) at bs x
@@ -50,7 +50,7 @@ stored (p ∷ ps) (suc i) q d at bs below apart put x =
     let inside : i < length ps = omega arith in
     let apart_from : share_no_byte (range_of p) (range_of (get_or ps i d)) ≡ true =
     holds_at (λ r. share_no_byte (range_of p) (range_of r)) ps i d inside (sym (list_all-map (share_no_byte (range_of p)) range_of ps) ∙ (and_parts _ _ apart).0) in
-    put_behind p (get_or ps i d) ps (set ps i q) at bs apart_from put.inside x
+    put_after p (get_or ps i d) ps (set ps i q) at bs apart_from put.inside x
     (stored ps i q d at bs inside (and_parts _ _ apart).1 put x)
 
 -- the regions stay

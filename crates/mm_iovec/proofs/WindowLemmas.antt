@@ -13,7 +13,7 @@ use Rattle.ffm_model.specs.declared.machine.Call.TheVariants as call
 use Rattle.ffm_model.specs.declared.machine.Outcome.{Outcome}
 use Rattle.ffm_model.specs.declared.machine.Outcome.TheVariants as outcome
 use Rattle.ffm_model.specs.declared.script.Instruction.{Instruction}
-use Rattle.ffm_model.specs.Held.{Holder, HolderService, HeldMessage, HeldVector, VectorState, is_fresh, is_held_as, is_mapped, is_mappable, held, fresh_vector, vector_at, with_state, touched, changed_at, without, with_input, with_output, with_message_of, can_map_out, can_unmap_out, table_behind, window_size, most_held}
+use Rattle.ffm_model.specs.Held.{Holder, HolderService, HeldMessage, HeldVector, VectorState, is_fresh, is_held_as, is_mapped, is_mappable, held, fresh_vector, vector_at, with_state, touched, changed_at, without, with_input, with_output, with_message_of, can_map_out, can_unmap_out, table_after, window_size, most_held}
 use Rattle.ffm_model.specs.Held.VectorState.{used, mapped, unmapped}
 use Rattle.mm_iovec.specs.HeldView.{HasWindows, is_output_unmapped}
 use Rattle.mm_iovec.specs.declared.line.MmLine.{MmLine}
@@ -159,7 +159,7 @@ written-by p false h i t w none = off-changed h (λ m. record m { output = touch
 pub windows-written : (p : Holder) (i : Option Instruction) (h : Handle) (index : ℕ) (t : List HeldMessage) → HasWindows p t → HasWindows p (table_written i h index t)
 windows-written p i h index t w = written-by p (unmaps_out i) h index t w
 
-pub windows-behind : (p : Holder) (c : Call) (o : Outcome) (t : List HeldMessage) → HasWindows p t → HasWindows p (table_behind p c o t)
-windows-behind p (call.Get signal msg) (outcome.Got m) t w none = got-in (find (λ v. v.signal == signal) p.services) m t (w none)
-windows-behind p (call.Reply h status) outcome.Done t w none = off-without h t (w none)
-windows-behind p _ _ t w none = w none
+pub windows-after : (p : Holder) (c : Call) (o : Outcome) (t : List HeldMessage) → HasWindows p t → HasWindows p (table_after p c o t)
+windows-after p (call.Get signal msg) (outcome.Got m) t w none = got-in (find (λ v. v.signal == signal) p.services) m t (w none)
+windows-after p (call.Reply h status) outcome.Done t w none = off-without h t (w none)
+windows-after p _ _ t w none = w none

@@ -38,7 +38,7 @@ impl Held {
     ghost use Rattle.std.specs.Prelude.{◌≡◌, ◌<◌, ◌↔◌, ℕ, [], false, length, map, true};
     ghost use Rattle.ffm_model.specs.declared.machine.Call.TheVariants as call;
     ghost use Rattle.ffm_model.specs.declared.machine.Outcome.TheVariants as outcome;
-    ghost use Rattle.ffm_model.specs.Held.{holder_of, table_behind, without};
+    ghost use Rattle.ffm_model.specs.Held.{holder_of, table_after, without};
     ghost use Rattle.ffm_model.specs.HeldPlans.{Holding, table_noted};
     ghost use Rattle.mm_iovec.specs.HeldView.{can_hold};
     ghost use Rattle.mm_iovec.specs.Items.{message_of};
@@ -83,7 +83,7 @@ impl Held {
     pub fn got(&mut self, signal: u32, message: Message)
         ensures { (msg : ℕ)
             → self.new ≡ record self.old {
-              table = table_behind self.old.holder
+              table = table_after self.old.holder
                   (call.Get signal msg) (outcome.Got message) self.old.table;
             } }
     {

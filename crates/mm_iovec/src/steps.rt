@@ -3,7 +3,7 @@ ghost use Rattle.std.specs.Prelude.{◌≡◌, ℕ, map, true};
 ghost use Rattle.ffm_model.specs.declared.machine.Call.TheVariants as call;
 ghost use Rattle.ffm_model.specs.declared.machine.Outcome.TheVariants as outcome;
 ghost use Rattle.ffm_model.specs.declared.machine.Status.{Status};
-ghost use Rattle.ffm_model.specs.Held.{Holder as HolderView, table_behind};
+ghost use Rattle.ffm_model.specs.Held.{Holder as HolderView, table_after};
 ghost use Rattle.mm_iovec.specs.HeldView.{HasWindows};
 ghost use Rattle.mm_iovec.specs.Items.{message_of};
 ghost use Rattle.mm_iovec.specs.Lines.{can_do, maps_in, step_done, table_done, table_read, table_written, unmaps_out};
@@ -170,7 +170,7 @@ pub(crate) fn note_write(
 /// A message was got by a signal.
 pub(crate) fn got(holder: &Holder, messages: &mut Messages, signal: u32, message: Message)
     ensures { map message_of messages.new.items
-        ≡ table_behind holder.now (call.Get signal 0) (outcome.Got message)
+        ≡ table_after holder.now (call.Get signal 0) (outcome.Got message)
         (map message_of messages.old.items) }
 {
     if let Some(service) = holder.service(signal) {
@@ -182,7 +182,7 @@ pub(crate) fn got(holder: &Holder, messages: &mut Messages, signal: u32, message
 pub(crate) fn note_get(holder: &Holder, messages: &mut Messages, signal: u32, outcome: Outcome)
     ensures { (msg : ℕ)
         → map message_of messages.new.items
-        ≡ table_behind holder.now (call.Get signal msg) outcome
+        ≡ table_after holder.now (call.Get signal msg) outcome
         (map message_of messages.old.items) }
 {
     if let Outcome::Got(message) = outcome {
@@ -194,7 +194,7 @@ pub(crate) fn note_get(holder: &Holder, messages: &mut Messages, signal: u32, ou
 pub(crate) fn note_reply(messages: &mut Messages, handle: Handle, outcome: Outcome)
     ensures { (p : HolderView) (status : Status)
         → map message_of messages.new.items
-        ≡ table_behind p (call.Reply handle status) outcome (map message_of messages.old.items) }
+        ≡ table_after p (call.Reply handle status) outcome (map message_of messages.old.items) }
 {
     if let Outcome::Done = outcome {
         table::take_out(messages, handle);

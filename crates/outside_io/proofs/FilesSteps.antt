@@ -75,8 +75,8 @@ go_front [] gives f none = refl
 go_front (name ∷ names) (Ok y) f none = absurd cc
 go_front (name ∷ names) (Err e) f none = absurd cc
 
-go_behind : {Y Z : Type 0} (names : List (List ℕ)) (gives : Result Y Stop) (f : Y → Reading Z) (y : Y) → gives ≡ Ok y → (go_on names gives f).names ≡ [] → (f y).names ≡ []
-go_behind names gives f y is none =
+go_after : {Y Z : Type 0} (names : List (List ℕ)) (gives : Result Y Stop) (f : Y → Reading Z) (y : Y) → gives ≡ Ok y → (go_on names gives f).names ≡ [] → (f y).names ≡ []
+go_after names gives f y is none =
     let here : names ≡ [] = go_front names gives f none in
     rw (here, is) at none
 
@@ -86,7 +86,7 @@ may_first h of first f (inr none) = inr (go_front first.names first.gives f none
 
 may_second : {Y Z : Type 0} (h m : Option Contents) (of : Contents) (first : Reading Y) (f : Y → Reading Z) (y : Y) → first.gives ≡ Ok y → m ≡ h → MayHold h of (first >>= f).names → MayHold m of (f y).names
 may_second h m of first f y is same (inl told) = inl (same ∙ told)
-may_second h m of first f y is same (inr none) = inr (go_behind first.names first.gives f y is none)
+may_second h m of first f y is same (inr none) = inr (go_after first.names first.gives f y is none)
 
 -- the answer after names that were read
 later : {Z : Type 0} (a b c : FilesSeen) (r : Result Z NoValue) (xs : List (List ℕ)) (asked : Reading Z) → ReadBetween a.reads b.reads xs → b.last_failed ≡ a.last_failed → Answers b c r asked

@@ -40,7 +40,7 @@ fn part_of(held: &[u8], at: usize, len: usize) -> &[u8]
 }
 
 // Puts a piece behind the first so many bytes.
-fn put_behind(held: &mut [u8], len: usize, piece: &[u8])
+fn put_after(held: &mut [u8], len: usize, piece: &[u8])
     requires { len + length piece.now ≤ length held.old }
     ensures { take (len + length piece.now) held.new ≡ take len held.old ++ piece.now }
 {
@@ -96,7 +96,7 @@ impl<S: Sink> Gathering<S> {
         if piece.len() > GATHERED_BYTES - self.len {
             return false;
         }
-        put_behind(&mut self.held, self.len, piece);
+        put_after(&mut self.held, self.len, piece);
         self.len += piece.len();
         true
     }

@@ -13,7 +13,7 @@ use Rattle.ffm_model.specs.declared.script.Instruction.{Instruction}
 use Rattle.ffm_model.specs.Plans.{engine_answered, engine_after, is_stop, plan_of}
 use Rattle.ffm_model.specs.Records.{is_blocked_outcome, ends_blocked}
 use Rattle.ffm_model.specs.ScriptRuns.{Point, start, arrived, behind}
-use Rattle.ffm_model.specs.Contexts.{DeskView, Contexts, next_context, picked, picked_context, script_of, next_calls, is_spent, contexts_call, caller, contexts_behind, context_engine, context_plan, opening_contexts}
+use Rattle.ffm_model.specs.Contexts.{DeskView, Contexts, next_context, picked, picked_context, script_of, next_calls, is_spent, contexts_call, caller, contexts_then, context_engine, context_plan, opening_contexts}
 use Rattle.partition_sim.specs.declared.context.Context.{Context}
 use Rattle.partition_sim.specs.Clients.{ClientStanding, Reaches, AtCall, EachReaches, EachAtCall, FollowsAll, AskedAll, call_from, contexts_after, desk_of, first_context}
 use Rattle.partition_sim.proofs.StepLemmas.{still}
@@ -28,13 +28,13 @@ starts-get (s ∷ ss) (suc k) = starts-get ss k
 
 -- ---- each context has a point
 
-behind-long : (scripts : List (List Instruction)) (o : Outcome) (x : Contexts) → length (contexts_behind scripts o x).points ≡ length x.points
-unfolding contexts_behind
-behind-long scripts o x = length-set x.points _ _
+then-long : (scripts : List (List Instruction)) (o : Outcome) (x : Contexts) → length (contexts_then scripts o x).points ≡ length x.points
+unfolding contexts_then
+then-long scripts o x = length-set x.points _ _
 
-answered-long : (scripts : List (List Instruction)) (o : Outcome) (x : Contexts) (b : Bool) → length (if b then x else contexts_behind scripts o x).points ≡ length x.points
+answered-long : (scripts : List (List Instruction)) (o : Outcome) (x : Contexts) (b : Bool) → length (if b then x else contexts_then scripts o x).points ≡ length x.points
 answered-long scripts o x true = refl
-answered-long scripts o x false = behind-long scripts o x
+answered-long scripts o x false = then-long scripts o x
 
 after-long : (scripts : List (List Instruction)) (os : List Outcome) (x : Contexts) → length (engine_after (context_engine scripts) x os).points ≡ length x.points
 unfolding engine_after
@@ -94,12 +94,12 @@ asked-follows scripts os r a = record { waits = a.waits; desk_is = a.desk_is; ea
 
 -- ---- after an outcome
 
-pub behind-blocked : (scripts : List (List Instruction)) (os : List Outcome) (o : Outcome) (old new : ClientStanding) → is_blocked_outcome o ≡ true → new.waiting ≡ true → new.desk ≡ old.desk
+pub after-blocked : (scripts : List (List Instruction)) (os : List Outcome) (o : Outcome) (old new : ClientStanding) → is_blocked_outcome o ≡ true → new.waiting ≡ true → new.desk ≡ old.desk
     → new.contexts ≡ old.contexts → AskedAll scripts os old → FollowsAll scripts (os ++ o ∷ []) new
-behind-blocked scripts os o old new b w d c a =
+after-blocked scripts os o old new b w d c a =
     let x : Contexts = contexts_after scripts os in
     let same : contexts_after scripts (os ++ o ∷ []) ≡ x =
-    engine_after-push (context_engine scripts) (opening_contexts scripts) os o ∙ ap (λ (t : Bool). if t then x else contexts_behind scripts o x) b in
+    engine_after-push (context_engine scripts) (opening_contexts scripts) os o ∙ ap (λ (t : Bool). if t then x else contexts_then scripts o x) b in
     record {
       waits = w ∙ sym (ends_blocked-push os o ∙ b);
       desk_is = d ∙ (a.desk_is ∙ ap (desk_of scripts) (sym same));
@@ -114,21 +114,21 @@ moved scripts o x k = record {
   turn = next_context (length scripts) k;
 }
 
-behind-is : (scripts : List (List Instruction)) (o : Outcome) (x : Contexts) (k : ℕ) → k ≡ caller scripts x → contexts_behind scripts o x ≡ moved scripts o x k
-unfolding contexts_behind
-behind-is scripts o x k e = ap (moved scripts o x) (sym e)
+after-is : (scripts : List (List Instruction)) (o : Outcome) (x : Contexts) (k : ℕ) → k ≡ caller scripts x → contexts_then scripts o x ≡ moved scripts o x k
+unfolding contexts_then
+after-is scripts o x k e = ap (moved scripts o x) (sym e)
 
-pub behind-answer : (scripts : List (List Instruction)) (os : List Outcome) (o : Outcome) (old new : ClientStanding) → is_blocked_outcome o ≡ false → new.waiting ≡ false
+pub after-answer : (scripts : List (List Instruction)) (os : List Outcome) (o : Outcome) (old new : ClientStanding) → is_blocked_outcome o ≡ false → new.waiting ≡ false
     → new.desk ≡ record old.desk { turn = next_context old.desk.count old.caller } → old.caller < old.desk.count
     → ((script : List Instruction) (p : Point) → AtCall script p (get_or old.contexts old.caller first_context) → Reaches script (behind script o (arrived script p)) (get_or new.contexts old.caller first_context))
     → ((j : ℕ) → (j ≡ old.caller → ⊥) → get_or new.contexts j first_context ≡ get_or old.contexts j first_context)
     → AskedAll scripts os old → FollowsAll scripts (os ++ o ∷ []) new
-behind-answer scripts os o old new b w d inside answered others a =
+after-answer scripts os o old new b w d inside answered others a =
     let x : Contexts = contexts_after scripts os in
     let k : ℕ = old.caller in
     let same : contexts_after scripts (os ++ o ∷ []) ≡ moved scripts o x k =
     engine_after-push (context_engine scripts) (opening_contexts scripts) os o
-    ∙ (ap (λ (t : Bool). if t then x else contexts_behind scripts o x) b ∙ behind-is scripts o x k a.caller_is) in
+    ∙ (ap (λ (t : Bool). if t then x else contexts_then scripts o x) b ∙ after-is scripts o x k a.caller_is) in
     let here : k < length scripts = subst (λ (v : DeskView). k < v.count) a.desk_is inside in
     let each : EachReaches scripts (moved scripts o x k).points new.contexts = λ j low.
     point-put (λ (i : ℕ) (p : Point). Reaches (script_of scripts i) p (get_or new.contexts i first_context)) x.points k

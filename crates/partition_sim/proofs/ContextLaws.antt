@@ -11,7 +11,7 @@ use Rattle.ffm_model.specs.declared.script.Instruction.{Instruction}
 use Rattle.ffm_model.specs.Plans.{engine_answered, engine_after, is_stop, plan_of}
 use Rattle.ffm_model.specs.Records.{is_blocked_outcome, ends_blocked}
 use Rattle.ffm_model.specs.ScriptRuns.{Point, start, arrived, call_at, behind, script_engine, script_plan, ScriptRun}
-use Rattle.ffm_model.specs.Contexts.{Contexts, first_from, next_context, picked, is_spent, next_calls, contexts_call, contexts_behind, context_engine, context_plan, ContextRun}
+use Rattle.ffm_model.specs.Contexts.{Contexts, first_from, next_context, picked, is_spent, next_calls, contexts_call, contexts_then, context_engine, context_plan, ContextRun}
 use Rattle.partition_sim.proofs.PlanLaws.{same-runs}
 
 -- a client with one context, which stands at a point
@@ -70,17 +70,17 @@ caller-by : (b : Bool) → ◌≡◌ {A = ℕ} (unwrap_or (if b then None else S
 caller-by true = refl
 caller-by false = refl
 
-one-behind : (script : List Instruction) (o : Outcome) (p : Point) → contexts_behind (script ∷ []) o (one p) ≡ one (behind script o (arrived script p))
-unfolding contexts_behind next_calls
-one-behind script o p =
+one-then : (script : List Instruction) (o : Outcome) (p : Point) → contexts_then (script ∷ []) o (one p) ≡ one (behind script o (arrived script p))
+unfolding contexts_then next_calls
+one-then script o p =
     let c : Call = call_at script (arrived script p) in
     let me : unwrap_or (picked (record { count = 1; turn = 0 }) (is_stop c ∷ [])) 0 ≡ 0 = ap (λ (x : Option ℕ). unwrap_or x 0) (picked-one c) ∙ caller-by (is_stop c) in
     ap (λ (k : ℕ). record { points = slice_set (p ∷ []) k (behind (get_or (script ∷ []) k []) o (arrived (get_or (script ∷ []) k []) (get_or (p ∷ []) k start))); turn = next_context 1 k }) me
 
 one-answered-by : (script : List Instruction) (o : Outcome) (p : Point) (b : Bool)
-    → (if b then one p else contexts_behind (script ∷ []) o (one p)) ≡ one (if b then p else behind script o (arrived script p))
+    → (if b then one p else contexts_then (script ∷ []) o (one p)) ≡ one (if b then p else behind script o (arrived script p))
 one-answered-by script o p true = refl
-one-answered-by script o p false = one-behind script o p
+one-answered-by script o p false = one-then script o p
 
 one-after : (script : List Instruction) (os : List Outcome) (p : Point) → engine_after (context_engine (script ∷ [])) (one p) os ≡ one (engine_after (script_engine script) p os)
 unfolding engine_after

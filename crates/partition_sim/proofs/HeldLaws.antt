@@ -18,9 +18,9 @@ use Rattle.ffm_model.specs.Plans.{PlanRun, engine_after, plan_of}
 use Rattle.ffm_model.specs.Records.{is_blocked_outcome, ends_blocked}
 use Rattle.ffm_model.specs.Scripts.{maps, MapsNothing}
 use Rattle.ffm_model.specs.ScriptRuns.{Point, start, most_lines, line_effect, local_step, local_steps, arrived, call_at, line_call, behind, script_engine, script_plan, ScriptRun}
-use Rattle.ffm_model.specs.Held.{Holder, HolderService, HeldVector, HeldMessage, is_fresh, is_or_was_mapped, is_held_as, held, vector_at, changed_at, without, with_state, touched, fresh_vector, with_message_of, table_behind, table_touched, holds, is_refused, most_held}
+use Rattle.ffm_model.specs.Held.{Holder, HolderService, HeldVector, HeldMessage, is_fresh, is_or_was_mapped, is_held_as, held, vector_at, changed_at, without, with_state, touched, fresh_vector, with_message_of, table_after, table_touched, holds, is_refused, most_held}
 use Rattle.ffm_model.specs.Held.VectorState.{used}
-use Rattle.ffm_model.specs.HeldPlans.{Holding, holding_none, line_step, led_to, call_made, held_step, held_steps, held_arrived, held_call, table_noted, registers_noted, held_behind, held_engine, held_plan}
+use Rattle.ffm_model.specs.HeldPlans.{Holding, holding_none, line_step, led_to, call_made, held_step, held_steps, held_arrived, held_call, table_noted, registers_noted, held_after, held_engine, held_plan}
 use Rattle.partition_sim.proofs.PlanLaws.{same-runs}
 
 -- ---- no vector is or was mapped
@@ -96,10 +96,10 @@ clean-call (call.Skip h i l) t c = clean-input h i t c
 clean-call (call.Write h i b l) t c = clean-output h i t c
 clean-call _ t c = c
 
-clean-behind : (p : Holder) (k : Call) (o : Outcome) (t : List HeldMessage) → Clean t → Clean (table_behind p k o t)
-clean-behind p (call.Get signal msg) (outcome.Got m) t c = got-in (find _ p.services) m t c
-clean-behind p (call.Reply h status) outcome.Done t c = clean-without h t c
-clean-behind p _ _ t c = c
+clean-after : (p : Holder) (k : Call) (o : Outcome) (t : List HeldMessage) → Clean t → Clean (table_after p k o t)
+clean-after p (call.Get signal msg) (outcome.Got m) t c = got-in (find _ p.services) m t c
+clean-after p (call.Reply h status) outcome.Done t c = clean-without h t c
+clean-after p _ _ t c = c
 
 -- ---- no call is refused
 
@@ -183,7 +183,7 @@ call-same p script x n c = call-of p x (slice_get script x.at.place) (maps-none 
 
 -- ---- after calls
 
-noted-by : (p : Holder) (o : Option Instruction) (k : Call) (u : Outcome) (t : List HeldMessage) → MapsNone o → table_noted p o k u t ≡ table_behind p k u (table_touched k t)
+noted-by : (p : Holder) (o : Option Instruction) (k : Call) (u : Outcome) (t : List HeldMessage) → MapsNone o → table_noted p o k u t ≡ table_after p k u (table_touched k t)
 noted-by p None k u t n = refl
 noted-by p (Some (line.Change c r v)) k u t n = refl
 noted-by p (Some (line.Jump to)) k u t n = refl
@@ -204,24 +204,24 @@ record IsAt (p : Point) (x : Holding) : Type 0 where
   at : x.at ≡ p
   clean : Clean x.table
 
-behind-same : (p : Holder) (script : List Instruction) (o : Outcome) (x : Holding) → MapsNothing script → Clean x.table → IsAt (behind script o x.at) (held_behind p script o x)
-unfolding held_behind
-behind-same p script o x n c =
+then-same : (p : Holder) (script : List Instruction) (o : Outcome) (x : Holding) → MapsNothing script → Clean x.table → IsAt (behind script o x.at) (held_after p script o x)
+unfolding held_after
+then-same p script o x n c =
     let i = slice_get script x.at.place in
     let k = held_call p script x in
     let none = maps-none script n x.at.place in
     record {
       at = ap (λ (rs : List ℕ). record { registers = rs; place = (behind script o x.at).place }) (registers-by i k o x.at.registers none);
-      clean = subst Clean (sym (noted-by p i k o x.table none)) (clean-behind p k o (table_touched k x.table) (clean-call k x.table c));
+      clean = subst Clean (sym (noted-by p i k o x.table none)) (clean-after p k o (table_touched k x.table) (clean-call k x.table c));
     }
 
 answered-by : (p : Holder) (script : List Instruction) (o : Outcome) (q : Point) (x : Holding) (b : Bool) → MapsNothing script → IsAt q x
-    → IsAt (if b then q else behind script o (arrived script q)) (if b then x else held_behind p script o (held_arrived p script x))
+    → IsAt (if b then q else behind script o (arrived script q)) (if b then x else held_after p script o (held_arrived p script x))
 answered-by p script o q x true n is = is
 answered-by p script o q x false n is =
     let there = arrived-same p script x n in
     let clean : Clean (held_arrived p script x).table = subst (λ (y : Holding). Clean y.table) (sym there) is.clean in
-    let it = behind-same p script o (held_arrived p script x) n clean in
+    let it = then-same p script o (held_arrived p script x) n clean in
     record { at = it.at ∙ ap (λ (y : Holding). behind script o y.at) there ∙ ap (λ (r : Point). behind script o (arrived script r)) is.at; clean = it.clean }
 
 after-same : (p : Holder) (script : List Instruction) → MapsNothing script → (os : List Outcome) (q : Point) (x : Holding) → IsAt q x

@@ -8,12 +8,12 @@ use Rattle.ffm_model.specs.declared.machine.Call.TheVariants as call
 use Rattle.ffm_model.specs.declared.machine.Outcome.{Outcome}
 use Rattle.ffm_model.specs.declared.script.Instruction.{Instruction}
 use Rattle.ffm_model.specs.Held.{Holder}
-use Rattle.ffm_model.specs.HeldPlans.{Holding, held_arrived, held_behind, held_call, held_engine, held_plan, holding_none, registers_noted, table_noted}
+use Rattle.ffm_model.specs.HeldPlans.{Holding, held_arrived, held_after, held_call, held_engine, held_plan, holding_none, registers_noted, table_noted}
 use Rattle.ffm_model.specs.Plans.{engine_after, plan_of}
 use Rattle.ffm_model.specs.Records.{ends_blocked, is_blocked_outcome}
-use Rattle.ffm_model.specs.ScriptRuns.{place_behind}
+use Rattle.ffm_model.specs.ScriptRuns.{place_after}
 use Rattle.script_engines.specs.Holdings.{holding}
-use Rattle.script_engines.proofs.HeldLemmas.{behind-is}
+use Rattle.script_engines.proofs.HeldLemmas.{after-is}
 use Rattle.partition_sim.specs.Partitions.{AskedHeld, FollowsHeld, PartitionStanding, holding_after}
 
 pub opened : (p : Holder) (script : List Instruction) (r : PartitionStanding) → r.holder ≡ p → r.waiting ≡ false → r.ready ≡ false → r.at ≡ holding_none → FollowsHeld p script [] r
@@ -24,7 +24,7 @@ pub asked-follows : (p : Holder) (script : List Instruction) (os : List Outcome)
 asked-follows p script os r a = record { holder_is = a.holder_is; waits = a.waits; begins = λ e. absurd (true≢false (sym a.is_ready ∙ e)); stands = λ e. a }
 
 pub asked : (p : Holder) (script : List Instruction) (os : List Outcome) (old new : PartitionStanding) → old.ready ≡ false → new.holder ≡ old.holder → new.waiting ≡ old.waiting → new.ready ≡ true
-    → new.at ≡ held_arrived old.holder script old.at → new.line ≡ slice_get script new.at.at.place → new.call ≡ held_call old.holder script new.at → new.after ≡ place_behind script new.at.at.place
+    → new.at ≡ held_arrived old.holder script old.at → new.line ≡ slice_get script new.at.at.place → new.call ≡ held_call old.holder script new.at → new.after ≡ place_after script new.at.at.place
     → FollowsHeld p script os old → AskedHeld p script os new
 asked p script os old new off h w on e l c a f = record {
   holder_is = h ∙ f.holder_is;
@@ -42,12 +42,12 @@ unfolding plan_of
 planned p script os r b c a w e =
     e ∙ (ap₂ (λ (t : Bool) (x : Call). if t then call.Resume else x) (w ∙ a.waits) (a.call_is ∙ ap (held_call p script) a.here))
 
-pub behind-blocked : (p : Holder) (script : List Instruction) (os : List Outcome) (o : Outcome) (old : PartitionStanding) → is_blocked_outcome o ≡ true
+pub after-blocked : (p : Holder) (script : List Instruction) (os : List Outcome) (o : Outcome) (old : PartitionStanding) → is_blocked_outcome o ≡ true
     → AskedHeld p script os old → FollowsHeld p script (os ++ o ∷ []) (record old { waiting = true })
-behind-blocked p script os o old b a =
+after-blocked p script os o old b a =
     let x : Holding = holding_after p script os in
     let same : holding_after p script (os ++ o ∷ []) ≡ x =
-    engine_after-push (held_engine p script) holding_none os o ∙ ap (λ (t : Bool). if t then x else held_behind p script o (held_arrived p script x)) b in
+    engine_after-push (held_engine p script) holding_none os o ∙ ap (λ (t : Bool). if t then x else held_after p script o (held_arrived p script x)) b in
     asked-follows p script (os ++ o ∷ []) (record old { waiting = true }) (record {
       holder_is = a.holder_is;
       waits = sym (ends_blocked-push os o ∙ b);
@@ -58,19 +58,19 @@ behind-blocked p script os o old b a =
       after_is = a.after_is;
     })
 
-pub behind-answer : (p : Holder) (script : List Instruction) (os : List Outcome) (o : Outcome) (old new : PartitionStanding) → is_blocked_outcome o ≡ false → new.waiting ≡ false → new.ready ≡ false
+pub after-answer : (p : Holder) (script : List Instruction) (os : List Outcome) (o : Outcome) (old new : PartitionStanding) → is_blocked_outcome o ≡ false → new.waiting ≡ false → new.ready ≡ false
     → new.holder ≡ old.holder → new.at ≡ holding (registers_noted old.line old.call o old.at.at.registers) old.after (table_noted old.holder old.line old.call o old.at.table)
     → AskedHeld p script os old → FollowsHeld p script (os ++ o ∷ []) new
-behind-answer p script os o old new b w off h at a =
+after-answer p script os o old new b w off h at a =
     let x : Holding = holding_after p script os in
-    let same : holding_after p script (os ++ o ∷ []) ≡ held_behind p script o (held_arrived p script x) =
-    engine_after-push (held_engine p script) holding_none os o ∙ ap (λ (t : Bool). if t then x else held_behind p script o (held_arrived p script x)) b in
-    let moved : new.at ≡ held_behind p script o old.at =
+    let same : holding_after p script (os ++ o ∷ []) ≡ held_after p script o (held_arrived p script x) =
+    engine_after-push (held_engine p script) holding_none os o ∙ ap (λ (t : Bool). if t then x else held_after p script o (held_arrived p script x)) b in
+    let moved : new.at ≡ held_after p script o old.at =
     at ∙ (ap (λ (q : Holder). holding (registers_noted old.line old.call o old.at.at.registers) old.after (table_noted q old.line old.call o old.at.table)) a.holder_is
-    ∙ sym (behind-is p script o old.at old.line old.call old.after a.line_is a.call_is a.after_is)) in
+    ∙ sym (after-is p script o old.at old.line old.call old.after a.line_is a.call_is a.after_is)) in
     record {
       holder_is = h ∙ a.holder_is;
       waits = w ∙ sym (ends_blocked-push os o ∙ b);
-      begins = λ e. moved ∙ (ap (held_behind p script o) a.here ∙ sym same);
+      begins = λ e. moved ∙ (ap (held_after p script o) a.here ∙ sym same);
       stands = λ e. absurd (true≢false (sym e ∙ off));
     }

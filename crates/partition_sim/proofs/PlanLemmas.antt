@@ -1,7 +1,7 @@
 -- The plans of actors: what a run in turns needs of them.
 use Rattle.std.proofs.Common.{◌≡◌, Bool, true, false, List, [], ◌∷◌, ◌++◌, refl, ap, sym, ◌∙◌, append-nil, append_assoc, true≢false}
 use Rattle.std.specs.Prelude.{◌↔◌}
-use Rattle.partition_sim.specs.Resuming.{ResumesBehindBlocked}
+use Rattle.partition_sim.specs.Resuming.{ResumesAfterBlocked}
 use Rattle.ffm_model.specs.declared.machine.Call.{Call}
 use Rattle.ffm_model.specs.declared.machine.Call.TheVariants as call
 use Rattle.ffm_model.specs.declared.machine.Entry.{Entry}
@@ -34,10 +34,10 @@ resume-by c false h = not-resume c (λ e. true≢false (sym (h.0 e)))
 
 -- what plans of each kind give
 abbrev pub HeldResumes : Type 0
-HeldResumes = (p : Holder) (script : List Instruction) → ResumesBehindBlocked (held_plan p script)
+HeldResumes = (p : Holder) (script : List Instruction) → ResumesAfterBlocked (held_plan p script)
 
 abbrev pub ContextsResume : Type 0
-ContextsResume = (scripts : List (List Instruction)) → ResumesBehindBlocked (context_plan scripts)
+ContextsResume = (scripts : List (List Instruction)) → ResumesAfterBlocked (context_plan scripts)
 
 -- the next call is Resume exactly after Blocked
 pub plan-resume : HeldResumes → ContextsResume → (role : Role) (parts : List (List Instruction)) (os : List Outcome) → is_resume (plan_of_role role parts os) ≡ ends_blocked os

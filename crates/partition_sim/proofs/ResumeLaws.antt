@@ -19,7 +19,7 @@ use Rattle.ffm_model.specs.Held.{Holder, is_refused, can_map_in, can_map_out, ca
 use Rattle.ffm_model.specs.HeldPlans.{Holding, holding_none, line_step, map_line, call_made, held_call, held_arrived, held_engine, held_plan}
 use Rattle.ffm_model.specs.HeldPlans.LineStep.{leads, makes}
 use Rattle.ffm_model.specs.Contexts.{Contexts, opening_contexts, next_calls, picked_context, is_spent, contexts_call, context_engine, context_plan}
-use Rattle.partition_sim.specs.Resuming.{ResumesBehindBlocked}
+use Rattle.partition_sim.specs.Resuming.{ResumesAfterBlocked}
 
 abbrev resumes : Call → Bool
 resumes call.Resume = true
@@ -31,7 +31,7 @@ due-by : (b : Bool) (c : Call) → resumes c ≡ false → ((if b then call.Resu
 due-by true c h = ((λ e. refl), (λ e. refl))
 due-by false c h = ((λ e. sym h ∙ ap resumes e), (λ e. cc))
 
-engine-resumes : {X : Type 0} (m : Engine X) (x : X) → ((y : X) → resumes (m.call y) ≡ false) → ResumesBehindBlocked (plan_of m x)
+engine-resumes : {X : Type 0} (m : Engine X) (x : X) → ((y : X) → resumes (m.call y) ≡ false) → ResumesAfterBlocked (plan_of m x)
 unfolding plan_of
 engine-resumes m x h os = due-by (ends_blocked os) (m.call (engine_after m x os)) (h (engine_after m x os))
 
@@ -58,7 +58,7 @@ at-no : (script : List Instruction) (p : Point) → resumes (call_at script p) �
 unfolding call_at
 at-no script p = some-no p.registers (slice_get script p.place)
 
-pub script-resumes : (script : List Instruction) → ResumesBehindBlocked (script_plan script)
+pub script-resumes : (script : List Instruction) → ResumesAfterBlocked (script_plan script)
 script-resumes script = engine-resumes (script_engine script) start (λ p. at-no script (arrived script p))
 
 -- ---- a script with messages held
@@ -92,7 +92,7 @@ held-no : (p : Holder) (script : List Instruction) (x : Holding) → resumes (he
 unfolding held_call
 held-no p script x = held-some-no p x (slice_get script x.at.place)
 
-pub held-resumes : (p : Holder) (script : List Instruction) → ResumesBehindBlocked (held_plan p script)
+pub held-resumes : (p : Holder) (script : List Instruction) → ResumesAfterBlocked (held_plan p script)
 held-resumes p script = engine-resumes (held_engine p script) holding_none (λ x. held-no p script (held_arrived p script x))
 
 -- ---- contexts
@@ -113,5 +113,5 @@ contexts-no : (scripts : List (List Instruction)) (x : Contexts) → resumes (co
 unfolding contexts_call
 contexts-no scripts x = picked-no scripts x.points (picked_context scripts x) (list_any is_spent (next_calls scripts x.points))
 
-pub contexts-resume : (scripts : List (List Instruction)) → ResumesBehindBlocked (context_plan scripts)
+pub contexts-resume : (scripts : List (List Instruction)) → ResumesAfterBlocked (context_plan scripts)
 contexts-resume scripts = engine-resumes (context_engine scripts) (opening_contexts scripts) (contexts-no scripts)

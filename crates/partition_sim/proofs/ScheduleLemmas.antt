@@ -74,21 +74,21 @@ in_order-made schedule o old new t a e at m f =
     })
 
 -- the facts after a turn, at the opening that the manager had before it
-pub record Behind (schedule : List ActorId) (o : Opening) (new : List Entry) (t : ℕ) : Type 0 where
+pub record After (schedule : List ActorId) (o : Opening) (new : List Entry) (t : ℕ) : Type 0 where
   pub in_order : InOrder schedule o new t
   pub is_state : IsSome (state_after o new)
   pub short : length new ≤ o.limit
 
-behind-turn : (schedule : List ActorId) (o : Opening) (old new : List Entry) (t a : ℕ) (made : Bool) → turn_at o.system schedule t ≡ a → Turned o old a (Ok made) new
-    → InOrder schedule o old t → IsSome (state_after o old) → length old ≤ o.limit → Behind schedule o new (t + 1)
-behind-turn schedule o old new t a true at m f some short = record {
+after-turn : (schedule : List ActorId) (o : Opening) (old new : List Entry) (t a : ℕ) (made : Bool) → turn_at o.system schedule t ≡ a → Turned o old a (Ok made) new
+    → InOrder schedule o old t → IsSome (state_after o old) → length old ≤ o.limit → After schedule o new (t + 1)
+after-turn schedule o old new t a true at m f some short = record {
   in_order = in_order-made schedule o old new t a m.0 at m.1 f;
   is_state = m.1.is_state;
   short =
       let more : length new ≡ length old + 1 = ap length m.1.added ∙ length-append old (m.0 ∷ []) in
       omega (arith, m.1.room);
 }
-behind-turn schedule o old new t a false at p f some short =
+after-turn schedule o old new t a false at p f some short =
     let P : List Entry → Type 0 = λ x. IsSome (state_after o x) in
     record {
       in_order = in_order-passed schedule o old new t a at p f;
@@ -100,7 +100,7 @@ pub underway-turn : (scripts : List (List (List Instruction))) (schedule : List 
     → new.opening ≡ old.opening → turn_at old.opening.system schedule t ≡ a → Turned old.opening old.history a (Ok made) new.history → Driving scripts old.opening new.history rs'
     → Underway scripts schedule o old rs t → Underway scripts schedule o new rs' (t + 1)
 underway-turn scripts schedule o rs rs' old new t a made same at turned d u =
-    let b = behind-turn schedule old.opening old.history new.history t a made at turned u.in_order u.is_state u.short in
+    let b = after-turn schedule old.opening old.history new.history t a made at turned u.in_order u.is_state u.short in
     let D : Opening → Type 0 = λ x. Driving scripts x new.history rs' in
     let I : Opening → Type 0 = λ x. InOrder schedule x new.history (t + 1) in
     let S : Opening → Type 0 = λ x. IsSome (state_after x new.history) in

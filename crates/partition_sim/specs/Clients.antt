@@ -8,7 +8,7 @@ use Rattle.ffm_model.specs.declared.script.Instruction.{Instruction}
 use Rattle.ffm_model.specs.Contexts.{Contexts, DeskView, caller, context_engine, opening_contexts, script_of}
 use Rattle.ffm_model.specs.Plans.{engine_after}
 use Rattle.ffm_model.specs.Records.{ends_blocked}
-use Rattle.ffm_model.specs.ScriptRuns.{Point, arrived, call_at, place_behind, point, start}
+use Rattle.ffm_model.specs.ScriptRuns.{Point, arrived, call_at, place_after, point, start}
 use Rattle.partition_sim.specs.declared.context.Context.{Context}
 
 -- ---- one context, told by the point where its script goes on after its last event
@@ -25,7 +25,7 @@ pub record AtCall (script : List Instruction) (p : Point) (c : Context) : Type 0
   pub is_ready : c.ready ≡ true
   pub here : point c.registers c.place ≡ arrived script p
   pub call_is : c.call ≡ call_from script p
-  pub after_is : c.after ≡ place_behind script c.place
+  pub after_is : c.after ≡ place_after script c.place
 
 -- the context stands at the point, or at its call already
 pub record Reaches (script : List Instruction) (p : Point) (c : Context) : Type 0 where

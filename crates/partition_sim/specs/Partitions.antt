@@ -8,7 +8,7 @@ use Rattle.ffm_model.specs.Held.{Holder}
 use Rattle.ffm_model.specs.HeldPlans.{Holding, held_arrived, held_call, held_engine, holding_none}
 use Rattle.ffm_model.specs.Plans.{engine_after}
 use Rattle.ffm_model.specs.Records.{ends_blocked}
-use Rattle.ffm_model.specs.ScriptRuns.{place_behind}
+use Rattle.ffm_model.specs.ScriptRuns.{place_after}
 
 -- what contracts see of a partition's runner: the partition, where its script stands and the messages that it holds, whether a call waits for its return, and whether it stands at its next call; of that call the line, the call, and where the script goes on after it
 pub record PartitionStanding : Type 0 where
@@ -32,7 +32,7 @@ pub record AskedHeld (p : Holder) (script : List Instruction) (outcomes : List O
   pub here : r.at ≡ held_arrived p script (holding_after p script outcomes)
   pub line_is : r.line ≡ slice_get script r.at.at.place
   pub call_is : r.call ≡ held_call p script r.at
-  pub after_is : r.after ≡ place_behind script r.at.at.place
+  pub after_is : r.after ≡ place_after script r.at.at.place
 
 -- it has seen them, and stands where the script goes on, or at the next call already
 pub record FollowsHeld (p : Holder) (script : List Instruction) (outcomes : List Outcome) (r : PartitionStanding) : Type 0 where

@@ -7,5 +7,5 @@ use Rattle.ffm_model.specs.Plans.{Plan}
 use Rattle.ffm_model.specs.Records.{ends_blocked}
 
 -- the next call is the return of an earlier one exactly where the last outcome is Blocked
-abbrev pub ResumesBehindBlocked : Plan → Type 0
-ResumesBehindBlocked plan = (outcomes : List Outcome) → (plan outcomes ≡ call.Resume) ↔ (ends_blocked outcomes ≡ true)
+abbrev pub ResumesAfterBlocked : Plan → Type 0
+ResumesAfterBlocked plan = (outcomes : List Outcome) → (plan outcomes ≡ call.Resume) ↔ (ends_blocked outcomes ≡ true)

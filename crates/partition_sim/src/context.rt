@@ -1,7 +1,7 @@
 //! One context: where its script stands.
 
 use ffm_model::{Call, Instruction, Outcome};
-use script_engines::{arrive, call_at, note, place_behind};
+use script_engines::{arrive, call_at, note, place_after};
 
 /// Where one script stands that holds no messages: sixteen registers, and a place in the script.
 #[derive(Clone, Copy)]
@@ -46,7 +46,7 @@ impl Context {
         let place = arrive(script, &mut self.registers, self.place);
         self.place = place;
         self.call = call_at(script, &self.registers, place);
-        self.after = place_behind(script, place);
+        self.after = place_after(script, place);
         self.ready = true;
     }
 

@@ -9,7 +9,7 @@ ghost use Rattle.ffm_model.specs.HeldPlans.{held_plan};
 ghost use Rattle.ffm_model.specs.Plans.{PlanRun};
 ghost use Rattle.ffm_model.specs.ScriptRuns.{ScriptRun, script_plan};
 ghost use Rattle.ffm_model.specs.Scripts.{MapsNothing};
-ghost use Rattle.partition_sim.specs.Resuming.{ResumesBehindBlocked};
+ghost use Rattle.partition_sim.specs.Resuming.{ResumesAfterBlocked};
 
 /// A client with one script calls as the script says.
 pub fn one_context_is_a_script()
@@ -30,10 +30,10 @@ pub fn scripts_that_map_nothing()
 {}
 
 /// Each plan gives a return exactly where the last call is blocked.
-pub fn plans_resume_behind_blocked()
-    ensures script { (script : List Instruction) → ResumesBehindBlocked (script_plan script) }
+pub fn plans_resume_after_blocked()
+    ensures script { (script : List Instruction) → ResumesAfterBlocked (script_plan script) }
     ensures held { (p : Holder) (script : List Instruction)
-        → ResumesBehindBlocked (held_plan p script) }
+        → ResumesAfterBlocked (held_plan p script) }
     ensures contexts { (scripts : List (List Instruction))
-        → ResumesBehindBlocked (context_plan scripts) }
+        → ResumesAfterBlocked (context_plan scripts) }
 {}

@@ -11,7 +11,7 @@ mod scheduled;
 mod turn_runner;
 mod workers;
 
-pub use laws::{one_context_is_a_script, plans_resume_behind_blocked, scripts_that_map_nothing};
+pub use laws::{one_context_is_a_script, plans_resume_after_blocked, scripts_that_map_nothing};
 pub use runner::Runner;
 pub use scheduled::drive_scheduled;
 pub use workers::{Worker, drive};

@@ -4,7 +4,7 @@ ghost use Rattle.ffm_model.specs.Scripts.{IsPart};
 
 use ffm_model::{Call, Instruction, Outcome, System};
 use mm_iovec::Held;
-use script_engines::{held_arrive, held_call, is_blocked, line_at, note_held, place_behind};
+use script_engines::{held_arrive, held_call, is_blocked, line_at, note_held, place_after};
 use std::marker::Model;
 
 // The call that is due: the return of a call that waits for it, else that of the script.
@@ -93,7 +93,7 @@ impl PartitionRunner {
         self.place = place;
         self.line = line_at(script, place);
         self.call = held_call(&mut self.held, &self.registers, script, place);
-        self.after = place_behind(script, place);
+        self.after = place_after(script, place);
         self.ready = true;
     }
 

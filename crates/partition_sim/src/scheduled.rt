@@ -13,7 +13,7 @@ ghost use Rattle.partition_sim.specs.ActorPlans.{needs_messages, plan_at};
 ghost use Rattle.partition_sim.specs.Driving.{AreNew, Driving, HaveContexts, IsDriven, Turned, Underway};
 
 use crate::client::ClientRunner;
-use crate::laws::{one_context_is_a_script, plans_resume_behind_blocked, scripts_that_map_nothing};
+use crate::laws::{one_context_is_a_script, plans_resume_after_blocked, scripts_that_map_nothing};
 use crate::partition::PartitionRunner;
 use crate::turn_runner::TurnRunner;
 use ffm_model::{ActorId, ActorKind, Answer, Instruction, List, Memory, Script, System};
@@ -39,7 +39,7 @@ fn make_entry(
     ensures driving { Driving scripts.now spm.old.opening spm.new.history runners.new }
     ensures turned { Turned spm.old.opening spm.old.history actor.0 result spm.new.history }
 {
-    plans_resume_behind_blocked();
+    plans_resume_after_blocked();
     let at = actor.0 as usize;
     let runner = &mut runners[at];
     let call = runner.next(&scripts[at]);

@@ -7,7 +7,7 @@ ghost use Rattle.spm_core.specs.Manager.{is_resume};
 ghost use Rattle.partition_sim.specs.Standing.{role_of};
 ghost use Rattle.partition_sim.specs.Workers.{IsFinished, IsFresh, IsGood, actors_of, roles_of, scripts_of};
 
-use crate::laws::plans_resume_behind_blocked;
+use crate::laws::plans_resume_after_blocked;
 use crate::runner::Runner;
 use ffm_model::{Answer, Api, Call, Gate, List, Script};
 use script_engines::is_stop;
@@ -91,7 +91,7 @@ fn visit<A: Api, G: Gate, R: Wait>(
 {
     arrive(api, worker, gate);
     worker.arrived = true;
-    plans_resume_behind_blocked();
+    plans_resume_after_blocked();
     let call = worker.runner.next(&worker.script);
     match ask(rt, api, &mut worker.pass, call) {
         Answer::Made { entry, .. } => {

@@ -106,6 +106,6 @@ pub misses_all : (p : PartsRecord) (ram non_secure end : ℕ) (rs : List Region)
 misses_all p ram non_secure end rs x some is others miss by behind =
     both p rs x ∙ or_from (meets_one x (front p)) (meets_one x rs) (front_meets p ram non_secure x some is others ∙ miss) (before_all end rs x by behind)
 
-pub one_behind : (end : ℕ) (rs : List Region) (x : Region) → EndBy end rs → end ≤ x.base → EndBy (x.base + x.size) (rs ++ x ∷ [])
-one_behind end [] x by behind = (omega arith, tt)
-one_behind end (r ∷ rs) x by behind = (let e = by.0 in omega arith, one_behind end rs x by.1 behind)
+pub one_after : (end : ℕ) (rs : List Region) (x : Region) → EndBy end rs → end ≤ x.base → EndBy (x.base + x.size) (rs ++ x ∷ [])
+one_after end [] x by behind = (omega arith, tt)
+one_after end (r ∷ rs) x by behind = (let e = by.0 in omega arith, one_after end rs x by.1 behind)

@@ -82,13 +82,13 @@ run-sound s m es st h =
 -- ---- the entries after a front
 
 -- an actor that is gone stays gone
-gone-behind : (s : System) (es : List Entry) (st new : State) (x : ℕ) → Sound s st → fold (step_on s) (Some st) es ≡ Some new → is_gone (phase_of st.spm x) ≡ true → is_gone (phase_of new.spm x) ≡ true
-gone-behind s [] st new x w h gone = let it : st ≡ new = cc in subst (λ (y : State). is_gone (phase_of y.spm x) ≡ true) it gone
-gone-behind s (e ∷ es) st new x w h gone =
+gone-after : (s : System) (es : List Entry) (st new : State) (x : ℕ) → Sound s st → fold (step_on s) (Some st) es ≡ Some new → is_gone (phase_of st.spm x) ≡ true → is_gone (phase_of new.spm x) ≡ true
+gone-after s [] st new x w h gone = let it : st ≡ new = cc in subst (λ (y : State). is_gone (phase_of y.spm x) ≡ true) it gone
+gone-after s (e ∷ es) st new x w h gone =
     let go : (o : Option State) → step s st e ≡ o → fold (step_on s) o es ≡ Some new → is_gone (phase_of new.spm x) ≡ true =
     elim [
       | None ↦ λ k q. let no : fold (step_on s) None es ≡ None = none-stays s es in cc
-      | Some mid ↦ λ k q. let t = step-turns s st mid e w k in gone-behind s es mid new x t.0 q (t.1 x gone)
+      | Some mid ↦ λ k q. let t = step-turns s st mid e w k in gone-after s es mid new x t.0 q (t.1 x gone)
     ] in
     go (step s st e) refl h
 
@@ -108,9 +108,9 @@ verdict_some true false blocked h on = absurd (true≢false (sym h))
 verdict_some false full blocked h on = cc
 
 -- after a verdict nothing stands
-nothing-behind : (s : System) (m : ByteMap) (limit : ℕ) (front rest : List Entry) → IsSome (after s m (front ++ rest)) → length (front ++ rest) ≤ limit → IsSome (verdict_of s m limit front) → rest ≡ []
-nothing-behind s m limit front [] run within verdict = refl
-nothing-behind s m limit front (e ∷ es) run within verdict =
+nothing-after : (s : System) (m : ByteMap) (limit : ℕ) (front rest : List Entry) → IsSome (after s m (front ++ rest)) → length (front ++ rest) ≤ limit → IsSome (verdict_of s m limit front) → rest ≡ []
+nothing-after s m limit front [] run within verdict = refl
+nothing-after s m limit front (e ∷ es) run within verdict =
     let onward : IsSome (fold (step_on s) (after s m front) (e ∷ es)) = subst IsSome (fold-append (step_on s) (Some (opening s m)) front (e ∷ es)) run in
     let go : (o : Option State) → IsSome (fold (step_on s) o (e ∷ es)) → IsSome (option_and_then (λ st. verdict_at s limit (length front) st.spm) o) → (e ∷ es) ≡ [] =
     elim [
@@ -131,7 +131,7 @@ gone-later o history front a run begins gone =
     let joined : after s (byte_at o.memory) history ≡ fold (step_on s) (after s (byte_at o.memory) front) begins.0 =
     ap (after s (byte_at o.memory)) begins.1 ∙ fold-append (step_on s) (Some (opening s (byte_at o.memory))) front begins.0 in
     let last : (st : State) → Sound s st → is_gone (phase_of st.spm a) ≡ true → (x : Option State) → fold (step_on s) (Some st) begins.0 ≡ x → IsSome x → option_map_or (λ y. is_gone (phase_of y.spm a)) x false ≡ true =
-    λ st w g. elim [ None ↦ λ k q. absurd (true≢false (sym q)) | Some new ↦ λ k q. gone-behind s begins.0 st new a w k g ] in
+    λ st w g. elim [ None ↦ λ k q. absurd (true≢false (sym q)) | Some new ↦ λ k q. gone-after s begins.0 st new a w k g ] in
     let go : (x : Option State) → after s (byte_at o.memory) front ≡ x → option_map_or (λ y. is_gone (phase_of y.spm a)) x false ≡ true
     → option_map_or (λ y. is_gone (phase_of y.spm a)) (fold (step_on s) x begins.0) false ≡ true =
     elim [
@@ -155,7 +155,7 @@ gone-or-ended o history a run within d =
       | inr verdict ↦
           let joined : history ≡ d.front ++ d.begins.0 = d.begins.1 in
           let none : d.begins.0 ≡ [] =
-          nothing-behind o.system (byte_at o.memory) o.limit d.front d.begins.0 (subst (IsRun o) joined run) (subst (λ (h : List Entry). length h ≤ o.limit) joined within) verdict in
+          nothing-after o.system (byte_at o.memory) o.limit d.front d.begins.0 (subst (IsRun o) joined run) (subst (λ (h : List Entry). length h ≤ o.limit) joined within) verdict in
           let same : history ≡ d.front = joined ∙ (ap (λ (r : List Entry). d.front ++ r) none ∙ append-nil d.front) in
           inr (subst (has_verdict o) (sym same) verdict)
     ]

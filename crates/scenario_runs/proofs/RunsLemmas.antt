@@ -12,7 +12,7 @@ use Rattle.ffm_model.specs.declared.system.System.{System}
 use Rattle.ffm_model.specs.declared.trace.Trace.{Trace}
 use Rattle.ffm_model.specs.Actors.{actor_count, counts_of}
 use Rattle.ffm_model.specs.Memory.{ByteMap, opening_memory}
-use Rattle.ffm_model.specs.Restarts.{FinishedRun, RunsFrom, ends_panicked, memory_behind, memory_reset}
+use Rattle.ffm_model.specs.Restarts.{FinishedRun, RunsFrom, ends_panicked, memory_after, memory_reset}
 use Rattle.ffm_model.specs.Step.{Run}
 use Rattle.ffm_model.specs.Verdicts.{verdict_of}
 use Rattle.ffm_model.proofs.RunLemmas.{run_actor}
@@ -30,7 +30,7 @@ use Rattle.scenario_runs.proofs.Unmapped.{UnmappedRuns}
 
 -- a run, and after it the runs from the next memory
 pub runs_on : (s : System) (P : ByteMap → FinishedRun → Type 0) (first m next : ByteMap) (left : ℕ) (r : FinishedRun) (rs : List FinishedRun) → P m r → (nat_lt 0 left && ends_panicked s m r) ≡ true
-    → next ≡ memory_reset s first (memory_behind s m r.entries) → RunsFrom s P first next (left - 1) rs → RunsFrom s P first m left (r ∷ rs)
+    → next ≡ memory_reset s first (memory_after s m r.entries) → RunsFrom s P first next (left - 1) rs → RunsFrom s P first m left (r ∷ rs)
 runs_on s P first m next left r [] ran more is rest = absurd rest
 runs_on s P first m next left r (q ∷ rs) ran more is rest = (ran, more, subst (λ (x : ByteMap). RunsFrom s P first x (left - 1) (q ∷ rs)) is rest)
 
@@ -38,7 +38,7 @@ runs_on s P first m next left r (q ∷ rs) ran more is rest = (ran, more, subst 
 pub runs_as : (s : System) (P Q : ByteMap → FinishedRun → Type 0) (first : ByteMap) (rs : List FinishedRun) (m : ByteMap) (left : ℕ) → ((n : ByteMap) (r : FinishedRun) → P n r → Q n r) → RunsFrom s P first m left rs → RunsFrom s Q first m left rs
 runs_as s P Q first [] m left each h = h
 runs_as s P Q first (r ∷ []) m left each h = (each m r h.0, h.1)
-runs_as s P Q first (r ∷ q ∷ rs) m left each h = (each m r h.0, h.1, runs_as s P Q first (q ∷ rs) (memory_reset s first (memory_behind s m r.entries)) (left - 1) each h.2)
+runs_as s P Q first (r ∷ q ∷ rs) m left each h = (each m r h.0, h.1, runs_as s P Q first (q ∷ rs) (memory_reset s first (memory_after s m r.entries)) (left - 1) each h.2)
 
 -- ---- runs of scripts so far, and what they leave to the others
 
@@ -60,7 +60,7 @@ leads_first s c scripts first m same = λ rs h. subst (λ (x : ByteMap). RunsFro
 
 -- one run more, and another follows it
 pub leads_on : (s : System) (c : Scenario) (scripts : List Parts) (first m next : ByteMap) (left : ℕ) (so_far : List Trace) (t : Trace) → LeadsOn s c scripts first m left so_far → RunOf s c scripts m (finished t)
-    → (nat_lt 0 left && ends_panicked s m (finished t)) ≡ true → next ≡ memory_reset s first (memory_behind s m t.entries) → LeadsOn s c scripts first next (left - 1) (so_far ++ t ∷ [])
+    → (nat_lt 0 left && ends_panicked s m (finished t)) ≡ true → next ≡ memory_reset s first (memory_after s m t.entries) → LeadsOn s c scripts first next (left - 1) (so_far ++ t ∷ [])
 leads_on s c scripts first m next left so_far t leads ran more is = λ rs h.
     subst (λ (xs : List FinishedRun). RunsFrom s (RunOf s c scripts) first first c.restarts xs) (sym (joined so_far t rs)) (leads (finished t ∷ rs) (runs_on s (RunOf s c scripts) first m next left (finished t) rs ran more is h))
 
@@ -106,7 +106,7 @@ pub traces_fit : (s : System) (first : ByteMap) (c : Scenario) (programs : List 
 traces_fit s first c programs threads [] m left few h = refl
 traces_fit s first c programs threads (t ∷ []) m left few h = and_from _ _ (trace_fits s m c programs threads t few h.0) refl
 traces_fit s first c programs threads (t ∷ u ∷ ts) m left few h =
-    and_from _ _ (trace_fits s m c programs threads t few h.0) (traces_fit s first c programs threads (u ∷ ts) (memory_reset s first (memory_behind s m t.entries)) (left - 1) few h.2)
+    and_from _ _ (trace_fits s m c programs threads t few h.0) (traces_fit s first c programs threads (u ∷ ts) (memory_reset s first (memory_after s m t.entries)) (left - 1) few h.2)
 
 -- ---- runs of scripts as runs of programs
 

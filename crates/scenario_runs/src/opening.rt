@@ -2,7 +2,7 @@
 
 ghost use Rattle.std.specs.Prelude.{◌≡◌, ◌<◌, IfOk, IfSome, false, is_some, length};
 ghost use Rattle.std.specs.Option.{option_map_or};
-ghost use Rattle.ffm_model.specs.Restarts.{is_ended, is_mmio, memory_behind, memory_reset, some_panicked};
+ghost use Rattle.ffm_model.specs.Restarts.{is_ended, is_mmio, memory_after, memory_reset, some_panicked};
 ghost use Rattle.ffm_model.specs.Signals.{is_panicked};
 ghost use Rattle.ffm_model.specs.State.{phase_of};
 ghost use Rattle.ffm_model.specs.Ranges.{ranges_of};
@@ -63,7 +63,7 @@ fn reset(alloc: Global, first: &Image, ended: &Spm) -> Result<Image, Memory>
     ensures regions { IfOk result (λ image.
         regions_of image ≡ ranges_of ended.now.opening.system.regions) }
     ensures bytes { IfOk result (λ image.
-        byte_at image ≡ memory_reset ended.now.opening.system (byte_at first.now) (memory_behind
+        byte_at image ≡ memory_reset ended.now.opening.system (byte_at first.now) (memory_after
         ended.now.opening.system (byte_at ended.now.opening.memory) ended.now.history)) }
 {
     let mut image = first.copy_of(alloc)?;
@@ -87,7 +87,7 @@ pub fn next_opening(alloc: Global, first: &Image, ended: &Spm) -> Result<Option<
         IfSome next (λ image. regions_of image ≡ ranges_of ended.now.opening.system.regions)) }
     ensures bytes { IfOk result (λ next.
         IfSome next (λ image.
-        byte_at image ≡ memory_reset ended.now.opening.system (byte_at first.now) (memory_behind
+        byte_at image ≡ memory_reset ended.now.opening.system (byte_at first.now) (memory_after
         ended.now.opening.system (byte_at ended.now.opening.memory) ended.now.history))) }
 {
     if !runs_again(ended) {

@@ -5,7 +5,7 @@ ghost use Rattle.std.specs.Prelude.{◌≡◌, ◌≤◌, ◌∷◌, [], ◌&&�
 ghost use Rattle.std.specs.List.{list_all};
 ghost use Rattle.ffm_model.specs.Actors.{actor_count, counts_of};
 ghost use Rattle.ffm_model.specs.Memory.{opening_memory};
-ghost use Rattle.ffm_model.specs.Restarts.{memory_behind, memory_reset};
+ghost use Rattle.ffm_model.specs.Restarts.{memory_after, memory_reset};
 ghost use Rattle.ffm_model.specs.Scenarios.{IsScenarioOf};
 ghost use Rattle.ffm_model.specs.Ranges.{ranges_of};
 ghost use Rattle.memory_image.specs.Pieces.{byte_at, regions_of};
@@ -52,7 +52,7 @@ fn next_memory(alloc: Global, left: u32, first: &Image, ran: &Ran) -> Result<Opt
         IfSome next (λ image. regions_of image ≡ ranges_of ran.now.spm.opening.system.regions)) }
     ensures bytes { IfOk result (λ next.
         IfSome next (λ image.
-        byte_at image ≡ memory_reset ran.now.spm.opening.system (byte_at first.now) (memory_behind
+        byte_at image ≡ memory_reset ran.now.spm.opening.system (byte_at first.now) (memory_after
         ran.now.spm.opening.system (byte_at ran.now.spm.opening.memory) ran.now.spm.history))) }
 {
     if left == 0 {

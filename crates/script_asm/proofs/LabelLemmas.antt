@@ -108,11 +108,11 @@ lines-before old new xs x l n i e h kept has =
     ∙ ap (λ ls. is_some (place_of n ls)) (sym (take-append-le i xs (x ∷ []) h))
 
 -- after the line, all labels of all lines are there
-lines-behind : (old new : BTreeMap (Bor Word) FirstLabel) (xs : List Line) (x : Line) (l : FirstLabel) (n : Word) (i : ℕ) → l.line ≡ length xs → length xs < i
+lines-after : (old new : BTreeMap (Bor Word) FirstLabel) (xs : List Line) (x : Line) (l : FirstLabel) (n : Word) (i : ℕ) → l.line ≡ length xs → length xs < i
     → label_in new n ≡ option_or (label_in old n) (if is_label n x then Some l else None)
     → option_map (λ k. k.place) (label_in old n) ≡ place_of n xs
     → is_before i (label_in old n) ≡ is_some (place_of n (take i xs)) → is_before i (label_in new n) ≡ is_some (place_of n (take i (xs ++ x ∷ [])))
-lines-behind old new xs x l n i e h kept leads has =
+lines-after old new xs x l n i e h kept leads has =
     let long : length (xs ++ x ∷ []) ≤ i = rw (length-append xs (x ∷ [])) (omega arith) in
     let all : take i (xs ++ x ∷ []) ≡ xs ++ x ∷ [] = take_all i (xs ++ x ∷ []) long in
     let short : take i xs ≡ xs = take_all i xs (omega arith) in
@@ -127,7 +127,7 @@ lines-by : (old new : BTreeMap (Bor Word) FirstLabel) (xs : List Line) (x : Line
     → label_in new n ≡ option_or (label_in old n) (if is_label n x then Some l else None)
     → option_map (λ k. k.place) (label_in old n) ≡ place_of n xs
     → is_before i (label_in old n) ≡ is_some (place_of n (take i xs)) → (length xs < i) ⊎ (i ≤ length xs) → is_before i (label_in new n) ≡ is_some (place_of n (take i (xs ++ x ∷ [])))
-lines-by old new xs x l n i e kept leads has (inl h) = lines-behind old new xs x l n i e h kept leads has
+lines-by old new xs x l n i e kept leads has (inl h) = lines-after old new xs x l n i e h kept leads has
 lines-by old new xs x l n i e kept leads has (inr h) = lines-before old new xs x l n i e h kept has
 
 pub lines-more : (old new : BTreeMap (Bor Word) FirstLabel) (xs : List Line) (x : Line) (l : FirstLabel) → l.line ≡ length xs

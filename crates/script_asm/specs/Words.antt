@@ -30,17 +30,17 @@ words_of line = filter (λ w. not (length w == 0)) (slice_split is_blank line)
 -- ---- numbers
 
 -- the number that n and the decimal digits after it spell, where it is at most the limit
-abbrev pub decimal_behind : ℕ → ℕ → List ℕ → Option ℕ
-decimal_behind limit n [] = Some n
-decimal_behind limit n (d ∷ ds) =
+abbrev pub decimal_after : ℕ → ℕ → List ℕ → Option ℕ
+decimal_after limit n [] = Some n
+decimal_after limit n (d ∷ ds) =
     if is_digit d 10 && nat_le (n * 10 + digit_value d) limit
-    then decimal_behind limit (n * 10 + digit_value d) ds
+    then decimal_after limit (n * 10 + digit_value d) ds
     else None
 
 -- one or more decimal digits, of a number up to the limit; leading zeros are allowed
 unfoldable pub decimal_number : ℕ → Word → Option ℕ
 decimal_number limit [] = None
-decimal_number limit (d ∷ ds) = decimal_behind limit 0 (d ∷ ds)
+decimal_number limit (d ∷ ds) = decimal_after limit 0 (d ∷ ds)
 
 -- the 32 bits of -n, for n from 1 to 2^31
 abbrev pub negated : ℕ → Option ℕ

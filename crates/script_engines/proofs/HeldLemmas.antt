@@ -9,9 +9,9 @@ use Rattle.ffm_model.specs.declared.machine.Outcome.{Outcome}
 use Rattle.ffm_model.specs.declared.script.Instruction.{Instruction}
 use Rattle.ffm_model.specs.declared.script.Instruction.TheVariants as line
 use Rattle.ffm_model.specs.Held.{Holder, HeldMessage}
-use Rattle.ffm_model.specs.HeldPlans.{Holding, call_made, led_to, line_step, other_line, held_step, held_steps, held_arrived, held_call, held_behind, registers_noted, table_noted}
+use Rattle.ffm_model.specs.HeldPlans.{Holding, call_made, led_to, line_step, other_line, held_step, held_steps, held_arrived, held_call, held_after, registers_noted, table_noted}
 use Rattle.ffm_model.specs.HeldPlans.LineStep.{leads, makes}
-use Rattle.ffm_model.specs.ScriptRuns.{Point, line_effect, local_step, most_lines, place_behind}
+use Rattle.ffm_model.specs.ScriptRuns.{Point, line_effect, local_step, most_lines, place_after}
 use Rattle.mm_iovec.specs.declared.line.MmLine.{MmLine}
 use Rattle.mm_iovec.specs.declared.line.MmLine.TheVariants.{UnmapIn, MapOut}
 use Rattle.mm_iovec.specs.declared.line.MmStep.TheVariants.{Calls, Fault}
@@ -91,7 +91,7 @@ map-out-call p x t h i e =
 
 -- ---- after a call
 
-pub behind-is : (p : Holder) (script : List Instruction) (o : Outcome) (x : Holding) (line : Option Instruction) (c : Call) (after : ℕ) → line ≡ slice_get script x.at.place → c ≡ held_call p script x
-    → after ≡ place_behind script x.at.place → held_behind p script o x ≡ holding (registers_noted line c o x.at.registers) after (table_noted p line c o x.table)
-unfolding held_behind
-behind-is p script o x line c after l e a = rw (l, e, a) refl
+pub after-is : (p : Holder) (script : List Instruction) (o : Outcome) (x : Holding) (line : Option Instruction) (c : Call) (after : ℕ) → line ≡ slice_get script x.at.place → c ≡ held_call p script x
+    → after ≡ place_after script x.at.place → held_after p script o x ≡ holding (registers_noted line c o x.at.registers) after (table_noted p line c o x.table)
+unfolding held_after
+after-is p script o x line c after l e a = rw (l, e, a) refl

@@ -1,13 +1,13 @@
 //! The script of a partition that holds messages: up to its next call, and behind it.
 ghost use Rattle.std.specs.Prelude.{◌≡◌, IfNone, IfSome, None, Some, slice_get};
-ghost use Rattle.ffm_model.specs.HeldPlans.{held_arrived, held_behind, held_call, held_step};
+ghost use Rattle.ffm_model.specs.HeldPlans.{held_arrived, held_after, held_call, held_step};
 ghost use Rattle.ffm_model.specs.ScriptRuns.{local_step, point};
 ghost use Rattle.ffm_model.specs.Scripts.{IsPart};
 ghost use Rattle.script_engines.specs.Holdings.{holding};
 
 use crate::calls::call_of;
 use crate::held_lines::{map_call, map_effect, note_held, unless_refused};
-use crate::lines::{MOST_LINES, place_behind};
+use crate::lines::{MOST_LINES, place_after};
 use crate::script::run_lines;
 use ffm_model::{Call, Instruction, Outcome};
 use mm_iovec::Held;
@@ -107,7 +107,7 @@ pub fn held_go_on(
     outcome: &Outcome,
 ) -> usize
     ensures gone { holding registers.new result held.new.table
-        ≡ held_behind held.old.holder script.now outcome.now
+        ≡ held_after held.old.holder script.now outcome.now
         (holding registers.old place held.old.table) }
     ensures holder { held.new.holder ≡ held.old.holder }
 {
@@ -115,5 +115,5 @@ pub fn held_go_on(
     let call = held_call(held, registers, script, place);
     held.noted(line, call, *outcome);
     note_held(registers, line, call, outcome);
-    place_behind(script, place)
+    place_after(script, place)
 }

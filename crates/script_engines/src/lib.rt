@@ -11,5 +11,5 @@ mod script;
 pub use calls::{is_blocked, is_stop, note};
 pub use held_lines::note_held;
 pub use held_script::{held_arrive, held_call, held_go_on, line_at};
-pub use lines::{MOST_LINES, place_behind};
+pub use lines::{MOST_LINES, place_after};
 pub use script::{arrive, call_at, go_on, run_lines};

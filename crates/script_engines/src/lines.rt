@@ -1,6 +1,6 @@
 //! Local lines.
 ghost use Rattle.std.specs.Prelude.{◌≡◌, ◌<◌, ℕ, IfNone, IfSome, None, Some};
-ghost use Rattle.ffm_model.specs.ScriptRuns.{line_effect, place_behind, point};
+ghost use Rattle.ffm_model.specs.ScriptRuns.{line_effect, place_after, point};
 ghost use Rattle.ffm_model.specs.Scripts.{FitsIn};
 
 use crate::calls::{changed, meets, put, value_of};
@@ -50,8 +50,8 @@ pub fn line_effect(registers: &mut [u32; 16], place: usize, line: &Instruction) 
 }
 
 /// The place after the line at a place; after the last line it stays.
-pub fn place_behind(script: &[Instruction], place: usize) -> usize
-    ensures { result ≡ place_behind script.now place }
+pub fn place_after(script: &[Instruction], place: usize) -> usize
+    ensures { result ≡ place_after script.now place }
 {
     if place < script.len() {
         place + 1

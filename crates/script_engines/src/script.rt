@@ -7,7 +7,7 @@ ghost use Rattle.ffm_model.specs.Scripts.{IsPart};
 ghost use Rattle.script_engines.specs.Holdings.{holding};
 
 use crate::calls::{call_of, note};
-use crate::lines::{MOST_LINES, line_effect, place_behind};
+use crate::lines::{MOST_LINES, line_effect, place_after};
 use ffm_model::{Call, Instruction, Outcome};
 
 // Runs the line at a place where it is local, and says where it leads.
@@ -91,5 +91,5 @@ pub fn go_on(
         ≡ behind script.now outcome.now (point registers.old place) }
 {
     note(registers, outcome);
-    place_behind(script, place)
+    place_after(script, place)
 }

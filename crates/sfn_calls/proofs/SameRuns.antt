@@ -16,7 +16,7 @@ use Rattle.ffm_model.specs.Plans.{engine_after}
 use Rattle.ffm_model.specs.ScriptRuns.{Point, point, start, most_lines, noted, behind, arrived, call_at}
 use Rattle.ffm_model.specs.SfnScripts.{IsFunction}
 use Rattle.ffm_model.specs.Functions.{SfnService, SfnPartition, signals_in, lowest, asserts, function_registers, returns_at, function_call_at}
-use Rattle.ffm_model.specs.SfnRuns.{Work, Stage, reached, work_call, work_behind, stage_behind, begun, SfnRunFrom}
+use Rattle.ffm_model.specs.SfnRuns.{Work, Stage, reached, work_call, work_after, stage_after, begun, SfnRunFrom}
 use Rattle.ffm_model.specs.SfnRuns.Stage.{idle, waiting, signalled, working}
 use Rattle.sfn_calls.specs.Loop.{expanded}
 use Rattle.sfn_calls.specs.Answers.{IsHandle, IsBlockedWait, IsReturn, AreAnswered, IsSfnPartition, SameRuns}
@@ -82,26 +82,26 @@ work-due : (p : SfnPartition) (w : Work) (q : Point) (b : Bool) → w.pending �
 work-due p w q b e a = ap (λ (c : Call). if w.pending then call.Resume else c) (work-call (expanded p) w q a)
 
 -- after a call of the function, whatever is answered
-pub record Behind (p : SfnPartition) (w : Work) (q : Point) (o : Outcome) : Type 0 where
-  pub stands : LoopStands p (stage_behind w o) (answered (expanded p) o q)
-  pub opens : is_open (stage_behind w o) ≡ is_blocked_outcome o
+pub record After (p : SfnPartition) (w : Work) (q : Point) (o : Outcome) : Type 0 where
+  pub stands : LoopStands p (stage_after w o) (answered (expanded p) o q)
+  pub opens : is_open (stage_after w o) ≡ is_blocked_outcome o
 
 -- by whether the function returned, and whether the call is blocked
-behind-by : (p : SfnPartition) (w : Work) (q : Point) (o : Outcome) (r b : Bool) → returns_at w.lines (reached w) ≡ r → is_blocked_outcome o ≡ b → AtWork (expanded p) w q
+after-by : (p : SfnPartition) (w : Work) (q : Point) (o : Outcome) (r b : Bool) → returns_at w.lines (reached w) ≡ r → is_blocked_outcome o ≡ b → AtWork (expanded p) w q
     → (r ≡ true → (b ≡ false) × (noted o (arrived (expanded p) q).registers ≡ (arrived (expanded p) q).registers))
     → LoopStands p (if r then idle (reached w).registers else working (if b then record w { pending = true } else record w { budget = most_lines; at = point (noted o (reached w).registers) ((reached w).place + 1); pending = false }))
     (if b then q else behind (expanded p) o (arrived (expanded p) q))
     × (is_open (if r then idle (reached w).registers else working (if b then record w { pending = true } else record w { budget = most_lines; at = point (noted o (reached w).registers) ((reached w).place + 1); pending = false })) ≡ b)
-behind-by p w q o true true er eb a quiet = let no = (quiet refl).0 in cc
-behind-by p w q o true false er eb a quiet = (goes-back p w q o a er (quiet refl).1, refl)
-behind-by p w q o false true er eb a quiet = (stays-open (expanded p) w q a er, refl)
-behind-by p w q o false false er eb a quiet = (goes-on (expanded p) w q o a er, refl)
+after-by p w q o true true er eb a quiet = let no = (quiet refl).0 in cc
+after-by p w q o true false er eb a quiet = (goes-back p w q o a er (quiet refl).1, refl)
+after-by p w q o false true er eb a quiet = (stays-open (expanded p) w q a er, refl)
+after-by p w q o false false er eb a quiet = (goes-on (expanded p) w q o a er, refl)
 
-behind-work : (p : SfnPartition) (w : Work) (q : Point) (o : Outcome) → AtWork (expanded p) w q
+after-work : (p : SfnPartition) (w : Work) (q : Point) (o : Outcome) → AtWork (expanded p) w q
     → (returns_at w.lines (reached w) ≡ true → (is_blocked_outcome o ≡ false) × (noted o (arrived (expanded p) q).registers ≡ (arrived (expanded p) q).registers))
-    → Behind p w q o
-behind-work p w q o a quiet =
-    let x = behind-by p w q o (returns_at w.lines (reached w)) (is_blocked_outcome o) refl refl a quiet in
+    → After p w q o
+after-work p w q o a quiet =
+    let x = after-by p w q o (returns_at w.lines (reached w)) (is_blocked_outcome o) refl refl a quiet in
     record { stands = x.0; opens = x.1 }
 
 -- a reply is answered quietly
@@ -124,11 +124,11 @@ quiet-work p w q e es a facts c r =
     let x = work-call-return w closed r in
     quiet-by e.outcome _ (facts.replies [] es e w.handle x.0 refl (c ∙ x.1))
 
-facts-by : (p : SfnPartition) (w : Work) (o : Outcome) (es : List Entry) (r : Bool) → AreAnswered p es → Facts p (if r then idle (reached w).registers else working (work_behind w o)) es
+facts-by : (p : SfnPartition) (w : Work) (o : Outcome) (es : List Entry) (r : Bool) → AreAnswered p es → Facts p (if r then idle (reached w).registers else working (work_after w o)) es
 facts-by p w o es true a = a
 facts-by p w o es false a = a
 
-working-facts : (p : SfnPartition) (w : Work) (o : Outcome) (es : List Entry) → AreAnswered p es → Facts p (stage_behind w o) es
+working-facts : (p : SfnPartition) (w : Work) (o : Outcome) (es : List Entry) → AreAnswered p es → Facts p (stage_after w o) es
 working-facts p w o es a = facts-by p w o es (returns_at w.lines (reached w)) a
 
 -- ---- the induction
@@ -194,10 +194,10 @@ same-from p fine (e ∷ es) (signalled rs signals) q after facts =
 same-from p fine (e ∷ es) (working w) q at facts =
     let code = expanded p in
     let made : due code w.pending q ≡ work_call w = work-due p w q w.pending refl at in
-    let behind_it : e.call ≡ work_call w → Behind p w q e.outcome = λ c. behind-work p w q e.outcome at (quiet-work p w q e es at facts c) in
-    let next : e.call ≡ work_call w → RunAt code (is_blocked_outcome e.outcome) (answered code e.outcome q) es ↔ SfnRunFrom p (stage_behind w e.outcome) es =
-    λ c. subst (λ (b : Bool). RunAt code b (answered code e.outcome q) es ↔ SfnRunFrom p (stage_behind w e.outcome) es) (behind_it c).opens
-    (same-from p fine es (stage_behind w e.outcome) _ (behind_it c).stands (working-facts p w e.outcome es (answered-tail p e es facts))) in (
+    let after_it : e.call ≡ work_call w → After p w q e.outcome = λ c. after-work p w q e.outcome at (quiet-work p w q e es at facts c) in
+    let next : e.call ≡ work_call w → RunAt code (is_blocked_outcome e.outcome) (answered code e.outcome q) es ↔ SfnRunFrom p (stage_after w e.outcome) es =
+    λ c. subst (λ (b : Bool). RunAt code b (answered code e.outcome q) es ↔ SfnRunFrom p (stage_after w e.outcome) es) (after_it c).opens
+    (same-from p fine es (stage_after w e.outcome) _ (after_it c).stands (working-facts p w e.outcome es (answered-tail p e es facts))) in (
       (λ h. let c = h.0 ∙ made in (c, (next c).0 h.1)),
       (λ h. (h.0 ∙ sym made, (next h.0).1 h.1)),
     )

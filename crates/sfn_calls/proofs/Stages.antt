@@ -17,7 +17,7 @@ use Rattle.ffm_model.specs.declared.script.Operation.TheVariants.{Set}
 use Rattle.ffm_model.specs.declared.script.Instruction.{Instruction}
 use Rattle.ffm_model.specs.declared.script.Instruction.TheVariants.{Change, Jump}
 use Rattle.ffm_model.specs.declared.script.CallName.TheVariants as name
-use Rattle.ffm_model.specs.ScriptRuns.{Point, point, most_lines, noted, with_message, place_behind, behind, arrived, call_at, local_step, local_steps}
+use Rattle.ffm_model.specs.ScriptRuns.{Point, point, most_lines, noted, with_message, place_after, behind, arrived, call_at, local_step, local_steps}
 use Rattle.ffm_model.specs.declared.script.SfnInstruction.{SfnInstruction}
 use Rattle.ffm_model.specs.declared.script.SfnInstruction.TheVariants.{Plain, Return}
 use Rattle.ffm_model.specs.SfnScripts.{IsFunction}
@@ -50,8 +50,8 @@ unfolding call_at
 wait-call p rs = rw (wait-line p) refl
 
 -- after a line that is there
-pub place-behind : (code : List Instruction) (place : ℕ) (i : Instruction) → slice_get code place ≡ Some i → place_behind code place ≡ place + 1
-place-behind code place i e = let inside : place < length code = slice_get_within code place i e in grind (arith, inside)
+pub place-after : (code : List Instruction) (place : ℕ) (i : Instruction) → slice_get code place ≡ Some i → place_after code place ≡ place + 1
+place-after code place i e = let inside : place < length code = slice_get_within code place i e in grind (arith, inside)
 
 -- ---- the signals
 
@@ -66,7 +66,7 @@ after-signals p rs signals q at = record {
   r14 = at.r14;
   r15 = at.r15;
   here = ap (behind (expanded p) (outcome.Signals signals)) at.arrives
-      ∙ ap₂ point (set-low rs (at.r14 ∷ (at.r15 ∷ [])) 0 signals at.long (lit< tt)) (place-behind (expanded p) 0 _ (wait-line p));
+      ∙ ap₂ point (set-low rs (at.r14 ∷ (at.r15 ∷ [])) 0 signals at.long (lit< tt)) (place-after (expanded p) 0 _ (wait-line p));
   long = at.long;
 }
 
@@ -176,7 +176,7 @@ to-work p rs signals q v m fine handle a g =
     subst (λ (k : ℕ). StandsAt code (g.place + 1) (Change Set 14 (Register 2) ∷ function_code v.lines k)) (omega arith) (stands-tail code g.place _ _ g.stands) in
     let here : answered code (outcome.Got m) q ≡ point (with_message m rs ++ a.r14 ∷ (g.last ∷ [])) (g.place + 1) =
     ap (behind code (outcome.Got m)) (get-arrives p rs signals q v a g)
-    ∙ ap₂ point (message-low m (slice_set rs 0 signals) (a.r14 ∷ (g.last ∷ [])) long ∙ ap (λ (l : List ℕ). l ++ a.r14 ∷ (g.last ∷ [])) (message-over m rs signals)) (place-behind code g.place _ line) in
+    ∙ ap₂ point (message-low m (slice_set rs 0 signals) (a.r14 ∷ (g.last ∷ [])) long ∙ ap (λ (l : List ℕ). l ++ a.r14 ∷ (g.last ∷ [])) (message-over m rs signals)) (place-after code g.place _ line) in
     record {
       from = g.place + 1 + 1;
       r15 = g.last;
@@ -226,8 +226,8 @@ goes-on code w q o a r =
     let long : length at.registers ≡ 14 = steps-long w.lines w.budget w.at a.long in
     let line = code-here code w.lines a.from at.place a.stands in
     let plain = plain-at (slice_get w.lines at.place) r in
-    let place : place_behind code (a.from + place_in w.lines at.place) ≡ a.from + place_in w.lines (at.place + 1) =
-    place-behind code (a.from + place_in w.lines at.place) _ line ∙ omega (arith, place-next w.lines at.place plain.0 plain.1) in
+    let place : place_after code (a.from + place_in w.lines at.place) ≡ a.from + place_in w.lines (at.place + 1) =
+    place-after code (a.from + place_in w.lines at.place) _ line ∙ omega (arith, place-next w.lines at.place plain.0 plain.1) in
     let here : behind code o (local_steps code most_lines q) ≡ in_loop w.lines a.from h a.r15 (point (noted o at.registers) (at.place + 1)) =
     ap (behind code o) a.arrives ∙ ap₂ point (noted-low o at.registers xs long) place in
     record {
@@ -257,7 +257,7 @@ goes-back p w q o a r quiet =
     let line = code-here code w.lines a.from at.place a.stands in
     let jump = back-here code w.lines a.from at.place a.stands (return-at (slice_get w.lines at.place) r) in
     let here : behind code o (local_steps code most_lines q) ≡ point (at.registers ++ h ∷ (a.r15 ∷ [])) (a.from + place_in w.lines at.place + 1) =
-    ap₂ point (quiet ∙ ap (λ (x : Point). x.registers) a.arrives) (ap (λ (x : Point). place_behind code x.place) a.arrives ∙ place-behind code _ _ line) in
+    ap₂ point (quiet ∙ ap (λ (x : Point). x.registers) a.arrives) (ap (λ (x : Point). place_after code x.place) a.arrives ∙ place-after code _ _ line) in
     record {
       r14 = h;
       r15 = a.r15;

@@ -4,7 +4,7 @@ use Rattle.std.proofs.lemmas.List.{length-map, nil_from_length}
 use mathlib.Core.Option.{some, some-injective}
 use lib.ListN.{get_elem?}
 use Rattle.atomic_table.specs.Table.{Me, Final, Seen}
-use Rattle.law_lists.proofs.Lists.{slice_get-behind}
+use Rattle.law_lists.proofs.Lists.{slice_get-after}
 use Rattle.ffm_model.specs.declared.machine.Entry.{Entry}
 use Rattle.spm_lock.specs.Histories.{actors, IsRun}
 use Rattle.spm_core.specs.Manager.{Opening, Managed}
@@ -40,7 +40,7 @@ all_keep h (q ∷ ps) fit (suc k) p at = all_keep h ps fit.1 k p at
 -- what stands after the passes that were taken in
 pub next_own : (s : SharedView) (n : ℕ) (ys rest later ps : List PassView) (p : PassView) → FirstPasses s n ps → ys ++ rest ≡ ps → rest ≡ p ∷ later → IsOwn s p
 next_own s n ys rest later ps p first all next =
-    (first.each (length ys) p (subst (λ (l : List PassView). slice_get l (length ys) ≡ Some p) (ap (λ (l : List PassView). ys ++ l) (sym next) ∙ all) (slice_get-behind ys p later (length ys) refl))).0
+    (first.each (length ys) p (subst (λ (l : List PassView). slice_get l (length ys) ≡ Some p) (ap (λ (l : List PassView). ys ++ l) (sym next) ∙ all) (slice_get-after ys p later (length ys) refl))).0
 
 all_yielded : (ys rest ps : List PassView) → ys ++ rest ≡ ps → length rest ≡ 0 → ys ≡ ps
 all_yielded ys rest ps all none_left = sym (append-nil ys) ∙ (ap (λ (l : List PassView). ys ++ l) (sym (nil_from_length rest none_left)) ∙ all)

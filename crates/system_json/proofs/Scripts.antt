@@ -62,9 +62,9 @@ is_new s scripts d x h =
     let P : ActorId → Type 0 = λ actor. may_have_another s scripts actor ≡ true in
     subst P here.0 here.1
 
-is_behind : (s : System) (scripts : List ScriptItem) (d : Data) (x : ScriptItem) → script_of s scripts d ≡ Ok x → may_have_another s scripts x.actor ≡ true
+is_after : (s : System) (scripts : List ScriptItem) (d : Data) (x : ScriptItem) → script_of s scripts d ≡ Ok x → may_have_another s scripts x.actor ≡ true
 unfolding script_of
-is_behind s scripts d x h =
+is_after s scripts d x h =
     let object = before (object_of d) _ x h in
     let actor = before (required (new_actor_of s scripts) key.Actor d) _ x object.2 in
     let lines = before (required (list_up_to MAX_SCRIPT_LINES line_of) key.Lines d) _ x actor.2 in
@@ -95,7 +95,7 @@ fits_items s front i no_items scripts h fits =
 fits_items s front i (item d ds) scripts h fits =
     let first = before (within (step.Index i) (script_of s front d)) _ scripts h in
     let read = placed_here (step.Index i) (script_of s front d) first.0 first.1 in
-    fits_items s (front ++ first.0 ∷ []) (i + 1) ds scripts first.2 (fits_push s front first.0 fits (is_behind s front d first.0 read))
+    fits_items s (front ++ first.0 ∷ []) (i + 1) ds scripts first.2 (fits_push s front first.0 fits (is_after s front d first.0 read))
 
 fits_none : (s : System) → Fits s []
 fits_none s a = omega arith

@@ -1,6 +1,6 @@
 -- Three passes are all passes of a system with three actors.
 use Rattle.std.proofs.Common.{◌≡◌, ℕ, zero, suc, ◌+◌, List, [], ◌∷◌, ◌++◌, length, slice_get, Some, sym, refl, subst, arith, length-append}
-use Rattle.law_lists.proofs.Lists.{slice_get-behind}
+use Rattle.law_lists.proofs.Lists.{slice_get-after}
 use Rattle.spm_lock.specs.Histories.{actors}
 use Rattle.spm_lock.specs.Passes.{SharedView, PassView, IsOwn, FirstPasses, ArePasses}
 use Rattle.test_threads.specs.Threes.{AreThree}
@@ -13,7 +13,7 @@ slice_get_front (z ∷ xs) x (suc k) y at = slice_get_front xs x k y at
 -- the last pass, and those before it
 one_less : (s : SharedView) (n : ℕ) (ps : List PassView) (p : PassView) → FirstPasses s n (ps ++ p ∷ []) → IsOwn s p × (p.actor + 1 ≡ n) × FirstPasses s p.actor ps
 one_less s n ps p first =
-    let last = first.each (length ps) p (slice_get-behind ps p [] (length ps) refl) in let a = first.all in let b = length-append ps (p ∷ []) in let c = last.1 in (
+    let last = first.each (length ps) p (slice_get-after ps p [] (length ps) refl) in let a = first.all in let b = length-append ps (p ∷ []) in let c = last.1 in (
       last.0,
       omega arith,
       record { all = sym last.1; each = λ k q at. first.each k q (slice_get_front ps p k q at) },

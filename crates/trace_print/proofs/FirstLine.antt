@@ -20,8 +20,8 @@ use Rattle.trace_print.proofs.Verdicts.{text_of_verdict, no_verdict}
 pub wrong_unended : (counts : ActorCounts) (n : ℕ) (text first : List ℕ) → parts 10 text ≡ first ∷ [] → IsWrong counts n (parts 10 text) (n + 1)
 wrong_unended counts n text first e = rw e (unended first)
 
-behind_line : (text first rest : List ℕ) → text ≡ first ++ 10 ∷ rest → drop (length first + 1) text ≡ rest
-behind_line text first rest e = ap (drop (length first + 1)) e ∙ drop-append-add first (10 ∷ rest) 1
+after_line : (text first rest : List ℕ) → text ≡ first ++ 10 ∷ rest → drop (length first + 1) text ≡ rest
+after_line text first rest e = ap (drop (length first + 1)) e ∙ drop-append-add first (10 ∷ rest) 1
 
 pub begins_with_entry : (counts : ActorCounts) (n : ℕ) (text first rest : List ℕ) (e : Entry) → text ≡ first ++ 10 ∷ rest → entry_of counts first ≡ Some e → EntryFits counts e → n < MAX_ENTRIES → BeginsWithEntry counts n text e (length first + 1)
 begins_with_entry counts n text first rest e joined read fits room =
@@ -29,7 +29,7 @@ begins_with_entry counts n text first rest e joined read fits room =
     let long : length text ≡ length first + suc (length rest) = ap length joined ∙ length-append first (10 ∷ rest) in
     let apart : line first ++ rest ≡ first ++ 10 ∷ rest = append_assoc first (10 ∷ []) rest in
     record {
-      line = rw (behind_line text first rest joined, ← same) (joined ∙ sym apart);
+      line = rw (after_line text first rest joined, ← same) (joined ∙ sym apart);
       some = omega arith;
       within = omega (arith, long);
       fits = fits;

@@ -27,7 +27,7 @@ use Rattle.ffm_model.specs.TraceText.{Word, FieldFits, field_word, hexadecimal_w
 use Rattle.ffm_model.proofs.SignatureLemmas.{IsFilled, fields_from, field_from, filled, found, signed_again as bits_again}
 use Rattle.trace_print.specs.Numbers.{unsigned_of, hexadecimal_of, signed_of, positive, negative}
 use Rattle.trace_print.specs.View.{parts}
-use Rattle.trace_print.specs.Reading.{first_by, unsigned_at, hexadecimal_at, signed_at, operand_of, operands_at, call_by, call_with, call_at, event_named, stop_at, spent_of, outcome_at, outcome_named, value_at, number_at, signals_at, message_at, sizes_at, place_of, actor_of, behind_arrow, entry_at, entry_of}
+use Rattle.trace_print.specs.Reading.{first_by, unsigned_at, hexadecimal_at, signed_at, operand_of, operands_at, call_by, call_with, call_at, event_named, stop_at, spent_of, outcome_at, outcome_named, value_at, number_at, signals_at, message_at, sizes_at, place_of, actor_of, after_arrow, entry_at, entry_of}
 use Rattle.trace_print.proofs.Options.{Gives, done, nothing, after, either, when, weaker, given_is}
 use Rattle.trace_print.proofs.DecimalDigits.{unsigned_word}
 use Rattle.trace_print.proofs.HexadecimalDigits.{hexadecimal_number}
@@ -56,29 +56,29 @@ signed_word (b ∷ bs) =
 -- ---- words
 
 -- what is read of words after a front: the front and the words are what it spells and the words that are left, and it is in range
-Behind : {X : Type 0} → (X → List Word) → (X → Type 0) → Option (X × List Word) → List Word → List Word → Type 0
-Behind spell Fits o front ws = Gives o (λ a. (front ++ ws ≡ spell a.0 ++ a.1) × Fits a.0)
+After : {X : Type 0} → (X → List Word) → (X → Type 0) → Option (X × List Word) → List Word → List Word → Type 0
+After spell Fits o front ws = Gives o (λ a. (front ++ ws ≡ spell a.0 ++ a.1) × Fits a.0)
 
 -- the same of a reader, after no front
 record Reads {X : Type 0} (read : List Word → Option (X × List Word)) (spell : X → List Word) (Fits : X → Type 0) : Type 0 where
-  pub each : (ws : List Word) → Behind spell Fits (read ws) [] ws
+  pub each : (ws : List Word) → After spell Fits (read ws) [] ws
 
 -- what a reader gives belongs to the front of what is read next
 next : {X : Type 0} (Y : Type 0) {read : List Word → Option (X × List Word)} {spell : X → List Word} {Fits : X → Type 0} → Reads read spell Fits → (S : Y → List Word) (F : Y → Type 0) (front ws : List Word)
-    → (f : X × List Word → Option (Y × List Word)) → ((x : X) (rest : List Word) → Fits x → Behind S F (f (x, rest)) (front ++ spell x) rest) → Behind S F (read ws >>= f) front ws
-unfolding Behind
+    → (f : X × List Word → Option (Y × List Word)) → ((x : X) (rest : List Word) → Fits x → After S F (f (x, rest)) (front ++ spell x) rest) → After S F (read ws >>= f) front ws
+unfolding After
 next Y {spell = spell} reads S F front ws f k =
     after _ f _ _ (reads.each ws) (λ a is.
     let e : (front ++ spell a.0) ++ a.1 ≡ front ++ ws = append_assoc front (spell a.0) a.1 ∙ ap (λ (v : List Word). front ++ v) (sym is.0) in
     subst (λ (v : List Word). Gives (f a) (λ r. (v ≡ S r.0 ++ r.1) × F r.0)) e (k a.0 a.1 is.1))
 
 -- the front says it all
-said : {Y : Type 0} (S : Y → List Word) (F : Y → Type 0) (y : Y) (front rest : List Word) → front ≡ S y → F y → Behind S F (Some (y, rest)) front rest
-unfolding Behind Gives
+said : {Y : Type 0} (S : Y → List Word) (F : Y → Type 0) (y : Y) (front rest : List Word) → front ≡ S y → F y → After S F (Some (y, rest)) front rest
+unfolding After Gives
 said S F y front rest e h = (ap (λ (v : List Word). v ++ rest) e, h)
 
-none_read : {Y : Type 0} (S : Y → List Word) (F : Y → Type 0) (front ws : List Word) → Behind S F None front ws
-unfolding Behind Gives
+none_read : {Y : Type 0} (S : Y → List Word) (F : Y → Type 0) (front ws : List Word) → After S F None front ws
+unfolding After Gives
 none_read S F front ws = tt
 
 -- that several numbers are in range is a pair of facts
@@ -86,13 +86,13 @@ pair : {A B : Type 0} → A → B → A × B
 pair a b = (a, b)
 
 -- where a name is a word, or else another
-named : {Y : Type 0} (S : Y → List Word) (F : Y → Type 0) (name word : Word) (ws : List Word) (p q : Option (Y × List Word)) → Behind S F p (word ∷ []) ws → Behind S F q (name ∷ []) ws
-    → Behind S F (if bytes_eq name word then p else q) (name ∷ []) ws
-unfolding Behind
-named S F name word ws p q h k = either (bytes_eq name word) p q _ (λ t. subst (λ (w : Word). Behind S F p (w ∷ []) ws) (sym ((bytes_eq-Decides name word).0 t)) h) k
+named : {Y : Type 0} (S : Y → List Word) (F : Y → Type 0) (name word : Word) (ws : List Word) (p q : Option (Y × List Word)) → After S F p (word ∷ []) ws → After S F q (name ∷ []) ws
+    → After S F (if bytes_eq name word then p else q) (name ∷ []) ws
+unfolding After
+named S F name word ws p q h k = either (bytes_eq name word) p q _ (λ t. subst (λ (w : Word). After S F p (w ∷ []) ws) (sym ((bytes_eq-Decides name word).0 t)) h) k
 
 first_reads : {X : Type 0} (f : Word → Option X) (spell : X → Word) (Fits : X → Type 0) → ((w : Word) → Gives (f w) (λ x. (w ≡ spell x) × Fits x)) → Reads (first_by f) (λ x. spell x ∷ []) Fits
-unfolding Behind
+unfolding After
 first_reads {X} f spell Fits each = record {
   each = elim [ [] ↦ nothing _ | w ∷ ws ↦ after (f w) (λ (x : X). Some (x, ws)) _ _ (each w) (λ x is. done (x, ws) _ (ap (λ (v : Word). v ∷ ws) is.0, is.1)) ];
 }
@@ -123,7 +123,7 @@ spent_word w =
 spent_reads : Reads (first_by spent_of) (λ spent. spent_is spent ∷ []) (λ spent. Unit {0})
 spent_reads = first_reads spent_of spent_is (λ spent. Unit {0}) spent_word
 
-stop_said : (spent : Bool) (rest : List Word) → Behind call_words CallFits (Some (call.Stop spent, rest)) (codes "stop" ∷ spent_is spent ∷ []) rest
+stop_said : (spent : Bool) (rest : List Word) → After call_words CallFits (Some (call.Stop spent, rest)) (codes "stop" ∷ spent_is spent ∷ []) rest
 unfolding spent_is
 stop_said true rest = said call_words CallFits (call.Stop true) _ rest refl tt
 stop_said false rest = said call_words CallFits (call.Stop false) _ rest refl tt
@@ -151,20 +151,20 @@ operands_words (k ∷ ks) (w ∷ ws) =
     after (operands_at ks n.1) _ _ _ (operands_words ks n.1) (λ ns are.
     done (n.0 ∷ ns.0, ns.1) _ (rw (is.0, ← is.2) (ap (λ (v : List Word). field_word (field_from k n.0) ∷ v) are.0), (is.1, are.1))))
 
-event_reads : (name : Word) (ws : List Word) → Behind call_words CallFits (event_named name ws) (name ∷ []) ws
+event_reads : (name : Word) (ws : List Word) → After call_words CallFits (event_named name ws) (name ∷ []) ws
 unfolding event_named stop_at
 event_reads name ws = search (named, said, pair, tt, none_read, next Call spent_reads, stop_said) depth 20
 
-call_with_reads : (o : Option Signature) (name : Word) (ws : List Word) → IfSome o (λ s. (s.word ≡ name) × IsFilled s) → Behind call_words CallFits (call_with o name ws) (name ∷ []) ws
-unfolding Behind Spelled call_by
+call_with_reads : (o : Option Signature) (name : Word) (ws : List Word) → IfSome o (λ s. (s.word ≡ name) × IsFilled s) → After call_words CallFits (call_with o name ws) (name ∷ []) ws
+unfolding After Spelled call_by
 call_with_reads None name ws h = event_reads name ws
 call_with_reads (Some s) name ws h =
     after (operands_at s.kinds ws) _ _ _ (operands_words s.kinds ws) (λ ns are.
     let made = h.1 (λ i. get_or ns.0 i 0) in
     done (call_of s.name (λ i. get_or ns.0 i 0), ns.1) _ (rw (made.0, made.2, h.0) (ap (λ (v : List Word). name ∷ v) are.0), rw made.2 are.1))
 
-call_reads : (ws : List Word) → Behind call_words CallFits (call_at ws) [] ws
-unfolding Behind
+call_reads : (ws : List Word) → After call_words CallFits (call_at ws) [] ws
+unfolding After
 call_reads [] = nothing _
 call_reads (name ∷ ws) = call_with_reads (signature_in signatures name) name ws (found IsFilled signatures name filled)
 
@@ -181,16 +181,16 @@ abbrev outcome_words : Outcome → List Word
 outcome_words o = phrase_words (outcome_phrase o)
 
 message_said : (m : Message) (rest : List Word) → MessageFits m
-    → Behind outcome_words OutcomeFits (Some (outcome.Got m, rest)) (codes "message" ∷ map field_word (message_front m) ++ (sizes_words m.in_size ++ sizes_words m.out_size)) rest
+    → After outcome_words OutcomeFits (Some (outcome.Got m, rest)) (codes "message" ∷ map field_word (message_front m) ++ (sizes_words m.in_size ++ sizes_words m.out_size)) rest
 unfolding message_phrase sizes_words
 message_said m rest fits = said outcome_words OutcomeFits (outcome.Got m) _ rest (simp map-append) fits
 
-outcome_named_reads : (name : Word) (ws : List Word) → Behind outcome_words OutcomeFits (outcome_named name ws) (name ∷ []) ws
+outcome_named_reads : (name : Word) (ws : List Word) → After outcome_words OutcomeFits (outcome_named name ws) (name ∷ []) ws
 unfolding outcome_named value_at number_at signals_at message_at
 outcome_named_reads name ws = search (named, said, tt, message_said, none_read, next Outcome hexadecimal_reads, next Outcome unsigned_reads, next Outcome signed_reads, next Outcome sizes_reads) depth 24
 
-outcome_reads : (ws : List Word) → Behind outcome_words OutcomeFits (outcome_at ws) [] ws
-unfolding Behind
+outcome_reads : (ws : List Word) → After outcome_words OutcomeFits (outcome_at ws) [] ws
+unfolding After
 outcome_reads [] = nothing _
 outcome_reads (name ∷ ws) = outcome_named_reads name ws
 
@@ -246,16 +246,16 @@ actor_reads counts (b ∷ digits) =
 
 -- ---- entries
 
-arrow_reads : (ws : List Word) → Gives (behind_arrow ws) (λ rest. ws ≡ codes "->" ∷ rest)
+arrow_reads : (ws : List Word) → Gives (after_arrow ws) (λ rest. ws ≡ codes "->" ∷ rest)
 arrow_reads [] = nothing _
 arrow_reads (w ∷ ws) = when (bytes_eq w (codes "->")) (Some ws) _ (λ t. done ws _ (ap (λ (v : Word). v ∷ ws) ((bytes_eq-Decides w (codes "->")).0 t)))
 
 entry_reads : (counts : ActorCounts) (ws : List Word) → Gives (entry_at counts ws) (λ e. (ws ≡ actor_word counts e.actor.0 ∷ entry_words counts e) × EntryFits counts e)
-unfolding entry_at entry_words Behind
+unfolding entry_at entry_words After
 entry_reads counts ws =
     after (first_by (actor_of counts) ws) _ _ _ ((first_reads (actor_of counts) (actor_word counts) (IsActorOf counts) (actor_reads counts)).each ws) (λ a a_is.
     after (call_at a.1) _ _ _ (call_reads a.1) (λ c c_is.
-    after (behind_arrow c.1) _ _ _ (arrow_reads c.1) (λ r r_is.
+    after (after_arrow c.1) _ _ _ (arrow_reads c.1) (λ r r_is.
     after (outcome_at r) _ _ _ (outcome_reads r) (λ o o_is.
     when (length o.1 == 0) (Some (record { actor = record { 0 = a.0 }; call = c.0; outcome = o.0 })) _ (λ t.
     let last : o.1 ≡ [] = nil_from_length o.1 (grind (arith, nat_tests, t)) in

@@ -19,21 +19,21 @@ abbrev pub lines_of : ActorCounts → List Entry → List ℕ
 lines_of counts es = flat_map (λ e. line (entry_text counts e)) es
 
 -- the parts of lines of entries, and of what stands after them
-pub parts_behind : (counts : ActorCounts) (es : List Entry) (rest : List ℕ) → parts 10 (lines_of counts es ++ rest) ≡ texts_of counts es ++ parts 10 rest
-parts_behind counts [] rest = refl
-parts_behind counts (e ∷ es) rest =
+pub parts_after : (counts : ActorCounts) (es : List Entry) (rest : List ℕ) → parts 10 (lines_of counts es ++ rest) ≡ texts_of counts es ++ parts 10 rest
+parts_after counts [] rest = refl
+parts_after counts (e ∷ es) rest =
     let regrouped : lines_of counts (e ∷ es) ++ rest ≡ entry_text counts e ++ 10 ∷ (lines_of counts es ++ rest) = simp append_assoc in
     let first = split_word 10 31 (entry_text counts e) (lines_of counts es ++ rest) (lit≤ tt) (text_of_entry counts e) in
-    ap (parts 10) regrouped ∙ (first ∙ ap (λ (ws : List Word). entry_text counts e ∷ ws) (parts_behind counts es rest))
+    ap (parts 10) regrouped ∙ (first ∙ ap (λ (ws : List Word). entry_text counts e ∷ ws) (parts_after counts es rest))
 
 -- the first wrong line after lines of entries
-pub wrong_behind : (counts : ActorCounts) (n : ℕ) (es : List Entry) (texts : List Word) (k : ℕ) → AllByRecursion (EntryFits counts) es → n + length es ≤ MAX_ENTRIES
+pub wrong_after : (counts : ActorCounts) (n : ℕ) (es : List Entry) (texts : List Word) (k : ℕ) → AllByRecursion (EntryFits counts) es → n + length es ≤ MAX_ENTRIES
     → IsFirstWrong counts (n + length es) texts k → IsFirstWrong counts n (texts_of counts es ++ texts) k
-wrong_behind counts n [] texts k fits le w = let e : n + 0 ≡ n = omega arith in subst (λ (m : ℕ). IsFirstWrong counts m texts k) e w
-wrong_behind counts n (e ∷ es) texts k fits le w =
+wrong_after counts n [] texts k fits le w = let e : n + 0 ≡ n = omega arith in subst (λ (m : ℕ). IsFirstWrong counts m texts k) e w
+wrong_after counts n (e ∷ es) texts k fits le w =
     let moved : n + suc (length es) ≡ n + 1 + length es = omega arith in
     later n (entry_text counts e) (texts_of counts es ++ texts) k (e, fits.0, refl) (omega arith)
-    (wrong_behind counts (n + 1) es texts k fits.1 (omega arith) (subst (λ (m : ℕ). IsFirstWrong counts m texts k) moved w))
+    (wrong_after counts (n + 1) es texts k fits.1 (omega arith) (subst (λ (m : ℕ). IsFirstWrong counts m texts k) moved w))
 
 -- the parts that are left of a trace's text after n entries
 abbrev pub left : ActorCounts → ℕ → List Entry → Verdict → List Word
@@ -95,7 +95,7 @@ pub left_of_trace : (counts : ActorCounts) (es : List Entry) (v : Verdict) → p
 left_of_trace counts es v =
     let last : parts 10 (line (verdict_text v (length es))) ≡ verdict_text v (length es) ∷ [] ∷ [] = split_word 10 31 (verdict_text v (length es)) [] (lit≤ tt) (plain_verdict v (length es)) in
     let zero : length es ≡ 0 + length es = omega arith in
-    parts_behind counts es (line (verdict_text v (length es))) ∙ ap (λ (ws : List Word). texts_of counts es ++ ws) (last ∙ ap (λ (m : ℕ). verdict_text v m ∷ [] ∷ []) zero)
+    parts_after counts es (line (verdict_text v (length es))) ∙ ap (λ (ws : List Word). texts_of counts es ++ ws) (last ∙ ap (λ (m : ℕ). verdict_text v m ∷ [] ∷ []) zero)
 
 pub same_trace : (counts : ActorCounts) → FewActors counts → (ds es : List Entry) (v w : Verdict) → AllByRecursion (EntryFits counts) ds → AllByRecursion (EntryFits counts) es → trace_text counts ds v ≡ trace_text counts es w → (ds ≡ es) × (v ≡ w)
 same_trace counts few ds es v w p q e = same_left counts 0 ds es v w few p q (sym (left_of_trace counts ds v) ∙ (ap (parts 10) e ∙ left_of_trace counts es w))

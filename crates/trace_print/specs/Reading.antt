@@ -143,16 +143,16 @@ actor_of counts (b ∷ digits) =
     else (if counts.device && bytes_eq (b ∷ digits) (codes "dev") then Some (counts.partitions + counts.clients) else None))
 
 -- the words after `->`
-abbrev pub behind_arrow : List Word → Option (List Word)
-behind_arrow [] = None
-behind_arrow (w ∷ ws) = if bytes_eq w (codes "->") then Some ws else None
+abbrev pub after_arrow : List Word → Option (List Word)
+after_arrow [] = None
+after_arrow (w ∷ ws) = if bytes_eq w (codes "->") then Some ws else None
 
 -- no word is left after the outcome
 unfoldable pub entry_at : ActorCounts → List Word → Option Entry
 entry_at counts ws = do
   actor ← first_by (actor_of counts) ws
   call ← call_at actor.1
-  answer ← behind_arrow call.1
+  answer ← after_arrow call.1
   outcome ← outcome_at answer
   if length outcome.1 == 0 then Some (record { actor = record { 0 = actor.0 }; call = call.0; outcome = outcome.0 }) else None
 

@@ -15,13 +15,13 @@ use Rattle.view_diagram.specs.Diagrams.{IsDiagram, IsDiagramText}
 use Rattle.view_diagram.specs.declared.formats.Format.{Format}
 use Rattle.view_diagram.specs.declared.formats.SequenceDiagram.{SequenceDiagram}
 use Rattle.view_diagram.specs.declared.gathering.Part.{Part}
-use Rattle.view_places.specs.Asking.{IsCallBehind}
+use Rattle.view_places.specs.Asking.{IsCallAfter}
 use Rattle.view_places.specs.AskText.{ask_text, legal_entry_text}
 use Rattle.view_places.specs.Showing.{IsIllegalAt, IsLastLegal, IsPlace}
 use Rattle.view_places.specs.StateText.{text_of_state}
 use Rattle.view_places.specs.Why.{IsFinding}
 use Rattle.view_places.specs.WhyText.{why_text}
-use Rattle.view_places.specs.declared.asking.CallBehind.{CallBehind}
+use Rattle.view_places.specs.declared.asking.CallAfter.{CallAfter}
 use Rattle.view_places.specs.declared.behind.Place.{Place}
 use Rattle.view_places.specs.declared.behind.Place.TheVariants as behind
 use Rattle.view_places.specs.declared.reasons.Finding.{Finding}
@@ -50,8 +50,8 @@ abbrev pub IsCallText : ActorCounts → List ℕ → Entry → Type 0
 IsCallText counts text e = EntryFits counts e × (text ++ codes " -> done" ≡ entry_text counts e)
 
 -- what is told of an entry's call after a place of the files' trace
-abbrev pub IsCallOf : TraceFiles → ℕ → Entry → CallBehind → Type 0
-IsCallOf f k e t = IsCallBehind f.work.system (memory_of f) f.work.scenario.limit f.trace.entries k e t
+abbrev pub IsCallOf : TraceFiles → ℕ → Entry → CallAfter → Type 0
+IsCallOf f k e t = IsCallAfter f.work.system (memory_of f) f.work.scenario.limit f.trace.entries k e t
 
 -- how the files' trace is judged, and why
 abbrev pub IsFindingOf : TraceFiles → Finding → Type 0

@@ -14,7 +14,7 @@ use ffm_model::{Entry, Memory, System, Trace, Verdict};
 use memory_image::Image;
 use std::alloc::Global;
 use trace_print::{TraceError, read_trace};
-use view_places::{CallBehind, Place, PlaceAsked, ask, behind_place};
+use view_places::{CallAfter, Place, PlaceAsked, ask, after_place};
 
 // The entry of a quiet trace that has no other.
 fn only_entry(trace: &Trace) -> Option<Entry>
@@ -76,7 +76,7 @@ fn legal_or_not(
     files: &TraceFiles,
     image: &Image,
     place: u32,
-    call: CallBehind,
+    call: CallAfter,
 ) -> Result<View, Memory>
     requires files { AreTraceFiles files.now }
     requires regions { regions_of image.now ≡ ranges_of files.now.work.system.regions }
@@ -88,7 +88,7 @@ fn legal_or_not(
 {
     let system = &files.work.system;
     let limit = files.work.scenario.limit;
-    match behind_place(alloc, system, image, limit, &files.trace, place)? {
+    match after_place(alloc, system, image, limit, &files.trace, place)? {
         Place::State(_) => Ok(View::LegalEntry { place, call }),
         _ => Ok(View::Why(finding_of(alloc, files, image)?)),
     }

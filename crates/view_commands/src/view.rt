@@ -15,7 +15,7 @@ use memory_image::{Image, opening_image};
 use std::alloc::{AllocError, Global};
 use view_diagram::{SequenceDiagram, diagram};
 use view_places::{
-    CallBehind, Finding, Place, StateBehind, ask_text, behind_last, behind_place, legal_entry_text,
+    CallAfter, Finding, Place, StateAfter, ask_text, after_last, after_place, legal_entry_text,
     state_text, why, why_text,
 };
 use view_texts::{TraceCounts, stats, stats_text};
@@ -24,16 +24,16 @@ use view_texts::{TraceCounts, stats, stats_text};
 #[derive(Drop)]
 pub enum View {
     /// The state after an entry.
-    State(StateBehind),
+    State(StateAfter),
     /// That the trace has no such place, but so many entries.
     NoPlace { place: u32, total: u32 },
     /// That there is no state after a place, since an entry up to it is illegal.
     NoState { illegal: u32, place: u32 },
     Why(Finding),
     /// A legal entry at a place, by its call.
-    LegalEntry { place: u32, call: CallBehind },
+    LegalEntry { place: u32, call: CallAfter },
     /// A call that is asked for.
-    Call(CallBehind),
+    Call(CallAfter),
     /// That a text is no call.
     NoCall,
     /// A diagram, and its text.
@@ -49,7 +49,7 @@ fn state_at(alloc: Global, files: &TraceFiles, image: &Image, place: u32) -> Res
 {
     let system = &files.work.system;
     let limit = files.work.scenario.limit;
-    match behind_place(alloc, system, image, limit, &files.trace, place)? {
+    match after_place(alloc, system, image, limit, &files.trace, place)? {
         Place::State(behind) => Ok(View::State(behind)),
         Place::Beyond => Ok(View::NoPlace {
             place,
@@ -67,7 +67,7 @@ fn last_state(alloc: Global, files: &TraceFiles, image: &Image) -> Result<View, 
 {
     let system = &files.work.system;
     let limit = files.work.scenario.limit;
-    Ok(View::State(behind_last(alloc, system, image, limit, &files.trace)?))
+    Ok(View::State(after_last(alloc, system, image, limit, &files.trace)?))
 }
 
 // How the trace is judged, and why.

@@ -74,9 +74,9 @@ freed-loses s limit b p a h apart blocked freed =
 contains-first : {X : Type 0} (o : Option X) (xs : List X) (x : X) → o ≡ Some x → Contains (cons_option o xs) x
 contains-first o xs x is = subst (λ (q : Option _). Contains (cons_option q xs) x) (sym is) (Contains-get_or (x ∷ xs) 0 x (omega arith))
 
-contains-behind : {X : Type 0} (o : Option X) (xs : List X) (x : X) → Contains xs x → Contains (cons_option o xs) x
-contains-behind None xs x h = h
-contains-behind (Some y) xs x h = Contains-append_right (y ∷ []) xs x h
+contains-after : {X : Type 0} (o : Option X) (xs : List X) (x : X) → Contains xs x → Contains (cons_option o xs) x
+contains-after None xs x h = h
+contains-after (Some y) xs x h = Contains-append_right (y ∷ []) xs x h
 
 -- W holds of the service and the kind of a message that the arrows free the actor of
 record Frees (W : ℕ → ℤ → Type 0) (xs : List Arrow) (p a : ℕ) : Type 0 where
@@ -86,7 +86,7 @@ record Frees (W : ℕ → ℤ → Type 0) (xs : List Arrow) (p a : ℕ) : Type 0
   at : Contains xs (arrow p a (meaning.Release service kind))
 
 frees-later : (W : ℕ → ℤ → Type 0) (o : Option Arrow) (xs : List Arrow) (p a : ℕ) → Frees W xs p a → Frees W (cons_option o xs) p a
-frees-later W o xs p a f = record { service = f.service; kind = f.kind; waits = f.waits; at = contains-behind o xs _ f.at }
+frees-later W o xs p a f = record { service = f.service; kind = f.kind; waits = f.waits; at = contains-after o xs _ f.at }
 
 releases : (s : System) (b : SpmState) (p a : ℕ) (m : PendingMessage) → phase_of b a ≡ Blocked → is_lost s p a m ≡ true → release_arrow s b p m ≡ Some (arrow p a (meaning.Release m.service m.kind))
 releases s b p a m blocked lost =

@@ -70,16 +70,16 @@ next_gathered s m limit part es c new last noted so_far found more e left k it a
 }
 
 -- an entry was not accepted, so no arrow is left
-none_behind : (s : System) (limit : ℕ) (part : Part) (c : Checker) (last : List ℕ) (e : Entry) (left : List Entry) (st : State) → (limit ≤ c.count) ⊎ (step s st e ≡ None) → arrows_from s limit part c.count last (e ∷ left) st ≡ []
-none_behind s limit part c last e left st (inl over) = cond-true (nat_le limit c.count) [] _ (le-leb limit c.count over)
-none_behind s limit part c last e left st (inr none) =
+none_after : (s : System) (limit : ℕ) (part : Part) (c : Checker) (last : List ℕ) (e : Entry) (left : List Entry) (st : State) → (limit ≤ c.count) ⊎ (step s st e ≡ None) → arrows_from s limit part c.count last (e ∷ left) st ≡ []
+none_after s limit part c last e left st (inl over) = cond-true (nat_le limit c.count) [] _ (le-leb limit c.count over)
+none_after s limit part c last e left st (inr none) =
     either (nat_le limit c.count) [] _ (ap (λ (o : Option State). option_map_or (λ x. arrows_at s part (c.count + 1) st.spm last e ++ arrows_from s limit part (c.count + 1) (slice_set last e.actor.0 (c.count + 1)) left x) o []) none)
 
 pub none_left : (s : System) (m : ByteMap) (limit : ℕ) (part : Part) (es : List Entry) (c new : Checker) (last : List ℕ) (so_far : List PlacedArrow) (e : Entry) (left : List Entry) (b : Bool)
     (k : GathersTo s m limit part es c last so_far (e ∷ left)) → Accepts s limit c k.all e (Ok b) new → b ≡ false → (result : List PlacedArrow) → result ≡ so_far → result ≡ arrows_in s m limit part es
 none_left s m limit part es c new last so_far e left true k accepts is result same = absurd (cc)
 none_left s m limit part es c new last so_far e left false k accepts is result same =
-    same ∙ sym (append-nil so_far) ∙ ap (λ l. so_far ++ l) (sym (none_behind s limit part c last e left (state_of c.machine k.all) accepts.0)) ∙ sym k.arrows
+    same ∙ sym (append-nil so_far) ∙ ap (λ l. so_far ++ l) (sym (none_after s limit part c last e left (state_of c.machine k.all) accepts.0)) ∙ sym k.arrows
 
 -- all entries were accepted
 pub all_gathered : (s : System) (m : ByteMap) (limit : ℕ) (part : Part) (es : List Entry) (c : Checker) (last : List ℕ) (so_far : List PlacedArrow) → GathersTo s m limit part es c last so_far []

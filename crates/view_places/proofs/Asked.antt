@@ -13,13 +13,13 @@ use Rattle.ffm_model.specs.Step.{may_call}
 use Rattle.machine_calls.specs.Machine.{state_of}
 use Rattle.machine_check.specs.Performed.{gave_handle}
 use Rattle.machine_check.specs.Reaching.{IsDue}
-use Rattle.view_places.specs.declared.asking.CallBehind.{CallBehind}
+use Rattle.view_places.specs.declared.asking.CallAfter.{CallAfter}
 use Rattle.view_places.specs.declared.asking.Reply.{Reply}
 use Rattle.view_places.specs.declared.asking.Reply.TheVariants as reply
-use Rattle.view_places.specs.declared.behind.StateBehind.{StateBehind}
+use Rattle.view_places.specs.declared.behind.StateAfter.{StateAfter}
 use Rattle.view_places.specs.declared.reasons.Rule.TheVariants as rule
-use Rattle.view_places.specs.Asking.{IsCallBehind, IsReply, Tells, TellsBehind, error_shown}
-use Rattle.view_places.specs.Showing.{IsStateBehind}
+use Rattle.view_places.specs.Asking.{IsCallAfter, IsReply, Tells, TellsAfter, error_shown}
+use Rattle.view_places.specs.Showing.{IsStateAfter}
 use Rattle.view_places.proofs.Answers.{gives_by, no_handle, the_answer}
 use Rattle.view_places.proofs.Refusals.{refusal_by}
 
@@ -42,8 +42,8 @@ pub error_told : (s : System) (limit n : ℕ) (st : State) (e : Entry) (r : Repl
 error_told s limit n st e r is = told_by s limit n st e e.call r refl is
 
 -- what is told after the entries that were followed is told at their place
-pub told_at : (s : System) (m : ByteMap) (limit : ℕ) (es : List Entry) (k : ℕ) (b : StateBehind) (e : Entry) (t : CallBehind) → k ≤ length es → IsStateBehind s m limit es k b
-    → TellsBehind s limit b.checker b.total e t → IsCallBehind s m limit es k e t
+pub told_at : (s : System) (m : ByteMap) (limit : ℕ) (es : List Entry) (k : ℕ) (b : StateAfter) (e : Entry) (t : CallAfter) → k ≤ length es → IsStateAfter s m limit es k b
+    → TellsAfter s limit b.checker b.total e t → IsCallAfter s m limit es k e t
 told_at s m limit es k b e t there is told = record {
   count = told.count ∙ is.count;
   total = told.total ∙ is.total;

@@ -16,7 +16,7 @@ use Rattle.ffm_model.specs.Verdicts.{Legal, IllegalAt, judged, judged_from, verd
 use Rattle.machine_calls.specs.Machine.{spm_of_objects, state_of}
 use Rattle.machine_check.specs.declared.judging.Checker.{Checker}
 use Rattle.machine_check.specs.Reaching.{IsLast, IsReached}
-use Rattle.machine_check.proofs.Followed.{judged_behind}
+use Rattle.machine_check.proofs.Followed.{judged_after}
 use Rattle.machine_check.proofs.Judged.{either}
 use Rattle.view_places.specs.Why.{BreaksRule, IsFinding, IsIllegal, IsRule, TellsOfCall}
 use Rattle.view_places.specs.declared.reasons.Finding.TheVariants as finding
@@ -29,7 +29,7 @@ left_over s m limit es v r it =
     let long : length (take r.count es) ≡ r.count = length-take-le r.count es it.few in
     let from_0 : 0 + length (take r.count es) ≡ r.count = omega (arith, long) in
     ap (λ xs. judged s m limit xs v) (sym (take-append-drop r.count es))
-    ∙ judged_behind s limit v 0 (take r.count es) (drop r.count es) (opening s m) (state_of r.machine it.behind.handles) it.behind.state (omega (arith, long, it.within))
+    ∙ judged_after s limit v 0 (take r.count es) (drop r.count es) (opening s m) (state_of r.machine it.behind.handles) it.behind.state (omega (arith, long, it.within))
     ∙ ap (λ k. judged_from s limit v k (drop r.count es) (state_of r.machine it.behind.handles)) from_0
 
 all_gone : (s : System) (limit : ℕ) (v : Verdict) (n : ℕ) (xs : List Entry) (st : State) → xs ≡ [] → judged_from s limit v n xs st ≡ (if option_map_or (verdict_eq v) (verdict_at s limit n st.spm) false then Legal else IllegalAt (n + 1))

@@ -4,7 +4,7 @@ use Rattle.std.proofs.lemmas.Bool.{cases_eq}
 use Rattle.std.proofs.lemmas.List.{drop-append-le, drop_all, get_or-set_other, get_or-set_same, length-append, length-set, length-take-le, take_more}
 use Rattle.std.proofs.lemmas.List.Elements.{All-append, All-cons, All-nil}
 use Rattle.std.specs.Prelude.{All, IsSomeAnd, slice_get, slice_set}
-use Rattle.law_lists.proofs.Lists.{slice_get-behind}
+use Rattle.law_lists.proofs.Lists.{slice_get-after}
 use Rattle.ffm_model.specs.declared.system.System.{System}
 use Rattle.ffm_model.specs.declared.machine.Entry.{Entry}
 use Rattle.view_places.specs.Showing.{AreLastPlaces, IsLastPlace}
@@ -20,7 +20,7 @@ own_place es e =
     let long : length (es ++ e ∷ []) ≡ length es + 1 = length-append es (e ∷ []) in
     record {
       within = omega (arith, long);
-      own = λ some. subst (λ k. IsSomeAnd (slice_get (es ++ e ∷ []) k) (λ x. x.actor.0 ≡ e.actor.0)) (omega arith) (subst (λ o. IsSomeAnd o (λ x. x.actor.0 ≡ e.actor.0)) (sym (slice_get-behind es e [] (length es) refl)) refl);
+      own = λ some. subst (λ k. IsSomeAnd (slice_get (es ++ e ∷ []) k) (λ x. x.actor.0 ≡ e.actor.0)) (omega arith) (subst (λ o. IsSomeAnd o (λ x. x.actor.0 ≡ e.actor.0)) (sym (slice_get-after es e [] (length es) refl)) refl);
       none_later = subst (λ xs. All (λ x. x.actor.0 ≡ e.actor.0 → ⊥) xs) (sym (drop_all (length es + 1) (es ++ e ∷ []) (omega (arith, long)))) (All-nil (λ (x : Entry). x.actor.0 ≡ e.actor.0 → ⊥));
     }
 

@@ -7,15 +7,15 @@ use Rattle.ffm_model.specs.declared.machine.Entry.{Entry}
 use Rattle.ffm_model.specs.Memory.{ByteMap}
 use Rattle.ffm_model.specs.Step.{after}
 use Rattle.machine_check.specs.declared.judging.Checker.{Checker}
-use Rattle.machine_check.specs.Reaching.{IsBehind, IsLast, IsReached}
+use Rattle.machine_check.specs.Reaching.{IsAfter, IsLast, IsReached}
 use Rattle.machine_check.proofs.Followed.{there}
-use Rattle.view_places.specs.Showing.{AreLastPlaces, IsIllegalAt, IsStateBehind}
-use Rattle.view_places.specs.declared.behind.StateBehind.{StateBehind}
+use Rattle.view_places.specs.Showing.{AreLastPlaces, IsIllegalAt, IsStateAfter}
+use Rattle.view_places.specs.declared.behind.StateAfter.{StateAfter}
 
-pub place_reached : (s : System) (m : ByteMap) (limit : ℕ) (es : List Entry) (k : ℕ) (b : StateBehind) → k ≤ length es → IsReached s m limit (take k es) b.checker → b.checker.count ≡ k → b.total ≡ length es → AreLastPlaces s (take k es) b.last.items → IsStateBehind s m limit es k b
+pub place_reached : (s : System) (m : ByteMap) (limit : ℕ) (es : List Entry) (k : ℕ) (b : StateAfter) → k ≤ length es → IsReached s m limit (take k es) b.checker → b.checker.count ≡ k → b.total ≡ length es → AreLastPlaces s (take k es) b.last.items → IsStateAfter s m limit es k b
 place_reached s m limit es k b few r count total last = record {
   within = omega (arith, r.within, count);
-  behind = subst (λ xs. IsBehind s m xs b.checker) (ap (λ n. take n (take k es)) count ∙ take-take k k es (omega arith)) r.behind;
+  behind = subst (λ xs. IsAfter s m xs b.checker) (ap (λ n. take n (take k es)) count ∙ take-take k k es (omega arith)) r.behind;
   count = count;
   total = total;
   last = last;

@@ -15,7 +15,7 @@ use Rattle.ffm_model.specs.Step.{after}
 use Rattle.machine_calls.specs.Machine.{state_of}
 use Rattle.machine_check.specs.declared.judging.Checker.{Checker}
 use Rattle.machine_check.specs.Performed.{Knows}
-use Rattle.view_places.specs.declared.asking.CallBehind.{CallBehind}
+use Rattle.view_places.specs.declared.asking.CallAfter.{CallAfter}
 use Rattle.view_places.specs.declared.asking.PlaceAsked.{PlaceAsked}
 use Rattle.view_places.specs.declared.asking.PlaceAsked.TheVariants as asked
 use Rattle.view_places.specs.declared.asking.Reply.{Reply}
@@ -40,7 +40,7 @@ error_shown _ _ = None
 -- what is told of an entry's call after n others that led to a state: what its actor does there, the
 -- reply, the conditions under which it is a PROGRAMMER ERROR, which mean what they say, and whether it is one,
 -- where the answer shows that
-pub record Tells (s : System) (limit n : ℕ) (st : State) (e : Entry) (t : CallBehind) : Type 0 where
+pub record Tells (s : System) (limit n : ℕ) (st : State) (e : Entry) (t : CallAfter) : Type 0 where
   pub doing : t.doing.items ≡ phase_text s st.spm e.actor.0
   pub reply : IsReply s limit n st e t.reply
   pub table : e.actor.0 < actor_count s → map told t.conditions.items ≡ conditions_of s st.spm e.actor.0 e.call
@@ -50,14 +50,14 @@ pub record Tells (s : System) (limit n : ℕ) (st : State) (e : Entry) (t : Call
   pub refused : IfSome t.is_refused (λ refused. refused ≡ programmer_error s st e.actor.0 e.call)
 
 -- the same, after the entries that were followed
-pub record TellsBehind (s : System) (limit : ℕ) (r : Checker) (all : ℕ) (e : Entry) (t : CallBehind) : Type 0 where
+pub record TellsAfter (s : System) (limit : ℕ) (r : Checker) (all : ℕ) (e : Entry) (t : CallAfter) : Type 0 where
   pub count : t.count ≡ r.count
   pub total : t.total ≡ all
   pub entry : t.entry ≡ e
   pub tells : (handles : List Handle) → Knows r.given handles → Tells s limit r.count (state_of r.machine handles) e t
 
 -- what is told of an entry's call after the first k entries of a trace
-pub record IsCallBehind (s : System) (m : ByteMap) (limit : ℕ) (es : List Entry) (k : ℕ) (e : Entry) (t : CallBehind) : Type 0 where
+pub record IsCallAfter (s : System) (m : ByteMap) (limit : ℕ) (es : List Entry) (k : ℕ) (e : Entry) (t : CallAfter) : Type 0 where
   pub count : t.count ≡ k
   pub total : t.total ≡ length es
   pub entry : t.entry ≡ e
@@ -66,6 +66,6 @@ pub record IsCallBehind (s : System) (m : ByteMap) (limit : ℕ) (es : List Entr
 
 -- what is told of an entry's call after place k, or why there is no state there
 abbrev pub IsAsked : System → ByteMap → ℕ → List Entry → ℕ → Entry → PlaceAsked → Type 0
-IsAsked s m limit es k e (asked.Call t) = IsCallBehind s m limit es k e t
+IsAsked s m limit es k e (asked.Call t) = IsCallAfter s m limit es k e t
 IsAsked s m limit es k e asked.Beyond = IsPlace s m limit es k place.Beyond
 IsAsked s m limit es k e (asked.Illegal n) = IsPlace s m limit es k (place.Illegal n)

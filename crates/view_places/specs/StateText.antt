@@ -21,7 +21,7 @@ use Rattle.ffm_model.specs.Signals.{signals_of}
 use Rattle.ffm_model.specs.State.{SpmState, connection_by_serial, flags_at, phase_of}
 use Rattle.ffm_model.specs.TraceText.{Word, hexadecimal_word}
 use Rattle.machine_calls.specs.Machine.{spm_of_objects}
-use Rattle.view_places.specs.declared.behind.StateBehind.{StateBehind}
+use Rattle.view_places.specs.declared.behind.StateAfter.{StateAfter}
 use Rattle.view_places.specs.declared.waits.Signal.{Signal}
 use Rattle.view_places.specs.declared.waits.Signal.TheVariants as signal
 use Rattle.view_places.specs.Waits.{actors, circle_of, could_give, is_stalled, message_awaited, signals_in}
@@ -297,5 +297,5 @@ state_text s count total last b =
     ++ stall_text s b)))))
 
 -- the text of a state
-abbrev pub text_of_state : System → StateBehind → List ℕ
+abbrev pub text_of_state : System → StateAfter → List ℕ
 text_of_state s b = state_text s b.checker.count b.total b.last.items (spm_of_objects b.checker.machine.objects)

@@ -2,7 +2,7 @@
 ghost use Rattle.std.specs.Prelude.{◌≡◌, ◌++◌, IfOk, OnOk};
 ghost use Rattle.view_places.specs.AskText.{ask_text, legal_entry_text, other_handles, reply_lines, told_lines};
 
-use crate::asking::{CallBehind, Reply};
+use crate::asking::{CallAfter, Reply};
 use crate::reasons_text::{put_actor_line, put_conditions, put_due, put_rule};
 use ffm_model::System;
 use std::alloc::{AllocError, Global};
@@ -20,7 +20,7 @@ fn other_handles(gives_handle: bool) -> &'static str
 }
 
 // Appends the answer, or the rule by which the call may not be made.
-fn put_reply(text: &mut Vec<u8>, system: &System, call: &CallBehind) -> Result<(), AllocError>
+fn put_reply(text: &mut Vec<u8>, system: &System, call: &CallAfter) -> Result<(), AllocError>
     ensures { OnOk result
         (text.new.items ≡ text.old.items ++ reply_lines system.now call.now call.now.reply) }
 {
@@ -43,7 +43,7 @@ fn put_reply(text: &mut Vec<u8>, system: &System, call: &CallBehind) -> Result<(
 }
 
 #[tactic(auto, unfolding(crate::specs::AskText::told_lines))]
-fn put_told(text: &mut Vec<u8>, system: &System, call: &CallBehind) -> Result<(), AllocError>
+fn put_told(text: &mut Vec<u8>, system: &System, call: &CallAfter) -> Result<(), AllocError>
     ensures { OnOk result (text.new.items ≡ text.old.items ++ told_lines system.now call.now) }
 {
     put_actor_line(text, system, call.entry.actor.0, call.doing.as_slice())?;
@@ -52,7 +52,7 @@ fn put_told(text: &mut Vec<u8>, system: &System, call: &CallBehind) -> Result<()
 
 /// The text of a call that is asked for. The only error is want of memory.
 #[tactic(auto, unfolding(crate::specs::AskText::ask_text))]
-pub fn ask_text(alloc: Global, system: &System, call: &CallBehind) -> Result<Vec<u8>, AllocError>
+pub fn ask_text(alloc: Global, system: &System, call: &CallAfter) -> Result<Vec<u8>, AllocError>
     ensures { IfOk result (λ text. text.items ≡ ask_text system.now call.now) }
 {
     let mut text = Vec::new(alloc);
@@ -76,7 +76,7 @@ pub fn legal_entry_text(
     alloc: Global,
     system: &System,
     place: u32,
-    call: &CallBehind,
+    call: &CallAfter,
 ) -> Result<Vec<u8>, AllocError>
     ensures { IfOk result (λ text. text.items ≡ legal_entry_text system.now place call.now) }
 {

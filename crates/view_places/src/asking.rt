@@ -6,9 +6,9 @@ ghost use Rattle.ffm_model.specs.Ranges.{ranges_of};
 ghost use Rattle.machine_calls.specs.Machine.{IsMachineOf, state_of};
 ghost use Rattle.machine_check.specs.Performed.{Knows};
 ghost use Rattle.memory_image.specs.Pieces.{byte_at, regions_of};
-ghost use Rattle.view_places.specs.Asking.{IsAsked, IsReply, TellsBehind, error_shown};
+ghost use Rattle.view_places.specs.Asking.{IsAsked, IsReply, TellsAfter, error_shown};
 
-use crate::behind::{Place, StateBehind, behind_place};
+use crate::behind::{Place, StateAfter, after_place};
 use crate::calls::conditions;
 use crate::condition::Condition;
 use crate::reasons::{Rule, broken_before, doing, gave_handle, is_refusal};
@@ -31,7 +31,7 @@ pub enum Reply {
 
 /// A call after the first entries of a trace.
 #[derive(Drop)]
-pub struct CallBehind {
+pub struct CallAfter {
     /// How many entries are before it.
     pub count: u32,
     /// How many the trace has.
@@ -50,7 +50,7 @@ pub struct CallBehind {
 /// A call after the entry at a place, or why there is no state for it.
 #[derive(Drop)]
 pub enum PlaceAsked {
-    Call(CallBehind),
+    Call(CallAfter),
     /// The trace has fewer entries.
     Beyond,
     /// An entry up to the place, this one, is no step or exceeds the limit.
@@ -96,16 +96,16 @@ fn tell(
     checker: Checker,
     total: u32,
     entry: &Entry,
-) -> Result<CallBehind, Memory>
+) -> Result<CallAfter, Memory>
     requires kept { IsMachineOf system.now checker.machine }
     requires few { checker.machine.objects.connections_made < 2 ^ 31 }
-    ensures { IfOk result (TellsBehind system.now limit checker total entry.now) }
+    ensures { IfOk result (TellsAfter system.now limit checker total entry.now) }
 {
     let count = checker.count;
     let doing = doing(alloc, system, &checker.machine.objects, entry.actor.0)?;
     let conditions = conditions(alloc, system, &checker.machine, entry.actor, entry.call)?;
     let reply = reply_of(system, limit, checker, entry)?;
-    Ok(CallBehind {
+    Ok(CallAfter {
         count,
         total,
         entry: *entry,
@@ -119,7 +119,7 @@ fn tell(
 /// What the machine answers to the call of an entry, made after the one at a place of a trace, counted from 1; at
 /// place 0 it is made first. The entry's outcome isn't looked at.
 ///
-/// It needs what `behind_place` does, and memory for two short lists.
+/// It needs what `after_place` does, and memory for two short lists.
 pub fn ask(
     alloc: Global,
     system: &System,
@@ -134,8 +134,8 @@ pub fn ask(
     ensures { IfOk result
         (IsAsked system.now (byte_at memory.now) limit trace.now.entries place entry.now) }
 {
-    match behind_place(alloc, system, memory, limit, trace, place)? {
-        Place::State(StateBehind { checker, total, .. }) => {
+    match after_place(alloc, system, memory, limit, trace, place)? {
+        Place::State(StateAfter { checker, total, .. }) => {
             let told = tell(alloc, system, limit, checker, total, entry)?;
             Ok(PlaceAsked::Call(told))
         }

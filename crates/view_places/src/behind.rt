@@ -11,7 +11,7 @@ use std::alloc::Global;
 
 /// The state after the first entries of a trace.
 #[derive(Drop)]
-pub struct StateBehind {
+pub struct StateAfter {
     /// The judge's machine there, and how many entries led to it.
     pub checker: Checker,
     /// How many entries the trace has.
@@ -23,7 +23,7 @@ pub struct StateBehind {
 /// The state after the entry at a place, or why there is none.
 #[derive(Drop)]
 pub enum Place {
-    State(StateBehind),
+    State(StateAfter),
     /// The trace has fewer entries.
     Beyond,
     /// An entry up to the place, this one, is no step or exceeds the limit, and so there is no state after it.
@@ -59,7 +59,7 @@ fn last_entries(alloc: Global, system: &System, entries: &[Entry]) -> Result<Vec
 /// It needs memory for the state, for one copy of the image and for the handles that the entries give. The memory has
 /// the system's regions, and the trace has fewer than 2^31 entries.
 #[tactic(auto, using(crate::proofs::Places::place_reached, crate::proofs::Places::place_illegal))]
-pub fn behind_place(
+pub fn after_place(
     alloc: Global,
     system: &System,
     memory: &Image,
@@ -81,7 +81,7 @@ pub fn behind_place(
     if checker.count != place {
         return Ok(Place::Illegal(checker.count + 1));
     }
-    Ok(Place::State(StateBehind {
+    Ok(Place::State(StateAfter {
         checker,
         total: entries.len() as u32,
         last: last_entries(alloc, system, before)?,
@@ -90,14 +90,14 @@ pub fn behind_place(
 
 /// The state after the last legal entry of a trace.
 ///
-/// It needs what `behind_place` does. Where an entry is illegal, those before it are followed twice.
-pub fn behind_last(
+/// It needs what `after_place` does. Where an entry is illegal, those before it are followed twice.
+pub fn after_last(
     alloc: Global,
     system: &System,
     memory: &Image,
     limit: u32,
     trace: &Trace,
-) -> Result<StateBehind, Memory>
+) -> Result<StateAfter, Memory>
     requires regions { regions_of memory.now ≡ ranges_of system.now.regions }
     requires few { length trace.now.entries < 2 ^ 31 }
     ensures found { IfOk result
@@ -106,7 +106,7 @@ pub fn behind_last(
     let entries = trace.entries.as_slice();
     let checker = reached(alloc, system, memory, limit, entries)?;
     let legal = (checker.count as usize).min(entries.len());
-    Ok(StateBehind {
+    Ok(StateAfter {
         checker,
         total: entries.len() as u32,
         last: last_entries(alloc, system, &entries[..legal])?,

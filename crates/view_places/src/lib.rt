@@ -23,8 +23,8 @@ mod transfer;
 mod waits;
 
 pub use asked_text::{ask_text, legal_entry_text};
-pub use asking::{CallBehind, PlaceAsked, Reply, ask};
-pub use behind::{Place, StateBehind, behind_last, behind_place};
+pub use asking::{CallAfter, PlaceAsked, Reply, ask};
+pub use behind::{Place, StateAfter, after_last, after_place};
 pub use calls::conditions;
 pub use condition::Condition;
 pub use reasons::{Finding, IllegalEntry, Rule, why};

@@ -6,7 +6,7 @@ ghost use Rattle.view_places.specs.StateText.{actor_line, actor_lines, connectio
 ghost use Rattle.view_places.specs.Waits.{actors};
 ghost use Rattle.view_texts.specs.Columns.{widest};
 
-use crate::behind::StateBehind;
+use crate::behind::StateAfter;
 use crate::phases::{put_actor_names, put_phase};
 use crate::stall::put_stall;
 use crate::waits::{add_where, flags_at, owner_of};
@@ -548,7 +548,7 @@ fn put_sources(
 pub fn state_text(
     alloc: Global,
     system: &System,
-    behind: &StateBehind,
+    behind: &StateAfter,
 ) -> Result<Vec<u8>, AllocError>
     ensures { IfOk result (λ text. text.items ≡ text_of_state system.now behind.now) }
 {

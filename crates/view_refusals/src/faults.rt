@@ -120,9 +120,9 @@ fn closing_words(bytes: &[u8], fault: Fault) -> &'static str {
 
 fn put_no_comma(text: &mut String, bytes: &[u8], fault: Fault) -> Result<(), AllocError> {
     let word = word_at(rest_of(bytes, fault.at));
-    let is_behind_0 = front_of(bytes, fault.at).ends_with(b"0".as_slice());
+    let is_after_0 = front_of(bytes, fault.at).ends_with(b"0".as_slice());
     match word.split_first() {
-        Some((b'x' | b'X', digits)) if is_behind_0 => {
+        Some((b'x' | b'X', digits)) if is_after_0 => {
             text.push_str("wrong: a number of JSON is decimal\n")?;
             writeln!(text, "hint: write \"0x{}\"", Shown(digits))
         }

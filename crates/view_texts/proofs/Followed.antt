@@ -9,19 +9,19 @@ use Rattle.ffm_model.specs.Step.{after, step}
 use Rattle.machine_calls.specs.Machine.{state_of}
 use Rattle.machine_check.specs.declared.judging.Checker.{Checker}
 use Rattle.machine_check.specs.Checking.{Accepts, IsAccepted}
-use Rattle.machine_check.specs.Reaching.{IsBehind}
-use Rattle.machine_check.proofs.Followed.{behind_more, one_more, there}
+use Rattle.machine_check.specs.Reaching.{IsAfter}
+use Rattle.machine_check.proofs.Followed.{after_more, one_more, there}
 use Rattle.view_texts.specs.declared.counts.TraceCounts.{TraceCounts}
 use Rattle.view_texts.specs.Counted.{AreCounts, IsTallied}
 use Rattle.view_texts.specs.Moves.{moved_in}
 
 -- the next entry was accepted
-pub further : (s : System) (m : ByteMap) (limit : ℕ) (es : List Entry) (k : ℕ) (e : Entry) (c new : Checker) (b : IsBehind s m (take k es) c)
-    → take (k + 1) es ≡ take k es ++ e ∷ [] → IsAccepted s limit c b.handles e new → IsBehind s m (take (k + 1) es) new
-further s m limit es k e c new b more it = subst (λ xs. IsBehind s m xs new) (sym more) (behind_more s m limit (take k es) c new b e it)
+pub further : (s : System) (m : ByteMap) (limit : ℕ) (es : List Entry) (k : ℕ) (e : Entry) (c new : Checker) (b : IsAfter s m (take k es) c)
+    → take (k + 1) es ≡ take k es ++ e ∷ [] → IsAccepted s limit c b.handles e new → IsAfter s m (take (k + 1) es) new
+further s m limit es k e c new b more it = subst (λ xs. IsAfter s m xs new) (sym more) (after_more s m limit (take k es) c new b e it)
 
 -- the next entry was not accepted
-pub stopped : (s : System) (m : ByteMap) (limit : ℕ) (es : List Entry) (k : ℕ) (e : Entry) (c new : Checker) (b : IsBehind s m (take k es) c) (ok : Bool) (t : TraceCounts)
+pub stopped : (s : System) (m : ByteMap) (limit : ℕ) (es : List Entry) (k : ℕ) (e : Entry) (c new : Checker) (b : IsAfter s m (take k es) c) (ok : Bool) (t : TraceCounts)
     → k < length es → take (k + 1) es ≡ take k es ++ e ∷ [] → Accepts s limit c b.handles e (Ok ok) new → ok ≡ false → c.count ≤ limit → t.count ≡ c.count → t.total ≡ length es
     → AreCounts s m es c.count t.entries.items t.calls.items t.most_connections t.most_messages → t.moved.items ≡ moved_in s m es c.count → IsTallied s m limit es t
 stopped s m limit es k e c new b true t below more accepts is within count total counts moved = absurd (cc)
@@ -40,7 +40,7 @@ stopped s m limit es k e c new b false t below more accepts is within count tota
     }
 
 -- there is no further entry
-pub all_counted : (s : System) (m : ByteMap) (limit : ℕ) (es : List Entry) (k : ℕ) (c : Checker) (t : TraceCounts) → IsBehind s m (take k es) c → length es ≤ k → c.count ≤ limit → t.count ≡ c.count → t.total ≡ length es
+pub all_counted : (s : System) (m : ByteMap) (limit : ℕ) (es : List Entry) (k : ℕ) (c : Checker) (t : TraceCounts) → IsAfter s m (take k es) c → length es ≤ k → c.count ≤ limit → t.count ≡ c.count → t.total ≡ length es
     → AreCounts s m es c.count t.entries.items t.calls.items t.most_connections t.most_messages → t.moved.items ≡ moved_in s m es c.count → IsTallied s m limit es t
 all_counted s m limit es k c t b all within count total counts moved =
     let whole : take k es ≡ es = take_all k es all in

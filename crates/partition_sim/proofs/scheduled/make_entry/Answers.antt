@@ -7,7 +7,7 @@ next-call-requires c =
 
 pub step-requires-clause-due : goal.step-requires-clause-due
 step-requires-clause-due c =
-    call-is-due c.args.scripts.now c.args.spm.now.opening _ _ _ _ c.plans_resume_behind_blocked.ensures.held c.plans_resume_behind_blocked.ensures.contexts (asked-in _ _ _ _ _ _ _ _ _ c.requires.exists c.requires.driving c.index-scripts-at.is c.next-call.ensures.call c.next-call.ensures.asked)
+    call-is-due c.args.scripts.now c.args.spm.now.opening _ _ _ _ c.plans_resume_after_blocked.ensures.held c.plans_resume_after_blocked.ensures.contexts (asked-in _ _ _ _ _ _ _ _ _ c.requires.exists c.requires.driving c.index-scripts-at.is c.next-call.ensures.call c.next-call.ensures.asked)
 
 pub returns-in-Made-clause-driving : goal.returns-in-Made-clause-driving
 returns-in-Made-clause-driving c =

@@ -8,7 +8,7 @@ next-call-requires g c = parts-long _ _ _ _ c.requires.good.follows
 
 pub ask-requires-clause-due : goal.ask-requires-clause-due
 ask-requires-clause-due g c =
-    plan-due c.plans_resume_behind_blocked.ensures.held c.plans_resume_behind_blocked.ensures.contexts _ _ (g.A.Api.record_of c.args.worker.now.pass) _ (c.next-call.ensures.call _ _ c.requires.good.follows)
+    plan-due c.plans_resume_after_blocked.ensures.held c.plans_resume_after_blocked.ensures.contexts _ _ (g.A.Api.record_of c.args.worker.now.pass) _ (c.next-call.ensures.call _ _ c.requires.good.follows)
 
 pub returns-in-Made-clause-good : goal.returns-in-Made-clause-good
 returns-in-Made-clause-good g c =

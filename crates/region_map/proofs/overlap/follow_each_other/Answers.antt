@@ -8,7 +8,7 @@ use Rattle.ffm_model.specs.Layout.{overlapping, ram_needed, rounded}
 use Rattle.ffm_model.specs.Repeats.{first}
 use Rattle.region_map.specs.Overlaps.{meets_ram}
 use Rattle.region_map.specs.Placements.{located_of}
-use Rattle.region_map.proofs.OverlapSteps.{front, regions_in, misses_all, more_regions, one_behind, overlap_step}
+use Rattle.region_map.proofs.OverlapSteps.{front, regions_in, misses_all, more_regions, one_after, overlap_step}
 use Rattle.region_map.proofs.overlap.follow_each_other.Goals as goal
 
 pub loop-at-init : goal.loop-at-init
@@ -27,5 +27,5 @@ loop-at-preserved c =
     let none = misses_all p c.ram_total-ram.result c.rounded-non_secure.result c.loop-at.end (regions_in (take c.loop-at.at-index placed)) x.region x.filled.0 ram others miss c.loop-at.invariant.1 behind in (
       overlap_step (front p) placed c.loop-at.at-index x c.loop-at-test.true c.at-item.is none ∙ c.loop-at.invariant.0,
       rw (c.from-in-loop-at-2.ensures, c.from-in-loop-at-3.ensures, more_regions placed c.loop-at.at-index x c.loop-at-test.true c.at-item.is)
-          (one_behind c.loop-at.end (regions_in (take c.loop-at.at-index placed)) x.region c.loop-at.invariant.1 behind),
+          (one_after c.loop-at.end (regions_in (take c.loop-at.at-index placed)) x.region c.loop-at.invariant.1 behind),
     )

@@ -4,7 +4,7 @@ use Rattle.ffm_model.proofs.BytesLemmas.{bytes-length}
 use Rattle.ffm_model.specs.declared.system.Class.TheVariants.{Ram}
 use Rattle.ffm_model.specs.declared.system.Region.{Region}
 use Rattle.ffm_model.specs.Memory.{ByteMap, write_bytes}
-use Rattle.ffm_model.specs.Restarts.{memory_behind}
+use Rattle.ffm_model.specs.Restarts.{memory_after}
 use Rattle.ffm_model.specs.Ranges.{ranges_of}
 use Rattle.memory_image.specs.Pieces.{byte_at, regions_of}
 use Rattle.spm_core.specs.Manager.{state_of}
@@ -56,7 +56,7 @@ returns-clause-bytes c =
     let items = c.as_slice-region-items.result.now in
     let all : take c.loop-region.region-index items ≡ items = take_all c.loop-region.region-index items c.loop-region-test.false in
     let s = c.args.ended.now.opening.system in
-    let left : byte_at c.image-last.result.now ≡ memory_behind s (byte_at c.args.ended.now.opening.memory) c.args.ended.now.history = memory_left (state_of c.args.ended.now) _ _ c.image-last.ensures.memory in
+    let left : byte_at c.image-last.result.now ≡ memory_after s (byte_at c.args.ended.now.opening.memory) c.args.ended.now.history = memory_left (state_of c.args.ended.now) _ _ c.image-last.ensures.memory in
     c.loop-region.invariant.bytes
     ∙ ap (λ (rs : List Region). reset_in rs (byte_at c.args.first.now) (byte_at c.image-last.result.now)) (all ∙ c.as_slice-region-items.ensures ∙ ap (λ x. x.regions) c.system.ensures)
     ∙ ap (λ (m : ByteMap). reset_in s.regions (byte_at c.args.first.now) m) left

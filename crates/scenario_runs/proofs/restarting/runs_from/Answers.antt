@@ -5,7 +5,7 @@ use Rattle.ffm_model.specs.declared.system.System.{System}
 use Rattle.ffm_model.specs.declared.trace.Trace.{Trace}
 use Rattle.ffm_model.specs.Actors.{counts_of}
 use Rattle.ffm_model.specs.Memory.{ByteMap, opening_memory}
-use Rattle.ffm_model.specs.Restarts.{RunsFrom, ends_panicked, memory_behind, memory_reset}
+use Rattle.ffm_model.specs.Restarts.{RunsFrom, ends_panicked, memory_after, memory_reset}
 use Rattle.ffm_model.specs.Ranges.{ranges_of}
 use Rattle.law_lists.proofs.Options.{if-some}
 use Rattle.memory_image.specs.Pieces.{byte_at}
@@ -40,8 +40,8 @@ loop-traces-preserved c =
     let ran : RunOf s scenario scripts (byte_at memory) (finished t) = subst (λ (x : System). RanBy x (byte_at memory) scenario (map Plain scripts) false t.entries t.verdict) c.loop-traces.invariant.system c.in_ok-ran.ensures.ran in
     let more : (nat_lt 0 c.loop-traces.left && ends_panicked s (byte_at memory) (finished t)) ≡ true =
     ap (λ (b : Bool). nat_lt 0 c.loop-traces.left && b) (sym (again_is y o t.verdict opening ran.verdict)) ∙ sym c.in_ok-next.ensures.again ∙ ap is_some c.in-Some.is in
-    let next : byte_at c.in-Some.image ≡ memory_reset s first (memory_behind s (byte_at memory) t.entries) =
-    if-some c.in_ok-next.next c.in-Some.image _ c.in-Some.is c.in_ok-next.ensures.bytes ∙ ap (λ (p : Opening). memory_reset p.system first (memory_behind p.system (byte_at p.memory) y.history)) opening in
+    let next : byte_at c.in-Some.image ≡ memory_reset s first (memory_after s (byte_at memory) t.entries) =
+    if-some c.in_ok-next.next c.in-Some.image _ c.in-Some.is c.in_ok-next.ensures.bytes ∙ ap (λ (p : Opening). memory_reset p.system first (memory_after p.system (byte_at p.memory) y.history)) opening in
     let items : c.push.new.self.items ≡ c.loop-traces.traces.items ++ t ∷ [] = c.in_ok-push.ensures.items ∙ ap (λ (x : Trace). c.loop-traces.traces.items ++ x ∷ []) c.kept-same_system.ensures.trace in
     record {
       system = c.kept-same_system.ensures.system ∙ ap (λ (p : Opening). p.system) opening;

@@ -1,7 +1,7 @@
 use Rattle.std.proofs.Common.{arith, ◌≡◌, ◌+◌, ap, subst, sym, ◌∙◌}
 use Rattle.std.proofs.lemmas.List.{length-take, take_more}
 use Rattle.memory_image.specs.Pieces.{byte_at}
-use Rattle.machine_check.proofs.Followed.{behind_none}
+use Rattle.machine_check.proofs.Followed.{after_none}
 use Rattle.machine_check.proofs.Judged.{was_accepted}
 use Rattle.view_texts.specs.Counted.{AreCounts}
 use Rattle.view_texts.specs.Moves.{moved_in, with_move}
@@ -16,7 +16,7 @@ pub loop-entry-init : goal.loop-entry-init
 loop-entry-init c =
     let start = c.in_ok-checker.ensures.starts in
     record {
-      behind = behind_none c.args.system.now (byte_at c.args.memory.now) c.in_ok-checker.checker start;
+      behind = after_none c.args.system.now (byte_at c.args.memory.now) c.in_ok-checker.checker start;
       within = omega (arith, start.count);
       count = omega (arith, start.count, c.in_ok-counts.ensures.count);
       total = c.in_ok-counts.ensures.total;

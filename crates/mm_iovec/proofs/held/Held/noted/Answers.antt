@@ -3,7 +3,7 @@ use Rattle.ffm_model.specs.declared.machine.Call.TheVariants as call
 use Rattle.ffm_model.specs.Held.{Holder, HeldMessage}
 use Rattle.mm_iovec.specs.HeldView.{HeldView}
 use Rattle.mm_iovec.specs.Items.{message_of}
-use Rattle.mm_iovec.proofs.WindowLemmas.{windows-read, windows-input_touched, windows-written, windows-behind}
+use Rattle.mm_iovec.proofs.WindowLemmas.{windows-read, windows-input_touched, windows-written, windows-after}
 use Rattle.mm_iovec.proofs.NotedLemmas.{noted-read, noted-write}
 use Rattle.mm_iovec.proofs.held.Held.noted.Goals as goal
 use Rattle.ffm_model.proofs.HeldLemmas.{noted-get, noted-reply}
@@ -25,11 +25,11 @@ invariant_of-self-in-Write c =
 
 pub invariant_of-self-in-Get : goal.invariant_of-self-in-Get
 invariant_of-self-in-Get c =
-    rw (c.note_get.ensures c.in-Get.msg) (windows-behind c.self.inside.holder (call.Get c.in-Get.signal c.in-Get.msg) c.args.outcome (map message_of c.self.inside.messages.items) c.self.invariant)
+    rw (c.note_get.ensures c.in-Get.msg) (windows-after c.self.inside.holder (call.Get c.in-Get.signal c.in-Get.msg) c.args.outcome (map message_of c.self.inside.messages.items) c.self.invariant)
 
 pub invariant_of-self-in-Reply : goal.invariant_of-self-in-Reply
 invariant_of-self-in-Reply c =
-    rw (c.note_reply.ensures c.self.inside.holder c.in-Reply.status) (windows-behind c.self.inside.holder (call.Reply c.in-Reply.handle c.in-Reply.status) c.args.outcome (map message_of c.self.inside.messages.items) c.self.invariant)
+    rw (c.note_reply.ensures c.self.inside.holder c.in-Reply.status) (windows-after c.self.inside.holder (call.Reply c.in-Reply.handle c.in-Reply.status) c.args.outcome (map message_of c.self.inside.messages.items) c.self.invariant)
 
 pub returns-in-Read : goal.returns-in-Read
 returns-in-Read c =

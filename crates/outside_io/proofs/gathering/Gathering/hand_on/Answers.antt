@@ -1,7 +1,7 @@
 use Rattle.std.proofs.Common.{rules, take}
 use Rattle.std.proofs.lemmas.Result.{err_from_is_err_and}
 use Rattle.outside_io.specs.Gathering.{seen_through}
-use Rattle.outside_io.proofs.Behind.{hand_more, hand_failed}
+use Rattle.outside_io.proofs.After.{hand_more, hand_failed}
 use Rattle.outside_io.proofs.gathering.Gathering.hand_on.Goals as goal
 
 pub returns-in_err-self : goal.returns-in_err-self

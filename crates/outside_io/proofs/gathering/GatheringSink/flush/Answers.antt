@@ -1,4 +1,4 @@
-use Rattle.outside_io.proofs.Behind.{flush_through}
+use Rattle.outside_io.proofs.After.{flush_through}
 use Rattle.outside_io.proofs.gathering.GatheringSink.flush.Goals as goal
 
 pub returns : goal.returns

@@ -1,5 +1,5 @@
 use Rattle.outside_io.specs.Gathering.{seen_through}
-use Rattle.outside_io.proofs.Behind.{gathered, put_through, same_faults, still}
+use Rattle.outside_io.proofs.After.{gathered, put_through, same_faults, still}
 use Rattle.outside_io.proofs.gathering.GatheringSink.put.Goals as goal
 
 pub returns-then-add-2-clause-puts : goal.returns-then-add-2-clause-puts

@@ -6,4 +6,4 @@ pub returns-then-self : goal.returns-then-self
 returns-then-self c = λ p r. r.stands c.if-self.true
 
 pub returns : goal.returns
-returns c = λ p r. settled c.args.script.now p _ _ c.if-self.false refl c.arrive-place.ensures c.call_at-self.ensures c.place_behind-self.ensures r
+returns c = λ p r. settled c.args.script.now p _ _ c.if-self.false refl c.arrive-place.ensures c.call_at-self.ensures c.place_after-self.ensures r

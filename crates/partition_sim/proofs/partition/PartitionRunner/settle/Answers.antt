@@ -34,7 +34,7 @@ returns c = rw (← c.self.view_is) (
       ready = true;
       line = c.line_at-self-inside.result;
       call = c.held_call-self-inside.result;
-      after = c.place_behind-self-inside.result;
+      after = c.place_after-self-inside.result;
     } in
     rw c.held_call-self-inside.ensures.held
-    (λ p os f. asked p script os old new c.if-self.false lines.holder refl refl lines.arrived c.line_at-self-inside.ensures call c.place_behind-self-inside.ensures f))
+    (λ p os f. asked p script os old new c.if-self.false lines.holder refl refl lines.arrived c.line_at-self-inside.ensures call c.place_after-self-inside.ensures f))

@@ -150,9 +150,9 @@ object-shown d k h some =
 
 -- ---- the state after an event
 
-pub stands-behind : (s : System) (d new : TablesView) (bytes after : List Bytes) (st next : State) (shown : List Handle) → AreKept d → AreKept new → Stands d bytes st → KeepsNames s d new
+pub stands-after : (s : System) (d new : TablesView) (bytes after : List Bytes) (st next : State) (shown : List Handle) → AreKept d → AreKept new → Stands d bytes st → KeepsNames s d new
     → next.spm ≡ spm_of new → next.memory ≡ byte_at after → next.handles_given ≡ st.handles_given ++ shown → All (λ h. 1 ≤ objects_with next.spm h) shown → Stands new after next
-stands-behind s d new bytes after st next shown was are stood keeps spm memory grown objects =
+stands-after s d new bytes after st next shown was are stood keeps spm memory grown objects =
     let given : List Handle = st.handles_given in
     let each : All (IsShown new) shown =
     All-weaker (λ h. 1 ≤ objects_with next.spm h) (IsShown new) (λ h some. object-shown new are h (subst (λ (b : SpmState). 1 ≤ objects_with b h) spm some)) shown objects in
@@ -179,7 +179,7 @@ stands-behind s d new bytes after st next shown was are stood keeps spm memory g
 pub stands-quiet : (s : System) (d new : TablesView) (bytes after : List Bytes) (st next : State) → AreKept d → AreKept new → Stands d bytes st → KeepsNames s d new
     → next.spm ≡ spm_of new → next.memory ≡ byte_at after → next.handles_given ≡ st.handles_given → Stands new after next
 stands-quiet s d new bytes after st next was are stood keeps spm memory same =
-    stands-behind s d new bytes after st next [] was are stood keeps spm memory (same ∙ sym (append-nil st.handles_given)) (All-nil (λ h. 1 ≤ objects_with next.spm h))
+    stands-after s d new bytes after st next [] was are stood keeps spm memory (same ∙ sym (append-nil st.handles_given)) (All-nil (λ h. 1 ≤ objects_with next.spm h))
 
 -- ---- the handle that a step shows
 
@@ -237,7 +237,7 @@ pub stands-got : (s : System) (d new : TablesView) (bytes after : List Bytes) (s
     → psa_get s st a signal msg h ≡ Some (effect o next) → next.spm ≡ spm_of new → next.memory ≡ byte_at after → Stands new after next
 stands-got s d new bytes after st next a signal msg h o was are stood keeps got spm memory =
     let it : Grows st.handles_given next.spm next.handles_given = subst (λ (x : Option Effect). IfThere x (λ y. Grows st.handles_given y.state.spm y.state.handles_given)) got (got-grows s st a signal msg h) in
-    stands-behind s d new bytes after st next it.shown was are stood keeps spm memory it.grown it.objects
+    stands-after s d new bytes after st next it.shown was are stood keeps spm memory it.grown it.objects
 
 kinds-grow : (s : System) (b : SpmState) (given : List Handle) (a : ℕ) (d : Call) → ObjectsFit s b → EachKind s b given a d (λ o new all. Grows given new all)
 kinds-grow s b given a d fits = record {
@@ -264,4 +264,4 @@ pub stands-stepped : (s : System) (d new : TablesView) (bytes after : List Bytes
 stands-stepped s d new bytes after st next e was are fits stood keeps is spm memory =
     let it : Grows st.handles_given next.spm next.handles_given =
     (step-kind s st next e (λ o b all. Grows st.handles_given b all) (kinds-grow s st.spm st.handles_given e.actor.0 e.call (subst (ObjectsFit s) (sym stood.spm) fits)) is).2 in
-    stands-behind s d new bytes after st next it.shown was are stood keeps spm memory it.grown it.objects
+    stands-after s d new bytes after st next it.shown was are stood keeps spm memory it.grown it.objects

@@ -2,7 +2,7 @@ use Rattle.std.proofs.Common.{ap, arith, length, subst, take}
 use Rattle.memory_image.specs.Pieces.{byte_at}
 use Rattle.machine_check.specs.Reaching.{IsReached}
 use Rattle.view_places.proofs.Places.{place_illegal}
-use Rattle.view_places.proofs.behind.behind_place.Goals as goal
+use Rattle.view_places.proofs.behind.after_place.Goals as goal
 
 pub returns-then-checker-place : goal.returns-then-checker-place
 returns-then-checker-place c =

@@ -8,16 +8,16 @@ use Rattle.outside_io.specs.declared.gathering.Gathering.{Gathering}
 use Rattle.outside_io.proofs.SinkSteps.{takes_then, took_then}
 
 -- its sink took a front of what waits
-front_behind : (a b : SinkSeen) (w : List ℕ) (n : ℕ) → Takes a b (take n w) → Takes (behind a w) (behind b (drop n w)) []
-front_behind a b w n p = record {
+front_after : (a b : SinkSeen) (w : List ℕ) (n : ℕ) → Takes a b (take n w) → Takes (behind a w) (behind b (drop n w)) []
+front_after a b w n p = record {
   front = p.front;
   whole = append-nil (a.waiting ++ w) ∙ (ap (λ (s : List ℕ). a.waiting ++ s) (sym (take-append-drop n w)) ∙ (sym (append_assoc a.waiting (take n w) (drop n w)) ∙ (ap (λ (s : List ℕ). s ++ drop n w) p.whole ∙ append_assoc p.front b.waiting (drop n w))));
   adds = p.adds;
 }
 
 -- its sink took nothing
-none_behind : (a b : SinkSeen) (w : List ℕ) → Takes a b [] → Takes (behind a w) (behind b w) []
-none_behind a b w p = record {
+none_after : (a b : SinkSeen) (w : List ℕ) → Takes a b [] → Takes (behind a w) (behind b w) []
+none_after a b w p = record {
   front = p.front;
   whole = append-nil (a.waiting ++ w) ∙ (ap (λ (s : List ℕ). s ++ w) (sym (append-nil a.waiting) ∙ p.whole) ∙ append_assoc p.front b.waiting w);
   adds = p.adds;
@@ -37,14 +37,14 @@ drop_twice xs i n = drop-drop n i xs
 -- one put more of what waits
 pub hand_more : (o a b : SinkSeen) (held : List ℕ) (at n : ℕ) → Took o (behind a (drop at held)) [] → Took a b (take n (drop at held)) → Took o (behind b (drop (at + n) held)) []
 hand_more o a b held at n p (q, s) =
-    let front = front_behind a b (drop at held) n q in
+    let front = front_after a b (drop at held) n q in
     took_then o (behind a (drop at held)) (behind b (drop (at + n) held)) [] [] p (subst (λ (w : List ℕ). Takes (behind a (drop at held)) (behind b w) []) (drop_twice held at n) front, s)
 
 -- the put of what waits failed
 pub hand_failed : (o a b : SinkSeen) (held : List ℕ) (at : ℕ) → at < length held → Took o (behind a (drop at held)) [] → Takes a b [] × Rose a.faults b.faults
     → Takes o (behind b (drop at held)) [] × ((0 < length (drop at held)) × Rose o.faults b.faults)
 hand_failed o a b held at lt (p, s) (q, rose) =
-    (takes_then o (behind a (drop at held)) (behind b (drop at held)) [] [] p (none_behind a b (drop at held) q), (omega (arith, lt, length-drop {A = ℕ}), rw s at rose))
+    (takes_then o (behind a (drop at held)) (behind b (drop at held)) [] [] p (none_after a b (drop at held) q), (omega (arith, lt, length-drop {A = ℕ}), rw s at rose))
 
 -- all was handed on, and a piece was gathered
 pub gathered : (o a b : SinkSeen) (x : List ℕ) → Took o a [] → Takes a b x → b.faults ≡ a.faults → Took o b (take (length x) x)
