@@ -53,6 +53,11 @@ few_manifests p q e few = let P : PartsRecord → Type 0 = λ r. length r.manife
 pub all_below : {A : Type 0} (items : ManifestRecord → List A) (ms : List ManifestRecord) → length ms ≤ 256 → Each (λ x. x.manifest < 256) (located_from items 0 ms)
 all_below items ms few = AllByRecursion-weaker (λ x. x.manifest < 0 + length ms) (λ x. x.manifest < 256) (λ x l. omega arith) (located_from items 0 ms) (items_below items 0 ms)
 
+-- a square of as many rows as manifests has a row for each
+pub rows_fit : {A : Type 0} (items : ManifestRecord → List A) (ms : List ManifestRecord) (n : ℕ) → n ≡ length ms * 256 → Each (λ x. x.manifest * 256 + 256 ≤ n) (located_from items 0 ms)
+rows_fit items ms n e =
+    AllByRecursion-weaker (λ x. x.manifest < 0 + length ms) (λ x. x.manifest * 256 + 256 ≤ n) (λ x l. omega (arith, e)) (located_from items 0 ms) (items_below items 0 ms)
+
 -- some item passes, so what holds of each holds of one that passes
 some_passes : {A : Type 0} (P : A → Type 0) (t : A → Bool) (Q : Type 0) → ((x : A) → P x → t x ≡ true → Q) → (xs : List A) → Each P xs → list_any t xs ≡ true → Q
 some_passes P t Q f [] h e = absurd cc

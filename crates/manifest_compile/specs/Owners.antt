@@ -23,6 +23,6 @@ pub record Owns (owners : BTreeMap (Bor (List ℕ)) ℕ) (p : PartsRecord) : Typ
   pub known : (name : List ℕ) → is_some (owner_of owners name) ≡ is_known p name
   pub owned : (name : List ℕ) (k : ℕ) → is_owner owners k name ≡ has_service p k name
 
--- of a square of 256 rows with 256 marks each: the mark of two numbers, and none beside the square
+-- of at most 256 rows with 256 marks each: the mark of two numbers, and none beside the rows
 abbrev pub is_marked : List Bool → ℕ → ℕ → Bool
 is_marked marks k j = (nat_lt k 256 && nat_lt j 256) && get_or marks (k * 256 + j) false

@@ -1,5 +1,5 @@
 //! Dependencies of partitions.
-ghost use Rattle.std.specs.Prelude.{◌≡◌, ℕ, List, IfSome, All, slice_index_or, ◌==◌, ◌+◌, ◌*◌, ◌<◌, ◌&&◌, ◌||◌, [], not, false, length, map, filter, is_some, option_map, IfOk};
+ghost use Rattle.std.specs.Prelude.{◌≡◌, ℕ, List, IfSome, All, slice_index_or, ◌==◌, ◌+◌, ◌*◌, ◌<◌, ◌≤◌, ◌&&◌, ◌||◌, [], not, false, length, map, filter, is_some, option_map, IfOk};
 ghost use Rattle.std.specs.List.{list_any, AllByRecursion as Each};
 ghost use Rattle.ffm_model.specs.Circles.{first_circle};
 ghost use Rattle.ffm_model.specs.Repeats.{first};
@@ -119,7 +119,7 @@ pub fn dependencies_are_others(
 // How many partitions a row of marks has room for.
 const ROW: usize = 256;
 
-/// Which partitions depend on services of which others: a row of marks for each partition.
+/// Which partitions depend on services of which others: a row of marks for each partition that there is.
 #[derive(Drop)]
 struct DependencyGraph {
     marks: Vec<bool>,
@@ -145,7 +145,7 @@ fn is_set(marks: &[bool], at: usize) -> bool
 
 // Marks that one partition depends on another.
 fn mark(marks: &mut [bool], from: u32, to: u32)
-    requires room { length marks.old ≡ 65536 }
+    requires room { from * 256 + 256 ≤ length marks.old }
     requires from { from < 256 }
     requires to { to < 256 }
     ensures { (k j : ℕ)
@@ -156,7 +156,7 @@ fn mark(marks: &mut [bool], from: u32, to: u32)
 
 // Marks a dependency on a service.
 fn mark_dependency(marks: &mut [bool], owners: &BTreeMap<&str, u32>, from: u32, name: &Name)
-    requires room { length marks.old ≡ 65536 }
+    requires room { from * 256 + 256 ≤ length marks.old }
     requires from { from < 256 }
     requires owners { (service : List ℕ)
         → IfSome (owner_of owners.now service) (λ owner. owner < 256) }
@@ -174,7 +174,8 @@ fn mark_dependencies(
     owners: &BTreeMap<&str, u32>,
     dependencies: &[At<'_, Name>],
 )
-    requires room { length marks.old ≡ 65536 }
+    requires room { Each (λ d. d.manifest * 256 + 256 ≤ length marks.old)
+        (map seen dependencies.now) }
     requires from { Each (λ d. d.manifest < 256) (map seen dependencies.now) }
     requires owners { (service : List ℕ)
         → IfSome (owner_of owners.now service) (λ owner. owner < 256) }
@@ -199,7 +200,7 @@ fn graph_of(
         (k j : ℕ) → is_marked graph.marks.items k j ≡ depends parts.now k j) }
 {
     let dependencies = located::<Dependencies>(alloc, parts.manifests.as_slice())?;
-    let mut marks = vec![in alloc; false; ROW * ROW]?;
+    let mut marks = vec![in alloc; false; parts.manifests.len() * ROW]?;
     mark_dependencies(marks.as_mut_slice(), owners, dependencies.as_slice());
     Ok(DependencyGraph { marks })
 }
