@@ -60,8 +60,9 @@ pub fn takes_are_few()
 {}
 
 /// In each run whose handles are the names of their slots, no two slots ever taken have one name, and the
-/// name that a call has to show is fresh. So all handles of the run differ although slots are used again,
-/// and the run can go on with names.
+/// name that a call has to show is fresh where it is at most 0x3fffffff, as it is in a run of at most
+/// 262,144 entries. So all handles of the run differ although slots are used again, and such a run can go
+/// on with names.
 pub fn names_are_fresh()
     ensures { InEachNamedRun (λ s es w. NamesFit s es w) }
 {}
