@@ -57,6 +57,24 @@ class PlainExplore(unittest.TestCase):
         self.assertEqual(self.answer(TWO_CALLS, "--states", "2"), (5, told))
         self.assertEqual(self.answer(TWO_CALLS, "panic", "--states", "2"), (5, text("unknown", unfinished)))
 
+    def test_a_line_has_each_outcome_once(self):
+        told = text("number 0 first 1 NS", "complete")
+        self.assertEqual(self.answer(TWO_CALLS, "line", "NS", "1"), (0, told.replace("1 NS", "2 NS NS")))
+        self.assertEqual(self.answer(TWO_CALLS, "line", "NS", "0"), (0, told))
+
+    def test_what_is_not_there_is_no_line_and_no_event(self):
+        self.assertEqual(self.answer(TWO_CALLS, "line", "NS", "2"), (2, text(plain_explore.NO_LINE)))
+        self.assertEqual(self.answer(TWO_CALLS, "line", "NO", "0"), (2, text(plain_explore.NO_ACTOR)))
+        self.assertEqual(self.answer(TWO_CALLS, "entry", "n1 version 1 -> number 0"), (2, text(plain_explore.NO_EVENT)))
+
+    def test_an_event_is_found_or_none_is(self):
+        self.assertEqual(self.answer(TWO_CALLS, "entry", "n1 version 0x00000002 -> number 0"), (4, text("first 2 NS NS")))
+        self.assertEqual(self.answer(TWO_CALLS, "entry", "n1 version 0x00000003 -> number 0"), (0, text("never")))
+
+    def test_the_turns_go_into_the_scenario(self):
+        status, scenario = self.answer(TWO_CALLS, "entry", "--scenario", "n1 version 0x00000002 -> number 0")
+        self.assertEqual((status, json.loads(scenario)), (4, TWO_CALLS | {"schedule": ["NS", "NS"]}))
+
     def test_restarts_are_refused(self):
         self.assertEqual(self.answer({"restarts": 1}), (1, text("refused 4 BadValue scenario /restarts")))
 

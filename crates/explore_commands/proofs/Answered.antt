@@ -5,6 +5,7 @@ use Rattle.std.specs.Prelude.{◌⊎◌, Option, None, Some, Result, Ok, Err, If
 use Rattle.clap.specs.Words.{kind_of}
 use Rattle.clap.specs.declared.error.Error.{Error}
 use Rattle.clap.specs.declared.error.kind.ErrorKind.TheVariants as kind
+use Rattle.file_places.specs.declared.kept.KeptFile.{KeptFile}
 use Rattle.outside_io.specs.Files.{Asks, FilesSeen, stopped}
 use Rattle.outside_io.specs.Sink.{Hands, SinkSeen}
 use Rattle.outside_io.proofs.FilesSteps.{asks_lost, asks_unrefused}
@@ -30,36 +31,36 @@ answer_or P (Ok a) answer is p = subst (λ x. MatchResult x P (λ e. e ≡ unans
 answer_or P (Err m) answer is p = subst (λ x. MatchResult x P (λ e. e ≡ unanswered.Memory)) (sym is) refl
 
 -- the files were read, and this is found, or no memory was
-pub found_answer : (r : Request) (a b : FilesSeen) (w : RunWork) (answer : Result Answer Unanswered) → Asks a b (Ok (run_of w.threads w.system w.scenario w.programs)) (files_asked r)
-    → MatchResult answer (λ x. IsFound w.system w.scenario w.programs r.question x.text.items x.status) (λ e. e ≡ unanswered.Memory) → AnswersRequest r a b answer
-found_answer r a b w (Ok x) asks found = record { due = Ok (run_of w.threads w.system w.scenario w.programs); reads = asks; is_due = found }
-found_answer r a b w (Err e) asks found = subst (λ x. AnswersRequest r a b (Err x)) (sym found) (asks_lost a b (run_of w.threads w.system w.scenario w.programs) (files_asked r) asks)
+pub found_answer : (r : Request) (a b : FilesSeen) (kept : List KeptFile) (w : RunWork) (answer : Result Answer Unanswered) → Asks a b (Ok (run_of w.threads w.system w.scenario w.programs)) (files_asked r)
+    → MatchResult answer (λ x. IsFound w.system w.scenario w.programs r kept x.text.items x.status) (λ e. e ≡ unanswered.Memory) → AnswersRequest r a b kept answer
+found_answer r a b kept w (Ok x) asks found = record { due = Ok (run_of w.threads w.system w.scenario w.programs); reads = asks; is_due = found }
+found_answer r a b kept w (Err e) asks found = subst (λ x. AnswersRequest r a b kept (Err x)) (sym found) (asks_lost a b (run_of w.threads w.system w.scenario w.programs) (files_asked r) asks)
 
 -- a file is refused, or no memory was found for the line
-pub refused_answer : (r : Request) (a b : FilesSeen) (f : Refusal) (answer : Result Answer Unanswered) → Asks {A = Work} a b (Err (stopped (refused f))) (files_asked r)
-    → MatchResult answer (λ x. (x.text.items ≡ refusal_line f) × (x.status ≡ 1)) (λ e. e ≡ unanswered.Memory) → AnswersRequest r a b answer
-refused_answer r a b f (Ok x) asks is = record { due = Err (refused f); reads = asks; is_due = is }
-refused_answer r a b f (Err e) asks is = subst (λ x. AnswersRequest r a b (Err x)) (sym is) (asks_unrefused a b (refused f) (files_asked r) asks)
+pub refused_answer : (r : Request) (a b : FilesSeen) (kept : List KeptFile) (f : Refusal) (answer : Result Answer Unanswered) → Asks {A = Work} a b (Err (stopped (refused f))) (files_asked r)
+    → MatchResult answer (λ x. (x.text.items ≡ refusal_line f) × (x.status ≡ 1)) (λ e. e ≡ unanswered.Memory) → AnswersRequest r a b kept answer
+refused_answer r a b kept f (Ok x) asks is = record { due = Err (refused f); reads = asks; is_due = is }
+refused_answer r a b kept f (Err e) asks is = subst (λ x. AnswersRequest r a b kept (Err x)) (sym is) (asks_unrefused a b (refused f) (files_asked r) asks)
 
 -- ---- the answer to the words
 
 -- they ask for this
-pub asked_answer : (words : List (List ℕ)) (r : Request) (a b : FilesSeen) (result : Result Answer Unanswered) → AsksFor words r → AnswersRequest r a b result → AnswersWords words a b result
-asked_answer words r a b (Ok answer) asks is = inr (r, asks, is)
-asked_answer words r a b (Err unanswered.File) asks is = (r, asks, is)
-asked_answer words r a b (Err unanswered.Memory) asks is = inr (r, asks, is)
+pub asked_answer : (words : List (List ℕ)) (r : Request) (a b : FilesSeen) (kept : List KeptFile) (result : Result Answer Unanswered) → AsksFor words r → AnswersRequest r a b kept result → AnswersWords words a b kept result
+asked_answer words r a b kept (Ok answer) asks is = inr (r, asks, is)
+asked_answer words r a b kept (Err unanswered.File) asks is = (r, asks, is)
+asked_answer words r a b kept (Err unanswered.Memory) asks is = inr (r, asks, is)
 
 -- they ask for nothing, and were answered
-told_answer : (words : List (List ℕ)) (e : Error) (a : FilesSeen) (answer : Answer) → (kind_of e ≡ kind.OutOfMemory) ⊎ IsTold words (told_status (kind_of e)) → answer.status ≡ told_status (kind_of e)
-    → kind_of e ≢ kind.OutOfMemory → AnswersWords words a a (Ok answer)
-told_answer words e a answer (inl memory) status other = absurd (other memory)
-told_answer words e a answer (inr told) status other = inl (subst (IsTold words) (sym status) told, refl)
+told_answer : (words : List (List ℕ)) (e : Error) (a : FilesSeen) (kept : List KeptFile) (answer : Answer) → (kind_of e ≡ kind.OutOfMemory) ⊎ IsTold words (told_status (kind_of e)) → answer.status ≡ told_status (kind_of e)
+    → kind_of e ≢ kind.OutOfMemory → AnswersWords words a a kept (Ok answer)
+told_answer words e a kept answer (inl memory) status other = absurd (other memory)
+told_answer words e a kept answer (inr told) status other = inl (subst (IsTold words) (sym status) told, refl)
 
 -- and so they were, or no memory was found
-pub told_words : (words : List (List ℕ)) (e : Error) (a : FilesSeen) (r : Result Answer Memory) (answer : Result Answer Unanswered) → MatchResult r (λ x. answer ≡ Ok x) (λ m. answer ≡ Err unanswered.Memory)
-    → (kind_of e ≡ kind.OutOfMemory) ⊎ IsTold words (told_status (kind_of e)) → IfOk r (λ x. x.status ≡ told_status (kind_of e)) → IfOk r (λ x. kind_of e ≢ kind.OutOfMemory) → AnswersWords words a a answer
-told_words words e a (Ok x) answer is told status other = subst (AnswersWords words a a) (sym is) (told_answer words e a x told status other)
-told_words words e a (Err m) answer is told status other = subst (AnswersWords words a a) (sym is) (inl refl)
+pub told_words : (words : List (List ℕ)) (e : Error) (a : FilesSeen) (kept : List KeptFile) (r : Result Answer Memory) (answer : Result Answer Unanswered) → MatchResult r (λ x. answer ≡ Ok x) (λ m. answer ≡ Err unanswered.Memory)
+    → (kind_of e ≡ kind.OutOfMemory) ⊎ IsTold words (told_status (kind_of e)) → IfOk r (λ x. x.status ≡ told_status (kind_of e)) → IfOk r (λ x. kind_of e ≢ kind.OutOfMemory) → AnswersWords words a a kept answer
+told_words words e a kept (Ok x) answer is told status other = subst (AnswersWords words a a kept) (sym is) (told_answer words e a kept x told status other)
+told_words words e a kept (Err m) answer is told status other = subst (AnswersWords words a a kept) (sym is) (inl refl)
 
 -- ---- what is made of files and sink
 
@@ -76,8 +77,8 @@ not_both status lt (inl seven) = omega arith
 not_both status lt (inr nine) = omega arith
 
 -- the text was written whole
-pub answered_whole : (words : List (List ℕ)) (f g : FilesSeen) (out after : SinkSeen) (text : List ℕ) (status : ℕ) → Due words f g text status → IsFoundStatus status → Hands {E = Unit {0}} out after (Ok (tt {0})) text → Answered words f g out after status
-answered_whole words f g out after text status due is hands =
+pub answered_whole : (words : List (List ℕ)) (f g : FilesSeen) (kept : List KeptFile) (out after : SinkSeen) (text : List ℕ) (status : ℕ) → Due words f g kept text status → IsFoundStatus status → Hands {E = Unit {0}} out after (Ok (tt {0})) text → Answered words f g kept out after status
+answered_whole words f g kept out after text status due is hands =
     let lt : status < 7 = below_seven status is in
     record {
       status_is = is_status status is;
@@ -89,8 +90,8 @@ answered_whole words f g out after text status due is hands =
     }
 
 -- it wasn't
-pub answered_part : (words : List (List ℕ)) (f g : FilesSeen) (out after : SinkSeen) (text : List ℕ) (status : ℕ) → Due words f g text status → Hands {T = Unit {0}} out after (Err (tt {0})) text → Answered words f g out after 8
-answered_part words f g out after text status due hands = record {
+pub answered_part : (words : List (List ℕ)) (f g : FilesSeen) (kept : List KeptFile) (out after : SinkSeen) (text : List ℕ) (status : ℕ) → Due words f g kept text status → Hands {T = Unit {0}} out after (Err (tt {0})) text → Answered words f g kept out after 8
+answered_part words f g kept out after text status due hands = record {
   status_is = inr (omega arith, omega arith);
   whole = λ lt. absurd (omega arith);
   part = λ _. (text, status, due, hands);
@@ -100,8 +101,8 @@ answered_part words f g out after text status due hands = record {
 }
 
 -- a file wasn't read
-pub answered_unread : (words : List (List ℕ)) (f g : FilesSeen) (out : SinkSeen) → Unread words f g → Answered words f g out out 7
-answered_unread words f g out unread = record {
+pub answered_unread : (words : List (List ℕ)) (f g : FilesSeen) (kept : List KeptFile) (out : SinkSeen) → Unread words f g → Answered words f g kept out out 7
+answered_unread words f g kept out unread = record {
   status_is = inr (omega arith, omega arith);
   whole = λ lt. absurd (omega arith);
   part = λ eight. absurd (omega arith);
@@ -111,8 +112,8 @@ answered_unread words f g out unread = record {
 }
 
 -- no memory was found
-pub answered_unfinished : (words : List (List ℕ)) (f g : FilesSeen) (out : SinkSeen) → Unfinished words f g → Answered words f g out out 9
-answered_unfinished words f g out unfinished = record {
+pub answered_unfinished : (words : List (List ℕ)) (f g : FilesSeen) (kept : List KeptFile) (out : SinkSeen) → Unfinished words f g → Answered words f g kept out out 9
+answered_unfinished words f g kept out unfinished = record {
   status_is = inr (omega arith, omega arith);
   whole = λ lt. absurd (omega arith);
   part = λ eight. absurd (omega arith);
@@ -124,6 +125,6 @@ answered_unfinished words f g out unfinished = record {
 -- ---- the program
 
 -- no memory was found for its words
-pub ends_unread : (told : Option (List (List ℕ))) (f : FilesSeen) (out : SinkSeen) → EndsWith told f f out out 9
-ends_unread None f out = ([], tt, answered_unfinished [] f f out (inl refl))
-ends_unread (Some given) f out = (given, inl refl, answered_unfinished given f f out (inl refl))
+pub ends_unread : (told : Option (List (List ℕ))) (f : FilesSeen) (kept : List KeptFile) (out : SinkSeen) → EndsWith told f f kept out out 9
+ends_unread None f kept out = ([], tt, answered_unfinished [] f f kept out (inl refl))
+ends_unread (Some given) f kept out = (given, inl refl, answered_unfinished given f f kept out (inl refl))

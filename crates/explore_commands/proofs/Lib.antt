@@ -1,5 +1,7 @@
 mod Commands
+mod EntryTexts
 mod Getters
 mod Parsed
 pub mod Answered
 pub mod Found
+pub mod Places

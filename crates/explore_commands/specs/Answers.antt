@@ -1,11 +1,12 @@
 -- Which text and which status the words and the files call for, and what is made of files and sink.
 -- Source: this simulator's.
-use Rattle.std.specs.Prelude.{◌≡◌, ◌⊎◌, ◌<◌, ◌≤◌, ℕ, List, Option, IfSome, true, Result, Ok, Err}
+use Rattle.std.specs.Prelude.{◌≡◌, ◌⊎◌, ◌<◌, ◌≤◌, ℕ, List, Option, None, IfSome, true, Result, Ok, Err, if◌then◌else◌, max}
 use Rattle.command_words.specs.Words.{run}
 use Rattle.ffm_model.specs.declared.scenario.Scenario.{Scenario}
 use Rattle.ffm_model.specs.declared.system.System.{System}
 use Rattle.ffm_model.specs.Reading.{Contents, Reading, Stop, refused}
 use Rattle.actor_programs.specs.declared.program.Program.{Program}
+use Rattle.file_places.specs.declared.kept.KeptFile.{KeptFile}
 use Rattle.outside_io.specs.Files.{Asks, FilesSeen, NoValue, failed, no_memory, stopped}
 use Rattle.outside_io.specs.Sink.{Hands, SinkSeen}
 use Rattle.outside_io.specs.Words.{AreGiven}
@@ -15,14 +16,15 @@ use Rattle.work_orders.specs.declared.unanswered.Unanswered.{Unanswered}
 use Rattle.work_orders.specs.declared.unanswered.Unanswered.TheVariants as unanswered
 use Rattle.explore_commands.specs.Findings.{AreFindings, status_of, text_of}
 use Rattle.explore_commands.specs.Requests.{AsksFor, IsTold}
+use Rattle.explore_commands.specs.Rescheduling.{bytes_kept}
 use Rattle.explore_commands.specs.declared.exploring.Findings.{Findings}
 use Rattle.explore_commands.specs.declared.top.Answer.{Answer}
-use Rattle.explore_commands.specs.declared.words.Question.{Question}
 use Rattle.explore_commands.specs.declared.words.Request.{Request}
 
--- 0: each run ends quiet, or none comes to what is sought. 1: a file is refused. 2: the words are no command. 4: some run
--- stalls, or what is sought was found. 5: not all is explored. 6: no run stalls, but some goes on for ever, or as far as
--- it may. 7: a file can't be read. 8: the text can't be written. 9: no memory
+-- 0: each run ends quiet, none comes to what is sought, or all outcomes of a line are told. 1: a file is refused. 2: the
+-- words are no command, or name what isn't there. 4: some run stalls, or what is sought was found. 5: not all is explored.
+-- 6: no run stalls, but some goes on for ever, or as far as it may. 7: a file can't be read. 8: the text can't be written.
+-- 9: no memory
 abbrev pub IsStatus : ℕ → Type 0
 IsStatus status = (status ≤ 2) ⊎ ((4 ≤ status) × (status ≤ 9))
 
@@ -34,18 +36,22 @@ IsFoundStatus status = (status ≤ 2) ⊎ ((4 ≤ status) × (status ≤ 6))
 abbrev pub files_asked : Request → Contents → Reading Work
 files_asked r of = work_of of (run true r.names.system.now r.names.scenario.now)
 
+-- what was read of the scenario's file, where that is to be written again
+abbrev pub bytes_asked : Request → List KeptFile → Option (List ℕ)
+bytes_asked r kept = if r.as_scenario then bytes_kept kept r.names.scenario.now else None
+
 -- what is found of the interleavings of a scenario's programs
-pub record IsFound (s : System) (c : Scenario) (programs : List Program) (q : Question) (text : List ℕ) (status : ℕ) : Type 0 where
+pub record IsFound (s : System) (c : Scenario) (programs : List Program) (r : Request) (kept : List KeptFile) (text : List ℕ) (status : ℕ) : Type 0 where
   pub found : Findings
-  pub are : AreFindings s c programs q found
-  pub text_is : text ≡ text_of s found
+  pub are : AreFindings s c programs r.question (max r.states 1) found
+  pub text_is : text ≡ text_of s (bytes_asked r kept) found
   pub status_is : status ≡ status_of found
 
 -- a file is refused, or the question is answered
-abbrev pub AnswerDue : Question → Result Work Stop → List ℕ → ℕ → Type 0
-AnswerDue q (Err (refused r)) text status = (text ≡ refusal_line r) × (status ≡ 1)
-AnswerDue q (Ok (run_of threads s c programs)) text status = IsFound s c programs q text status
-AnswerDue q _ text status = ⊥
+abbrev pub AnswerDue : Request → List KeptFile → Result Work Stop → List ℕ → ℕ → Type 0
+AnswerDue r kept (Err (refused f)) text status = (text ≡ refusal_line f) × (status ≡ 1)
+AnswerDue r kept (Ok (run_of threads s c programs)) text status = IsFound s c programs r kept text status
+AnswerDue r kept _ text status = ⊥
 
 -- what the files give
 abbrev pub given : Result Work Stop → Result Work NoValue
@@ -53,16 +59,16 @@ given (Ok work) = Ok work
 given (Err s) = Err (stopped s)
 
 -- the files that are asked for were read, in order and no other, and the text is due of what they give
-pub record IsAnswer (r : Request) (before after : FilesSeen) (text : List ℕ) (status : ℕ) : Type 0 where
+pub record IsAnswer (r : Request) (before after : FilesSeen) (kept : List KeptFile) (text : List ℕ) (status : ℕ) : Type 0 where
   pub due : Result Work Stop
   pub reads : Asks before after (given due) (files_asked r)
-  pub is_due : AnswerDue r.question due text status
+  pub is_due : AnswerDue r kept due text status
 
 -- the words are no command or ask for help or the version, and no file is read; or what they ask is answered
-abbrev pub Due : List (List ℕ) → FilesSeen → FilesSeen → List ℕ → ℕ → Type 0
-Due words before after text status =
+abbrev pub Due : List (List ℕ) → FilesSeen → FilesSeen → List KeptFile → List ℕ → ℕ → Type 0
+Due words before after kept text status =
     (IsTold words status × (after ≡ before))
-    ⊎ ((r : Request) × AsksFor words r × IsAnswer r before after text status)
+    ⊎ ((r : Request) × AsksFor words r × IsAnswer r before after kept text status)
 
 -- a file that the words ask for can't be read: the last one of those in front that were read
 abbrev pub Unread : List (List ℕ) → FilesSeen → FilesSeen → Type 0
@@ -74,18 +80,18 @@ Unfinished words before after =
     (after ≡ before)
     ⊎ ((r : Request) × AsksFor words r × Asks {A = Work} before after (Err no_memory) (files_asked r))
 
--- what these words are answered over these files and this sink
+-- what these words are answered over these files, of which what was read is kept, and this sink
 pub record Answered
-    (words : List (List ℕ)) (files files_after : FilesSeen) (out out_after : SinkSeen)
-    (status : ℕ) : Type 0 where
+    (words : List (List ℕ)) (files files_after : FilesSeen) (kept : List KeptFile)
+    (out out_after : SinkSeen) (status : ℕ) : Type 0 where
   pub status_is : IsStatus status
   -- 0 to 6: a text that is due was written whole. 8: a put or the flush failed, and such a text
   -- wasn't. 7 and 9: nothing was written
   pub whole : status < 7 → (text : List ℕ)
-      × Due words files files_after text status
+      × Due words files files_after kept text status
       × Hands {E = Unit {0}} out out_after (Ok (tt {0})) text
   pub part : status ≡ 8 → (text : List ℕ) × (wanted : ℕ)
-      × Due words files files_after text wanted
+      × Due words files files_after kept text wanted
       × Hands {T = Unit {0}} out out_after (Err (tt {0})) text
   pub nothing : (status ≡ 7) ⊎ (status ≡ 9) → out_after ≡ out
   pub unread : status ≡ 7 → Unread words files files_after
@@ -93,20 +99,20 @@ pub record Answered
 
 -- what a program ends with over these words, if they are told, these files and this sink
 abbrev pub EndsWith :
-    Option (List (List ℕ)) → FilesSeen → FilesSeen → SinkSeen → SinkSeen → ℕ → Type 0
-EndsWith told files files_after out out_after status =
+    Option (List (List ℕ)) → FilesSeen → FilesSeen → List KeptFile → SinkSeen → SinkSeen → ℕ → Type 0
+EndsWith told files files_after kept out out_after status =
     (words : List (List ℕ))
     × IfSome told (λ given. AreGiven given words)
-    × Answered words files files_after out out_after status
+    × Answered words files files_after kept out out_after status
 
 -- ---- what the code answers on the way
 
-abbrev pub AnswersRequest : Request → FilesSeen → FilesSeen → Result Answer Unanswered → Type 0
-AnswersRequest r before after (Ok answer) = IsAnswer r before after answer.text.items answer.status
-AnswersRequest r before after (Err unanswered.File) = Asks {A = Work} before after (Err failed) (files_asked r)
-AnswersRequest r before after (Err unanswered.Memory) = Asks {A = Work} before after (Err no_memory) (files_asked r)
+abbrev pub AnswersRequest : Request → FilesSeen → FilesSeen → List KeptFile → Result Answer Unanswered → Type 0
+AnswersRequest r before after kept (Ok answer) = IsAnswer r before after kept answer.text.items answer.status
+AnswersRequest r before after kept (Err unanswered.File) = Asks {A = Work} before after (Err failed) (files_asked r)
+AnswersRequest r before after kept (Err unanswered.Memory) = Asks {A = Work} before after (Err no_memory) (files_asked r)
 
-abbrev pub AnswersWords : List (List ℕ) → FilesSeen → FilesSeen → Result Answer Unanswered → Type 0
-AnswersWords words before after (Ok answer) = Due words before after answer.text.items answer.status
-AnswersWords words before after (Err unanswered.File) = Unread words before after
-AnswersWords words before after (Err unanswered.Memory) = Unfinished words before after
+abbrev pub AnswersWords : List (List ℕ) → FilesSeen → FilesSeen → List KeptFile → Result Answer Unanswered → Type 0
+AnswersWords words before after kept (Ok answer) = Due words before after kept answer.text.items answer.status
+AnswersWords words before after kept (Err unanswered.File) = Unread words before after
+AnswersWords words before after kept (Err unanswered.Memory) = Unfinished words before after

@@ -1,4 +1,6 @@
 pub mod Requests
+pub mod Targets
 pub mod Texts
+pub mod Rescheduling
 pub mod Findings
 pub mod Answers

@@ -4,11 +4,16 @@
 
 mod ends;
 mod exploring;
+mod progress;
+mod rescheduling;
+mod targets;
 mod texts;
 mod top;
 mod words;
 
 pub use ends::program;
 pub use exploring::{Findings, found_of};
+pub use progress::Progress;
+pub use targets::{LinePlace, Missing, Target};
 pub use top::ffm_explore;
-pub use words::{FileNames, Question, Request, STATES, VERSION, asked_of};
+pub use words::{FileNames, Question, Request, STATES, ScriptLine, VERSION, asked_of};

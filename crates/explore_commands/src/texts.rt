@@ -1,14 +1,16 @@
 //! The texts of what was found.
 ghost use Rattle.std.specs.Prelude.{◌≡◌, ◌++◌, IfOk, OnOk, map};
 ghost use Rattle.std.specs.Fmt.{decimal};
-ghost use Rattle.explore_commands.specs.Texts.{between_text, count_text, counted_text, counts_text, extent_text, first_text, first_told, is_short, numbered_text, round_text, so_far, sought_text, sums_text, told_text, turns_text, unfinished_text};
+ghost use Rattle.std.specs.List.{flat_map};
+ghost use Rattle.explore_commands.specs.Texts.{between_text, count_text, counted_text, counts_text, extent_text, first_text, first_told, is_short, line_text, missing_line, numbered_text, outcome_line, reach_text, round_text, so_far, sought_text, sums_text, told_text, turns_text, unfinished, unfinished_text};
 
-use explore_runs::{Extent, Found, Sought, Told};
+use crate::targets::Missing;
+use explore_runs::{Cut, Extent, FirstOutcome, Found, LineTold, Reach, Sought, Told};
 use ffm_model::{ActorId, Memory, System};
 use itoa::Buffer;
 use std::alloc::{AllocError, Global};
 use text_lines::{Word, append, append_number, append_words};
-use view_texts::actor_name;
+use view_texts::{actor_name, put_outcome};
 
 // Appends the names of actors, each after a blank.
 #[tactic(auto, unfolding(crate::specs::Texts::turns_text))]
@@ -132,13 +134,22 @@ fn put_found(
     append(text, "\n")
 }
 
+// What stands before up to how many events all is explored, where not all is.
+fn unfinished(why: Cut) -> &'static str
+    ensures { result.now ≡ unfinished why }
+{
+    match why {
+        Cut::Limit => "unfinished: every schedule of up to ",
+        Cut::Memory => "unfinished for want of memory: every schedule of up to ",
+    }
+}
+
 // Appends up to how many events all is explored, where not all is.
 #[tactic(auto, unfolding(crate::specs::Texts::unfinished_text))]
-fn put_unfinished(text: &mut Vec<u8>, depth: u32) -> Result<(), AllocError>
-    ensures { OnOk result (text.new.items ≡ text.old.items ++ unfinished_text depth) }
+fn put_unfinished(text: &mut Vec<u8>, why: Cut, depth: u32) -> Result<(), AllocError>
+    ensures { OnOk result (text.new.items ≡ text.old.items ++ unfinished_text why depth) }
 {
-    let before = "unfinished: every schedule of up to ";
-    put_numbered(text, before, depth, " events was explored\n")
+    put_numbered(text, unfinished(why), depth, " events was explored\n")
 }
 
 // Appends the last lines: how far the interleavings go, and how far they are explored.
@@ -150,9 +161,9 @@ fn put_extent(text: &mut Vec<u8>, system: &System, extent: &Extent) -> Result<()
         Extent::Ends { longest } => put_numbered(text, "longest ", *longest, "\ncomplete\n"),
         Extent::Endless { to, round } => put_round(text, system, to.as_slice(), round.as_slice()),
         Extent::Full { to } => put_between(text, system, "full ", to.as_slice(), "\ncomplete\n"),
-        Extent::Short { depth } => {
+        Extent::Short { depth, why } => {
             put_numbered(text, "depth ", *depth, "\n")?;
-            put_unfinished(text, *depth)
+            put_unfinished(text, *why, *depth)
         }
     }
 }
@@ -203,9 +214,71 @@ fn put_sought(text: &mut Vec<u8>, system: &System, sought: &Sought) -> Result<()
     match sought {
         Sought::First(turns) => put_between(text, system, "first ", turns.as_slice(), "\n"),
         Sought::Never => append(text, "never\n"),
-        Sought::Unknown { depth } => {
+        Sought::Unknown { depth, why } => {
             append(text, "unknown\n")?;
-            put_unfinished(text, *depth)
+            put_unfinished(text, *why, *depth)
+        }
+    }
+}
+
+// Appends the line of an outcome, with the turns that lead to it first.
+#[tactic(auto, unfolding(crate::specs::Texts::outcome_line))]
+fn put_outcome_line(
+    text: &mut Vec<u8>,
+    system: &System,
+    told: &FirstOutcome,
+) -> Result<(), AllocError>
+    ensures { OnOk result (text.new.items ≡ text.old.items ++ outcome_line system.now told.now) }
+{
+    put_outcome(text, told.outcome)?;
+    put_between(text, system, " first ", told.turns.as_slice(), "\n")
+}
+
+// Appends the lines of outcomes.
+fn put_outcomes(
+    text: &mut Vec<u8>,
+    system: &System,
+    outcomes: &[FirstOutcome],
+) -> Result<(), AllocError>
+    ensures { OnOk result (text.new.items
+        ≡ text.old.items ++ flat_map (outcome_line system.now) outcomes.now) }
+{
+    for told in outcomes {
+        put_outcome_line(text, system, told)?;
+    }
+    Ok(())
+}
+
+// Appends whether all is explored.
+#[tactic(auto, unfolding(crate::specs::Texts::reach_text))]
+fn put_reach(text: &mut Vec<u8>, reach: Reach) -> Result<(), AllocError>
+    ensures { OnOk result (text.new.items ≡ text.old.items ++ reach_text reach) }
+{
+    match reach {
+        Reach::Whole => append(text, "complete\n"),
+        Reach::Short { depth, why } => put_unfinished(text, why, depth),
+    }
+}
+
+#[tactic(auto, unfolding(crate::specs::Texts::line_text))]
+fn put_line(text: &mut Vec<u8>, system: &System, told: &LineTold) -> Result<(), AllocError>
+    ensures { OnOk result (text.new.items ≡ text.old.items ++ line_text system.now told.now) }
+{
+    put_outcomes(text, system, told.outcomes.as_slice())?;
+    put_reach(text, told.reach)
+}
+
+// The line that something isn't there.
+fn missing_line(missing: Missing) -> &'static str
+    ensures { result.now ≡ missing_line missing }
+{
+    match missing {
+        Missing::Entry => {
+            "no event: it takes an actor, its call and the outcome, in one word, as a trace has them\n"
+        }
+        Missing::Actor => "no such actor: it takes the name of a partition or a client\n",
+        Missing::Line => {
+            "no such line: it takes a line that makes a call, counted from 0 with comments and labels\n"
         }
     }
 }
@@ -230,4 +303,20 @@ pub(crate) fn sought_text(
     let mut text = Vec::new(alloc);
     put_sought(&mut text, system, sought)?;
     Ok(text)
+}
+
+/// The text of what the calls of a line come to. `Memory` where memory is wanting.
+pub(crate) fn line_text(alloc: Global, system: &System, told: &LineTold) -> Result<Vec<u8>, Memory>
+    ensures { IfOk result (λ text. text.items ≡ line_text system.now told.now) }
+{
+    let mut text = Vec::new(alloc);
+    put_line(&mut text, system, told)?;
+    Ok(text)
+}
+
+/// The text that something isn't there. `Memory` where memory is wanting.
+pub(crate) fn missing_text(alloc: Global, missing: Missing) -> Result<Vec<u8>, Memory>
+    ensures { IfOk result (λ text. text.items ≡ missing_line missing) }
+{
+    Ok(Vec::from_slice(alloc, missing_line(missing).as_bytes())?)
 }

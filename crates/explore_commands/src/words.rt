@@ -5,7 +5,9 @@ ghost use Rattle.clap.specs.Words.{app_of, fault_of, first_of, found_of, kind_of
 ghost use Rattle.clap.specs.declared.builder.command.Command.TheViews.{out-Command as fields_of};
 ghost use Rattle.explore_commands.specs.declared.words.FileNames.{FileNames as NamesSeen};
 ghost use Rattle.explore_commands.specs.declared.words.Question.{Question as QuestionSeen};
-ghost use Rattle.explore_commands.specs.Requests.{told_status, AskNothing, IsTold, AreNamesOf, AsksFor, IsRequestOf, IsNumberAt, IsQuestionOf, file_rule, explore_app, command_app, states_rule, top_app};
+ghost use Rattle.explore_commands.specs.declared.words.Request.{Request as RequestSeen};
+ghost use Rattle.explore_commands.specs.declared.words.ScriptLine.{ScriptLine as LineSeen};
+ghost use Rattle.explore_commands.specs.Requests.{told_status, AskNothing, IsTold, AreNamesOf, AsksFor, IsRequestBy, IsRequestOf, IsFlagAt, IsLineOf, IsNumberAt, IsNumberOr, IsQuestionOf, file_rule, explore_app, command_app, context_rule, entry_app, line_app, line_rule, scenario_rule, seek_app, states_rule, top_app};
 
 use clap::error::ErrorKind;
 use clap::{Arg, ArgAction, ArgMatches, Command, Error, value_parser};
@@ -18,30 +20,45 @@ pub const VERSION: &str = "1.0.0";
 pub const STATES: u32 = 1_000_000;
 
 /// The names of the files that a command reads.
-#[derive(Clone, Copy, Debug, PartialEq, Eq)]
+#[derive(Clone, Copy)]
 pub struct FileNames<'a> {
     pub system: &'a str,
     pub scenario: &'a str,
 }
 
+/// A line of a script, by its actor's name, by its script's place among those of the actor, and by its
+/// place among the script's lines, both from 0.
+#[derive(Clone, Copy)]
+pub struct ScriptLine<'a> {
+    pub actor: &'a str,
+    pub context: u32,
+    pub line: u32,
+}
+
 /// What is asked of all interleavings.
-#[derive(Clone, Copy, Debug, PartialEq, Eq)]
-pub enum Question {
+#[derive(Clone, Copy)]
+pub enum Question<'a> {
     /// What becomes of all runs.
     All,
     /// A shortest order of turns to a stall.
     Stall,
     /// A shortest order of turns to a panic.
     Panic,
+    /// A shortest order of turns to an event, which has this line in a trace.
+    Entry(&'a str),
+    /// What the call of a line comes to, and a shortest order of turns to each outcome.
+    Line(ScriptLine<'a>),
 }
 
 /// What the words ask for.
-#[derive(Clone, Copy, Debug, PartialEq, Eq)]
+#[derive(Clone, Copy)]
 pub struct Request<'a> {
     pub names: FileNames<'a>,
-    pub question: Question,
+    pub question: Question<'a>,
     /// At most so many states.
     pub states: u32,
+    /// Whether an order of turns is to be told as the schedule of the scenario's file.
+    pub as_scenario: bool,
 }
 
 fn file_argument<'a>(alloc: Global, id: &'a str, name: &'a str) -> Arg<'a>
@@ -66,6 +83,40 @@ fn states_option<'a>(alloc: Global) -> Arg<'a>
         .help("At most so many states; by default 1000000")
 }
 
+fn scenario_flag<'a>(alloc: Global) -> Arg<'a>
+    ensures rule { rule_of result ≡ scenario_rule }
+    ensures own { result.global ≡ false }
+{
+    Arg::new(alloc, "as_scenario")
+        .long("scenario")
+        .action(ArgAction::SetTrue)
+        .help("Writes the scenario again, with the order as its schedule")
+}
+
+fn line_argument<'a>(alloc: Global) -> Arg<'a>
+    ensures rule { rule_of result ≡ line_rule }
+    ensures own { result.global ≡ false }
+{
+    Arg::new(alloc, "line")
+        .required(true)
+        .action(ArgAction::Set)
+        .value_name("LINE")
+        .value_parser(value_parser!(u32))
+        .help("A line of the actor's script that makes a call, counted from 0")
+}
+
+fn context_option<'a>(alloc: Global) -> Arg<'a>
+    ensures rule { rule_of result ≡ context_rule }
+    ensures own { result.global ≡ false }
+{
+    Arg::new(alloc, "context")
+        .long("context")
+        .action(ArgAction::Set)
+        .value_name("K")
+        .value_parser(value_parser!(u32))
+        .help("Which of the actor's scripts, counted from 0; by default 0")
+}
+
 // A command over a system and a scenario.
 fn command<'a>(alloc: Global, name: &'a str, about: &'a str) -> Result<Command<'a>, AllocError>
     ensures app { IfOk result (λ c. app_of c ≡ command_app name.entry.now) }
@@ -76,6 +127,34 @@ fn command<'a>(alloc: Global, name: &'a str, about: &'a str) -> Result<Command<'
         .arg(file_argument(alloc, "system", "SYSTEM"))?
         .arg(file_argument(alloc, "scenario", "SCENARIO"))?
         .arg(states_option(alloc))
+}
+
+// A command that seeks a state or an event.
+fn seek_command<'a>(alloc: Global, name: &'a str, about: &'a str) -> Result<Command<'a>, AllocError>
+    ensures app { IfOk result (λ c. app_of c ≡ seek_app name.entry.now) }
+    ensures own { IfOk result (λ c. (fields_of c).has_globals ≡ false) }
+{
+    command(alloc, name, about)?.arg(scenario_flag(alloc))
+}
+
+fn entry_command<'a>(alloc: Global) -> Result<Command<'a>, AllocError>
+    ensures app { IfOk result (λ c. app_of c ≡ entry_app) }
+    ensures own { IfOk result (λ c. (fields_of c).has_globals ≡ false) }
+{
+    let about = "Tells a shortest order of turns to an event";
+    let help = "The event's line in a trace, in one word: 'n1 connect 0x00000040 1 -> value -130'";
+    seek_command(alloc, "entry", about)?.arg(file_argument(alloc, "entry", "ENTRY").help(help))
+}
+
+fn line_command<'a>(alloc: Global) -> Result<Command<'a>, AllocError>
+    ensures app { IfOk result (λ c. app_of c ≡ line_app) }
+    ensures own { IfOk result (λ c. (fields_of c).has_globals ≡ false) }
+{
+    let about = "Tells each outcome of a script's line, and a shortest order of turns to it";
+    command(alloc, "line", about)?
+        .arg(file_argument(alloc, "actor", "ACTOR").help("The actor's name"))?
+        .arg(line_argument(alloc))?
+        .arg(context_option(alloc))
 }
 
 // The program without its commands.
@@ -97,8 +176,10 @@ fn command_line<'a>(alloc: Global) -> Result<Command<'a>, AllocError>
     let panic = "Tells a shortest order of turns to a panic";
     program(alloc)
         .subcommand(command(alloc, "all", all)?)?
-        .subcommand(command(alloc, "stall", stall)?)?
-        .subcommand(command(alloc, "panic", panic)?)
+        .subcommand(seek_command(alloc, "stall", stall)?)?
+        .subcommand(seek_command(alloc, "panic", panic)?)?
+        .subcommand(entry_command(alloc)?)?
+        .subcommand(line_command(alloc)?)
 }
 
 // The word of an argument.
@@ -116,6 +197,20 @@ fn number_of(found: &ArgMatches<'_>, id: &str) -> Option<u32>
     found.get_one::<u32>(id)
 }
 
+// The number of an argument, or another one where it isn't given.
+fn number_or(found: &ArgMatches<'_>, id: &str, default: u32) -> u32
+    ensures { IsNumberOr (rows_of (found_of found.now)) id.now default result }
+{
+    number_of(found, id).unwrap_or(default)
+}
+
+// Whether a flag is given.
+fn flag_of(found: &ArgMatches<'_>, id: &str) -> bool
+    ensures { IsFlagAt (rows_of (found_of found.now)) id.now result }
+{
+    found.get_flag(id)
+}
+
 fn names_of<'a>(found: &ArgMatches<'a>) -> Option<FileNames<'a>>
     ensures { MatchOption result
         ((names : NamesSeen) → AreNamesOf (rows_of (found_of found.now)) names → ⊥)
@@ -127,17 +222,46 @@ fn names_of<'a>(found: &ArgMatches<'a>) -> Option<FileNames<'a>>
     })
 }
 
-// The question of the command of this name.
-fn question_of(name: &str) -> Option<Question>
+fn line_of<'a>(found: &ArgMatches<'a>) -> Option<ScriptLine<'a>>
     ensures { MatchOption result
-        ((q : QuestionSeen) → IsQuestionOf name.now q → ⊥) (IsQuestionOf name.now) }
+        ((l : LineSeen) → IsLineOf (rows_of (found_of found.now)) l → ⊥)
+        (IsLineOf (rows_of (found_of found.now))) }
+{
+    Some(ScriptLine {
+        actor: word_of(found, "actor")?,
+        context: number_or(found, "context", 0),
+        line: number_or(found, "line", 0),
+    })
+}
+
+// The question of the command of this name.
+fn question_of<'a>(name: &str, found: &ArgMatches<'a>) -> Option<Question<'a>>
+    ensures { MatchOption result
+        ((q : QuestionSeen) → IsQuestionOf name.now (rows_of (found_of found.now)) q → ⊥)
+        (IsQuestionOf name.now (rows_of (found_of found.now))) }
 {
     match name {
         "all" => Some(Question::All),
         "stall" => Some(Question::Stall),
         "panic" => Some(Question::Panic),
+        "entry" => Some(Question::Entry(word_of(found, "entry")?)),
+        "line" => Some(Question::Line(line_of(found)?)),
         _ => None,
     }
+}
+
+// What the command of this name asks for.
+fn request_by<'a>(name: &str, found: &ArgMatches<'a>) -> Option<Request<'a>>
+    ensures { MatchOption result
+        ((r : RequestSeen) → IsRequestBy name.now (rows_of (found_of found.now)) r → ⊥)
+        (IsRequestBy name.now (rows_of (found_of found.now))) }
+{
+    Some(Request {
+        names: names_of(found)?,
+        question: question_of(name, found)?,
+        states: number_or(found, "states", STATES),
+        as_scenario: flag_of(found, "as_scenario"),
+    })
 }
 
 fn request_in<'a>(matches: &ArgMatches<'a>) -> Option<Request<'a>>
@@ -145,11 +269,7 @@ fn request_in<'a>(matches: &ArgMatches<'a>) -> Option<Request<'a>>
         (IsRequestOf (subcommand_rows_of matches.now)) }
 {
     let (name, found) = matches.subcommand()?;
-    Some(Request {
-        names: names_of(found)?,
-        question: question_of(name)?,
-        states: number_of(found, "states").unwrap_or(STATES),
-    })
+    request_by(name, found)
 }
 
 // The error of words that ask for nothing.

@@ -70,13 +70,15 @@ fn opening(alloc: Global, system: &System) -> Result<Objects, Memory>
     })
 }
 
-fn is_some_enabled(objects: &Objects, system: &System) -> bool
+/// Some actor may go on.
+pub fn is_some_enabled(objects: &Objects, system: &System) -> bool
     ensures { result ≡ some_enabled system.now (spm_of_objects objects.now) }
 {
     (0..system.actor_count()).any(|actor| objects.is_enabled(system, actor))
 }
 
-fn is_some_blocked(objects: &Objects, system: &System) -> bool
+/// Some actor waits for an answer.
+pub fn is_some_blocked(objects: &Objects, system: &System) -> bool
     ensures { result ≡ some_blocked system.now (spm_of_objects objects.now) }
 {
     (0..system.actor_count()).any(|actor| matches!(objects.phase(actor), ActorPhase::Blocked))

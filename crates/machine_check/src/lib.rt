@@ -15,6 +15,6 @@ mod worked;
 mod written;
 
 pub use auditing::{AuditReport, Change, audit};
-pub use judging::{Checked, Checker, check, reached};
+pub use judging::{Checked, Checker, check, is_some_blocked, is_some_enabled, reached};
 pub use step::perform;
 pub use worked::{changes_of_stores, false_changes};

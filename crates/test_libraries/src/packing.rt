@@ -207,7 +207,7 @@ fn held_messages_as_bytes(rt: HostRuntime) -> Result<(), Fail> {
         },
         connections: no_slots(alloc),
         messages: no_slots(alloc),
-        engines: vec![in alloc; holder(alloc)?.copy_of(alloc)?]?,
+        engines: vec![in alloc; holder(alloc)?]?,
     };
     let bytes = pack(alloc, &snapshot, &[REGION], &opening)?;
     assert!(rt; bytes.as_slice() == HOLDER.as_slice());

@@ -3,8 +3,8 @@ use Rattle.explore_commands.proofs.Answered.{asked_answer, told_words}
 use Rattle.explore_commands.proofs.top.answer_to.Goals as goal
 
 pub returns-in-Ok-clause-answers : goal.returns-in-Ok-clause-answers
-returns-in-Ok-clause-answers g c = asked_answer (map string_bytes c.args.words.now) c.in-Ok.request _ _ c.answer_of.result c.in-Ok.ensures.asked c.answer_of.ensures.answers
+returns-in-Ok-clause-answers g c = asked_answer (map string_bytes c.args.words.now) c.in-Ok.request _ _ _ c.answer_of.result c.in-Ok.ensures.asked c.answer_of.ensures.answers
 
 pub returns-in-Err-clause-answers : goal.returns-in-Err-clause-answers
 returns-in-Err-clause-answers g c =
-    told_words (map string_bytes c.args.words.now) c.in-Err.error _ c.told.result c.or_memory.result c.or_memory.ensures c.in-Err.ensures.told c.told.ensures.status c.told.ensures.kind
+    told_words (map string_bytes c.args.words.now) c.in-Err.error _ _ c.told.result c.or_memory.result c.or_memory.ensures c.in-Err.ensures.told c.told.ensures.status c.told.ensures.kind

@@ -1,7 +1,7 @@
 use Rattle.std.proofs.Common.{codes}
 use Rattle.std.proofs.lemmas.Result.{IfOk-weaker}
 use Rattle.clap.specs.Words.{App, with_subcommand}
-use Rattle.explore_commands.specs.Requests.{command_app, top_app}
+use Rattle.explore_commands.specs.Requests.{command_app, entry_app, line_app, seek_app, top_app}
 use Rattle.explore_commands.proofs.Commands.{app_with}
 use Rattle.explore_commands.proofs.words.command_line.Goals as goal
 
@@ -9,11 +9,19 @@ abbrev one : App
 one = with_subcommand top_app (command_app (codes "all")).top
 
 abbrev two : App
-two = with_subcommand one (command_app (codes "stall")).top
+two = with_subcommand one (seek_app (codes "stall")).top
+
+abbrev three : App
+three = with_subcommand two (seek_app (codes "panic")).top
+
+abbrev four : App
+four = with_subcommand three entry_app.top
 
 pub returns : goal.returns
 returns c =
     let first = app_with _ _ _ top_app (command_app (codes "all")) c.in_ok-subcommand.ensures c.program.ensures c.in_ok-command.ensures.own c.in_ok-command.ensures.app in
-    let second = app_with _ _ _ one (command_app (codes "stall")) c.in_ok-subcommand-2.ensures first c.in_ok-command-2.ensures.own c.in_ok-command-2.ensures.app in
-    IfOk-weaker c.subcommand-3.result _ _
-    (λ r added. app_with _ _ r two (command_app (codes "panic")) added second c.in_ok-command-3.ensures.own c.in_ok-command-3.ensures.app) c.subcommand-3.ensures
+    let second = app_with _ _ _ one (seek_app (codes "stall")) c.in_ok-subcommand-2.ensures first c.in_ok-seek_command.ensures.own c.in_ok-seek_command.ensures.app in
+    let third = app_with _ _ _ two (seek_app (codes "panic")) c.in_ok-subcommand-3.ensures second c.in_ok-seek_command-2.ensures.own c.in_ok-seek_command-2.ensures.app in
+    let fourth = app_with _ _ _ three entry_app c.in_ok-subcommand-4.ensures third c.in_ok-entry_command.ensures.own c.in_ok-entry_command.ensures.app in
+    IfOk-weaker c.subcommand-5.result _ _
+    (λ r added. app_with _ _ r four line_app added fourth c.in_ok-line_command.ensures.own c.in_ok-line_command.ensures.app) c.subcommand-5.ensures
