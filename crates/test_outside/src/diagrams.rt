@@ -93,7 +93,7 @@ fn drawn(alloc: Global, system: &System, text: &str, format: Format) -> Result<V
     }
     let image = Image::new(alloc, system.regions.list(), &List::of(Vec::new(alloc)))?;
     let part = Part { from: 1, to: 1000 };
-    let diagram = diagram(alloc, system, &image, 1000, &trace, part, format)?;
+    let diagram = diagram(alloc, system, &image, 1000, &trace, part, None, format)?;
     Ok(diagram.text(alloc, system, &trace)?)
 }
 

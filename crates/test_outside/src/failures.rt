@@ -130,6 +130,9 @@ actors, each with the place of its last entry
 no connection
 no message
 no doorbell asserted
+scripts, each with what it calls next and its registers that aren't 0
+  VAULT    line 0   wait 0x10 0x80000000                          -
+  NS       line 0   connect 0x40 1                                -
 ",
     },
     Case {

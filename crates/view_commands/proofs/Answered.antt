@@ -11,9 +11,11 @@ use Rattle.outside_io.proofs.FilesSteps.{asks_lost}
 use Rattle.work_orders.specs.Work.{Work, judge_of}
 use Rattle.work_orders.specs.declared.unanswered.Unanswered.{Unanswered}
 use Rattle.work_orders.specs.declared.unanswered.Unanswered.TheVariants as unanswered
+use Rattle.view_explaining.specs.declared.answers.Answer.{Answer}
+use Rattle.view_explaining.specs.declared.names.ExplainedNames.{ExplainedNames}
+use Rattle.view_explaining.specs.Explains.{AnswersExplained, IsShownStatus}
 use Rattle.view_commands.specs.declared.files.TraceFiles.{TraceFiles}
-use Rattle.view_commands.specs.declared.top.Answer.{Answer}
-use Rattle.view_commands.specs.Answers.{Answered, AnswersAsked, AnswersWords, Due, EndsWith, IsAnswer, IsShownStatus, IsStatus, Shows, Unfinished, Unread}
+use Rattle.view_commands.specs.Answers.{Answered, AnswersAsked, AnswersWords, Due, EndsWith, IsAnswer, IsStatus, Shows, Unfinished, Unread}
 use Rattle.view_commands.specs.Files.{FilesRead, files_of}
 use Rattle.view_commands.specs.declared.words.Asked.{Asked}
 use Rattle.view_commands.specs.declared.words.Asked.TheVariants as asked
@@ -22,8 +24,8 @@ use Rattle.view_commands.specs.Requests.{AsksFor, IsTold, told_status}
 
 -- ---- the answer to a request
 
--- the aspect is shown of the files that were read
-pub shown_answer : (r : Request) (a b : FilesSeen) (f : TraceFiles) (text : List ℕ) (status : ℕ) → FilesRead r.names a b (Ok f) → Shows f r.aspect text status → IsAnswer (asked.View r) a b text status
+-- what is asked for is shown of the files that were read
+pub shown_answer : (r : Request) (a b : FilesSeen) (f : TraceFiles) (text : List ℕ) (status : ℕ) → FilesRead r.names a b (Ok f) → Shows f r text status → IsAnswer (asked.View r) a b text status
 shown_answer r a b f text status read shows = record {
   due = Ok (judge_of Replay f.work.system f.work.scenario f.work.trace.items);
   reads = read.0;
@@ -33,6 +35,13 @@ shown_answer r a b f text status read shows = record {
 -- no memory was found to show it
 pub unshown : (r : Request) (a b : FilesSeen) (f : TraceFiles) → FilesRead r.names a b (Ok f) → Asks {A = Work} a b (Err no_memory) (files_of r.names)
 unshown r a b f read = asks_lost a b (judge_of Replay f.work.system f.work.scenario f.work.trace.items) (files_of r.names) read.0
+
+-- ---- what is told of files
+
+pub explained_answer : (names : ExplainedNames) (a b : FilesSeen) (result : Result Answer Unanswered) → AnswersExplained names a b result → AnswersAsked (asked.Explain names) a b result
+explained_answer names a b (Ok answer) is = record { due = is.due; reads = is.reads; is_due = is.is_due }
+explained_answer names a b (Err unanswered.File) is = is
+explained_answer names a b (Err unanswered.Memory) is = is
 
 -- ---- the answer to the words
 

@@ -1,5 +1,5 @@
 -- The text of a call, by the trace that has no other entry.
-use Rattle.std.proofs.Common.{◌≡◌, ℕ, ◌≤◌, List, [], ◌∷◌, ◌++◌, ◌∙◌, ap, append_assoc, arith, codes, length, refl, sym}
+use Rattle.std.proofs.Common.{◌≡◌, ℕ, ◌≤◌, List, [], ◌∷◌, ◌++◌, ◌∙◌, ap, append_assoc, arith, codes, length, sym}
 use Rattle.std.proofs.lemmas.List.{append_cancel_right}
 use Rattle.std.specs.Prelude.{Err, MatchOption, None, Ok, Option, Result, Some}
 use Rattle.std.specs.Fmt.{digits}
@@ -10,7 +10,7 @@ use Rattle.ffm_model.specs.declared.machine.Entry.{Entry}
 use Rattle.ffm_model.specs.declared.machine.Verdict.{Verdict}
 use Rattle.ffm_model.specs.declared.machine.Verdict.TheVariants.{Quiet}
 use Rattle.ffm_model.specs.declared.trace.Trace.{Trace}
-use Rattle.ffm_model.specs.TraceText.{EntryFits, entry_text, line, trace_text, verdict_text}
+use Rattle.ffm_model.specs.TraceText.{EntryFits, entry_text, trace_text, verdict_text}
 use Rattle.trace_print.specs.Answers.{ReadsTrace}
 use Rattle.trace_print.specs.declared.error.TraceError.{TraceError}
 use Rattle.trace_print.specs.declared.error.TraceError.TheVariants.{Syntax}

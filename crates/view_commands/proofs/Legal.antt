@@ -1,10 +1,9 @@
 -- Whether the entries up to a place are legal.
-use Rattle.std.proofs.Common.{arith, ◌≡◌, ◌<◌, ◌≤◌, ◌-◌, ◌∙◌, ℕ, ap, get_or, length, refl, subst, sym}
+use Rattle.std.proofs.Common.{arith, ◌≡◌, ◌<◌, ◌≤◌, ◌∙◌, ℕ, ap, get_or, length, refl, subst, sym}
 use Rattle.std.proofs.lemmas.Option.{slice_get-get_or}
 use Rattle.std.specs.Prelude.{Some, is_some, slice_get}
 use Rattle.ffm_model.specs.declared.machine.Entry.{Entry}
 use Rattle.view_places.specs.Asking.{IsAsked}
-use Rattle.view_places.specs.Showing.{IsStateAfter}
 use Rattle.view_places.specs.declared.asking.CallAfter.{CallAfter}
 use Rattle.view_places.specs.declared.asking.PlaceAsked.{PlaceAsked}
 use Rattle.view_places.specs.declared.asking.PlaceAsked.TheVariants as asked

@@ -3,6 +3,6 @@ mod Getters
 mod Parsed
 pub mod Answered
 pub mod CallTexts
-pub mod Explained
 pub mod FilesDue
 pub mod Legal
+pub mod Naming

@@ -9,45 +9,42 @@ use Rattle.outside_io.specs.Words.{AreGiven}
 use Rattle.work_orders.specs.Work.{Work, judge_of}
 use Rattle.work_orders.specs.declared.unanswered.Unanswered.{Unanswered}
 use Rattle.work_orders.specs.declared.unanswered.Unanswered.TheVariants as unanswered
-use Rattle.view_commands.specs.Explains.{IsExplained}
-use Rattle.view_commands.specs.Files.{AreTraceFiles, RefusalDue, files_asked, given}
+use Rattle.view_explaining.specs.declared.answers.Answer.{Answer}
+use Rattle.view_explaining.specs.Explains.{IsExplained}
+use Rattle.view_explaining.specs.Orders.{given}
+use Rattle.view_commands.specs.Files.{AreTraceFiles, RefusalDue, files_asked}
 use Rattle.view_commands.specs.Views.{IsView, IsViewText, status_of}
 use Rattle.view_commands.specs.Requests.{AsksFor, IsTold}
 use Rattle.view_commands.specs.declared.files.TraceFiles.{TraceFiles}
-use Rattle.view_commands.specs.declared.top.Answer.{Answer}
 use Rattle.view_commands.specs.declared.view.View.{View}
-use Rattle.view_commands.specs.declared.words.Aspect.{Aspect}
 use Rattle.view_commands.specs.declared.words.Asked.{Asked}
 use Rattle.view_commands.specs.declared.words.Asked.TheVariants as asked
+use Rattle.view_commands.specs.declared.words.Request.{Request}
 
 -- 0: shown. 1: a file is refused. 2: the words are no command, or name a place that the trace doesn't
 -- have. 6: the trace is illegal. 7: a file can't be read. 8: the text can't be written. 9: no memory
 abbrev pub IsStatus : ℕ → Type 0
 IsStatus status = (status ≤ 2) ⊎ ((6 ≤ status) × (status ≤ 9))
 
--- the statuses of what was answered
-abbrev pub IsShownStatus : ℕ → Type 0
-IsShownStatus status = (status ≤ 2) ⊎ (status ≡ 6)
+-- what is asked for of the files' trace, as it is to be written, and its status
+abbrev pub Shows : TraceFiles → Request → List ℕ → ℕ → Type 0
+Shows files r text status =
+    (v : View) × IsView files r.aspect v × IsViewText files r.writing v text × (status ≡ status_of v)
 
--- the aspect of the files' trace, with its text and its status
-abbrev pub Shows : TraceFiles → Aspect → List ℕ → ℕ → Type 0
-Shows files a text status =
-    (v : View) × IsView files a v × IsViewText files.work.system v text × (status ≡ status_of v)
-
--- the aspect is shown of the trace that the files are to give
-pub record IsShown (due : Result Work Stop) (a : Aspect) (text : List ℕ) (status : ℕ) : Type 0 where
+-- what is asked for is shown of the trace that the files are to give
+pub record IsShown (due : Result Work Stop) (r : Request) (text : List ℕ) (status : ℕ) : Type 0 where
   pub files : TraceFiles
   pub work : due ≡ Ok (judge_of Replay files.work.system files.work.scenario files.work.trace.items)
   pub are : AreTraceFiles files
-  pub shows : Shows files a text status
+  pub shows : Shows files r text status
 
--- a file is refused, or the aspect is shown
-abbrev pub ViewDue : Result Work Stop → Aspect → List ℕ → ℕ → Type 0
-ViewDue due a text status = (RefusalDue due text × (status ≡ 1)) ⊎ IsShown due a text status
+-- a file is refused, or what is asked for is shown
+abbrev pub ViewDue : Result Work Stop → Request → List ℕ → ℕ → Type 0
+ViewDue due r text status = (RefusalDue due text × (status ≡ 1)) ⊎ IsShown due r text status
 
 -- what is asked for is due of what the files give
 abbrev pub AskedDue : Asked → Result Work Stop → List ℕ → ℕ → Type 0
-AskedDue (asked.View r) due text status = ViewDue due r.aspect text status
+AskedDue (asked.View r) due text status = ViewDue due r text status
 AskedDue (asked.Explain names) due text status = IsExplained due text status
 
 -- the files that are asked for were read, in order and no other, and the text is due of what they give

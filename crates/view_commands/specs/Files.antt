@@ -1,23 +1,22 @@
 -- What the files of a trace say, and which line refuses them.
 -- Source: this simulator's; the refusals are those of `ffm replay`.
-use Rattle.std.specs.Prelude.{◌≡◌, ℕ, List, Option, None, Some, false, Result, Ok, Err}
-use Rattle.std.specs.Option.{option_map}
+use Rattle.std.specs.Prelude.{◌≡◌, ℕ, List, Result, Ok, Err}
 use Rattle.command_words.specs.declared.words.Inspection.TheVariants.{Replay}
-use Rattle.command_words.specs.Words.{Order, compile, judge, run}
+use Rattle.command_words.specs.Words.{Order, judge}
 use Rattle.ffm_model.specs.declared.place.Refusal.{Refusal}
 use Rattle.ffm_model.specs.Reading.{Contents, Reading, Stop, refused}
 use Rattle.judge_command.specs.Replays.{IsTextOf, WrongDue}
-use Rattle.outside_io.specs.Files.{Asks, FilesSeen, NoValue, stopped, failed, no_memory}
+use Rattle.outside_io.specs.Files.{Asks, FilesSeen, failed, no_memory}
 use Rattle.text_lines.specs.Refusals.{refusal_line}
 use Rattle.work_orders.specs.View.{IsTraceWork}
 use Rattle.work_orders.specs.Work.{Work, judge_of, work_of}
 use Rattle.work_orders.specs.declared.work.TraceWork.{TraceWork}
+use Rattle.view_explaining.specs.Orders.{files_explained, given}
 use Rattle.view_commands.specs.declared.files.NoTrace.{NoTrace}
 use Rattle.view_commands.specs.declared.files.NoTrace.TheVariants as no_trace
 use Rattle.view_commands.specs.declared.files.TraceFiles.{TraceFiles}
 use Rattle.view_commands.specs.declared.words.Asked.{Asked}
 use Rattle.view_commands.specs.declared.words.Asked.TheVariants as asked
-use Rattle.view_commands.specs.declared.words.ExplainedNames.{ExplainedNames}
 use Rattle.view_commands.specs.declared.words.FileNames.{FileNames}
 
 -- a scenario of the system, and the trace whose text the bytes are
@@ -33,19 +32,10 @@ order_of_files names = judge Replay names.system.now names.scenario.now names.tr
 abbrev pub files_of : FileNames → Contents → Reading Work
 files_of names of = work_of of (order_of_files names)
 
--- the files of which the first refusal is told are those of `ffm compile`, `ffm run` or `ffm replay`
-abbrev pub order_with : List ℕ → Option (List ℕ) → Option (List ℕ) → Order
-order_with system None trace = compile system
-order_with system (Some scenario) None = run false system scenario
-order_with system (Some scenario) (Some trace) = judge Replay system scenario trace
-
-abbrev pub order_explained : ExplainedNames → Order
-order_explained names = order_with names.system.now (option_map (λ n. n.now) names.scenario) (option_map (λ n. n.now) names.trace)
-
 -- which files the words ask for, in which order, and what they give
 abbrev pub files_asked : Asked → Contents → Reading Work
 files_asked (asked.View r) of = files_of r.names of
-files_asked (asked.Explain names) of = work_of of (order_explained names)
+files_asked (asked.Explain names) of = files_explained names of
 
 -- the line of this refusal
 abbrev pub IsRefusalBy : Refusal → NoTrace → Type 0
@@ -65,11 +55,6 @@ TraceRead work (Ok f) = (f.work ≡ work) × AreTraceFiles f
 TraceRead work (Err (no_trace.Refused line)) = WrongDue work.system work.trace.items line.items 1
 TraceRead work (Err no_trace.File) = ⊥
 TraceRead work (Err no_trace.Memory) = Unit {0}
-
--- what the files give, or why they stop
-abbrev pub given : Result Work Stop → Result Work NoValue
-given (Ok work) = Ok work
-given (Err s) = Err (stopped s)
 
 -- these files were read, in order, and give this work, or are refused; or one can't be read, or
 -- no memory was found

@@ -6,7 +6,7 @@ use Rattle.std.specs.Str.Parse.{ParsesUnsigned}
 use Rattle.std.specs.declared.num.ParseIntError.{ParseIntError}
 use Rattle.clap.specs.Words.{App, IsAmong, ReadsOne, Row, Rule, Text, fault_of, first_of, new_app, new_rule, one_of, subcommand_of, with_rule, with_subcommand}
 use Rattle.clap.specs.Simple.{new_shape}
-use Rattle.clap.specs.declared.builder.action.ArgAction.TheVariants.{Set}
+use Rattle.clap.specs.declared.builder.action.ArgAction.TheVariants.{Set, SetTrue}
 use Rattle.clap.specs.declared.builder.value_parser.ValueParser.{ValueParser}
 use Rattle.clap.specs.declared.builder.value_parser.ValueParser.TheVariants as parser
 use Rattle.clap.specs.declared.error.kind.ErrorKind.{ErrorKind}
@@ -17,9 +17,11 @@ use Rattle.view_commands.specs.declared.words.Aspect.{Aspect}
 use Rattle.view_commands.specs.declared.words.Aspect.TheVariants as aspect
 use Rattle.view_commands.specs.declared.words.Asked.{Asked}
 use Rattle.view_commands.specs.declared.words.Asked.TheVariants as asked
-use Rattle.view_commands.specs.declared.words.ExplainedNames.{ExplainedNames}
+use Rattle.view_explaining.specs.declared.names.ExplainedNames.{ExplainedNames}
 use Rattle.view_commands.specs.declared.words.FileNames.{FileNames}
 use Rattle.view_commands.specs.declared.words.Request.{Request}
+use Rattle.view_commands.specs.declared.words.Writing.{Writing}
+use Rattle.view_commands.specs.declared.words.Writing.TheVariants as writing
 
 -- ---- the commands and their arguments
 
@@ -43,9 +45,16 @@ option_rule id = record (new_rule id) { long = Some id; action = Some Set; value
 abbrev pub files_app : Text → App
 files_app name = with_rule (with_rule (with_rule (new_app name) (file_rule (codes "system"))) (file_rule (codes "scenario"))) (file_rule (codes "trace"))
 
--- a command over the files of a trace, perhaps with a place
+-- a flag that asks for JSON
+abbrev pub json_rule : Rule
+json_rule = record (new_rule (codes "json")) { long = Some (codes "json"); action = Some SetTrue }
+
+-- a command over the files of a trace, perhaps with a place and the flag
 abbrev pub place_app : Text → App
-place_app name = with_rule (files_app name) place_rule
+place_app name = with_rule (with_rule (files_app name) place_rule) json_rule
+
+abbrev pub stats_app : App
+stats_app = with_rule (files_app (codes "stats")) json_rule
 
 -- a place and a call
 abbrev pub ask_app : App
@@ -59,8 +68,12 @@ IsFormatParser _ = ⊥
 abbrev pub format_rule : ValueParser → Rule
 format_rule p = record (new_rule (codes "format")) { long = Some (codes "format"); action = Some Set; parser = Some p }
 
+-- names of actors, after an option
+abbrev pub actors_rule : Rule
+actors_rule = record (new_rule (codes "actors")) { long = Some (codes "actors"); action = Some Set; value_names = 1 }
+
 abbrev pub diagram_app : ValueParser → App
-diagram_app p = with_rule (with_rule (with_rule (files_app (codes "diagram")) (option_rule (codes "from"))) (option_rule (codes "to"))) (format_rule p)
+diagram_app p = with_rule (with_rule (with_rule (with_rule (files_app (codes "diagram")) (option_rule (codes "from"))) (option_rule (codes "to"))) (format_rule p)) actors_rule
 
 -- a system, perhaps with a scenario, and then perhaps with a trace
 abbrev pub explain_app : App
@@ -72,7 +85,7 @@ top_app = record (new_app (codes "ffm_view")) { top = record (new_shape (codes "
 
 abbrev pub view_app : ValueParser → App
 view_app p =
-    with_subcommand (with_subcommand (with_subcommand (with_subcommand (with_subcommand (with_subcommand top_app (place_app (codes "state")).top) (place_app (codes "why")).top) ask_app.top) (diagram_app p).top) (files_app (codes "stats")).top) explain_app.top
+    with_subcommand (with_subcommand (with_subcommand (with_subcommand (with_subcommand (with_subcommand top_app (place_app (codes "state")).top) (place_app (codes "why")).top) ask_app.top) (diagram_app p).top) stats_app.top) explain_app.top
 
 -- ---- what the words give
 
@@ -88,12 +101,18 @@ abbrev pub IsFormatAt : List Row → Format → Type 0
 IsFormatAt rows format.Html = first_of (codes "format") rows ≡ Some (codes "html")
 IsFormatAt rows format.Mermaid = first_of (codes "format") rows ≢ Some (codes "html")
 
+-- the flag is given, or it isn't
+abbrev pub IsWritingAt : List Row → Writing → Type 0
+IsWritingAt rows writing.Json = first_of (codes "json") rows ≡ Some (codes "true")
+IsWritingAt rows writing.Text = first_of (codes "json") rows ≢ Some (codes "true")
+
 -- the name of a command and its arguments
 abbrev pub IsAspectOf : Text → List Row → Aspect → Type 0
 IsAspectOf name rows (aspect.State place) = (name ≡ codes "state") × IsNumberAt rows (codes "place") place
 IsAspectOf name rows (aspect.Why place) = (name ≡ codes "why") × IsNumberAt rows (codes "place") place
 IsAspectOf name rows (aspect.Ask place call) = (name ≡ codes "ask") × (IsPlaceAt rows place × (first_of (codes "call") rows ≡ Some call.now))
-IsAspectOf name rows (aspect.Diagram from to format) = (name ≡ codes "diagram") × (IsNumberAt rows (codes "from") from × (IsNumberAt rows (codes "to") to × IsFormatAt rows format))
+IsAspectOf name rows (aspect.Diagram from to format actors) =
+    (name ≡ codes "diagram") × (IsNumberAt rows (codes "from") from × (IsNumberAt rows (codes "to") to × (IsFormatAt rows format × (option_map (λ names. names.now) actors ≡ first_of (codes "actors") rows))))
 IsAspectOf name rows aspect.Stats = name ≡ codes "stats"
 
 pub record AreNamesOf (rows : List Row) (names : FileNames) : Type 0 where
@@ -103,7 +122,7 @@ pub record AreNamesOf (rows : List Row) (names : FileNames) : Type 0 where
 
 -- the name of a command and its arguments ask for an aspect of a trace
 abbrev pub IsRequestOf : Text → List Row → Request → Type 0
-IsRequestOf name rows r = AreNamesOf rows r.names × IsAspectOf name rows r.aspect
+IsRequestOf name rows r = AreNamesOf rows r.names × (IsAspectOf name rows r.aspect × IsWritingAt rows r.writing)
 
 pub record AreExplainedOf (rows : List Row) (names : ExplainedNames) : Type 0 where
   pub system : first_of (codes "system") rows ≡ Some names.system.now

@@ -1,9 +1,10 @@
 -- What is shown of a trace: the record that a text is written of, the lines that are no record's, and the status.
 -- Source: this simulator's.
-use Rattle.std.specs.Prelude.{◌≡◌, ◌<◌, ◌≤◌, ◌-◌, ◌⊎◌, ◌++◌, ℕ, List, codes, length, slice_get, take, None, Some, IsSome}
+use Rattle.std.specs.Prelude.{◌≡◌, ◌<◌, ◌≤◌, ◌-◌, ◌⊎◌, ◌++◌, ℕ, List, codes, length, slice_get, take, Option, None, Some, IsSome, string_bytes}
+use Rattle.std.specs.Option.{option_map}
 use Rattle.std.specs.Fmt.{decimal}
+use Rattle.serde_json.specs.Data.{Data}
 use Rattle.ffm_model.specs.declared.machine.Entry.{Entry}
-use Rattle.ffm_model.specs.declared.system.System.{System}
 use Rattle.ffm_model.specs.Actors.{counts_of}
 use Rattle.ffm_model.specs.Counts.{ActorCounts}
 use Rattle.ffm_model.specs.Memory.{ByteMap, opening_memory}
@@ -22,6 +23,11 @@ use Rattle.view_places.specs.StateText.{text_of_state}
 use Rattle.view_places.specs.Why.{IsFinding}
 use Rattle.view_places.specs.WhyText.{why_text}
 use Rattle.view_places.specs.declared.asking.CallAfter.{CallAfter}
+use Rattle.view_json.specs.StateJson.{json_of_state}
+use Rattle.view_json.specs.StatsJson.{stats_json}
+use Rattle.view_json.specs.Values.{IsLineOf, error_json}
+use Rattle.view_json.specs.WhyJson.{legal_entry_json, why_json}
+use Rattle.view_scripts.specs.ScriptsText.{TellsScripts}
 use Rattle.view_places.specs.declared.behind.Place.{Place}
 use Rattle.view_places.specs.declared.behind.Place.TheVariants as behind
 use Rattle.view_places.specs.declared.reasons.Finding.{Finding}
@@ -31,7 +37,9 @@ use Rattle.view_commands.specs.declared.view.View.{View}
 use Rattle.view_commands.specs.declared.view.View.TheVariants as view
 use Rattle.view_commands.specs.declared.words.Aspect.{Aspect}
 use Rattle.view_commands.specs.declared.words.Aspect.TheVariants as aspect
-use Rattle.view_commands.specs.Diagrams.{format_of, part_asked, place_beyond}
+use Rattle.view_commands.specs.declared.words.Writing.{Writing}
+use Rattle.view_commands.specs.declared.words.Writing.TheVariants as writing
+use Rattle.view_commands.specs.Diagrams.{AreChosen, IsUnknown, format_of, part_asked, place_beyond}
 
 -- the memory that the trace begins with
 abbrev pub memory_of : TraceFiles → ByteMap
@@ -41,9 +49,13 @@ memory_of f = opening_memory f.work.scenario.memory
 abbrev pub IsPlaceOf : TraceFiles → ℕ → Place → Type 0
 IsPlaceOf f k p = IsPlace f.work.system (memory_of f) f.work.scenario.limit f.trace.entries k p
 
--- the diagram of a part of the files' trace
-abbrev pub IsDiagramOf : TraceFiles → Part → Format → SequenceDiagram → Type 0
-IsDiagramOf f part format drawn = IsDiagram f.work.system (memory_of f) f.work.scenario.limit f.trace.entries f.trace.verdict part format drawn
+-- the diagram of a part of the files' trace, of some actors or of all
+abbrev pub IsDiagramOf : TraceFiles → Part → Option (List ℕ) → Format → SequenceDiagram → Type 0
+IsDiagramOf f part chosen format drawn = IsDiagram f.work.system (memory_of f) f.work.scenario.limit f.trace.entries f.trace.verdict part chosen format drawn
+
+-- the actors that a diagram shows, where not all
+abbrev pub chosen_in : SequenceDiagram → Option (List ℕ)
+chosen_in drawn = option_map (λ actors. actors.items) drawn.chosen
 
 -- the text of an entry's actor and call: the entry's line up to its outcome, which is `done`
 abbrev pub IsCallText : ActorCounts → List ℕ → Entry → Type 0
@@ -65,14 +77,18 @@ IsLegalTo f k = (k ≤ f.work.scenario.limit) × IsSome (after f.work.system (me
 abbrev pub IsIllegalTo : TraceFiles → ℕ → Type 0
 IsIllegalTo f k = (n : ℕ) × (n ≤ k) × IsIllegalAt f.work.system (memory_of f) f.work.scenario.limit f.trace.entries n
 
+-- the text of where the scripts stand after the first k entries
+abbrev pub AreScriptsAfter : TraceFiles → ℕ → List ℕ → Type 0
+AreScriptsAfter f k text = TellsScripts f.work.system f.work.scenario (take k f.trace.entries) text
+
 -- the files' trace has an entry at place k, counted from 1
 abbrev pub HasEntryAt : TraceFiles → ℕ → Type 0
 HasEntryAt f k = (0 < k) × (k ≤ length f.trace.entries)
 
 -- what an aspect shows of the files of a trace
 abbrev pub IsView : TraceFiles → Aspect → View → Type 0
-IsView f (aspect.State None) (view.State b) = IsLastLegal f.work.system (memory_of f) f.work.scenario.limit f.trace.entries b
-IsView f (aspect.State (Some k)) (view.State b) = IsPlaceOf f k (behind.State b)
+IsView f (aspect.State None) (view.State b scripts) = IsLastLegal f.work.system (memory_of f) f.work.scenario.limit f.trace.entries b × AreScriptsAfter f b.checker.count scripts.items
+IsView f (aspect.State (Some k)) (view.State b scripts) = IsPlaceOf f k (behind.State b) × AreScriptsAfter f b.checker.count scripts.items
 IsView f (aspect.State (Some k)) (view.NoPlace place total) = (place ≡ k) × ((total ≡ length f.trace.entries) × IsPlaceOf f k behind.Beyond)
 IsView f (aspect.State (Some k)) (view.NoState illegal place) = (place ≡ k) × IsPlaceOf f k (behind.Illegal illegal)
 IsView f (aspect.Why None) (view.Why found) = IsFindingOf f found
@@ -84,8 +100,12 @@ IsView f (aspect.Ask k text) (view.Call t) = IsCallText (counts_of f.work.system
 IsView f (aspect.Ask k text) (view.NoPlace place total) = (place ≡ k) × ((total ≡ length f.trace.entries) × IsPlaceOf f k behind.Beyond)
 IsView f (aspect.Ask k text) (view.NoState illegal place) = (place ≡ k) × IsPlaceOf f k (behind.Illegal illegal)
 IsView f aspect.Stats (view.Stats counts) = IsCounted f.work.system (memory_of f) f.work.scenario.limit f.trace.entries counts
-IsView f (aspect.Diagram from to format) (view.NoPlace place total) = (total ≡ length f.trace.entries) × (place_beyond total from to ≡ Some place)
-IsView f (aspect.Diagram from to format) (view.Diagram drawn text) = (place_beyond (length f.trace.entries) from to ≡ None) × (IsDiagramOf f (part_asked (length f.trace.entries) from to) (format_of format) drawn × IsDiagramText drawn f.trace.verdict (length f.trace.entries) text.items)
+IsView f (aspect.Diagram from to format names) (view.NoPlace place total) = (total ≡ length f.trace.entries) × (place_beyond total from to ≡ Some place)
+IsView f (aspect.Diagram from to format names) (view.NoActor name) = (place_beyond (length f.trace.entries) from to ≡ None) × IsUnknown f.work.system names (string_bytes name)
+IsView f (aspect.Diagram from to format names) (view.Diagram drawn) =
+    (place_beyond (length f.trace.entries) from to ≡ None)
+    × (AreChosen f.work.system names (chosen_in drawn)
+    × IsDiagramOf f (part_asked (length f.trace.entries) from to) (chosen_in drawn) (format_of format) drawn)
 IsView _ _ _ = ⊥
 
 -- the line that the trace has no such place, but so many entries
@@ -100,23 +120,34 @@ no_state_line illegal place = codes "entry " ++ (decimal illegal ++ (codes " is 
 abbrev pub no_call_line : List ℕ
 no_call_line = codes "no call: it takes an actor of the system and a call, in one word, as a trace has them before ->\n"
 
--- the text of what is shown of a trace over this system
-abbrev pub IsViewText : System → View → List ℕ → Type 0
-IsViewText s (view.NoPlace place total) text = text ≡ no_place_line place total
-IsViewText s (view.NoState illegal place) text = text ≡ no_state_line illegal place
-IsViewText s view.NoCall text = text ≡ no_call_line
-IsViewText s (view.State b) text = text ≡ text_of_state s b
-IsViewText s (view.Why found) text = text ≡ why_text s found
-IsViewText s (view.LegalEntry place t) text = text ≡ legal_entry_text s place t
-IsViewText s (view.Call t) text = text ≡ ask_text s t
-IsViewText s (view.Stats counts) text = text ≡ counts_text s counts
-IsViewText s (view.Diagram drawn written) text = text ≡ written.items
+-- the line that no actor has a name
+abbrev pub no_actor_line : List ℕ → List ℕ
+no_actor_line name = codes "no actor " ++ (name ++ codes "\n")
 
--- 0: it is shown, and a trace of which `why` tells is legal. 2: the trace has no such place, or a text is no call. 6: the trace is illegal
+-- this text, or this value as a line of JSON
+abbrev pub IsWritten : Writing → List ℕ → Data → List ℕ → Type 0
+IsWritten writing.Text plain json text = text ≡ plain
+IsWritten writing.Json plain json text = IsLineOf json text
+
+-- what is shown of the files of a trace, as it is to be written; calls that are asked about and diagrams have no JSON
+abbrev pub IsViewText : TraceFiles → Writing → View → List ℕ → Type 0
+IsViewText f w (view.NoPlace place total) text = IsWritten w (no_place_line place total) (error_json (no_place_line place total)) text
+IsViewText f w (view.NoState illegal place) text = IsWritten w (no_state_line illegal place) (error_json (no_state_line illegal place)) text
+IsViewText f w (view.State b scripts) text = IsWritten w (text_of_state f.work.system b ++ scripts.items) (json_of_state f.work.system b) text
+IsViewText f w (view.Why found) text = IsWritten w (why_text f.work.system found) (why_json f.work.system found) text
+IsViewText f w (view.LegalEntry place t) text = IsWritten w (legal_entry_text f.work.system place t) (legal_entry_json f.work.system place t) text
+IsViewText f w (view.Stats counts) text = IsWritten w (counts_text f.work.system counts) (stats_json f.work.system counts) text
+IsViewText f w (view.Call t) text = text ≡ ask_text f.work.system t
+IsViewText f w view.NoCall text = text ≡ no_call_line
+IsViewText f w (view.NoActor name) text = text ≡ no_actor_line (string_bytes name)
+IsViewText f w (view.Diagram drawn) text = IsDiagramText drawn f.trace.verdict (length f.trace.entries) text
+
+-- 0: it is shown, and a trace of which `why` tells is legal. 2: the trace has no such place, no actor has a name, or a text is no call. 6: the trace is illegal
 abbrev pub status_of : View → ℕ
 status_of (view.NoPlace place total) = 2
 status_of (view.NoState illegal place) = 6
 status_of view.NoCall = 2
+status_of (view.NoActor name) = 2
 status_of (view.Why (finding.Legal count)) = 0
 status_of (view.Why _) = 6
 status_of _ = 0

@@ -14,7 +14,7 @@ use ffm_model::{Entry, Memory, System, Trace, Verdict};
 use memory_image::Image;
 use std::alloc::Global;
 use trace_print::{TraceError, read_trace};
-use view_places::{CallAfter, Place, PlaceAsked, ask, after_place};
+use view_places::{CallAfter, Place, PlaceAsked, after_place, ask};
 
 // The entry of a quiet trace that has no other.
 fn only_entry(trace: &Trace) -> Option<Entry>

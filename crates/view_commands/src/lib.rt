@@ -3,14 +3,16 @@
 #![tactic(auto)]
 
 mod calls;
+mod choosing;
 mod diagrams;
 mod ends;
-mod explaining;
 mod files;
+mod scripts;
 mod top;
 mod view;
 mod words;
 
 pub use ends::program;
 pub use top::ffm_view;
-pub use words::{Asked, Aspect, ExplainedNames, FileNames, Format, Request, VERSION, asked_of};
+pub use view_explaining::ExplainedNames;
+pub use words::{Asked, Aspect, FileNames, Format, Request, VERSION, Writing, asked_of};

@@ -2,15 +2,15 @@
 ghost use Rattle.std.specs.Prelude.{◌≡◌, ◌≢◌, IfOk, map, string_bytes};
 ghost use Rattle.outside_io.specs.Sink.{Hands};
 ghost use Rattle.clap.specs.Words.{kind_of};
-ghost use Rattle.view_commands.specs.Answers.{Answered, AnswersAsked, AnswersWords, IsShownStatus, Shows};
+ghost use Rattle.view_explaining.specs.Explains.{IsShownStatus};
+ghost use Rattle.view_commands.specs.Answers.{Answered, AnswersAsked, AnswersWords, Shows};
 ghost use Rattle.view_commands.specs.Files.{AreTraceFiles};
 ghost use Rattle.view_commands.specs.declared.words.Asked.TheVariants as asked;
 ghost use Rattle.view_commands.specs.Requests.{told_status};
 
-use crate::explaining::explained;
 use crate::files::{NoTrace, TraceFiles, read_files};
 use crate::view::view_of;
-use crate::words::{Asked, Aspect, Request, asked_of};
+use crate::words::{Asked, Request, asked_of};
 use clap::Error;
 use clap::error::ErrorKind;
 use ffm_model::Memory;
@@ -18,14 +18,8 @@ use file_places::KeepsFiles;
 use outside_io::{Failed, Files, Sink, put_all};
 use std::alloc::Global;
 use text_lines::{NO_MEMORY, UNREAD, UNWRITTEN};
+use view_explaining::{Answer, explained};
 use work_orders::Unanswered;
-
-/// A text to be written, and the status to end with.
-#[derive(Drop)]
-pub(crate) struct Answer {
-    pub text: Vec<u8>,
-    pub status: u8,
-}
 
 // The status of help and the version, and of words that are no command.
 fn told_status(error: &Error) -> u8
@@ -47,14 +41,15 @@ fn told(alloc: Global, error: &Error) -> Result<Answer, Memory>
     Ok(Answer { text, status })
 }
 
-// What an aspect shows of the files of a trace.
-fn shown(alloc: Global, files: &TraceFiles, aspect: Aspect<'_>) -> Result<Answer, Memory>
+// What is asked for of the files of a trace.
+fn shown(alloc: Global, files: &TraceFiles, request: Request<'_>) -> Result<Answer, Memory>
     requires { AreTraceFiles files.now }
-    ensures { IfOk result (λ answer. Shows files.now aspect.entry answer.text.items answer.status) }
+    ensures { IfOk result (λ answer.
+        Shows files.now request.entry answer.text.items answer.status) }
 {
-    let view = view_of(alloc, files, aspect)?;
+    let view = view_of(alloc, files, request.aspect)?;
     let status = view.status();
-    let text = view.into_text(alloc, &files.work.system)?;
+    let text = view.text(alloc, files, request.writing)?;
     Ok(Answer { text, status })
 }
 
@@ -69,7 +64,7 @@ fn answer_of<F: Files>(
     ensures status { IfOk result (λ answer. IsShownStatus answer.status) }
 {
     match read_files(alloc, request.names, files) {
-        Ok(read) => match shown(alloc, &read, request.aspect) {
+        Ok(read) => match shown(alloc, &read, request) {
             Ok(answer) => Ok(answer),
             Err(Memory) => Err(Unanswered::Memory),
         },
@@ -83,6 +78,7 @@ fn answer_of<F: Files>(
 }
 
 // The answer to what the words ask for.
+#[tactic(auto, using(crate::proofs::Answered::explained_answer))]
 fn answer_of_asked<F: KeepsFiles>(
     alloc: Global,
     asked: Asked<'_>,
@@ -128,13 +124,13 @@ fn write<S: Sink>(out: &mut S, text: &[u8]) -> Result<(), Failed>
 ///
 /// 0: the text that was asked for, and for `why` that the trace is legal. 6: the trace is illegal, and so there is
 /// no state after the place that was asked for, or `why` says why. 1: a file is refused, by ffm's own line. 2: the
-/// words are no command, or name a place that the trace doesn't have or a call that is none. 7: a file that is asked for can't be read, and
-/// nothing is written. 8: the text can't be written whole. 9: no memory was found, and nothing is written.
+/// words are no command, or name a place that the trace doesn't have, an actor that the system doesn't, or a call that is
+/// none. 7: a file that is asked for can't be read, and nothing is written. 8: the text can't be written whole. 9: no memory was found, and nothing is written.
 ///
 /// A status below 7 comes with a text: for words that `clap` doesn't take, or that ask for help or the version, with
 /// the status of its answer; for files that are refused with ffm's own line, behind which `explain` tells in words
 /// what is wrong; and else there is what is shown: the state after the place, or how the trace is judged and why, or what a call is answered, or counts of its legal entries, or a diagram; or the
-/// line that the trace has no such place, or that there is no state after it.
+/// line that the trace has no such place, or that there is no state after it; with the flag as one line of JSON.
 pub fn ffm_view<F: KeepsFiles, S: Sink>(
     alloc: Global,
     words: &[String],

@@ -5,19 +5,20 @@ ghost use Rattle.clap.specs.Words.{app_of, fault_of, first_of, found_of, kind_of
 ghost use Rattle.clap.specs.declared.builder.command.Command.TheViews.{out-Command as fields_of};
 ghost use Rattle.clap.specs.declared.builder.value_parser.ValueParser.{ValueParser as ParserSeen};
 ghost use Rattle.view_commands.specs.declared.words.Aspect.{Aspect as AspectSeen};
-ghost use Rattle.view_commands.specs.declared.words.ExplainedNames.{ExplainedNames as ExplainedSeen};
+ghost use Rattle.view_explaining.specs.declared.names.ExplainedNames.{ExplainedNames as ExplainedSeen};
 ghost use Rattle.view_commands.specs.declared.words.FileNames.{FileNames as NamesSeen};
-ghost use Rattle.view_commands.specs.Requests.{told_status, AreExplainedOf, AskNoAspect, AskNothing, IsTold, AreNamesOf, AsksFor, IsAskedOf, IsAspectOf, IsFormatAt, IsFormatParser, IsNumberAt, IsPlaceAt, IsRequestOf, ask_app, diagram_app, explain_app, file_rule, files_app, format_rule, further_rule, option_rule, place_app, place_rule, top_app, view_app};
+ghost use Rattle.view_commands.specs.Requests.{told_status, AreExplainedOf, AskNoAspect, AskNothing, IsTold, AreNamesOf, AsksFor, IsAskedOf, IsAspectOf, IsFormatAt, IsFormatParser, IsNumberAt, IsPlaceAt, IsRequestOf, IsWritingAt, actors_rule, ask_app, diagram_app, explain_app, file_rule, files_app, format_rule, further_rule, json_rule, option_rule, place_app, place_rule, stats_app, top_app, view_app};
 
 use clap::error::ErrorKind;
 use clap::{Arg, ArgAction, ArgMatches, Command, Error, value_parser};
 use std::alloc::{AllocError, Global};
+use view_explaining::ExplainedNames;
 
 /// What `--version` shows.
 pub const VERSION: &str = "1.0.0";
 
 /// The names of the files that a command reads.
-#[derive(Clone, Copy, Debug, PartialEq, Eq)]
+#[derive(Clone, Copy)]
 pub struct FileNames<'a> {
     pub system: &'a str,
     pub scenario: &'a str,
@@ -25,7 +26,7 @@ pub struct FileNames<'a> {
 }
 
 /// How a diagram is to be written.
-#[derive(Clone, Copy, Debug, PartialEq, Eq)]
+#[derive(Clone, Copy)]
 pub enum Format {
     /// As a text for Mermaid.
     Mermaid,
@@ -33,8 +34,17 @@ pub enum Format {
     Html,
 }
 
+/// How an aspect other than a diagram is to be written.
+#[derive(Clone, Copy)]
+pub enum Writing {
+    /// As a text for people.
+    Text,
+    /// As one line of JSON.
+    Json,
+}
+
 /// What is to be shown.
-#[derive(Clone, Copy, Debug, PartialEq, Eq)]
+#[derive(Clone, Copy)]
 pub enum Aspect<'a> {
     /// The state after the entry at a place, or after the last legal one.
     State(Option<u32>),
@@ -45,33 +55,28 @@ pub enum Aspect<'a> {
         place: u32,
         call: &'a str,
     },
-    /// The entries between two places, or from the first and up to the last one.
+    /// The entries between two places, or from the first and up to the last one; perhaps of the actors alone whose names,
+    /// separated by commas, are given.
     Diagram {
         from: Option<u32>,
         to: Option<u32>,
         format: Format,
+        actors: Option<&'a str>,
     },
     Stats,
 }
 
 /// An aspect of a trace that is asked for.
-#[derive(Clone, Copy, Debug, PartialEq, Eq)]
+#[derive(Clone, Copy)]
 pub struct Request<'a> {
     pub names: FileNames<'a>,
     pub aspect: Aspect<'a>,
-}
-
-/// The names of files of which the first refusal is to be told: a system, perhaps with a scenario, and then perhaps with
-/// a trace.
-#[derive(Clone, Copy, Debug, PartialEq, Eq)]
-pub struct ExplainedNames<'a> {
-    pub system: &'a str,
-    pub scenario: Option<&'a str>,
-    pub trace: Option<&'a str>,
+    /// `Text` where the command has no JSON.
+    pub writing: Writing,
 }
 
 /// What the words ask for.
-#[derive(Clone, Copy, Debug, PartialEq, Eq)]
+#[derive(Clone, Copy)]
 pub enum Asked<'a> {
     View(Request<'a>),
     Explain(ExplainedNames<'a>),
@@ -124,13 +129,25 @@ fn place_argument<'a>(alloc: Global, help: &'a str) -> Arg<'a>
         .help(help)
 }
 
+fn json_flag<'a>(alloc: Global) -> Arg<'a>
+    ensures rule { rule_of result ≡ json_rule }
+    ensures own { result.global ≡ false }
+{
+    Arg::new(alloc, "json")
+        .long("json")
+        .action(ArgAction::SetTrue)
+        .help("Writes one line of JSON")
+}
+
 fn state_command<'a>(alloc: Global) -> Result<Command<'a>, AllocError>
     ensures app { IfOk result (λ c. app_of c ≡ place_app (codes "state")) }
     ensures own { IfOk result (λ c. (fields_of c).has_globals ≡ false) }
 {
     let about = "Shows the state after an entry, and at a stall who waits for whom";
     let help = "After this entry, counted from 1; 0 is the opening; by default the last legal one";
-    view_command(alloc, "state", about)?.arg(place_argument(alloc, help))
+    view_command(alloc, "state", about)?
+        .arg(place_argument(alloc, help))?
+        .arg(json_flag(alloc))
 }
 
 fn ask_command<'a>(alloc: Global) -> Result<Command<'a>, AllocError>
@@ -156,6 +173,17 @@ fn format_option<'a>(alloc: Global) -> Arg<'a>
         .help("The form of the diagram; by default mermaid")
 }
 
+fn actors_option<'a>(alloc: Global) -> Arg<'a>
+    ensures rule { rule_of result ≡ actors_rule }
+    ensures own { result.global ≡ false }
+{
+    Arg::new(alloc, "actors")
+        .long("actors")
+        .action(ArgAction::Set)
+        .value_name("NAMES")
+        .help("Only the lanes of these actors, and what goes between them: A,B,..")
+}
+
 fn diagram_command<'a>(alloc: Global) -> Result<Command<'a>, AllocError>
     ensures app { IfOk result (λ c.
         (p : ParserSeen) × IsFormatParser p × (app_of c ≡ diagram_app p)) }
@@ -164,7 +192,8 @@ fn diagram_command<'a>(alloc: Global) -> Result<Command<'a>, AllocError>
     view_command(alloc, "diagram", "Draws a sequence diagram")?
         .arg(place_option(alloc, "from", "The first entry to be drawn"))?
         .arg(place_option(alloc, "to", "The last entry to be drawn"))?
-        .arg(format_option(alloc))
+        .arg(format_option(alloc))?
+        .arg(actors_option(alloc))
 }
 
 fn why_command<'a>(alloc: Global) -> Result<Command<'a>, AllocError>
@@ -173,18 +202,17 @@ fn why_command<'a>(alloc: Global) -> Result<Command<'a>, AllocError>
 {
     let about = "Says why a trace is illegal, and what the machine answers there";
     let help = "Tells what was due at this entry, counted from 1, where the trace is legal so far";
-    view_command(alloc, "why", about)?.arg(place_argument(alloc, help))
+    view_command(alloc, "why", about)?
+        .arg(place_argument(alloc, help))?
+        .arg(json_flag(alloc))
 }
 
 fn stats_command<'a>(alloc: Global) -> Result<Command<'a>, AllocError>
-    ensures app { IfOk result (λ c. app_of c ≡ files_app (codes "stats")) }
+    ensures app { IfOk result (λ c. app_of c ≡ stats_app) }
     ensures own { IfOk result (λ c. (fields_of c).has_globals ≡ false) }
 {
-    view_command(
-        alloc,
-        "stats",
-        "Counts calls, bytes moved, waits and live objects",
-    )
+    let about = "Counts calls, bytes moved, waits and live objects";
+    view_command(alloc, "stats", about)?.arg(json_flag(alloc))
 }
 
 // A file that may be left out, with those after it.
@@ -272,6 +300,15 @@ fn format_of(found: &ArgMatches<'_>) -> Format
     }
 }
 
+fn writing_of(found: &ArgMatches<'_>) -> Writing
+    ensures { IsWritingAt (rows_of (found_of found.now)) result }
+{
+    match word_of(found, "json") {
+        Some("true") => Writing::Json,
+        _ => Writing::Text,
+    }
+}
+
 // What the command of this name shows.
 fn aspect_of<'a>(name: &str, found: &ArgMatches<'a>) -> Option<Aspect<'a>>
     ensures { MatchOption result
@@ -289,6 +326,7 @@ fn aspect_of<'a>(name: &str, found: &ArgMatches<'a>) -> Option<Aspect<'a>>
             from: number_of(found, "from"),
             to: number_of(found, "to"),
             format: format_of(found),
+            actors: word_of(found, "actors"),
         }),
         "stats" => Some(Aspect::Stats),
         _ => None,
@@ -303,6 +341,7 @@ fn request_in<'a>(name: &str, found: &ArgMatches<'a>) -> Option<Request<'a>>
     Some(Request {
         names: names_of(found)?,
         aspect: aspect_of(name, found)?,
+        writing: writing_of(found),
     })
 }
 

@@ -10,3 +10,4 @@ mod Panics
 mod Places
 mod Replies
 mod Waiting
+pub mod LaneSteps

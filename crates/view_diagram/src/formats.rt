@@ -1,13 +1,16 @@
 //! What a diagram shows, and its text.
 ghost use Rattle.std.specs.Prelude.{◌≡◌, ◌<◌, ◌^◌, IfOk, length, string_bytes};
+ghost use Rattle.std.specs.Option.{option_map};
 ghost use Rattle.ffm_model.specs.Ranges.{ranges_of};
 ghost use Rattle.memory_image.specs.Pieces.{byte_at, regions_of};
 ghost use Rattle.view_diagram.specs.Diagrams.{IsDiagram, IsDiagramText, tail_of};
 ghost use Rattle.view_diagram.specs.Ends.{EndsIn};
 
+use crate::choosing::{actors_of, arrows_between};
 use crate::gathering::{Part, PlacedArrow, gather};
 use crate::html::page;
 use crate::labels::end_text;
+use crate::lanes::Lanes;
 use crate::mermaid::mermaid;
 use ffm_model::{List, Memory, System, Trace};
 use machine_check::{Checked, check};
@@ -28,13 +31,16 @@ pub enum Format {
 pub struct SequenceDiagram {
     pub part: Part,
     pub format: Format,
-    /// The arrows of the trace's legal entries in the part, in their order.
+    /// The actors that have lanes; None: those of the arrows.
+    pub chosen: Option<Vec<u32>>,
+    /// The arrows of the trace's legal entries in the part between these actors, in their order.
     pub arrows: List<PlacedArrow>,
     /// How the whole trace is judged.
     pub judged: Checked,
 }
 
-/// The diagram of a trace's legal entries in a part. Its arrows are those of `gather`.
+/// The diagram of a trace's legal entries in a part. Its arrows are those of `gather` whose ends were chosen, or all where
+/// no actors were.
 ///
 /// It needs what `gather` and then `machine_check::check` need. The memory has the system's regions, and
 /// the trace has fewer than 2^31 entries.
@@ -45,19 +51,22 @@ pub fn diagram(
     limit: u32,
     trace: &Trace,
     part: Part,
+    chosen: Option<Vec<u32>>,
     format: Format,
 ) -> Result<SequenceDiagram, Memory>
     requires regions { regions_of memory.now ≡ ranges_of system.now.regions }
     requires few { length trace.now.entries < 2 ^ 31 }
     ensures { IfOk result (IsDiagram system.now (byte_at memory.now) limit trace.now.entries
-        trace.now.verdict part format) }
+        trace.now.verdict part (option_map (λ actors. actors.items) chosen) format) }
 {
     let entries = trace.entries.as_slice();
-    let arrows = gather(alloc, system, memory, limit, entries, part)?;
+    let gathered = gather(alloc, system, memory, limit, entries, part)?;
+    let arrows = arrows_between(alloc, gathered.as_slice(), actors_of(&chosen))?;
     let judged = check(alloc, system, memory, limit, trace)?;
     Ok(SequenceDiagram {
         part,
         format,
+        chosen,
         arrows,
         judged,
     })
@@ -71,13 +80,14 @@ fn written(
     format: Format,
     end: &str,
     part: Part,
+    lanes: &Lanes,
     arrows: &[PlacedArrow],
 ) -> Result<String, AllocError>
     ensures { IfOk result (λ text. EndsIn end.now (tail_of format) (string_bytes text)) }
 {
     match format {
-        Format::Mermaid => mermaid(alloc, system, trace, end, arrows),
-        Format::Html => page(alloc, system, trace, end, part, arrows),
+        Format::Mermaid => mermaid(alloc, system, trace, end, lanes, arrows),
+        Format::Html => page(alloc, system, trace, end, part, lanes, arrows),
     }
 }
 
@@ -89,6 +99,7 @@ impl SequenceDiagram {
             trace.now.verdict (length trace.now.entries) text.items) }
     {
         let arrows = self.arrows.as_slice();
+        let lanes = Lanes::of(alloc, system, actors_of(&self.chosen), arrows)?;
         let end = end_text(alloc, trace, self.judged, self.part)?;
         let text = written(
             alloc,
@@ -97,6 +108,7 @@ impl SequenceDiagram {
             self.format,
             end.as_str(),
             self.part,
+            &lanes,
             arrows,
         )?;
         Ok(text.into_bytes())

@@ -146,15 +146,15 @@ fn drawn(
     system: &System,
     trace: &Trace,
     part: Part,
+    lanes: &Lanes,
     arrows: &[PlacedArrow],
 ) -> Result<String, AllocError> {
-    let lanes = Lanes::of(alloc, system, arrows)?;
     let mut out = String::new(alloc);
     out.push_str(HEAD)?;
     push_heading(&mut out, trace, part)?;
     out.push_str(LEGEND)?;
     push_names(&mut out, system, lanes.actors())?;
-    push_drawing(alloc, &mut out, system, trace, &lanes, arrows)?;
+    push_drawing(alloc, &mut out, system, trace, lanes, arrows)?;
     out.push_str("<footer>")?;
     Ok(out)
 }
@@ -167,10 +167,11 @@ pub fn page(
     trace: &Trace,
     end: &str,
     part: Part,
+    lanes: &Lanes,
     arrows: &[PlacedArrow],
 ) -> Result<String, AllocError>
     ensures { IfOk result (λ text. EndsIn end.now page_tail (string_bytes text)) }
 {
-    let front = drawn(alloc, system, trace, part, arrows)?;
+    let front = drawn(alloc, system, trace, part, lanes, arrows)?;
     ended(front, end, "</footer>\n</body>\n</html>\n")
 }

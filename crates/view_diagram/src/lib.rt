@@ -6,6 +6,7 @@
 #![tactic(auto)]
 
 mod arrows;
+mod choosing;
 mod drawing;
 mod ends;
 mod escapes;

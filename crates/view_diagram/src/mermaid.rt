@@ -81,9 +81,9 @@ fn drawn(
     alloc: Global,
     system: &System,
     trace: &Trace,
+    lanes: &Lanes,
     arrows: &[PlacedArrow],
 ) -> Result<String, AllocError> {
-    let lanes = Lanes::of(alloc, system, arrows)?;
     let mut out = String::new(alloc);
     out.push_str("sequenceDiagram\n")?;
     for actor in lanes.actors() {
@@ -104,9 +104,10 @@ pub fn mermaid(
     system: &System,
     trace: &Trace,
     end: &str,
+    lanes: &Lanes,
     arrows: &[PlacedArrow],
 ) -> Result<String, AllocError>
     ensures { IfOk result (λ text. EndsIn end.now mermaid_tail (string_bytes text)) }
 {
-    ended(drawn(alloc, system, trace, arrows)?, end, "\n")
+    ended(drawn(alloc, system, trace, lanes, arrows)?, end, "\n")
 }

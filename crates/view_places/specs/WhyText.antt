@@ -28,7 +28,7 @@ rule_words rule.NotEnabled = codes "the actor isn't enabled"
 rule_words rule.ReturnDue = codes "the actor has to return from a call first, by resume"
 rule_words rule.NoReturnDue = codes "the actor isn't to return from a call"
 rule_words rule.NoHandleLeft = codes "no handle is left to be given"
-rule_words (rule.StaleHandle o) = codes "the handle isn't fresh: it is from 1 to 0x3fffffff, and no event gave it before"
+rule_words (rule.StaleHandle o) = codes "the handle isn't fresh: a fresh one is from 1 to 0x3fffffff, and no event gave it before"
 rule_words (rule.OtherHandle o) = codes "another answer is due"
 rule_words (rule.OtherAnswer o) = codes "another answer is due"
 

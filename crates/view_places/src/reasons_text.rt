@@ -14,7 +14,8 @@ use text_lines::{Word, append, append_words};
 use trace_print::verdict_word;
 use view_texts::{actor_name, call_name, put_actor_word, put_entry};
 
-fn rule_words(rule: Rule) -> &'static str
+/// A rule in words.
+pub fn rule_words(rule: Rule) -> &'static str
     ensures { result.now ≡ rule_words rule }
 {
     match rule {
@@ -25,13 +26,13 @@ fn rule_words(rule: Rule) -> &'static str
         Rule::NoReturnDue => "the actor isn't to return from a call",
         Rule::NoHandleLeft => "no handle is left to be given",
         Rule::StaleHandle(_) =>
-            "the handle isn't fresh: it is from 1 to 0x3fffffff, and no event gave it before",
+            "the handle isn't fresh: a fresh one is from 1 to 0x3fffffff, and no event gave it before",
         Rule::OtherHandle(_) | Rule::OtherAnswer(_) => "another answer is due",
     }
 }
 
-// The answer that is due, where the call may be made.
-fn answer_due(rule: Rule) -> Option<Outcome>
+/// The answer that is due, where the call may be made.
+pub fn answer_due(rule: Rule) -> Option<Outcome>
     ensures { result ≡ answer_due rule }
 {
     match rule {
@@ -52,7 +53,8 @@ fn mark(holds: Option<bool>) -> &'static str
     }
 }
 
-fn known_or(holds: Option<bool>, otherwise: Option<bool>) -> Option<bool>
+/// What was looked at, or else the other.
+pub fn known_or(holds: Option<bool>, otherwise: Option<bool>) -> Option<bool>
     ensures { result ≡ known_or holds otherwise }
 {
     match holds {
@@ -75,8 +77,8 @@ fn is_some_held(conditions: &[Condition]) -> bool
         .any(|condition| does_hold(condition.holds))
 }
 
-// What is told of a condition that wasn't looked at: it holds exactly where the call is refused, unless another one does.
-fn where_not_looked(conditions: &[Condition], is_refused: Option<bool>) -> Option<bool>
+/// What is told of a condition that wasn't looked at: it holds exactly where the call is refused, unless another one does.
+pub fn where_not_looked(conditions: &[Condition], is_refused: Option<bool>) -> Option<bool>
     ensures { result ≡ where_not_looked conditions.now is_refused }
 {
     if is_some_held(conditions) {

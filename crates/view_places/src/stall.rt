@@ -185,8 +185,8 @@ fn put_name(text: &mut Vec<u8>, system: &System, actor: u32) -> Result<(), Alloc
     )
 }
 
-// Appends a partition's signals in a mask, each with who could give it.
-fn put_signals_in(
+/// Appends a partition's signals in a mask, each with who could give it.
+pub fn put_signals_in(
     alloc: Global,
     text: &mut Vec<u8>,
     system: &System,
@@ -219,8 +219,8 @@ fn put_waiting_line(
     append(text, "\n")
 }
 
-// Appends why an actor that is blocked isn't answered.
-fn put_stop(
+/// Appends why an actor that is blocked isn't answered.
+pub fn put_stop(
     text: &mut Vec<u8>,
     system: &System,
     objects: &Objects,

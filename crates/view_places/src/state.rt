@@ -118,7 +118,8 @@ fn put_actors(
     put_actor_lines(alloc, text, system, objects, last)
 }
 
-fn connection_word(phase: ConnPhase) -> &'static str
+/// The phase of a connection in a word.
+pub fn connection_word(phase: ConnPhase) -> &'static str
     ensures { result.now ≡ connection_word phase }
 {
     match phase {
@@ -365,8 +366,8 @@ fn is_rung(doorbells: &[bool], partition: u32) -> bool
     }
 }
 
-// The partitions whose doorbell is asserted.
-fn rung(alloc: Global, system: &System, doorbells: &[bool]) -> Result<Vec<u32>, AllocError>
+/// The partitions whose doorbell is asserted.
+pub fn rung(alloc: Global, system: &System, doorbells: &[bool]) -> Result<Vec<u32>, AllocError>
     ensures { IfOk result (λ partitions. partitions.items ≡ rung system.now doorbells.now) }
 {
     let mut partitions = Vec::new(alloc);

@@ -94,7 +94,8 @@ fn put_actor_calls(
     Ok(())
 }
 
-fn number_at(numbers: &[u32], place: u32) -> u32
+/// The number at a place of a list; 0 where it has none.
+pub fn number_at(numbers: &[u32], place: u32) -> u32
     ensures { result ≡ get_or numbers.now place 0 }
 {
     match numbers.get(place as usize) {
@@ -332,9 +333,9 @@ fn sum_of(budgets: &[Budget]) -> usize
     count
 }
 
-// How many connections there may be at a time.
+/// How many connections there may be at a time.
 #[tactic(auto, using(ffm_model::proofs::WellFormedLemmas::few_connections))]
-fn most_connections(system: &System) -> usize
+pub fn connections_declared(system: &System) -> usize
     ensures result { result ≡ capacity system.now }
     ensures few { result ≤ 256 }
 {
@@ -382,7 +383,16 @@ fn put_most_connections(text: &mut Vec<u8>, system: &System, most: usize) -> Res
     ensures { OnOk result
         (text.new.items ≡ text.old.items ++ of_text most (capacity system.now)) }
 {
-    put_of(text, most, most_connections(system))
+    put_of(text, most, connections_declared(system))
+}
+
+/// How many messages there may be at a time: one for each connection, and a request by a stateless handle for each actor
+/// that may call such a service.
+pub fn messages_declared(alloc: Global, system: &System) -> Result<usize, AllocError>
+    ensures { IfOk result (λ most. most ≡ most_messages_declared system.now) }
+{
+    let users = stateless_users(alloc, system)?;
+    Ok(connections_declared(system) + users.len())
 }
 
 fn put_most_messages(
@@ -394,8 +404,7 @@ fn put_most_messages(
     ensures { OnOk result
         (text.new.items ≡ text.old.items ++ of_text most (most_messages_declared system.now)) }
 {
-    let users = stateless_users(alloc, system)?;
-    put_of(text, most, most_connections(system) + users.len())
+    put_of(text, most, messages_declared(alloc, system)?)
 }
 
 fn put_most(

@@ -2,7 +2,7 @@ use Rattle.std.proofs.Common.{codes}
 use Rattle.std.proofs.lemmas.Result.{IfOk-weaker}
 use Rattle.clap.specs.Words.{App, with_subcommand}
 use Rattle.clap.specs.declared.builder.value_parser.ValueParser.{ValueParser}
-use Rattle.view_commands.specs.Requests.{ask_app, diagram_app, explain_app, files_app, place_app, top_app}
+use Rattle.view_commands.specs.Requests.{ask_app, diagram_app, explain_app, place_app, stats_app, top_app}
 use Rattle.view_commands.proofs.Commands.{app_with}
 use Rattle.view_commands.proofs.words.command_line.Goals as goal
 
@@ -19,7 +19,7 @@ abbrev four : ValueParser → App
 four p = with_subcommand three (diagram_app p).top
 
 abbrev five : ValueParser → App
-five p = with_subcommand (four p) (files_app (codes "stats")).top
+five p = with_subcommand (four p) stats_app.top
 
 pub returns : goal.returns
 returns c =
@@ -28,6 +28,6 @@ returns c =
     let second = app_with _ _ _ one (place_app (codes "why")) c.in_ok-subcommand-2.ensures first c.in_ok-why_command.ensures.own c.in_ok-why_command.ensures.app in
     let third = app_with _ _ _ two ask_app c.in_ok-subcommand-3.ensures second c.in_ok-ask_command.ensures.own c.in_ok-ask_command.ensures.app in
     let fourth = app_with _ _ _ three (diagram_app d.0) c.in_ok-subcommand-4.ensures third c.in_ok-diagram_command.ensures.own d.2 in
-    let fifth = app_with _ _ _ (four d.0) (files_app (codes "stats")) c.in_ok-subcommand-5.ensures fourth c.in_ok-stats_command.ensures.own c.in_ok-stats_command.ensures.app in
+    let fifth = app_with _ _ _ (four d.0) stats_app c.in_ok-subcommand-5.ensures fourth c.in_ok-stats_command.ensures.own c.in_ok-stats_command.ensures.app in
     IfOk-weaker c.subcommand-6.result _ _
     (λ r added. (d.0, d.1, app_with _ _ r (five d.0) explain_app added fifth c.in_ok-explain_command.ensures.own c.in_ok-explain_command.ensures.app)) c.subcommand-6.ensures

@@ -1,0 +1,4 @@
+pub mod StateJson
+pub mod StatsJson
+pub mod Values
+pub mod WhyJson
