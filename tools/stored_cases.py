@@ -12,7 +12,8 @@ Compared are:
 - the files of a case, but for README.md: each is named by a sha256sum line of the case, with the digest that it has;
 - the texts of `ffm replay` and `ffm audit`: they are those of plain_machine.py, of `ffm run` those of plain_run.py, of
   `ffm compile` those of plain_listing.py, and of `ffm_explore` those of plain_explore.py, but where a file or the words are
-  refused. A run with threads is judged by plain_machine.py;
+  refused. A run with threads is judged by plain_machine.py. The last part of an `ffm_view state` is that of
+  plain_standing.py;
 - a case without `hand` in its source: it has such texts alone;
 - trace.txt, listing.txt and audit.txt of a case, where a command of it writes them: they are its text;
 - each example has those commands, and a row in examples/README.md.
@@ -37,6 +38,7 @@ import plain_explore
 import plain_listing
 import plain_machine
 import plain_run
+import plain_standing
 from example_files import STORED, examples
 
 DATA = STORED / "data"
@@ -59,7 +61,9 @@ class Command:
     status: int
 
     def words(self):
-        return self.line.split(" ")
+        """Its words. The last one may hold spaces, between single quotation marks."""
+        quoted = re.fullmatch("(.*?) '(.*)'", self.line)
+        return [*quoted[1].split(" "), quoted[2]] if quoted else self.line.split(" ")
 
     def is_checksums(self):
         """Whether it writes the checksums of files, and is no command of `ffm`, `ffm_view` or `ffm_explore`."""
@@ -160,9 +164,10 @@ def explored_again(command):
     _, question, *words = command.words()
     if question not in plain_explore.QUESTIONS or "--help" in words or command.status == 1 and not command.text.endswith(NO_RESTARTS):
         return None
-    *names, _, states = words if "--states" in words else [*words, "--states", plain_explore.STATES]
+    read = plain_explore.parser_of_words().parse_intermixed_args([*words[:2], question, *words[2:]])
+    asked = plain_explore.Asked(question, read.words, read.states, read.context, read.as_scenario)
     try:
-        return plain_explore.answer_of_files(*names, question, int(states), DATA)
+        return plain_explore.answer_of_files(read.system, read.scenario, asked, DATA)
     except plain_machine.NotTaken as wrong:
         return wrong.args[0], ""
 
@@ -170,7 +175,7 @@ def explored_again(command):
 def read_again(command):
     """The status and the text of a command by a second reading; None where none can tell."""
     program, word = [*command.words(), ""][:2]
-    if program == "ffm_explore" and command.status != 2:
+    if program == "ffm_explore" and (command.status != 2 or command.text.startswith(b"no ")):
         return explored_again(command)
     if program != "ffm" or command.status == 2:
         return None
@@ -179,6 +184,16 @@ def read_again(command):
     if word == "run" and command.status in RUN_STATUSES:
         return run_again(command)
     return (0, plain_listing.listing_of_file(*command.files(), DATA)) if word == "compile" and command.status == 0 else None
+
+
+def stands_otherwise(command):
+    """Whether plain_standing.py says otherwise of where scripts stand, in the last part of a state."""
+    shown = re.match(rb"state after entry (\d+) of", command.text)
+    if command.words()[:2] != ["ffm_view", "state"] or not shown:
+        return False
+    files = [word for word in command.files() if not word.isdecimal()]
+    told = plain_standing.section(*files, int(shown[1]), DATA)
+    return told is not None and (plain_standing.HEADING.encode() in command.text) != bool(told) or not command.text.endswith((told or "").encode())
 
 
 # ---- what is wrong
@@ -221,6 +236,8 @@ def wrong_of(case, source, is_example):
     for command, answer in again:
         if answer not in (None, (command.status, command.text.decode(errors="replace"))):
             yield f"{case.name()}: a second reading says otherwise: {command.line}"
+        if stands_otherwise(command):
+            yield f"{case.name()}: a second reading of where scripts stand says otherwise: {command.line}"
     if "hand" not in source and told < len(again):
         yield f"{case.name()}: its source isn't told to be by hand, but no second reading tells {len(again) - told} of its texts"
     yield from (*wrong_files(case), *wrong_written(case, is_example))

@@ -3,15 +3,17 @@
 #![tactic(auto)]
 
 use anyhow::{Context, Result, bail};
-use explore_commands::ffm_explore;
+use explore_commands::{Progress, ffm_explore};
 use ffm_model::OpenGate;
 use ffm_top::ffm;
 use file_places::KeptFiles;
 use outside_io::{HostFiles, StdoutSink};
 use sha2::{Digest, Sha256};
 use std::alloc::{AllocError, Global};
+use std::io::Eprint;
 use std::sync::Wait;
 use std::thread::Threads;
+use std::time::Clock;
 use std::{fs, rt};
 use view_commands::ffm_view;
 
@@ -82,7 +84,7 @@ fn write_digests<R: rt::Files + Print + AllocGlobal>(rt: &R, words: &[String]) -
 // Does what a line asks for, and writes the status after it.
 fn do_line<R>(rt: &R, line: &str) -> Result<()>
 where
-    R: rt::Files + Print + AllocGlobal + Threads + Wait + Sync,
+    R: rt::Files + Print + Eprint + Clock + AllocGlobal + Threads + Wait + Sync,
 {
     let words = words_of(rt.alloc(), line)?;
     let Some(kind) = words.first().and_then(|word| Line::of(word)) else {
@@ -96,7 +98,11 @@ where
             let mut files = KeptFiles::of(rt.alloc(), files);
             ffm_view(rt.alloc(), &words, &mut files, &mut out)
         }
-        Line::FfmExplore => ffm_explore(rt.alloc(), &words, &mut files, &mut out),
+        Line::FfmExplore => {
+            let mut files = KeptFiles::of(rt.alloc(), files);
+            let mut unsaid = Progress::new(rt, false);
+            ffm_explore(rt.alloc(), &words, &mut files, &mut out, &mut unsaid)
+        }
         Line::Digests => {
             write_digests(rt, &words)?;
             0
