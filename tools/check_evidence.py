@@ -23,7 +23,7 @@ from rule_of_line import kinds_and_lacks
 
 HOUSE = pathlib.Path("docs/house.md")
 # How many words the README, and all pages without their made parts, may have.
-MOST_WORDS = {"README.md": 1_600, "all pages": 39_600}
+MOST_WORDS = {"README.md": 1_600, "all pages": 38_000}
 # The crates of the manager, and those that have none of them below.
 MANAGER = {
     "spm_core", "spm_lock", "spm_tables", "handle_table", "object_pools", "client_calls", "service_calls", "doorbell_irq",
