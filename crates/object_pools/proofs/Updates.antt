@@ -14,7 +14,7 @@ use Rattle.std.proofs.lemmas.Bool.{eqb-true}
 use Rattle.object_pools.specs.declared.slot.Slot.{Slot}
 use Rattle.object_pools.specs.declared.slot.Held.{Held}
 use Rattle.object_pools.specs.declared.cells.Cell.{Cell}
-use Rattle.object_pools.specs.Pool.{most_takes, has_slot, item_put, item_at, free_slot, taken, without, with_item, IsNamed, IsKept}
+use Rattle.object_pools.specs.Pool.{Places, empty, most_takes, has_slot, item_put, item_at, free_slot, taken, without, with_item, IsNamed, IsKept}
 use Rattle.object_pools.specs.Cells.{under_slot, held_in, held_at, item_in, generations_of, generation_at, places_of, Stored}
 use Rattle.law_lists.proofs.Counts.{bit, bit-le, count-cons, count-push}
 use Rattle.object_pools.proofs.Orders.{times, same-else, filter-out, map-put, all-held, other_number, same_bit, other_bit}
@@ -184,6 +184,17 @@ module _ {T : Type 0} where
         total = ap sum (generations-new n cells e) ∙ omega (arith, sum_by-replicate (λ (g : ℕ). g) n 0);
         takes_left = omega arith;
       }
+
+  -- a pool without places has no cells, and nothing in the order of its takes
+  pub no-cells : (cells : List (Cell T)) (order : List ℕ) (takes : ℕ) → places_of cells order takes ≡ empty 0 → cells ≡ []
+  no-cells [] order takes e = refl
+  no-cells (c ∷ cs) order takes e = cc (ap (λ (p : Places T). length p.generations) e)
+
+  pub no-order : (capacity : ℕ) (cells : List (Cell T)) (order : List ℕ) (takes : ℕ) → Stored capacity cells order takes → places_of cells order takes ≡ empty 0 → order ≡ []
+  no-order capacity cells [] takes st e = refl
+  no-order capacity cells (k ∷ ks) takes st e =
+      let none : length (k ∷ ks) ≡ 0 = omega (arith, order-fits capacity cells (k ∷ ks) takes st, ap length (no-cells cells (k ∷ ks) takes e)) in
+      cc none
 
   -- ---- a take
 

@@ -1,6 +1,6 @@
 //! The places of a pool. An item stays in the cell of its index from its take until it is put back.
 
-ghost use Rattle.std.specs.Prelude.{◌≡◌, ◌<◌, ◌≤◌, ◌+◌, length, replicate, slice_set, find, filter, not, None, is_none, slice_get, ◌==◌};
+ghost use Rattle.std.specs.Prelude.{◌≡◌, ◌<◌, ◌≤◌, ◌+◌, length, [], replicate, slice_set, find, filter, not, None, is_none, slice_get, ◌==◌};
 ghost use Rattle.std.specs.List.{range_with_len};
 ghost use Rattle.std.specs.Option.{option_copied};
 ghost use Rattle.object_pools.specs.Cells.{held_at, item_in, generation_at};
@@ -88,16 +88,16 @@ pub(crate) fn put<T: Copy, const CAP: usize>(
     cells.as_mut_slice()[slot.index as usize] = Cell { generation, item };
 }
 
-pub(crate) fn free_cells<T: Copy, const CAP: usize>(size: u32) -> ArrayVec<Cell<T>, CAP>
-    requires { size ≤ CAP }
-    ensures items { result.items ≡ replicate size (record { generation = 0; item = None }) }
-    ensures count { length result.items ≡ size }
+// Adds that many free places where there are none.
+pub(crate) fn add_free<T: Copy, const CAP: usize>(cells: &mut ArrayVec<Cell<T>, CAP>, size: u32)
+    requires none { cells.old.items ≡ [] }
+    requires fits { size ≤ CAP }
+    ensures items { cells.new.items ≡ replicate size (record { generation = 0; item = None }) }
+    ensures count { length cells.new.items ≡ size }
 {
-    let mut cells = ArrayVec::new();
     for _i in 0..size {
         cells.push(Cell::default());
     }
-    cells
 }
 
 pub(crate) fn leave_out<const CAP: usize>(order: &mut ArrayVec<u32, CAP>, index: u32)

@@ -1,4 +1,4 @@
-//! Pools of a fixed size, whose live items have slots. No call takes memory.
+//! Pools of a fixed size, whose live items have slots. Only `Pool::boxed` takes memory.
 #![tactic(auto)]
 
 mod cells;

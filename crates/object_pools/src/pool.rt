@@ -1,12 +1,13 @@
 //! The pool.
 
-ghost use Rattle.std.specs.Prelude.{◌≡◌, ◌<◌, ◌≤◌, ◌+◌, ◌↔◌, length, IsSome, IsErr, Some, find, slice_get};
+ghost use Rattle.std.specs.Prelude.{◌≡◌, ◌<◌, ◌≤◌, ◌+◌, ◌↔◌, length, IsSome, IsErr, IfOk, Some, find, slice_get};
 ghost use Rattle.std.specs.Option.{option_copied, option_copied_mut};
 ghost use Rattle.object_pools.specs.Pool.{Places, most_takes, is_at, empty, taken, item_at, without, with_item, Takes, IsKept, AddsUp};
 
 use crate::cells::{self, Cell};
 use crate::slot::{Held, Slot};
 use arrayvec::ArrayVec;
+use std::alloc::{AllocError, Global};
 use std::marker::Model;
 
 /// At most `CAP` items, each under a slot. An item's slot and its place in memory stay from its take until it is put back.
@@ -42,11 +43,39 @@ impl<T: Copy, const CAP: usize> Pool<T, CAP> {
         requires { size ≤ CAP }
         ensures { result ≡ empty size }
     {
+        let mut pool = Pool::without_places();
+        pool.add_places(size);
+        pool
+    }
+
+    /// A pool for at most `size` live items, in a box. Its places are added there, so that none is
+    /// copied. `AllocError` where memory is wanting.
+    pub fn boxed(alloc: Global, size: u32) -> Result<Box<Self>, AllocError>
+        requires { size ≤ CAP }
+        ensures { IfOk result (λ b. b.value ≡ empty size) }
+    {
+        let mut pool = Box::new(alloc, Pool::without_places())?;
+        pool.add_places(size);
+        Ok(pool)
+    }
+
+    fn without_places() -> Self
+        ensures { result ≡ empty 0 }
+    {
         Pool {
-            cells: cells::free_cells(size),
+            cells: ArrayVec::new(),
             order: ArrayVec::new(),
             takes: 0,
         }
+    }
+
+    // Gives a pool without places that many.
+    fn add_places(&mut self, size: u32)
+        requires none { self.old ≡ empty 0 }
+        requires fits { size ≤ CAP }
+        ensures { self.new ≡ empty size }
+    {
+        cells::add_free(&mut self.cells, size);
     }
 
     /// How many items are live.

@@ -51,7 +51,7 @@ impl MessageQueues {
         let links = vec![in alloc; NO_LINK; size as usize]?;
         let ends = vec![in alloc; NO_ENDS; services]?;
         Ok(MessageQueues {
-            messages: Box::new(alloc, Pool::new(size))?,
+            messages: Pool::boxed(alloc, size)?,
             links: links.into_boxed_slice(),
             ends: ends.into_boxed_slice(),
         })

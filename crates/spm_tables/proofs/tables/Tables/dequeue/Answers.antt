@@ -43,7 +43,7 @@ invariant_of-self-2 c =
     rw c.set_waiting.ensures (
       shows-changed t.board t.queues c.deliver.new.self v c.has_waiting-waits.result c.self.invariant.0 (ap (λ (q : QueuesView). q.services) after)
           c.deliver.ensures.others c.has_waiting-waits.ensures.waits c.has_waiting-waits.ensures.there,
-      rw after (slots-put t.connections t.queues.messages s (o.held).item (record (o.held).item { delivered = true }) (oldest-item t.queues.messages v s o) refl refl c.self.invariant.1),
+      rw after (slots-put t.connections.value t.queues.messages s (o.held).item (record (o.held).item { delivered = true }) (oldest-item t.queues.messages v s o) refl refl c.self.invariant.1),
     )
 
 pub returns-clause-shape : goal.returns-clause-shape

@@ -18,5 +18,5 @@ invariant_of-self c =
     rw c.set_waiting.ensures (
       shows-changed t.board t.queues c.take_out-message.new.self c.take_out-message.result.service c.has_waiting-waits.result c.self.invariant.0 (ap (λ (q : QueuesView). q.services) c.take_out-message.ensures.after)
           c.take_out-message.ensures.others c.has_waiting-waits.ensures.waits c.has_waiting-waits.ensures.there,
-      rw c.take_out-message.ensures.after (slots-drop t.connections t.queues.messages c.args.slot c.self.invariant.1),
+      rw c.take_out-message.ensures.after (slots-drop t.connections.value t.queues.messages c.args.slot c.self.invariant.1),
     )

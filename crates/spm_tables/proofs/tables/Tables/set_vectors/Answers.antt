@@ -16,5 +16,5 @@ invariant_of-self c =
     let r = c.set_vectors.new.self in
     let live = rw (← c.self.view_is) at c.requires in (
       shows-same t.board t.queues r c.self.invariant.0 (services-written t.queues r c.args.slot (λ m. record m { vectors = c.args.vectors }) live c.set_vectors.ensures.after) c.set_vectors.ensures.all,
-      slots-written t.connections t.queues r c.args.slot (λ m. record m { vectors = c.args.vectors }) (λ m. refl) (λ m. refl) live c.set_vectors.ensures.after c.self.invariant.1,
+      slots-written t.connections.value t.queues r c.args.slot (λ m. record m { vectors = c.args.vectors }) (λ m. refl) (λ m. refl) live c.set_vectors.ensures.after c.self.invariant.1,
     )

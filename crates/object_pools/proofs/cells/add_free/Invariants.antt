@@ -1,6 +1,6 @@
 use Rattle.std.proofs.Common.{◌≡◌, length}
 use Rattle.std.specs.Prelude.{replicate, None}
-use Rattle.object_pools.proofs.cells.free_cells.Given as goal
+use Rattle.object_pools.proofs.cells.add_free.Given as goal
 
 abbrev pub invariant-loop-i : goal.invariant-loop-i
 invariant-loop-i g l = record {
