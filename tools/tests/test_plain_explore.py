@@ -16,6 +16,9 @@ import plain_run
 from plain_machine import Machine, read_scenario, read_system
 from plain_script import plans_of
 
+PARTITION = {
+    "psa_framework_version": 1.0, "type": "APPLICATION-ROT", "priority": "NORMAL", "entry_point": "main", "stack_size": "0x400",
+}
 TWO_CALLS = {"scripts": [{"actor": "NS", "lines": ["version 1", "version 2"]}]}
 
 
@@ -29,8 +32,9 @@ class PlainExplore(unittest.TestCase):
         self.addCleanup(folder.cleanup)
         self.stand = pathlib.Path(folder.name)
 
-    def answer(self, scenario, *words, clients=("NS",)):
-        (self.stand / "system.json").write_text(json.dumps({"isolation_level": 1, "manifests": [], "clients": list(clients)}))
+    def answer(self, scenario, *words, clients=("NS",), partitions=()):
+        manifests = [PARTITION | {"name": name} for name in partitions]
+        (self.stand / "system.json").write_text(json.dumps({"isolation_level": 1, "manifests": manifests, "clients": list(clients)}))
         (self.stand / "scenario.json").write_text(json.dumps(scenario))
         return self.tool("system.json", "scenario.json", *words)
 
@@ -46,6 +50,12 @@ class PlainExplore(unittest.TestCase):
     def test_clients_without_calls_end_in_any_order(self):
         told = text("states 4 steps 4", "quiet 1", "stalled 0", "panics 0", "longest 2", "complete")
         self.assertEqual(self.answer({}, clients=("A", "B")), (0, told))
+
+    def test_of_an_actor_that_is_gone_no_script_is_told(self):
+        # B ends with the doorbell's signal in r0, or without it
+        scripts = [{"actor": "A", "lines": ["notify 2"]}, {"actor": "B", "lines": ["wait 8 0"]}]
+        told = text("states 11 steps 15", "quiet 1", "stalled 0", "panics 0", "longest 4", "complete")
+        self.assertEqual(self.answer({"scripts": scripts}, clients=(), partitions=("A", "B")), (0, told))
 
     def test_states_at_the_event_limit_are_not_expanded(self):
         told = text("states 2 steps 1", "quiet 0", "stalled 0", "panics 0", "full 1 NS", "complete")

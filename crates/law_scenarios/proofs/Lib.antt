@@ -11,6 +11,8 @@ pub mod NextStates
 pub mod Walks
 pub mod Enabled
 pub mod Past
+pub mod Resting
+pub mod Gone
 pub mod SlotsAlike
 pub mod Alike
 pub mod SeenWalks
