@@ -27,7 +27,9 @@ use Rattle.view_json.specs.StateJson.{json_of_state}
 use Rattle.view_json.specs.StatsJson.{stats_json}
 use Rattle.view_json.specs.Values.{IsLineOf, error_json}
 use Rattle.view_json.specs.WhyJson.{legal_entry_json, why_json}
-use Rattle.view_scripts.specs.ScriptsText.{TellsScripts}
+use Rattle.view_scripts.specs.Rows.{AreRows}
+use Rattle.view_scripts.specs.ScriptsText.{scripts_text}
+use Rattle.view_scripts.specs.declared.rows.ScriptRow.{ScriptRow}
 use Rattle.view_places.specs.declared.behind.Place.{Place}
 use Rattle.view_places.specs.declared.behind.Place.TheVariants as behind
 use Rattle.view_places.specs.declared.reasons.Finding.{Finding}
@@ -77,9 +79,9 @@ IsLegalTo f k = (k ≤ f.work.scenario.limit) × IsSome (after f.work.system (me
 abbrev pub IsIllegalTo : TraceFiles → ℕ → Type 0
 IsIllegalTo f k = (n : ℕ) × (n ≤ k) × IsIllegalAt f.work.system (memory_of f) f.work.scenario.limit f.trace.entries n
 
--- the text of where the scripts stand after the first k entries
-abbrev pub AreScriptsAfter : TraceFiles → ℕ → List ℕ → Type 0
-AreScriptsAfter f k text = TellsScripts f.work.system f.work.scenario (take k f.trace.entries) text
+-- where the scripts stand after the first k entries
+abbrev pub AreScriptsAfter : TraceFiles → ℕ → Option (List ScriptRow) → Type 0
+AreScriptsAfter f k rows = AreRows f.work.system f.work.scenario (take k f.trace.entries) rows
 
 -- the files' trace has an entry at place k, counted from 1
 abbrev pub HasEntryAt : TraceFiles → ℕ → Type 0
@@ -87,8 +89,8 @@ HasEntryAt f k = (0 < k) × (k ≤ length f.trace.entries)
 
 -- what an aspect shows of the files of a trace
 abbrev pub IsView : TraceFiles → Aspect → View → Type 0
-IsView f (aspect.State None) (view.State b scripts) = IsLastLegal f.work.system (memory_of f) f.work.scenario.limit f.trace.entries b × AreScriptsAfter f b.checker.count scripts.items
-IsView f (aspect.State (Some k)) (view.State b scripts) = IsPlaceOf f k (behind.State b) × AreScriptsAfter f b.checker.count scripts.items
+IsView f (aspect.State None) (view.State b scripts) = IsLastLegal f.work.system (memory_of f) f.work.scenario.limit f.trace.entries b × AreScriptsAfter f b.checker.count (option_map (λ rows. rows.items) scripts)
+IsView f (aspect.State (Some k)) (view.State b scripts) = IsPlaceOf f k (behind.State b) × AreScriptsAfter f b.checker.count (option_map (λ rows. rows.items) scripts)
 IsView f (aspect.State (Some k)) (view.NoPlace place total) = (place ≡ k) × ((total ≡ length f.trace.entries) × IsPlaceOf f k behind.Beyond)
 IsView f (aspect.State (Some k)) (view.NoState illegal place) = (place ≡ k) × IsPlaceOf f k (behind.Illegal illegal)
 IsView f (aspect.Why None) (view.Why found) = IsFindingOf f found
@@ -133,7 +135,9 @@ IsWritten writing.Json plain json text = IsLineOf json text
 abbrev pub IsViewText : TraceFiles → Writing → View → List ℕ → Type 0
 IsViewText f w (view.NoPlace place total) text = IsWritten w (no_place_line place total) (error_json (no_place_line place total)) text
 IsViewText f w (view.NoState illegal place) text = IsWritten w (no_state_line illegal place) (error_json (no_state_line illegal place)) text
-IsViewText f w (view.State b scripts) text = IsWritten w (text_of_state f.work.system b ++ scripts.items) (json_of_state f.work.system b) text
+IsViewText f w (view.State b scripts) text =
+    IsWritten w (text_of_state f.work.system b ++ scripts_text f.work.system (option_map (λ rows. rows.items) scripts))
+    (json_of_state f.work.system b (option_map (λ rows. rows.items) scripts)) text
 IsViewText f w (view.Why found) text = IsWritten w (why_text f.work.system found) (why_json f.work.system found) text
 IsViewText f w (view.LegalEntry place t) text = IsWritten w (legal_entry_text f.work.system place t) (legal_entry_json f.work.system place t) text
 IsViewText f w (view.Stats counts) text = IsWritten w (counts_text f.work.system counts) (stats_json f.work.system counts) text

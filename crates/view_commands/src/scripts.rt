@@ -1,12 +1,16 @@
 //! Where the scripts stand after entries of a trace.
 ghost use Rattle.std.specs.Prelude.{◌≡◌, ◌≤◌, ◌++◌, IfOk, length, take};
+ghost use Rattle.std.specs.Option.{option_map};
+ghost use Rattle.view_places.specs.StateText.{text_of_state};
+ghost use Rattle.view_scripts.specs.ScriptsText.{scripts_text};
 ghost use Rattle.view_commands.specs.Files.{AreTraceFiles};
 ghost use Rattle.view_commands.specs.Views.{AreScriptsAfter};
 
 use crate::files::TraceFiles;
-use ffm_model::{Entry, Memory};
+use ffm_model::{Entry, Memory, System};
 use std::alloc::{AllocError, Global};
-use view_scripts::scripts_text;
+use view_places::{StateAfter, state_text};
+use view_scripts::{ScriptRow, put_scripts, script_rows};
 
 // The first entries, or all where there are fewer.
 #[tactic(auto, using(std::proofs::lemmas::List::take_all))]
@@ -22,20 +26,41 @@ fn first_entries(entries: &[Entry], count: u32) -> &[Entry]
     }
 }
 
-/// The text of where the scripts stand after so many entries.
-pub fn scripts_after(alloc: Global, files: &TraceFiles, count: u32) -> Result<Vec<u8>, Memory>
+/// Where the scripts stand after so many entries.
+pub fn scripts_after(
+    alloc: Global,
+    files: &TraceFiles,
+    count: u32,
+) -> Result<Option<Vec<ScriptRow>>, Memory>
     requires { AreTraceFiles files.now }
-    ensures { IfOk result (λ text. AreScriptsAfter files.now count text.items) }
+    ensures { IfOk result (λ rows.
+        AreScriptsAfter files.now count (option_map (λ rows. rows.items) rows)) }
 {
     let entries = first_entries(files.trace.entries.as_slice(), count);
-    scripts_text(alloc, &files.work.system, &files.work.scenario, entries)
+    script_rows(alloc, &files.work.system, &files.work.scenario, entries)
 }
 
-/// A text with more behind it.
-pub fn followed_by(front: Vec<u8>, more: &[u8]) -> Result<Vec<u8>, AllocError>
-    ensures { IfOk result (λ text. text.items ≡ front.items ++ more.now) }
+/// The rows, lent.
+pub fn rows_of(scripts: &Option<Vec<ScriptRow>>) -> Option<&[ScriptRow]>
+    ensures { option_map (λ rows. rows.now) result ≡ option_map (λ rows. rows.items) scripts.now }
 {
-    let mut text = front;
-    text.extend_from_slice(more)?;
+    match scripts {
+        Some(rows) => Some(rows.as_slice()),
+        None => None,
+    }
+}
+
+/// The text of a state, and behind it that of where the scripts stand.
+pub fn text_with_scripts(
+    alloc: Global,
+    system: &System,
+    after: &StateAfter,
+    scripts: Option<&[ScriptRow]>,
+) -> Result<Vec<u8>, AllocError>
+    ensures { IfOk result (λ text. text.items ≡ text_of_state system.now after.now
+        ++ scripts_text system.now (option_map (λ rows. rows.now) scripts.entry)) }
+{
+    let mut text = state_text(alloc, system, after)?;
+    put_scripts(&mut text, system, scripts)?;
     Ok(text)
 }

@@ -13,7 +13,7 @@ use crate::calls::{asked, reason_at};
 use crate::choosing::{Choice, choice_of};
 use crate::diagrams::{format_of, part_asked, place_beyond};
 use crate::files::TraceFiles;
-use crate::scripts::{followed_by, scripts_after};
+use crate::scripts::{rows_of, scripts_after, text_with_scripts};
 use crate::words::{Aspect, Format, Writing};
 use ffm_model::Memory;
 use memory_image::{Image, opening_image};
@@ -22,15 +22,16 @@ use view_diagram::{Part, SequenceDiagram, diagram};
 use view_json::{error_json, legal_entry_json, state_json, stats_json, why_json};
 use view_places::{
     CallAfter, Finding, Place, StateAfter, after_last, after_place, ask_text, legal_entry_text,
-    state_text, why, why_text,
+    why, why_text,
 };
+use view_scripts::ScriptRow;
 use view_texts::{TraceCounts, stats, stats_text};
 
 /// What is shown.
 #[derive(Drop)]
 pub enum View {
-    /// The state after an entry, and the text of where the scripts stand.
-    State(StateAfter, Vec<u8>),
+    /// The state after an entry, and where the scripts stand.
+    State(StateAfter, Option<Vec<ScriptRow>>),
     /// That the trace has no such place, but so many entries.
     NoPlace { place: u32, total: u32 },
     /// That there is no state after a place, since an entry up to it is illegal.
@@ -238,9 +239,11 @@ impl View {
         let system = &files.work.system;
         match (self, writing) {
             (View::State(after, scripts), Writing::Text) => {
-                followed_by(state_text(alloc, system, after)?, scripts)
+                text_with_scripts(alloc, system, after, rows_of(scripts))
             }
-            (View::State(after, _), Writing::Json) => state_json(alloc, system, after),
+            (View::State(after, scripts), Writing::Json) => {
+                state_json(alloc, system, after, rows_of(scripts))
+            }
             (View::Why(finding), Writing::Text) => why_text(alloc, system, finding),
             (View::Why(finding), Writing::Json) => why_json(alloc, system, finding),
             (View::LegalEntry { place, call }, Writing::Text) => {

@@ -1,6 +1,6 @@
 -- What a diagram of a part of a trace shows, perhaps of some of its actors alone.
 -- Source: this simulator's.
-use Rattle.std.specs.Prelude.{ℕ, ◌≡◌, ◌==◌, ◌&&◌, ◌||◌, Bool, true, List, filter, map, Option, None, Some}
+use Rattle.std.specs.Prelude.{ℕ, ◌≡◌, ◌==◌, ◌&&◌, ◌||◌, Bool, true, List, filter, Option, None, Some}
 use Rattle.std.specs.List.{list_any, range_with_len}
 use Rattle.std.specs.Option.{option_map}
 use Rattle.ffm_model.specs.Actors.{actor_count}

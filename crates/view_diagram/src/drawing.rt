@@ -9,8 +9,11 @@ use ffm_model::{Entry, System, Trace};
 use std::alloc::{AllocError, Global};
 use trace_print::print;
 
-/// How wide the column of the places and of who sends to whom is, in pixels.
-pub const PLACES_WIDTH: u64 = 112;
+// How wide the column of the places and of who sends to whom is, in pixels.
+const PLACES_WIDTH: u64 = 112;
+
+// How wide it is with the labels of marks.
+const MARKS_WIDTH: u64 = 256;
 
 // How high a row is.
 const ROW_HEIGHT: u64 = 24;
@@ -29,6 +32,17 @@ const LETTER_WIDTH: u64 = 8;
 
 // More lanes than these are narrow.
 const FEW_LANES: usize = 12;
+
+// Whether an arrow is a mark at one actor.
+fn is_mark(arrow: Arrow) -> bool {
+    arrow.from.0 == arrow.to.0
+}
+
+/// How wide the column at the left is, in pixels.
+pub fn places_width(arrows: &[PlacedArrow]) -> u64 {
+    let has_marks = arrows.iter().any(|placed| is_mark(placed.arrow));
+    if has_marks { MARKS_WIDTH } else { PLACES_WIDTH }
+}
 
 /// How wide a lane is, in pixels, where there are so many.
 pub fn lane_width(lanes: usize) -> u64 {
@@ -247,17 +261,41 @@ pub fn push_arrows(
 // Who sends an arrow to whom.
 fn push_ends(out: &mut String, system: &System, arrow: Arrow) -> Result<(), AllocError> {
     push_word(out, system, arrow.from)?;
-    if arrow.from.0 != arrow.to.0 {
+    if !is_mark(arrow) {
         out.push_str("&#8594;")?;
         push_word(out, system, arrow.to)?;
     }
     Ok(())
 }
 
-/// The places of the entries, each at its first row, and at each row who sends to whom.
-pub fn push_places(
+// What is written at a mark, for those who don't see its lane.
+fn push_mark_label(
+    alloc: Global,
     out: &mut String,
     system: &System,
+    trace: &Trace,
+    placed: PlacedArrow,
+) -> Result<(), AllocError> {
+    if !is_mark(placed.arrow) {
+        return Ok(());
+    }
+    if let Some(entry) = entry_at(trace, placed.place) {
+        let class = class_of(placed.arrow.meaning);
+        let text = label(alloc, system, entry, placed.arrow)?;
+        write!(out, " <tspan class=\"{class}\">")?;
+        push_html(out, text.as_str())?;
+        out.push_str("</tspan>")?;
+    }
+    Ok(())
+}
+
+/// The places of the entries, each at its first row, and at each row who sends to whom, or the label of
+/// a mark.
+pub fn push_places(
+    alloc: Global,
+    out: &mut String,
+    system: &System,
+    trace: &Trace,
     arrows: &[PlacedArrow],
 ) -> Result<(), AllocError> {
     let mut before = 0;
@@ -272,6 +310,7 @@ pub fn push_places(
         }
         write!(out, "<text class=\"ends\" x=\"52\" y=\"{y}\">")?;
         push_ends(out, system, placed.arrow)?;
+        push_mark_label(alloc, out, system, trace, *placed)?;
         out.push_str("</text>\n")?;
         before = place;
     }

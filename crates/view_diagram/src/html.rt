@@ -4,7 +4,7 @@ ghost use Rattle.std.specs.Prelude.{IfOk, string_bytes};
 ghost use Rattle.view_diagram.specs.Ends.{EndsIn, page_tail};
 
 use crate::drawing::{
-    PLACES_WIDTH, drawing_height, drawing_width, lane_width, push_arrows, push_lines, push_places,
+    drawing_height, drawing_width, lane_width, places_width, push_arrows, push_lines, push_places,
 };
 use crate::ends::ended;
 use crate::escapes::push_html;
@@ -33,7 +33,9 @@ footer{font-weight:bold}
 .lane small{display:block;font-weight:normal;color:#555}
 svg{display:block;flex:none;overflow:visible}
 .places text{text-anchor:end;fill:#555;font-size:11px}
+.places{overflow:hidden}
 .places text.ends{text-anchor:start;fill:#888;font-size:10px}
+.places tspan{fill:var(--ink)}
 .life{stroke:#b5bcc4;stroke-width:1}
 g text,.legend text{font-size:11px;fill:var(--ink);stroke:#fff;stroke-width:3px;paint-order:stroke;stroke-linejoin:round}
 g text.left{text-anchor:end}
@@ -103,12 +105,17 @@ fn push_lane(
 }
 
 // The names of the actors, which stay where the page is scrolled down.
-fn push_names(out: &mut String, system: &System, actors: &[ActorId]) -> Result<(), AllocError> {
+fn push_names(
+    out: &mut String,
+    system: &System,
+    places_width: u64,
+    actors: &[ActorId],
+) -> Result<(), AllocError> {
     let width = lane_width(actors.len());
     out.push_str("<div class=\"row names\">\n")?;
     write!(
         out,
-        "<div class=\"corner\" style=\"width:{PLACES_WIDTH}px\">entry</div>\n"
+        "<div class=\"corner\" style=\"width:{places_width}px\">entry</div>\n"
     )?;
     for actor in actors {
         push_lane(out, system, width, *actor)?;
@@ -128,12 +135,13 @@ fn push_drawing(
     let count = lanes.actors().len();
     let width = drawing_width(count);
     let height = drawing_height(arrows.len());
+    let left = places_width(arrows);
     out.push_str("<div class=\"row\">\n")?;
     write!(
         out,
-        "<svg class=\"places\" width=\"{PLACES_WIDTH}\" height=\"{height}\">\n"
+        "<svg class=\"places\" width=\"{left}\" height=\"{height}\">\n"
     )?;
-    push_places(out, system, arrows)?;
+    push_places(alloc, out, system, trace, arrows)?;
     write!(out, "</svg>\n<svg width=\"{width}\" height=\"{height}\">\n")?;
     push_lines(out, count, arrows.len())?;
     push_arrows(alloc, out, system, trace, lanes, arrows)?;
@@ -153,7 +161,7 @@ fn drawn(
     out.push_str(HEAD)?;
     push_heading(&mut out, trace, part)?;
     out.push_str(LEGEND)?;
-    push_names(&mut out, system, lanes.actors())?;
+    push_names(&mut out, system, places_width(arrows), lanes.actors())?;
     push_drawing(alloc, &mut out, system, trace, lanes, arrows)?;
     out.push_str("<footer>")?;
     Ok(out)

@@ -1,3 +1,4 @@
+pub mod ScriptsJson
 pub mod StateJson
 pub mod StatsJson
 pub mod Values

@@ -22,7 +22,9 @@ use Rattle.machine_calls.specs.Machine.{spm_of_objects}
 use Rattle.view_places.specs.declared.behind.StateAfter.{StateAfter}
 use Rattle.view_places.specs.StateText.{connection_word, phase_text, rung, signals_from, stopped_text}
 use Rattle.view_places.specs.Waits.{actors, circle_of, is_stalled, message_awaited, signals_in, waits_for}
+use Rattle.view_scripts.specs.declared.rows.ScriptRow.{ScriptRow}
 use Rattle.view_texts.specs.Names.{actor_name, call_of_kind, service_name}
+use Rattle.view_json.specs.ScriptsJson.{scripts_json}
 use Rattle.view_json.specs.Values.{actor_json, actors_json, array_of, handle_json, id_json, object_of, place_json, signals_text, text_of}
 
 -- ---- actors
@@ -143,19 +145,29 @@ circle_json s None = null
 abbrev pub stall_circle : System → SpmState → Option (List ℕ)
 stall_circle s b = if is_stalled s b then circle_of s b else None
 
--- ---- the state after so many entries of so many, with the place of each actor's last entry
+-- ---- the state after so many entries of so many, with the place of each actor's last entry, and where the scripts stand
 
-unfoldable pub state_json : System → ℕ → ℕ → List ℕ → SpmState → Data
-state_json s count total last b =
-    object_of ((codes "place", number (unsigned count)) ∷ (codes "entries", number (unsigned total))
-    ∷ (codes "actors", array_of (map (standing_json s b last) (actors s)))
-    ∷ (codes "connections", array_of (map (connection_json s) b.connections))
-    ∷ (codes "messages", array_of (map (message_json s) b.messages))
-    ∷ (codes "doorbells", actors_json s (rung s b.doorbells))
-    ∷ (codes "interrupts", array_of (map (source_json s b) (enumerate_from 0 s.sources)))
-    ∷ (codes "stalled", boolean (is_stalled s b))
-    ∷ (codes "waits", waits_json s b)
-    ∷ (codes "circle", circle_json s (stall_circle s b)) ∷ [])
+-- the members of a state, in this order
+unfoldable pub members_json : ℕ → ℕ → Data → Data → Data → Data → Data → Bool → Data → Data → Data → Data
+members_json place entries actors connections messages doorbells interrupts stalled waits circle scripts =
+    object_of ((codes "place", number (unsigned place)) ∷ (codes "entries", number (unsigned entries))
+    ∷ (codes "actors", actors) ∷ (codes "connections", connections) ∷ (codes "messages", messages)
+    ∷ (codes "doorbells", doorbells) ∷ (codes "interrupts", interrupts)
+    ∷ (codes "stalled", boolean stalled) ∷ (codes "waits", waits) ∷ (codes "circle", circle)
+    ∷ (codes "scripts", scripts) ∷ [])
 
-abbrev pub json_of_state : System → StateAfter → Data
-json_of_state s b = state_json s b.checker.count b.total b.last.items (spm_of_objects b.checker.machine.objects)
+unfoldable pub state_json : System → ℕ → ℕ → List ℕ → SpmState → Option (List ScriptRow) → Data
+state_json s count total last b scripts =
+    members_json count total
+    (array_of (map (standing_json s b last) (actors s)))
+    (array_of (map (connection_json s) b.connections))
+    (array_of (map (message_json s) b.messages))
+    (actors_json s (rung s b.doorbells))
+    (array_of (map (source_json s b) (enumerate_from 0 s.sources)))
+    (is_stalled s b)
+    (waits_json s b)
+    (circle_json s (stall_circle s b))
+    (scripts_json s scripts)
+
+abbrev pub json_of_state : System → StateAfter → Option (List ScriptRow) → Data
+json_of_state s b scripts = state_json s b.checker.count b.total b.last.items (spm_of_objects b.checker.machine.objects) scripts

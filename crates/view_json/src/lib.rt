@@ -6,6 +6,7 @@
 
 mod actors;
 mod moves;
+mod scripts;
 mod stall;
 mod state;
 mod stats;

@@ -1,15 +1,17 @@
 //! A state as JSON.
 ghost use Rattle.std.specs.Prelude.{◌≡◌, IfOk, map};
 ghost use Rattle.std.specs.List.{enumerate_from};
+ghost use Rattle.std.specs.Option.{option_map};
 ghost use Rattle.serde_json.specs.View.{view};
 ghost use Rattle.machine_calls.specs.Machine.{spm_of_objects};
 ghost use Rattle.view_places.specs.StateText.{phase_text, rung};
-ghost use Rattle.view_json.specs.StateJson.{asserted_json, connection_json, json_of_state, mask_json, phase_word, source_json, standing_json, state_json};
+ghost use Rattle.view_json.specs.StateJson.{asserted_json, connection_json, json_of_state, mask_json, members_json, phase_word, source_json, standing_json, state_json};
 ghost use Rattle.view_places.specs.Waits.{actors};
 ghost use Rattle.view_json.specs.Values.{IsLineOf, actors_json, array_of, text_of};
 
 use crate::actors::{actor_value, actors_value, all_actors, id_value};
 use crate::moves::messages_value;
+use crate::scripts::scripts_value;
 use crate::stall::{circle_value, waits_value};
 use crate::values::{handle_value, line_of, place_value, signals_value, text_value};
 use ffm_model::{ActorPhase, OpenConnection, Source, System};
@@ -17,6 +19,7 @@ use machine_calls::Objects;
 use serde_json::{Value, json};
 use std::alloc::{AllocError, Global};
 use view_places::{StateAfter, connection_word, flags_at, is_stalled, put_phase, rung};
+use view_scripts::ScriptRow;
 use view_texts::{actor_name, number_at, service_name};
 
 fn phase_word(phase: ActorPhase) -> &'static str
@@ -234,6 +237,44 @@ fn doorbells_value(alloc: Global, system: &System, doorbells: &[bool]) -> Result
     actors_value(alloc, system, &rung)
 }
 
+// What the members of a state are made of.
+#[derive(Drop)]
+struct Members {
+    place: u32,
+    entries: u32,
+    actors: Value,
+    connections: Value,
+    messages: Value,
+    doorbells: Value,
+    interrupts: Value,
+    stalled: bool,
+    waits: Value,
+    circle: Value,
+    scripts: Value,
+}
+
+#[tactic(auto, unfolding(crate::specs::StateJson::members_json))]
+fn members_value(alloc: Global, members: Members) -> Result<Value, AllocError>
+    ensures { IfOk result (λ v. view v ≡ members_json members.place members.entries
+        (view members.actors) (view members.connections) (view members.messages)
+        (view members.doorbells) (view members.interrupts) members.stalled (view members.waits)
+        (view members.circle) (view members.scripts)) }
+{
+    json!(in alloc; {
+        "place": members.place,
+        "entries": members.entries,
+        "actors": members.actors,
+        "connections": members.connections,
+        "messages": members.messages,
+        "doorbells": members.doorbells,
+        "interrupts": members.interrupts,
+        "stalled": members.stalled,
+        "waits": members.waits,
+        "circle": members.circle,
+        "scripts": members.scripts
+    })
+}
+
 #[tactic(auto, unfolding(crate::specs::StateJson::state_json))]
 fn state_value(
     alloc: Global,
@@ -242,36 +283,38 @@ fn state_value(
     count: u32,
     total: u32,
     last: &[u32],
+    scripts: Option<&[ScriptRow]>,
 ) -> Result<Value, AllocError>
     ensures { IfOk result (λ v. view v
-        ≡ state_json system.now count total last.now (spm_of_objects objects.now)) }
+        ≡ state_json system.now count total last.now (spm_of_objects objects.now)
+        (option_map (λ rows. rows.now) scripts.entry)) }
 {
-    let actors = standings_value(alloc, system, objects, last)?;
-    let connections = connections_value(alloc, system, &objects.connections)?;
-    let messages = messages_value(alloc, system, &objects.messages)?;
-    let doorbells = doorbells_value(alloc, system, &objects.doorbells)?;
-    let interrupts = sources_value(alloc, system, objects, system.sources.as_slice())?;
-    let waits = waits_value(alloc, system, objects)?;
-    let circle = circle_value(alloc, system, objects)?;
-    let stalled = is_stalled(system, objects);
-    json!(in alloc; {
-        "place": count,
-        "entries": total,
-        "actors": actors,
-        "connections": connections,
-        "messages": messages,
-        "doorbells": doorbells,
-        "interrupts": interrupts,
-        "stalled": stalled,
-        "waits": waits,
-        "circle": circle
-    })
+    let members = Members {
+        place: count,
+        entries: total,
+        actors: standings_value(alloc, system, objects, last)?,
+        connections: connections_value(alloc, system, &objects.connections)?,
+        messages: messages_value(alloc, system, &objects.messages)?,
+        doorbells: doorbells_value(alloc, system, &objects.doorbells)?,
+        interrupts: sources_value(alloc, system, objects, system.sources.as_slice())?,
+        stalled: is_stalled(system, objects),
+        waits: waits_value(alloc, system, objects)?,
+        circle: circle_value(alloc, system, objects)?,
+        scripts: scripts_value(alloc, system, scripts)?,
+    };
+    members_value(alloc, members)
 }
 
-/// A state as JSON: its actors, connections, messages, doorbells and interrupts, and at a stall who waits for whom. The
-/// only error is want of memory.
-pub fn state_json(alloc: Global, system: &System, after: &StateAfter) -> Result<Vec<u8>, AllocError>
-    ensures { IfOk result (λ line. IsLineOf (json_of_state system.now after.now) line.items) }
+/// A state as JSON: its actors, connections, messages, doorbells and interrupts, at a stall who waits for whom, and where
+/// the scripts stand. The only error is want of memory.
+pub fn state_json(
+    alloc: Global,
+    system: &System,
+    after: &StateAfter,
+    scripts: Option<&[ScriptRow]>,
+) -> Result<Vec<u8>, AllocError>
+    ensures { IfOk result (λ line. IsLineOf (json_of_state system.now after.now
+        (option_map (λ rows. rows.now) scripts.entry)) line.items) }
 {
     let objects = &after.checker.machine.objects;
     let last = after.last.as_slice();
@@ -282,6 +325,7 @@ pub fn state_json(alloc: Global, system: &System, after: &StateAfter) -> Result<
         after.checker.count,
         after.total,
         last,
+        scripts,
     )?;
     line_of(alloc, &value)
 }

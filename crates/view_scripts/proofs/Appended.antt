@@ -1,20 +1,16 @@
--- Rows that are appended one after the other, and a list that grows.
-use Rattle.std.proofs.Common.{ℕ, ◌≡◌, ◌+◌, ◌<◌, List, [], ◌∷◌, ◌++◌, ⊎_elim, drop, get_or, length, arith, ap, subst, sym, ◌∙◌, append_assoc}
-use Rattle.std.specs.List.{enumerate_from, flat_map}
+-- Lists that grow.
+use Rattle.std.proofs.Common.{ℕ, ◌≡◌, ◌+◌, ◌<◌, List, [], ◌∷◌, ◌++◌, ⊎_elim, drop, get_or, length, arith, ap, subst, sym, ◌∙◌, append_assoc, map}
+use Rattle.std.specs.List.{enumerate_from}
 use Rattle.std.proofs.lemmas.Bool.{cases_eq}
 use Rattle.std.proofs.lemmas.List.{drop_more, get_or_append_left, get_or_push}
 
--- two texts
-pub step : (t t₁ t₂ x y : List ℕ) → t₁ ≡ t ++ x → t₂ ≡ t₁ ++ y → t₂ ≡ t ++ (x ++ y)
-step t t₁ t₂ x y one two = two ∙ ap (λ (u : List ℕ). u ++ y) one ∙ append_assoc t x y
-
 -- the row of one more item
-pub next-row : {X : Type 0} (f : ℕ × X → List ℕ) (xs : List X) (k : ℕ) (x : X) (text new whole : List ℕ) → k < length xs → x ≡ get_or xs k x → new ≡ text ++ f (k, x)
-    → text ++ flat_map f (enumerate_from k (drop k xs)) ≡ whole → new ++ flat_map f (enumerate_from (k + 1) (drop (k + 1) xs)) ≡ whole
-next-row {X} f xs k x text new whole low is more so =
-    let rest : List ℕ = flat_map f (enumerate_from (k + 1) (drop (k + 1) xs)) in
-    ap (λ (u : List ℕ). u ++ rest) more ∙ append_assoc text (f (k, x)) rest
-    ∙ ap (λ (l : List X). text ++ flat_map f (enumerate_from k l)) (sym (drop_more xs k x low ∙ ap (λ (y : X). y ∷ drop (k + 1) xs) (sym is)))
+pub next-row : {X Y : Type 0} (f : ℕ × X → Y) (xs : List X) (k : ℕ) (x : X) (rows new whole : List Y) → k < length xs → x ≡ get_or xs k x → new ≡ rows ++ f (k, x) ∷ []
+    → rows ++ map f (enumerate_from k (drop k xs)) ≡ whole → new ++ map f (enumerate_from (k + 1) (drop (k + 1) xs)) ≡ whole
+next-row {X} {Y} f xs k x rows new whole low is more so =
+    let rest : List Y = map f (enumerate_from (k + 1) (drop (k + 1) xs)) in
+    ap (λ (u : List Y). u ++ rest) more ∙ append_assoc rows (f (k, x) ∷ []) rest
+    ∙ ap (λ (l : List X). rows ++ map f (enumerate_from k l)) (sym (drop_more xs k x low ∙ ap (λ (y : X). y ∷ drop (k + 1) xs) (sym is)))
     ∙ so
 
 -- a fact of each item, of one more

@@ -1,3 +1,4 @@
 pub mod Standings
 pub mod ScriptLines
+pub mod Rows
 pub mod ScriptsText

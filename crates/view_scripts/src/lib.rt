@@ -6,5 +6,6 @@ mod rows;
 mod standing;
 mod text;
 
+pub use rows::{NumberedContext, ScriptRow, Told, script_rows};
 pub use standing::{End, Standing, standing_of};
-pub use text::scripts_text;
+pub use text::{end_word, put_scripts};

@@ -1,29 +1,118 @@
 //! The text that says where the scripts of a scenario stand.
-ghost use Rattle.std.specs.Prelude.{◌≡◌, ◌<◌, ◌≤◌, ◌^◌, ◌&&◌, ◌++◌, IfOk, IfSome, None, OnOk, Some, codes, false, if◌then◌else◌, length, option_map};
-ghost use Rattle.std.specs.Fmt.{decimal};
-ghost use Rattle.std.specs.List.{AllByRecursion, enumerate_from, flat_map};
-ghost use Rattle.ffm_model.specs.Actors.{actor_count};
-ghost use Rattle.ffm_model.specs.Scenarios.{IsScenarioOf};
-ghost use Rattle.ffm_model.specs.ScriptRuns.{arrived, call_at, only_part};
-ghost use Rattle.ffm_model.specs.Scripts.{IsPart};
-ghost use Rattle.script_points.specs.Points.{AreContexts};
-ghost use Rattle.view_scripts.specs.ScriptsText.{TellsScripts, TellsStandings, actor_rows, context_row, end_word, engine_rows, has_script, holding_row, is_caller, next_text, row_text, script_rows};
-ghost use Rattle.view_scripts.specs.Standings.{AreShown, IsEngineOf, IsShown};
+ghost use Rattle.std.specs.Prelude.{◌≡◌, ◌<◌, ◌^◌, ◌==◌, ◌++◌, OnOk, codes, if◌then◌else◌, length, option_map};
+ghost use Rattle.std.specs.List.{enumerate_from, flat_map, list_all};
+ghost use Rattle.view_scripts.specs.ScriptsText.{call_text, context_text, end_word, heading, label_text, line_text, mark_word, register_text, registers_text, row_text, rows_text, scripts_text, spent_text, told_text, value_text};
+ghost use Rattle.text_lines.specs.Words.{word_text};
 
-use crate::lines::lines_at;
-use crate::rows::{put_label, put_next};
-use crate::standing::{End, Standing, standings};
-use actor_programs::{Program, programs_of, scripts_of};
-use ffm_model::{Entry, List, Memory, Name, Part, ReadError, Scenario, Script, System};
-use mm_iovec::Held;
-use packed_state::{Contexts, Engine, Holding, Point};
-use script_points::{context_at, context_call, contexts_caller, holding_at, holding_call};
-use std::alloc::{AllocError, Global};
+use crate::rows::{NumberedContext, ScriptRow, Told};
+use crate::standing::End;
+use ffm_model::{Call, System};
+use std::alloc::AllocError;
 use text_lines::{Word, append, append_words};
+use view_texts::{actor_name, actor_width, call_name, pad, put_left};
 
-// ---- an actor that calls nothing more
+// ---- registers
 
-fn end_word(end: End) -> &'static str
+// A register's value: in decimal below 65536, and else as an address.
+fn value_word(value: u32) -> Word<'static>
+    ensures { word_text result ≡ value_text value }
+{
+    if value < 65536 {
+        Word::Number(value)
+    } else {
+        Word::Hexadecimal(value)
+    }
+}
+
+// Appends a register that isn't 0.
+fn put_register(text: &mut Vec<u8>, register: u32, value: u32) -> Result<(), AllocError>
+    ensures { OnOk result (text.new.items ≡ text.old.items ++ register_text (register, value)) }
+{
+    if value == 0 {
+        return Ok(());
+    }
+    append_words(
+        text,
+        &[
+            Word::Text("  r"),
+            Word::Number(register),
+            Word::Text(" "),
+            value_word(value),
+        ],
+    )
+}
+
+fn put_some_registers(text: &mut Vec<u8>, registers: &[u32]) -> Result<(), AllocError>
+    requires { length registers.now ≡ 16 }
+    ensures { OnOk result (text.new.items
+        ≡ text.old.items ++ flat_map register_text (enumerate_from 0 registers.now)) }
+{
+    for (register, value) in registers.iter().enumerate() {
+        put_register(text, register as u32, *value)?;
+    }
+    Ok(())
+}
+
+fn are_zero(registers: &[u32]) -> bool
+    ensures { result ≡ list_all (λ value. value == 0) registers.now }
+{
+    registers.iter().all(|value| *value == 0)
+}
+
+// Appends the registers that aren't 0.
+#[tactic(auto, unfolding(crate::specs::ScriptsText::registers_text))]
+fn put_registers(text: &mut Vec<u8>, registers: &[u32]) -> Result<(), AllocError>
+    requires { length registers.now ≡ 16 }
+    ensures { OnOk result (text.new.items ≡ text.old.items ++ registers_text registers.now) }
+{
+    if are_zero(registers) {
+        return append(text, "  -");
+    }
+    put_some_registers(text, registers)
+}
+
+// ---- what is told
+
+fn spent_word(is_spent: bool) -> &'static str
+    ensures { result.now ≡ spent_text is_spent }
+{
+    if is_spent {
+        "  its local lines are spent"
+    } else {
+        ""
+    }
+}
+
+// Appends a line with its number and the registers.
+#[tactic(auto, unfolding(crate::specs::ScriptsText::line_text))]
+fn put_line(
+    text: &mut Vec<u8>,
+    number: u32,
+    line: &str,
+    registers: &[u32; 16],
+    is_spent: bool,
+) -> Result<(), AllocError>
+    ensures { OnOk result (text.new.items
+        ≡ text.old.items ++ line_text number line.now registers.now is_spent) }
+{
+    append(text, "line ")?;
+    put_left(text, Word::Number(number), 4)?;
+    put_left(text, Word::Text(line), 44)?;
+    put_registers(text, registers)?;
+    append(text, spent_word(is_spent))
+}
+
+#[tactic(auto, unfolding(crate::specs::ScriptsText::call_text))]
+fn put_call(text: &mut Vec<u8>, call: Call, registers: &[u32; 16]) -> Result<(), AllocError>
+    ensures { OnOk result (text.new.items ≡ text.old.items ++ call_text call registers.now) }
+{
+    append(text, "calls ")?;
+    put_left(text, Word::Text(call_name(call)), 47)?;
+    put_registers(text, registers)
+}
+
+/// How an actor ended, in a word.
+pub fn end_word(end: End) -> &'static str
     ensures { result.now ≡ end_word end }
 {
     match end {
@@ -33,270 +122,117 @@ fn end_word(end: End) -> &'static str
     }
 }
 
-#[tactic(auto, unfolding(crate::specs::ScriptsText::row_text))]
-fn put_row(text: &mut Vec<u8>, system: &System, actor: u32, told: &str) -> Result<(), AllocError>
-    ensures { OnOk result (text.new.items
-        ≡ text.old.items ++ row_text system.now actor None false told.now) }
+fn put_told(text: &mut Vec<u8>, told: &Told) -> Result<(), AllocError>
+    ensures { OnOk result (text.new.items ≡ text.old.items ++ told_text told.now) }
 {
-    put_label(text, system, actor, None, false)?;
-    append_words(text, &[Word::Text(told), Word::Text("\n")])
+    match told {
+        Told::Line {
+            number,
+            text: line,
+            registers,
+            is_spent,
+        } => put_line(text, *number, line.as_str(), registers, *is_spent),
+        Told::Call { call, registers } => put_call(text, *call, registers),
+        Told::Ended(end) => append(text, end_word(*end)),
+        Told::Left(place) => append_words(
+            text,
+            &[
+                Word::Text("left its script at entry "),
+                Word::Number(*place),
+            ],
+        ),
+    }
 }
 
-#[tactic(auto, unfolding(crate::specs::ScriptsText::row_text))]
-fn put_left_row(
+// ---- rows
+
+// Appends the number of a context behind its client's name.
+fn put_context(text: &mut Vec<u8>, context: Option<NumberedContext>) -> Result<(), AllocError>
+    ensures { OnOk result (text.new.items ≡ text.old.items ++ context_text context) }
+{
+    match context {
+        Some(context) => append_words(text, &[Word::Text("."), Word::Number(context.number)]),
+        None => Ok(()),
+    }
+}
+
+// A context that calls next has a mark.
+fn mark(context: Option<NumberedContext>) -> &'static str
+    ensures { result.now ≡ mark_word context }
+{
+    match context {
+        Some(NumberedContext { is_next: true, .. }) => "> ",
+        _ => "  ",
+    }
+}
+
+// Appends an actor's name, with the number of a context where one is given.
+#[tactic(auto, unfolding(crate::specs::ScriptsText::label_text, view_texts::specs::Columns::left))]
+fn put_label(
     text: &mut Vec<u8>,
     system: &System,
     actor: u32,
-    place: u32,
+    context: Option<NumberedContext>,
+) -> Result<(), AllocError>
+    ensures { OnOk result (text.new.items
+        ≡ text.old.items ++ label_text system.now actor context) }
+{
+    let Some(width) = actor_width(system).checked_add(4) else {
+        return Err(AllocError);
+    };
+    append(text, mark(context))?;
+    let start = text.len();
+    append(text, actor_name(system, actor))?;
+    put_context(text, context)?;
+    pad(text, start, width)
+}
+
+#[tactic(auto, unfolding(crate::specs::ScriptsText::row_text))]
+fn put_row(text: &mut Vec<u8>, system: &System, row: &ScriptRow) -> Result<(), AllocError>
+    ensures { OnOk result (text.new.items ≡ text.old.items ++ row_text system.now row.now) }
+{
+    put_label(text, system, row.actor, row.context)?;
+    put_told(text, &row.told)?;
+    append(text, "\n")
+}
+
+fn put_rows(text: &mut Vec<u8>, system: &System, rows: &[ScriptRow]) -> Result<(), AllocError>
+    ensures { OnOk result (text.new.items
+        ≡ text.old.items ++ flat_map (row_text system.now) rows.now) }
+{
+    for row in rows {
+        put_row(text, system, row)?;
+    }
+    Ok(())
+}
+
+#[tactic(auto, unfolding(crate::specs::ScriptsText::heading))]
+fn heading() -> &'static str
+    ensures { result.now ≡ heading }
+{
+    "scripts, each with what it calls next and its registers that aren't 0\n"
+}
+
+// Appends rows under their heading.
+#[tactic(auto, unfolding(crate::specs::ScriptsText::rows_text))]
+fn put_section(text: &mut Vec<u8>, system: &System, rows: &[ScriptRow]) -> Result<(), AllocError>
+    ensures { OnOk result (text.new.items ≡ text.old.items ++ rows_text system.now rows.now) }
+{
+    append(text, heading())?;
+    put_rows(text, system, rows)
+}
+
+/// Appends the text of where scripts stand; nothing where there are no rows to be told.
+pub fn put_scripts(
+    text: &mut Vec<u8>,
+    system: &System,
+    rows: Option<&[ScriptRow]>,
 ) -> Result<(), AllocError>
     ensures { OnOk result (text.new.items ≡ text.old.items
-        ++ row_text system.now actor None false
-        (codes "left its script at entry " ++ decimal place)) }
+        ++ scripts_text system.now (option_map (λ rows. rows.now) rows.entry)) }
 {
-    put_label(text, system, actor, None, false)?;
-    append_words(
-        text,
-        &[
-            Word::Text("left its script at entry "),
-            Word::Number(place),
-            Word::Text("\n"),
-        ],
-    )
-}
-
-// ---- an actor that goes on
-
-#[tactic(auto, unfolding(crate::specs::ScriptsText::holding_row, crate::specs::ScriptsText::row_text))]
-fn put_holding(
-    alloc: Global,
-    text: &mut Vec<u8>,
-    system: &System,
-    scenario: &Scenario,
-    actor: u32,
-    script: &Script,
-    holding: &Holding,
-) -> Result<(), Memory>
-    requires { actor < length system.now.partitions }
-    ensures { OnOk result (text.new.items ≡ text.old.items
-        ++ holding_row system.now scenario.now actor (only_part script.now) holding.now) }
-{
-    let mut held = Held::new(system, actor);
-    let instructions = script.instructions();
-    let at = holding_at(&mut held, holding, instructions)?;
-    let call = holding_call(&mut held, holding, instructions)?;
-    put_label(text, system, actor, None, false)?;
-    put_next(alloc, text, lines_at(system, scenario, actor, 0), &at, call)?;
-    Ok(append(text, "\n")?)
-}
-
-fn is_caller(caller: Option<u32>, context: usize) -> bool
-    ensures { result ≡ is_caller caller context }
-{
-    match caller {
-        Some(caller) => caller as usize == context,
-        None => false,
-    }
-}
-
-// Whether a context is one of several, and calls next.
-fn is_marked(several: bool, caller: Option<u32>, context: usize) -> bool
-    ensures { result ≡ (several && is_caller caller context) }
-{
-    several && is_caller(caller, context)
-}
-
-// The number of a context, where its client has several.
-fn context_number(several: bool, context: usize) -> Option<u32>
-    requires { context < 2 ^ 32 }
-    ensures { result ≡ (if several then Some context else None) }
-{
-    if several { Some(context as u32) } else { None }
-}
-
-// Appends what a context calls next.
-fn put_part(
-    alloc: Global,
-    text: &mut Vec<u8>,
-    texts: Option<&[Name]>,
-    part: &Part,
-    point: &Point,
-) -> Result<(), Memory>
-    requires part { IsPart part.now }
-    requires few { IfSome texts (λ texts. length texts.now < 2 ^ 31) }
-    ensures { OnOk result (text.new.items ≡ text.old.items
-        ++ (next_text (option_map (λ texts. texts.now) texts.entry) (arrived part.now point.now)
-        (call_at part.now (arrived part.now point.now)) ++ codes "\n")) }
-{
-    let at = context_at(part, point)?;
-    put_next(alloc, text, texts, &at, context_call(part, point))?;
-    Ok(append(text, "\n")?)
-}
-
-fn put_contexts(
-    alloc: Global,
-    text: &mut Vec<u8>,
-    system: &System,
-    scenario: &Scenario,
-    actor: u32,
-    parts: &[Part],
-    contexts: &Contexts,
-) -> Result<(), Memory>
-    requires few { length parts.now ≤ 8 }
-    requires fits { AllByRecursion IsPart parts.now }
-    requires contexts { AreContexts parts.now contexts.now }
-    ensures { OnOk result (text.new.items ≡ text.old.items
-        ++ flat_map (context_row system.now scenario.now actor parts.now contexts.now)
-        (enumerate_from 0 parts.now)) }
-{
-    let several = parts.len() > 1;
-    let caller = contexts_caller(contexts, parts);
-    for (k, part) in parts.iter().enumerate() {
-        let marked = is_marked(several, caller, k);
-        put_label(text, system, actor, context_number(several, k), marked)?;
-        let texts = lines_at(system, scenario, actor, k);
-        put_part(alloc, text, texts, part, &contexts.points[k])?;
-    }
-    Ok(())
-}
-
-fn put_engine(
-    alloc: Global,
-    text: &mut Vec<u8>,
-    system: &System,
-    scenario: &Scenario,
-    actor: u32,
-    script: &Script,
-    engine: &Engine,
-) -> Result<(), Memory>
-    requires { IsEngineOf system.now actor script.now engine.now }
-    ensures { OnOk result (text.new.items ≡ text.old.items
-        ++ engine_rows system.now scenario.now actor script.now engine.now) }
-{
-    match engine {
-        Engine::Holding(holding) => {
-            put_holding(alloc, text, system, scenario, actor, script, holding)
-        }
-        Engine::Turning(contexts) => {
-            let parts = script.parts.as_slice();
-            put_contexts(alloc, text, system, scenario, actor, parts, contexts)
-        }
-    }
-}
-
-// ---- all actors
-
-fn has_script(scenario: &Scenario, actor: u32) -> bool
-    ensures { result ≡ has_script scenario.now actor }
-{
-    scenario
-        .order
-        .as_slice()
-        .iter()
-        .any(|named| named.0 == actor)
-}
-
-fn put_standing(
-    alloc: Global,
-    text: &mut Vec<u8>,
-    system: &System,
-    scenario: &Scenario,
-    actor: u32,
-    script: &Script,
-    standing: &Standing,
-) -> Result<(), Memory>
-    requires { IsShown system.now actor script.now standing.now }
-    ensures { OnOk result (text.new.items ≡ text.old.items
-        ++ script_rows system.now scenario.now actor script.now standing.now) }
-{
-    if !has_script(scenario, actor) {
-        return Ok(());
-    }
-    match standing {
-        Standing::Follows(engine) => {
-            put_engine(alloc, text, system, scenario, actor, script, engine)
-        }
-        Standing::Ended(end) => Ok(put_row(text, system, actor, end_word(*end))?),
-        Standing::Left(place) => Ok(put_left_row(text, system, actor, *place)?),
-    }
-}
-
-#[tactic(auto, using(ffm_model::proofs::ActorLemmas::actor_count_le))]
-fn put_standings(
-    alloc: Global,
-    text: &mut Vec<u8>,
-    system: &System,
-    scenario: &Scenario,
-    scripts: &[Script],
-    standings: &[Standing],
-) -> Result<(), Memory>
-    requires long { length standings.now ≡ length scripts.now }
-    requires few { length scripts.now ≤ actor_count system.now }
-    requires shown { AreShown system.now scripts.now standings.now }
-    ensures { OnOk result (text.new.items ≡ text.old.items
-        ++ flat_map (actor_rows system.now scenario.now scripts.now)
-        (enumerate_from 0 standings.now)) }
-{
-    for (actor, standing) in standings.iter().enumerate() {
-        let script = &scripts[actor];
-        put_standing(
-            alloc,
-            text,
-            system,
-            scenario,
-            actor as u32,
-            script,
-            standing,
-        )?;
-    }
-    Ok(())
-}
-
-// The text of where the scripts of programs stand.
-fn standings_text(
-    alloc: Global,
-    system: &System,
-    scenario: &Scenario,
-    entries: &[Entry],
-    programs: List<Program>,
-) -> Result<Vec<u8>, Memory>
-    requires programs { length programs ≡ actor_count system.now }
-    requires few { length entries.now < 2 ^ 32 }
-    ensures { IfOk result (λ text.
-        TellsStandings system.now scenario.now entries.now programs text.items) }
-{
-    let made = scripts_of(alloc, system, programs)?;
-    let scripts = made.as_slice();
-    let found = standings(alloc, system, scripts, entries)?;
-    let mut text = Vec::new(alloc);
-    append(
-        &mut text,
-        "scripts, each with what it calls next and its registers that aren't 0\n",
-    )?;
-    put_standings(alloc, &mut text, system, scenario, scripts, &found)?;
-    Ok(text)
-}
-
-/// The text of where the scripts of a scenario stand after these entries: a line for each actor that has
-/// a script in the scenario, in the order of the actors, and for a client with several contexts a line
-/// for each. The empty text where no actor has a script, or a script has a wrong line. `Memory` where
-/// memory is wanting.
-pub fn scripts_text(
-    alloc: Global,
-    system: &System,
-    scenario: &Scenario,
-    entries: &[Entry],
-) -> Result<Vec<u8>, Memory>
-    requires scenario { IsScenarioOf system.now scenario.now }
-    requires few { length entries.now < 2 ^ 32 }
-    ensures { IfOk result (λ text.
-        TellsScripts system.now scenario.now entries.now text.items) }
-{
-    if scenario.order.is_empty() {
-        return Ok(Vec::new(alloc));
-    }
-    match programs_of(alloc, system, scenario) {
-        Ok(programs) => standings_text(alloc, system, scenario, entries, programs),
-        Err(ReadError::Refused(_)) => Ok(Vec::new(alloc)),
-        Err(ReadError::Memory) => Err(Memory),
+    match rows {
+        Some(rows) => put_section(text, system, rows),
+        None => Ok(()),
     }
 }

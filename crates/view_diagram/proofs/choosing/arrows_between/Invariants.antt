@@ -1,5 +1,5 @@
 use Rattle.std.proofs.Common.{◌≡◌, ◌++◌, drop, filter, option_map}
-use Rattle.view_diagram.specs.Diagrams.{arrows_between, is_between}
+use Rattle.view_diagram.specs.Diagrams.{is_between}
 use Rattle.view_diagram.proofs.choosing.arrows_between.Given as goal
 
 -- the arrows so far, and then those among the others
