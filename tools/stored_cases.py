@@ -26,6 +26,7 @@ Prints a line for each case, and what is wrong; the status is 1 where something 
 
 import argparse
 import hashlib
+import json
 import pathlib
 import re
 import shutil
@@ -187,11 +188,17 @@ def read_again(command):
 
 
 def stands_otherwise(command):
-    """Whether plain_standing.py says otherwise of where scripts stand, in the last part of a state."""
-    shown = re.match(rb"state after entry (\d+) of", command.text)
-    if command.words()[:2] != ["ffm_view", "state"] or not shown:
+    """Whether plain_standing.py says otherwise of where scripts stand, in the last part of a state or as JSON."""
+    if command.words()[:2] != ["ffm_view", "state"]:
         return False
     files = [word for word in command.files() if not word.isdecimal()]
+    if command.text.startswith(b'{"actors":'):
+        state = json.loads(command.text)
+        told = plain_standing.member(*files, state["place"], DATA)
+        return told is not False and told != state.get("scripts")
+    shown = re.match(rb"state after entry (\d+) of", command.text)
+    if not shown:
+        return False
     told = plain_standing.section(*files, int(shown[1]), DATA)
     return told is not None and (plain_standing.HEADING.encode() in command.text) != bool(told) or not command.text.endswith((told or "").encode())
 

@@ -79,9 +79,11 @@ fn named_system(alloc: Global) -> Result<System, Fail> {
     }
 }
 
-const TRACE: &str = "n1 connect 0x00000040 1 -> blocked
+const TRACE: &str = "p1 wait 0x00000010 0x80000000 -> blocked
+n1 connect 0x00000040 1 -> blocked
+p1 resume -> signals 0x00000010
 p1 stop end -> done
-stalled 2
+stalled 4
 ";
 
 // The diagram of a trace, from a memory whose bytes are 0. The part ends behind the last entry.
@@ -102,8 +104,9 @@ fn assert_text(rt: &impl Abort, alloc: Global, system: &System) -> Result<(), Fa
     let wanted = "sequenceDiagram
     participant p1 as p1 #60;b#62;#38;#34;A#39;
     participant n1 as n1 A#38;B
-    n1->>p1: 1 connect end#59;#35;#37;#37;#123;x#125; #60;i#62;#233;
-    Note over p1,n1: stalled 2
+    n1->>p1: 2 connect end#59;#35;#37;#37;#123;x#125; #60;i#62;#233;
+    Note over p1: 3 wakes: end#59;#35;#37;#37;#123;x#125; #60;i#62;#233;
+    Note over p1,n1: stalled 4
 ";
     assert!(rt; text.as_slice() == wanted.as_bytes());
     Ok(())
@@ -115,6 +118,7 @@ fn assert_page(rt: &impl Abort, alloc: Global, system: &System) -> Result<(), Fa
         ">&lt;b&gt;&amp;&quot;A&#39;<small>p1</small>",
         ">A&amp;B<small>n1</small>",
         ">connect end;#%%{x}\n&lt;i&gt;é</text>",
+        ">p1 <tspan class=\"wake\">wakes: end;#%%{x}\n&lt;i&gt;é</tspan></text>",
     ] {
         assert!(rt; page.contains(piece), "{}", piece);
     }
