@@ -57,6 +57,7 @@ pub record Ordered (b new : SpmState) : Type 0 where
   pub added : List PendingMessage
   pub messages : new.messages ≡ map f (filter q b.messages) ++ added
   pub connection : (m : PendingMessage) → (f m).connection ≡ m.connection
+  pub service : (m : PendingMessage) → (f m).service ≡ m.service
   pub client : (m : PendingMessage) → (f m).client.0 ≡ m.client.0
   pub kind : (m : PendingMessage) → (f m).kind ≡ m.kind
   pub handle : (m : PendingMessage) → (f m).handle ≡ m.handle
@@ -120,6 +121,7 @@ unchanged b new q sent e exact = record {
   added = sent;
   messages = e ∙ ap (λ (ms : List PendingMessage). ms ++ sent) (sym (map-same (λ m. m) (λ m. refl) (filter q b.messages)));
   connection = λ m. refl;
+  service = λ m. refl;
   client = λ m. refl;
   kind = λ m. refl;
   handle = λ m. refl;
@@ -324,6 +326,7 @@ kinds-shape s b given a d h =
           added = [];
           messages = ap (λ (ms : List PendingMessage). map (vectors_put k v) ms) (filter-all b.messages) ∙ sym (append-nil (map (vectors_put k v) (filter (λ m. true) b.messages)));
           connection = vectors-field (λ m. m.connection) k (λ m. record m { vectors = v }) (λ m. refl);
+          service = vectors-field (λ m. m.service) k (λ m. record m { vectors = v }) (λ m. refl);
           client = vectors-field (λ m. m.client.0) k (λ m. record m { vectors = v }) (λ m. refl);
           kind = vectors-field (λ m. m.kind) k (λ m. record m { vectors = v }) (λ m. refl);
           handle = vectors-field (λ m. m.handle) k (λ m. record m { vectors = v }) (λ m. refl);
