@@ -14,6 +14,12 @@ pub mod Past
 pub mod Resting
 pub mod Gone
 pub mod SlotsAlike
+pub mod Sorting
+pub mod Reordering
+pub mod Effects
+pub mod SlotOrders
+pub mod Ordered
+pub mod OrderedStates
 pub mod Alike
 pub mod SeenWalks
 pub mod SlotRuns

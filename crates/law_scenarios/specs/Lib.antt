@@ -3,6 +3,7 @@ pub mod SingleRun
 pub mod ByScripts
 pub mod Explored
 pub mod Exploring
+pub mod Queues
 pub mod Seen
 pub mod Shown
 pub mod Ranges
