@@ -1,6 +1,6 @@
 -- What is due of the words and the files, out of what was read and found.
 -- Source: this simulator's.
-use Rattle.std.proofs.Common.{◌≡◌, ◌≢◌, ℕ, ◌<◌, List, [], arith, inl, inr, refl, subst, sym}
+use Rattle.std.proofs.Common.{◌≡◌, ◌≢◌, ℕ, ◌<◌, ◌≤◌, List, [], arith, inl, inr, refl, subst, sym}
 use Rattle.std.specs.Prelude.{◌⊎◌, Option, None, Some, Result, Ok, Err, IfOk, MatchResult}
 use Rattle.clap.specs.Words.{kind_of}
 use Rattle.clap.specs.declared.error.Error.{Error}
@@ -17,10 +17,12 @@ use Rattle.work_orders.specs.Work.{Work, run_of}
 use Rattle.work_orders.specs.declared.unanswered.Unanswered.{Unanswered}
 use Rattle.work_orders.specs.declared.unanswered.Unanswered.TheVariants as unanswered
 use Rattle.work_orders.specs.declared.work.RunWork.{RunWork}
-use Rattle.explore_commands.specs.declared.top.Answer.{Answer}
+use Rattle.program_words.proofs.Answering.{file_unread, no_memory_found, part, whole}
+use Rattle.program_words.specs.declared.answers.Answer.{Answer}
 use Rattle.explore_commands.specs.Answers.{Answered, AnswersRequest, AnswersWords, Due, EndsWith, IsFound, IsFoundStatus, IsStatus, Unfinished, Unread, files_asked}
-use Rattle.explore_commands.specs.declared.words.Request.{Request}
-use Rattle.explore_commands.specs.Requests.{AsksFor, IsTold, told_status}
+use Rattle.program_words.specs.declared.explore.Request.{Request}
+use Rattle.program_words.specs.Arguments.{told_status}
+use Rattle.program_words.specs.Explore.{AsksFor, IsTold}
 
 -- ---- the answer to a request
 
@@ -62,6 +64,11 @@ pub told_words : (words : List (List ℕ)) (e : Error) (a : FilesSeen) (kept : L
 told_words words e a kept (Ok x) answer is told status other = subst (AnswersWords words a a kept) (sym is) (told_answer words e a kept x told status other)
 told_words words e a kept (Err m) answer is told status other = subst (AnswersWords words a a kept) (sym is) (inl refl)
 
+-- with a status of what was answered
+pub told_found : (r : Result Answer Memory) (answer : Result Answer Unanswered) → MatchResult r (λ x. answer ≡ Ok x) (λ m. answer ≡ Err unanswered.Memory) → IfOk r (λ x. x.status ≤ 2) → IfOk answer (λ x. IsFoundStatus x.status)
+told_found (Ok x) answer is few = subst (λ y. IfOk y (λ z. IsFoundStatus z.status)) (sym is) (inl few)
+told_found (Err m) answer is few = subst (λ y. IfOk y (λ z. IsFoundStatus z.status)) (sym is) tt
+
 -- ---- what is made of files and sink
 
 is_status : (status : ℕ) → IsFoundStatus status → IsStatus status
@@ -72,55 +79,21 @@ below_seven : (status : ℕ) → IsFoundStatus status → status < 7
 below_seven status (inl few) = omega arith
 below_seven status (inr more) = omega arith
 
-not_both : (status : ℕ) → status < 7 → (status ≡ 7) ⊎ (status ≡ 9) → ⊥
-not_both status lt (inl seven) = omega arith
-not_both status lt (inr nine) = omega arith
-
 -- the text was written whole
 pub answered_whole : (words : List (List ℕ)) (f g : FilesSeen) (kept : List KeptFile) (out after : SinkSeen) (text : List ℕ) (status : ℕ) → Due words f g kept text status → IsFoundStatus status → Hands {E = Unit {0}} out after (Ok (tt {0})) text → Answered words f g kept out after status
-answered_whole words f g kept out after text status due is hands =
-    let lt : status < 7 = below_seven status is in
-    record {
-      status_is = is_status status is;
-      whole = λ _. (text, due, hands);
-      part = λ eight. absurd (omega arith);
-      nothing = λ e. absurd (not_both status lt e);
-      unread = λ seven. absurd (omega arith);
-      unfinished = λ nine. absurd (omega arith);
-    }
+answered_whole words f g kept out after text status due is hands = whole IsStatus (Due words f g kept) (Unread words f g) (Unfinished words f g) out after text status (is_status status is) (below_seven status is) due hands
 
 -- it wasn't
 pub answered_part : (words : List (List ℕ)) (f g : FilesSeen) (kept : List KeptFile) (out after : SinkSeen) (text : List ℕ) (status : ℕ) → Due words f g kept text status → Hands {T = Unit {0}} out after (Err (tt {0})) text → Answered words f g kept out after 8
-answered_part words f g kept out after text status due hands = record {
-  status_is = inr (omega arith, omega arith);
-  whole = λ lt. absurd (omega arith);
-  part = λ _. (text, status, due, hands);
-  nothing = λ e. absurd (elim e [ inl seven ↦ omega arith | inr nine ↦ omega arith ]);
-  unread = λ seven. absurd (omega arith);
-  unfinished = λ nine. absurd (omega arith);
-}
+answered_part words f g kept out after text status due hands = part IsStatus (Due words f g kept) (Unread words f g) (Unfinished words f g) out after text status (inr (omega arith, omega arith)) due hands
 
 -- a file wasn't read
 pub answered_unread : (words : List (List ℕ)) (f g : FilesSeen) (kept : List KeptFile) (out : SinkSeen) → Unread words f g → Answered words f g kept out out 7
-answered_unread words f g kept out unread = record {
-  status_is = inr (omega arith, omega arith);
-  whole = λ lt. absurd (omega arith);
-  part = λ eight. absurd (omega arith);
-  nothing = λ _. refl;
-  unread = λ _. unread;
-  unfinished = λ nine. absurd (omega arith);
-}
+answered_unread words f g kept out unread = file_unread IsStatus (Due words f g kept) (Unread words f g) (Unfinished words f g) out (inr (omega arith, omega arith)) unread
 
 -- no memory was found
 pub answered_unfinished : (words : List (List ℕ)) (f g : FilesSeen) (kept : List KeptFile) (out : SinkSeen) → Unfinished words f g → Answered words f g kept out out 9
-answered_unfinished words f g kept out unfinished = record {
-  status_is = inr (omega arith, omega arith);
-  whole = λ lt. absurd (omega arith);
-  part = λ eight. absurd (omega arith);
-  nothing = λ _. refl;
-  unread = λ seven. absurd (omega arith);
-  unfinished = λ _. unfinished;
-}
+answered_unfinished words f g kept out unfinished = no_memory_found IsStatus (Due words f g kept) (Unread words f g) (Unfinished words f g) out (inr (omega arith, omega arith)) unfinished
 
 -- ---- the program
 

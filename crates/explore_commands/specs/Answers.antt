@@ -1,6 +1,6 @@
 -- Which text and which status the words and the files call for, and what is made of files and sink.
 -- Source: this simulator's.
-use Rattle.std.specs.Prelude.{◌≡◌, ◌⊎◌, ◌<◌, ◌≤◌, ℕ, List, Option, None, IfSome, true, Result, Ok, Err, if◌then◌else◌, max}
+use Rattle.std.specs.Prelude.{◌≡◌, ◌⊎◌, ◌≤◌, ℕ, List, Option, None, IfSome, true, Result, Ok, Err, if◌then◌else◌, max}
 use Rattle.command_words.specs.Words.{run}
 use Rattle.ffm_model.specs.declared.scenario.Scenario.{Scenario}
 use Rattle.ffm_model.specs.declared.system.System.{System}
@@ -8,18 +8,19 @@ use Rattle.ffm_model.specs.Reading.{Contents, Reading, Stop, refused}
 use Rattle.actor_programs.specs.declared.program.Program.{Program}
 use Rattle.file_places.specs.declared.kept.KeptFile.{KeptFile}
 use Rattle.outside_io.specs.Files.{Asks, FilesSeen, NoValue, failed, no_memory, stopped}
-use Rattle.outside_io.specs.Sink.{Hands, SinkSeen}
+use Rattle.outside_io.specs.Sink.{SinkSeen}
 use Rattle.outside_io.specs.Words.{AreGiven}
 use Rattle.text_lines.specs.Refusals.{refusal_line}
 use Rattle.work_orders.specs.Work.{Work, run_of, work_of}
 use Rattle.work_orders.specs.declared.unanswered.Unanswered.{Unanswered}
 use Rattle.work_orders.specs.declared.unanswered.Unanswered.TheVariants as unanswered
 use Rattle.explore_commands.specs.Findings.{AreFindings, status_of, text_of}
-use Rattle.explore_commands.specs.Requests.{AsksFor, IsTold}
+use Rattle.program_words.specs.Explore.{AsksFor, IsTold}
 use Rattle.explore_commands.specs.Rescheduling.{bytes_kept}
 use Rattle.explore_commands.specs.declared.exploring.Findings.{Findings}
-use Rattle.explore_commands.specs.declared.top.Answer.{Answer}
-use Rattle.explore_commands.specs.declared.words.Request.{Request}
+use Rattle.program_words.specs.Answers.{IsAnswered}
+use Rattle.program_words.specs.declared.answers.Answer.{Answer}
+use Rattle.program_words.specs.declared.explore.Request.{Request}
 
 -- 0: each run ends quiet, none comes to what is sought, or all outcomes of a line are told. 1: a file is refused. 2: the
 -- words are no command, or name what isn't there. 4: some run stalls, or what is sought was found. 5: not all is explored.
@@ -81,21 +82,11 @@ Unfinished words before after =
     ⊎ ((r : Request) × AsksFor words r × Asks {A = Work} before after (Err no_memory) (files_asked r))
 
 -- what these words are answered over these files, of which what was read is kept, and this sink
-pub record Answered
-    (words : List (List ℕ)) (files files_after : FilesSeen) (kept : List KeptFile)
-    (out out_after : SinkSeen) (status : ℕ) : Type 0 where
-  pub status_is : IsStatus status
-  -- 0 to 6: a text that is due was written whole. 8: a put or the flush failed, and such a text
-  -- wasn't. 7 and 9: nothing was written
-  pub whole : status < 7 → (text : List ℕ)
-      × Due words files files_after kept text status
-      × Hands {E = Unit {0}} out out_after (Ok (tt {0})) text
-  pub part : status ≡ 8 → (text : List ℕ) × (wanted : ℕ)
-      × Due words files files_after kept text wanted
-      × Hands {T = Unit {0}} out out_after (Err (tt {0})) text
-  pub nothing : (status ≡ 7) ⊎ (status ≡ 9) → out_after ≡ out
-  pub unread : status ≡ 7 → Unread words files files_after
-  pub unfinished : status ≡ 9 → Unfinished words files files_after
+abbrev pub Answered :
+    List (List ℕ) → FilesSeen → FilesSeen → List KeptFile → SinkSeen → SinkSeen → ℕ → Type 0
+Answered words files files_after kept out out_after status =
+    IsAnswered IsStatus (Due words files files_after kept) (Unread words files files_after)
+    (Unfinished words files files_after) out out_after status
 
 -- what a program ends with over these words, if they are told, these files and this sink
 abbrev pub EndsWith :

@@ -1,4 +1,3 @@
-pub mod Requests
 pub mod Targets
 pub mod Texts
 pub mod Rescheduling

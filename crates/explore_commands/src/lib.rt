@@ -1,5 +1,4 @@
-//! The commands of `ffm_explore`: the words of its command line, the files that they name, the texts
-//! and the statuses.
+//! The commands of `ffm_explore`: the files that its words name, the texts and the statuses.
 #![tactic(auto)]
 
 mod ends;
@@ -9,11 +8,9 @@ mod rescheduling;
 mod targets;
 mod texts;
 mod top;
-mod words;
 
 pub use ends::program;
 pub use exploring::{Findings, found_of};
 pub use progress::Progress;
 pub use targets::{LinePlace, Missing, Target};
 pub use top::ffm_explore;
-pub use words::{FileNames, Question, Request, STATES, ScriptLine, VERSION, asked_of};

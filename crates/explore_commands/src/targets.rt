@@ -1,21 +1,18 @@
 //! What a question is after: what its words name.
-ghost use Rattle.std.specs.Prelude.{◌≡◌, ◌≤◌, ◌∷◌, [], IfOk, MatchOption, count_by, length, option_map};
+ghost use Rattle.std.specs.Prelude.{◌≡◌, ◌≤◌, IfOk, MatchOption, count_by, length, option_map};
 ghost use Rattle.ffm_model.specs.declared.machine.ActorId.{ActorId as ActorSeen};
-ghost use Rattle.ffm_model.specs.declared.machine.Entry.{Entry as EntrySeen};
 ghost use Rattle.script_asm.specs.Views.{line_view, lines_view};
 ghost use Rattle.script_asm.specs.Lines.{lines_of};
 ghost use Rattle.sfn_calls.specs.Partitions.{is_sfn};
-ghost use Rattle.explore_commands.specs.Targets.{IsActorNamed, IsEntryTarget, IsEntryText, IsLineTarget, IsTarget, instruction_at, instruction_place, is_call, is_order, makes_call, place_of, texts_of};
+ghost use Rattle.explore_commands.specs.Targets.{IsActorNamed, IsEntryTarget, IsLineTarget, IsTarget, instruction_at, instruction_place, is_call, is_order, makes_call, place_of, texts_of};
 
-use crate::words::{Question, ScriptLine};
 use explore_runs::Aim;
 use explore_steps::ScriptPlace;
-use ffm_model::{
-    ActorId, Entry, Instruction, Lines, Memory, Scenario, Script, System, Trace, Verdict,
-};
+use ffm_model::{ActorId, Entry, Instruction, Lines, Memory, Scenario, Script, System};
+use program_words::entry_of;
+use program_words::explore::{Question, ScriptLine};
 use script_asm::{Line, lines_of};
 use std::alloc::Global;
-use trace_print::{TraceError, read_trace};
 use view_texts::actor_name;
 
 /// Where an instruction stands: in a script of an actor.
@@ -49,32 +46,6 @@ pub enum Target {
     Line(LinePlace),
     /// Nothing, since something isn't there.
     Nothing(Missing),
-}
-
-// The entry of a quiet trace that has no other.
-fn only_entry(trace: &Trace) -> Option<Entry>
-    ensures { MatchOption result
-        ((e : EntrySeen) → trace.now.entries ≡ e ∷ [] → trace.now.verdict ≡ Verdict.Quiet → ⊥)
-        (λ e. (trace.now.entries ≡ e ∷ []) × (trace.now.verdict ≡ Verdict.Quiet)) }
-{
-    match (trace.entries.as_slice(), trace.verdict) {
-        ([entry], Verdict::Quiet) => Some(*entry),
-        _ => None,
-    }
-}
-
-// The entry that has this line in a trace.
-fn entry_of(alloc: Global, system: &System, line: &str) -> Result<Option<Entry>, Memory>
-    ensures { IfOk result (λ found. MatchOption found
-        ((e : EntrySeen) → IsEntryText system.now line.now e → ⊥)
-        (IsEntryText system.now line.now)) }
-{
-    let text = format!(in alloc; "{line}\nquiet 1\n")?;
-    match read_trace(alloc, system.counts(), text.as_bytes()) {
-        Ok(trace) => Ok(only_entry(&trace)),
-        Err(TraceError::Syntax { .. }) => Ok(None),
-        Err(TraceError::Memory) => Err(Memory),
-    }
 }
 
 // The actor with a name.

@@ -1,54 +1,21 @@
 //! The top call.
-ghost use Rattle.std.specs.Prelude.{◌≡◌, ◌≢◌, Err, IfOk, MatchResult, Ok, map, option_map, string_bytes};
-ghost use Rattle.outside_io.specs.Sink.{Hands};
-ghost use Rattle.clap.specs.Words.{kind_of};
+ghost use Rattle.std.specs.Prelude.{◌≡◌, Err, IfOk, MatchResult, Ok, map, option_map, string_bytes};
 ghost use Rattle.explore_commands.specs.Answers.{Answered, AnswersRequest, AnswersWords, IsFound, IsFoundStatus, bytes_asked};
 ghost use Rattle.text_lines.specs.Refusals.{refusal_line};
 ghost use Rattle.work_orders.specs.View.{IsRun};
-ghost use Rattle.explore_commands.specs.Requests.{told_status};
 
 use crate::exploring::found_of;
 use crate::rescheduling::bytes_kept;
-use crate::words::{Request, asked_of};
-use clap::Error;
-use clap::error::ErrorKind;
 use command_words::Command;
 use explore_runs::Watch;
 use ffm_model::{Memory, PartsError, Refusal};
 use file_places::{KeepsFiles, KeptFile};
-use outside_io::{Failed, Sink, put_all};
+use outside_io::{Failed, Sink};
+use program_words::explore::{Request, asked_of};
+use program_words::{Answer, told, write};
 use std::alloc::Global;
 use text_lines::{NO_MEMORY, UNREAD, UNWRITTEN, refusal_line};
 use work_orders::{RunWork, Unanswered, Work, work_of};
-
-/// A text to be written, and the status to end with.
-#[derive(Drop)]
-pub(crate) struct Answer {
-    pub text: Vec<u8>,
-    pub status: u8,
-}
-
-// The status of help and the version, and of words that are no command.
-fn told_status(error: &Error) -> u8
-    ensures status { result ≡ told_status (kind_of error.now) }
-    ensures few { IsFoundStatus result }
-{
-    if error.use_stderr() { 2 } else { 0 }
-}
-
-// The answer of clap to words that are no command, or that ask for help or the version.
-fn told(alloc: Global, error: &Error) -> Result<Answer, Memory>
-    ensures status { IfOk result (λ answer. answer.status ≡ told_status (kind_of error.now)) }
-    ensures few { IfOk result (λ answer. IsFoundStatus answer.status) }
-    ensures kind { IfOk result (λ answer. kind_of error.now ≢ ErrorKind.OutOfMemory) }
-{
-    if error.kind() == ErrorKind::OutOfMemory {
-        return Err(Memory);
-    }
-    let text = error.to_string(alloc)?.into_bytes();
-    let status = told_status(error);
-    Ok(Answer { text, status })
-}
 
 // The answer to the refusal of a file.
 fn refused(alloc: Global, refusal: &Refusal) -> Result<Answer, Memory>
@@ -145,14 +112,6 @@ fn answer_to<F: KeepsFiles, W: Watch>(
         Ok(request) => answer_of(alloc, request, files, watch),
         Err(error) => or_memory(told(alloc, &error)),
     }
-}
-
-// Writes a text whole.
-fn write<S: Sink>(out: &mut S, text: &[u8]) -> Result<(), Failed>
-    ensures { Hands (S.seen out.old) (S.seen out.new) result text.now }
-{
-    put_all(out, text)?;
-    out.flush()
 }
 
 /// Explores what the words ask for over these files: writes the text, and answers the status to end

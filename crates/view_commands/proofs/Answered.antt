@@ -11,16 +11,19 @@ use Rattle.outside_io.proofs.FilesSteps.{asks_lost}
 use Rattle.work_orders.specs.Work.{Work, judge_of}
 use Rattle.work_orders.specs.declared.unanswered.Unanswered.{Unanswered}
 use Rattle.work_orders.specs.declared.unanswered.Unanswered.TheVariants as unanswered
-use Rattle.view_explaining.specs.declared.answers.Answer.{Answer}
-use Rattle.view_explaining.specs.declared.names.ExplainedNames.{ExplainedNames}
+use Rattle.program_words.proofs.Answering.{file_unread, no_memory_found, part, whole}
+use Rattle.program_words.specs.declared.answers.Answer.{Answer}
+use Rattle.program_words.specs.declared.view.ExplainedNames.{ExplainedNames}
 use Rattle.view_explaining.specs.Explains.{AnswersExplained, IsShownStatus}
-use Rattle.view_commands.specs.declared.files.TraceFiles.{TraceFiles}
-use Rattle.view_commands.specs.Answers.{Answered, AnswersAsked, AnswersWords, Due, EndsWith, IsAnswer, IsStatus, Shows, Unfinished, Unread}
+use Rattle.view_aspects.specs.declared.traces.TraceFiles.{TraceFiles}
+use Rattle.view_commands.specs.Answers.{Answered, AnswersAsked, AnswersWords, Due, EndsWith, IsAnswer, IsStatus, Unfinished, Unread}
+use Rattle.view_aspects.specs.Written.{Shows}
 use Rattle.view_commands.specs.Files.{FilesRead, files_of}
-use Rattle.view_commands.specs.declared.words.Asked.{Asked}
-use Rattle.view_commands.specs.declared.words.Asked.TheVariants as asked
-use Rattle.view_commands.specs.declared.words.Request.{Request}
-use Rattle.view_commands.specs.Requests.{AsksFor, IsTold, told_status}
+use Rattle.program_words.specs.declared.view.Asked.{Asked}
+use Rattle.program_words.specs.declared.view.Asked.TheVariants as asked
+use Rattle.program_words.specs.declared.view.Request.{Request}
+use Rattle.program_words.specs.Arguments.{told_status}
+use Rattle.program_words.specs.View.{AsksFor, IsTold}
 
 -- ---- the answer to a request
 
@@ -67,55 +70,21 @@ below_seven : (status : ℕ) → IsShownStatus status → status < 7
 below_seven status (inl few) = omega arith
 below_seven status (inr six) = omega arith
 
-not_both : (status : ℕ) → status < 7 → (status ≡ 7) ⊎ (status ≡ 9) → ⊥
-not_both status lt (inl seven) = omega arith
-not_both status lt (inr nine) = omega arith
-
 -- the text was written whole
 pub answered_whole : (words : List (List ℕ)) (f g : FilesSeen) (out after : SinkSeen) (text : List ℕ) (status : ℕ) → Due words f g text status → IsShownStatus status → Hands {E = Unit {0}} out after (Ok (tt {0})) text → Answered words f g out after status
-answered_whole words f g out after text status due is hands =
-    let lt : status < 7 = below_seven status is in
-    record {
-      status_is = is_status status is;
-      whole = λ _. (text, due, hands);
-      part = λ eight. absurd (omega arith);
-      nothing = λ e. absurd (not_both status lt e);
-      unread = λ seven. absurd (omega arith);
-      unfinished = λ nine. absurd (omega arith);
-    }
+answered_whole words f g out after text status due is hands = whole IsStatus (Due words f g) (Unread words f g) (Unfinished words f g) out after text status (is_status status is) (below_seven status is) due hands
 
 -- it wasn't
 pub answered_part : (words : List (List ℕ)) (f g : FilesSeen) (out after : SinkSeen) (text : List ℕ) (status : ℕ) → Due words f g text status → Hands {T = Unit {0}} out after (Err (tt {0})) text → Answered words f g out after 8
-answered_part words f g out after text status due hands = record {
-  status_is = inr (omega arith, omega arith);
-  whole = λ lt. absurd (omega arith);
-  part = λ _. (text, status, due, hands);
-  nothing = λ e. absurd (elim e [ inl seven ↦ omega arith | inr nine ↦ omega arith ]);
-  unread = λ seven. absurd (omega arith);
-  unfinished = λ nine. absurd (omega arith);
-}
+answered_part words f g out after text status due hands = part IsStatus (Due words f g) (Unread words f g) (Unfinished words f g) out after text status (inr (omega arith, omega arith)) due hands
 
 -- a file wasn't read
 pub answered_unread : (words : List (List ℕ)) (f g : FilesSeen) (out : SinkSeen) → Unread words f g → Answered words f g out out 7
-answered_unread words f g out unread = record {
-  status_is = inr (omega arith, omega arith);
-  whole = λ lt. absurd (omega arith);
-  part = λ eight. absurd (omega arith);
-  nothing = λ _. refl;
-  unread = λ _. unread;
-  unfinished = λ nine. absurd (omega arith);
-}
+answered_unread words f g out unread = file_unread IsStatus (Due words f g) (Unread words f g) (Unfinished words f g) out (inr (omega arith, omega arith)) unread
 
 -- no memory was found
 pub answered_unfinished : (words : List (List ℕ)) (f g : FilesSeen) (out : SinkSeen) → Unfinished words f g → Answered words f g out out 9
-answered_unfinished words f g out unfinished = record {
-  status_is = inr (omega arith, omega arith);
-  whole = λ lt. absurd (omega arith);
-  part = λ eight. absurd (omega arith);
-  nothing = λ _. refl;
-  unread = λ seven. absurd (omega arith);
-  unfinished = λ _. unfinished;
-}
+answered_unfinished words f g out unfinished = no_memory_found IsStatus (Due words f g) (Unread words f g) (Unfinished words f g) out (inr (omega arith, omega arith)) unfinished
 
 -- ---- the program
 

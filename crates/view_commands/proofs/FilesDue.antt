@@ -19,9 +19,9 @@ use Rattle.work_orders.specs.Work.{Work, judge_of}
 use Rattle.work_orders.specs.declared.work.TraceWork.{TraceWork}
 use Rattle.view_commands.specs.declared.files.NoTrace.{NoTrace}
 use Rattle.view_commands.specs.declared.files.NoTrace.TheVariants.{Refused, File, Memory}
-use Rattle.view_commands.specs.declared.files.TraceFiles.{TraceFiles}
+use Rattle.view_aspects.specs.declared.traces.TraceFiles.{TraceFiles}
 use Rattle.view_commands.specs.Files.{FilesRead, IsRefusalBy, TraceRead, files_of}
-use Rattle.view_commands.specs.declared.words.FileNames.{FileNames}
+use Rattle.program_words.specs.declared.view.FileNames.{FileNames}
 
 -- a trace was read
 pub trace_read : (work : TraceWork) (t : Trace) → IsTraceWork work → work.trace.items ≡ trace_text (counts_of work.system) t.entries t.verdict → AllByRecursion (EntryFits (counts_of work.system)) t.entries → length t.entries ≤ MAX_ENTRIES

@@ -1,8 +1,2 @@
-mod Commands
-mod Getters
-mod Parsed
 pub mod Answered
-pub mod CallTexts
 pub mod FilesDue
-pub mod Legal
-pub mod Naming

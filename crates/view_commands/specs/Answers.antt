@@ -1,35 +1,31 @@
 -- Which text and which status the words and the files call for, and what is made of files and sink.
 -- Source: this simulator's.
-use Rattle.std.specs.Prelude.{◌≡◌, ◌⊎◌, ◌<◌, ◌≤◌, ℕ, List, Option, IfSome, Result, Ok, Err}
+use Rattle.std.specs.Prelude.{◌≡◌, ◌⊎◌, ◌≤◌, ℕ, List, Option, IfSome, Result, Ok, Err}
 use Rattle.command_words.specs.declared.words.Inspection.TheVariants.{Replay}
 use Rattle.ffm_model.specs.Reading.{Stop}
 use Rattle.outside_io.specs.Files.{Asks, FilesSeen, failed, no_memory}
-use Rattle.outside_io.specs.Sink.{Hands, SinkSeen}
+use Rattle.outside_io.specs.Sink.{SinkSeen}
 use Rattle.outside_io.specs.Words.{AreGiven}
 use Rattle.work_orders.specs.Work.{Work, judge_of}
 use Rattle.work_orders.specs.declared.unanswered.Unanswered.{Unanswered}
 use Rattle.work_orders.specs.declared.unanswered.Unanswered.TheVariants as unanswered
-use Rattle.view_explaining.specs.declared.answers.Answer.{Answer}
+use Rattle.program_words.specs.Answers.{IsAnswered}
+use Rattle.program_words.specs.declared.answers.Answer.{Answer}
 use Rattle.view_explaining.specs.Explains.{IsExplained}
 use Rattle.view_explaining.specs.Orders.{given}
-use Rattle.view_commands.specs.Files.{AreTraceFiles, RefusalDue, files_asked}
-use Rattle.view_commands.specs.Views.{IsView, IsViewText, status_of}
-use Rattle.view_commands.specs.Requests.{AsksFor, IsTold}
-use Rattle.view_commands.specs.declared.files.TraceFiles.{TraceFiles}
-use Rattle.view_commands.specs.declared.view.View.{View}
-use Rattle.view_commands.specs.declared.words.Asked.{Asked}
-use Rattle.view_commands.specs.declared.words.Asked.TheVariants as asked
-use Rattle.view_commands.specs.declared.words.Request.{Request}
+use Rattle.view_aspects.specs.Traces.{AreTraceFiles}
+use Rattle.view_aspects.specs.Written.{Shows}
+use Rattle.view_aspects.specs.declared.traces.TraceFiles.{TraceFiles}
+use Rattle.view_commands.specs.Files.{RefusalDue, files_asked}
+use Rattle.program_words.specs.View.{AsksFor, IsTold}
+use Rattle.program_words.specs.declared.view.Asked.{Asked}
+use Rattle.program_words.specs.declared.view.Asked.TheVariants as asked
+use Rattle.program_words.specs.declared.view.Request.{Request}
 
 -- 0: shown. 1: a file is refused. 2: the words are no command, or name a place that the trace doesn't
 -- have. 6: the trace is illegal. 7: a file can't be read. 8: the text can't be written. 9: no memory
 abbrev pub IsStatus : ℕ → Type 0
 IsStatus status = (status ≤ 2) ⊎ ((6 ≤ status) × (status ≤ 9))
-
--- what is asked for of the files' trace, as it is to be written, and its status
-abbrev pub Shows : TraceFiles → Request → List ℕ → ℕ → Type 0
-Shows files r text status =
-    (v : View) × IsView files r.aspect v × IsViewText files r.writing v text × (status ≡ status_of v)
 
 -- what is asked for is shown of the trace that the files are to give
 pub record IsShown (due : Result Work Stop) (r : Request) (text : List ℕ) (status : ℕ) : Type 0 where
@@ -74,21 +70,11 @@ Unfinished words before after =
     ⊎ ((a : Asked) × AsksFor words a × Asks {A = Work} before after (Err no_memory) (files_asked a))
 
 -- what these words are answered over these files and this sink
-pub record Answered
-    (words : List (List ℕ)) (files files_after : FilesSeen) (out out_after : SinkSeen)
-    (status : ℕ) : Type 0 where
-  pub status_is : IsStatus status
-  -- 0 to 6: a text that is due was written whole. 8: a put or the flush failed, and such a text
-  -- wasn't. 7 and 9: nothing was written
-  pub whole : status < 7 → (text : List ℕ)
-      × Due words files files_after text status
-      × Hands {E = Unit {0}} out out_after (Ok (tt {0})) text
-  pub part : status ≡ 8 → (text : List ℕ) × (wanted : ℕ)
-      × Due words files files_after text wanted
-      × Hands {T = Unit {0}} out out_after (Err (tt {0})) text
-  pub nothing : (status ≡ 7) ⊎ (status ≡ 9) → out_after ≡ out
-  pub unread : status ≡ 7 → Unread words files files_after
-  pub unfinished : status ≡ 9 → Unfinished words files files_after
+abbrev pub Answered :
+    List (List ℕ) → FilesSeen → FilesSeen → SinkSeen → SinkSeen → ℕ → Type 0
+Answered words files files_after out out_after status =
+    IsAnswered IsStatus (Due words files files_after) (Unread words files files_after)
+    (Unfinished words files files_after) out out_after status
 
 -- what a program ends with over these words, if they are told, these files and this sink
 abbrev pub EndsWith :

@@ -1,28 +1,23 @@
--- What the files of a trace say, and which line refuses them.
+-- Which files of a trace are read, and which line refuses them.
 -- Source: this simulator's; the refusals are those of `ffm replay`.
 use Rattle.std.specs.Prelude.{◌≡◌, ℕ, List, Result, Ok, Err}
 use Rattle.command_words.specs.declared.words.Inspection.TheVariants.{Replay}
 use Rattle.command_words.specs.Words.{Order, judge}
 use Rattle.ffm_model.specs.declared.place.Refusal.{Refusal}
 use Rattle.ffm_model.specs.Reading.{Contents, Reading, Stop, refused}
-use Rattle.judge_command.specs.Replays.{IsTextOf, WrongDue}
+use Rattle.judge_command.specs.Replays.{WrongDue}
 use Rattle.outside_io.specs.Files.{Asks, FilesSeen, failed, no_memory}
 use Rattle.text_lines.specs.Refusals.{refusal_line}
-use Rattle.work_orders.specs.View.{IsTraceWork}
 use Rattle.work_orders.specs.Work.{Work, judge_of, work_of}
 use Rattle.work_orders.specs.declared.work.TraceWork.{TraceWork}
 use Rattle.view_explaining.specs.Orders.{files_explained, given}
 use Rattle.view_commands.specs.declared.files.NoTrace.{NoTrace}
 use Rattle.view_commands.specs.declared.files.NoTrace.TheVariants as no_trace
-use Rattle.view_commands.specs.declared.files.TraceFiles.{TraceFiles}
-use Rattle.view_commands.specs.declared.words.Asked.{Asked}
-use Rattle.view_commands.specs.declared.words.Asked.TheVariants as asked
-use Rattle.view_commands.specs.declared.words.FileNames.{FileNames}
-
--- a scenario of the system, and the trace whose text the bytes are
-pub record AreTraceFiles (f : TraceFiles) : Type 0 where
-  pub work : IsTraceWork f.work
-  pub read : IsTextOf f.work.system f.work.trace.items f.trace.entries f.trace.verdict
+use Rattle.view_aspects.specs.Traces.{AreTraceFiles}
+use Rattle.view_aspects.specs.declared.traces.TraceFiles.{TraceFiles}
+use Rattle.program_words.specs.declared.view.Asked.{Asked}
+use Rattle.program_words.specs.declared.view.Asked.TheVariants as asked
+use Rattle.program_words.specs.declared.view.FileNames.{FileNames}
 
 -- the files are those of `ffm replay`
 abbrev pub order_of_files : FileNames → Order

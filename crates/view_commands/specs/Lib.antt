@@ -1,5 +1,2 @@
-pub mod Requests
 pub mod Answers
-pub mod Diagrams
 pub mod Files
-pub mod Views

@@ -1,16 +1,18 @@
 //! The files of a trace.
 ghost use Rattle.std.specs.Prelude.{◌≡◌, IfOk};
 ghost use Rattle.text_lines.specs.Refusals.{wrong_line};
-ghost use Rattle.view_commands.specs.Files.{AreTraceFiles, FilesRead, IsRefusalBy, TraceRead};
+ghost use Rattle.view_aspects.specs.Traces.{AreTraceFiles};
+ghost use Rattle.view_commands.specs.Files.{FilesRead, IsRefusalBy, TraceRead};
 ghost use Rattle.work_orders.specs.View.{IsTraceWork};
 
-use crate::words::FileNames;
 use command_words::{Command, Inspection};
-use ffm_model::{PartsError, Refusal, Trace};
+use ffm_model::{PartsError, Refusal};
 use outside_io::Files;
+use program_words::view::FileNames;
 use std::alloc::Global;
 use text_lines::{refusal_line, wrong_line};
 use trace_print::{TraceError, read_trace};
+use view_aspects::TraceFiles;
 use work_orders::{TraceWork, Work, work_of};
 
 /// Why there is no trace to show.
@@ -21,13 +23,6 @@ pub enum NoTrace {
     /// A file can't be read.
     File,
     Memory,
-}
-
-/// What the files of a trace say.
-#[derive(Drop)]
-pub struct TraceFiles {
-    pub work: TraceWork,
-    pub trace: Trace,
 }
 
 fn refused(alloc: Global, refusal: &Refusal) -> NoTrace

@@ -1,57 +1,20 @@
 //! The top call.
-ghost use Rattle.std.specs.Prelude.{◌≡◌, ◌≢◌, IfOk, map, string_bytes};
-ghost use Rattle.outside_io.specs.Sink.{Hands};
-ghost use Rattle.clap.specs.Words.{kind_of};
+ghost use Rattle.std.specs.Prelude.{IfOk, map, string_bytes};
+ghost use Rattle.program_words.specs.declared.view.Asked.TheVariants as asked;
 ghost use Rattle.view_explaining.specs.Explains.{IsShownStatus};
-ghost use Rattle.view_commands.specs.Answers.{Answered, AnswersAsked, AnswersWords, Shows};
-ghost use Rattle.view_commands.specs.Files.{AreTraceFiles};
-ghost use Rattle.view_commands.specs.declared.words.Asked.TheVariants as asked;
-ghost use Rattle.view_commands.specs.Requests.{told_status};
+ghost use Rattle.view_commands.specs.Answers.{Answered, AnswersAsked, AnswersWords};
 
-use crate::files::{NoTrace, TraceFiles, read_files};
-use crate::view::view_of;
-use crate::words::{Asked, Request, asked_of};
-use clap::Error;
-use clap::error::ErrorKind;
+use crate::files::{NoTrace, read_files};
 use ffm_model::Memory;
 use file_places::KeepsFiles;
-use outside_io::{Failed, Files, Sink, put_all};
+use outside_io::{Failed, Files, Sink};
+use program_words::view::{Asked, Request, asked_of};
+use program_words::{Answer, told, write};
 use std::alloc::Global;
 use text_lines::{NO_MEMORY, UNREAD, UNWRITTEN};
-use view_explaining::{Answer, explained};
+use view_aspects::shown;
+use view_explaining::explained;
 use work_orders::Unanswered;
-
-// The status of help and the version, and of words that are no command.
-fn told_status(error: &Error) -> u8
-    ensures { result ≡ told_status (kind_of error.now) }
-{
-    if error.use_stderr() { 2 } else { 0 }
-}
-
-// The answer of clap to words that are no command, or that ask for help or the version.
-fn told(alloc: Global, error: &Error) -> Result<Answer, Memory>
-    ensures status { IfOk result (λ answer. answer.status ≡ told_status (kind_of error.now)) }
-    ensures kind { IfOk result (λ answer. kind_of error.now ≢ ErrorKind.OutOfMemory) }
-{
-    if error.kind() == ErrorKind::OutOfMemory {
-        return Err(Memory);
-    }
-    let text = error.to_string(alloc)?.into_bytes();
-    let status = told_status(error);
-    Ok(Answer { text, status })
-}
-
-// What is asked for of the files of a trace.
-fn shown(alloc: Global, files: &TraceFiles, request: Request<'_>) -> Result<Answer, Memory>
-    requires { AreTraceFiles files.now }
-    ensures { IfOk result (λ answer.
-        Shows files.now request.entry answer.text.items answer.status) }
-{
-    let view = view_of(alloc, files, request.aspect)?;
-    let status = view.status();
-    let text = view.text(alloc, files, request.writing)?;
-    Ok(Answer { text, status })
-}
 
 // The answer to what is asked for.
 fn answer_of<F: Files>(
@@ -110,14 +73,6 @@ fn answer_to<F: KeepsFiles>(
             Err(Memory) => Err(Unanswered::Memory),
         },
     }
-}
-
-// Writes a text whole.
-fn write<S: Sink>(out: &mut S, text: &[u8]) -> Result<(), Failed>
-    ensures { Hands (S.seen out.old) (S.seen out.new) result text.now }
-{
-    put_all(out, text)?;
-    out.flush()
 }
 
 /// Shows what the words ask for over these files: writes the text, and answers the status to end with.

@@ -1,5 +1,5 @@
 -- What is told of files of which the first refusal is asked for, out of ffm's own line and the words behind it.
-use Rattle.std.proofs.Common.{◌≡◌, ◌++◌, ℕ, List, length, ap, inl, inr, refl, subst, sym}
+use Rattle.std.proofs.Common.{◌≡◌, ℕ, List, length, inl, inr, refl, subst, sym}
 use Rattle.std.specs.Prelude.{Result, Ok, Err}
 use Rattle.ffm_model.specs.declared.machine.Entry.{Entry}
 use Rattle.ffm_model.specs.declared.machine.Verdict.{Verdict}
@@ -15,8 +15,8 @@ use Rattle.trace_print.specs.View.{parts}
 use Rattle.work_orders.specs.declared.work.TraceWork.{TraceWork}
 use Rattle.work_orders.specs.declared.work.RunWork.{RunWork}
 use Rattle.work_orders.specs.Work.{Work, judge_of, listing_of, run_of}
-use Rattle.view_explaining.specs.declared.answers.Answer.{Answer}
-use Rattle.view_explaining.specs.declared.names.ExplainedNames.{ExplainedNames}
+use Rattle.program_words.specs.declared.answers.Answer.{Answer}
+use Rattle.program_words.specs.declared.view.ExplainedNames.{ExplainedNames}
 use Rattle.view_explaining.specs.Explains.{AdmittedDue, AnswersExplained, IsAdmitted, IsExplained, IsFollowed, IsFollowedBy, IsTraceTold}
 use Rattle.view_explaining.specs.Orders.{files_explained, given}
 

@@ -8,12 +8,12 @@ use Rattle.ffm_model.specs.Reading.{Stop, missing, refused}
 use Rattle.judge_command.specs.Replays.{JudgedDue, WrongDue}
 use Rattle.outside_io.specs.Files.{Asks, FilesSeen, failed, no_memory}
 use Rattle.text_lines.specs.Refusals.{refusal_line}
-use Rattle.view_explaining.specs.declared.answers.Answer.{Answer}
+use Rattle.program_words.specs.declared.answers.Answer.{Answer}
 use Rattle.work_orders.specs.declared.work.TraceWork.{TraceWork}
 use Rattle.work_orders.specs.declared.unanswered.Unanswered.{Unanswered}
 use Rattle.work_orders.specs.declared.unanswered.Unanswered.TheVariants as unanswered
 use Rattle.work_orders.specs.Work.{Work, judge_of, listing_of, make_of, run_of}
-use Rattle.view_explaining.specs.declared.names.ExplainedNames.{ExplainedNames}
+use Rattle.program_words.specs.declared.view.ExplainedNames.{ExplainedNames}
 use Rattle.view_explaining.specs.Orders.{files_explained, given}
 
 -- nothing is refused of a system: the last line of its listing

@@ -7,7 +7,7 @@ use Rattle.command_words.specs.Words.{Order, compile, judge, run}
 use Rattle.ffm_model.specs.Reading.{Contents, Reading, Stop}
 use Rattle.outside_io.specs.Files.{NoValue, stopped}
 use Rattle.work_orders.specs.Work.{Work, work_of}
-use Rattle.view_explaining.specs.declared.names.ExplainedNames.{ExplainedNames}
+use Rattle.program_words.specs.declared.view.ExplainedNames.{ExplainedNames}
 
 -- the files are those of `ffm compile`, `ffm run` or `ffm replay`
 abbrev pub order_with : List ℕ → Option (List ℕ) → Option (List ℕ) → Order

@@ -10,13 +10,13 @@ ghost use Rattle.text_lines.specs.Refusals.{refusal_line, wrong_line};
 ghost use Rattle.view_explaining.specs.Explains.{AnswersExplained, IsAdmitted, IsExplained, IsFollowed, IsFollowedBy, IsShownStatus, IsTraceTold};
 ghost use Rattle.view_explaining.specs.Orders.{order_explained};
 
-use crate::answers::Answer;
-use crate::names::ExplainedNames;
 use command_words::{Command, Inspection};
 use ffm_model::{Memory, PartsError, Refusal, System, Trace};
 use file_places::{FileRead, KeepsFiles, KeptFile};
 use machine_check::{Checked, check};
 use memory_image::opening_image;
+use program_words::Answer;
+use program_words::view::ExplainedNames;
 use std::alloc::{AllocError, Global};
 use system_texts::admitted;
 use text_lines::{refusal_line, wrong_line};

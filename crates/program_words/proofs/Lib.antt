@@ -1,0 +1,5 @@
+mod Asking
+mod Commands
+mod EntryTexts
+mod Getters
+pub mod Answering

@@ -1,0 +1,3 @@
+pub mod CallTexts
+pub mod Legal
+pub mod Naming

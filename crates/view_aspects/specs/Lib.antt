@@ -1,0 +1,4 @@
+pub mod Traces
+pub mod Diagrams
+pub mod Views
+pub mod Written
