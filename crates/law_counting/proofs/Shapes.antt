@@ -147,7 +147,8 @@ fewer s b new q fit e =
       length-filter q b.messages,
     ))
 
-filter-twice : {X : Type 0} (q r : X → Bool) (xs : List X) → filter r (filter q xs) ≡ filter (λ x. q x && r x) xs
+-- two tests one after the other are one
+pub filter-twice : {X : Type 0} (q r : X → Bool) (xs : List X) → filter r (filter q xs) ≡ filter (λ x. q x && r x) xs
 filter-twice q r [] = refl
 filter-twice {X = X} q r (x ∷ xs) =
     let go : (a : Bool) → filter r (cond {A = List X} a (x ∷ filter q xs) (filter q xs)) ≡ cond {A = List X} (a && r x) (x ∷ filter (λ y. q y && r y) xs) (filter (λ y. q y && r y) xs) =

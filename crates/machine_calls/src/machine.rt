@@ -13,7 +13,8 @@ pub struct Objects {
     /// In the order of their making.
     pub connections: Vec<OpenConnection>,
     pub connections_made: u32,
-    /// In order of arrival.
+    /// Those to one service in order of arrival. The order of others to each other counts for nothing; here it is that of
+    /// arrival too, unless the state was put together otherwise.
     pub messages: Vec<PendingMessage>,
     /// What each actor does.
     pub phases: Vec<ActorPhase>,
