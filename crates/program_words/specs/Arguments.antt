@@ -28,9 +28,13 @@ option_rule id = record (new_rule id) { long = Some id; action = Some Set; value
 abbrev pub flag_rule : Text → Text → Rule
 flag_rule id long = record (new_rule id) { long = Some long; action = Some SetTrue }
 
+-- a command over a system
+abbrev pub system_app : Text → App
+system_app name = with_rule (new_app name) (file_rule (codes "system"))
+
 -- a command over a system and a scenario
 abbrev pub scenario_app : Text → App
-scenario_app name = with_rule (with_rule (new_app name) (file_rule (codes "system"))) (file_rule (codes "scenario"))
+scenario_app name = with_rule (system_app name) (file_rule (codes "scenario"))
 
 -- one of a program's commands has to be named; there is a version
 abbrev pub top_app : Text → App

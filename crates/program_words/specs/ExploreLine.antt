@@ -31,8 +31,12 @@ seek_app name = with_rule (command_app name) scenario_rule
 abbrev pub entry_app : App
 entry_app = with_rule (seek_app (codes "entry")) (file_rule (codes "entry"))
 
+-- a command over an actor's script
+abbrev pub script_app : App
+script_app = with_rule (command_app (codes "line")) (file_rule (codes "actor"))
+
 abbrev pub line_app : App
-line_app = with_rule (with_rule (with_rule (command_app (codes "line")) (file_rule (codes "actor"))) line_rule) context_rule
+line_app = with_rule (with_rule script_app line_rule) context_rule
 
 abbrev pub explore_app : App
 explore_app =

@@ -1,11 +1,11 @@
 -- The command line of `ffm_view`.
 -- Source: this simulator's.
 use Rattle.std.specs.Prelude.{◌≡◌, ◌∷◌, [], Some, true, codes, map}
-use Rattle.clap.specs.Words.{App, Rule, Text, new_app, new_rule, with_rule, with_subcommand}
+use Rattle.clap.specs.Words.{App, Rule, Text, new_rule, with_rule, with_subcommand}
 use Rattle.clap.specs.declared.builder.action.ArgAction.TheVariants.{Set}
 use Rattle.clap.specs.declared.builder.value_parser.ValueParser.{ValueParser}
 use Rattle.clap.specs.declared.builder.value_parser.ValueParser.TheVariants as parser
-use Rattle.program_words.specs.Arguments.{file_rule, flag_rule, number_rule, option_rule, scenario_app, top_app}
+use Rattle.program_words.specs.Arguments.{file_rule, flag_rule, number_rule, option_rule, scenario_app, system_app, top_app}
 
 -- a file that may be left out
 abbrev pub further_rule : Text → Rule
@@ -46,12 +46,16 @@ format_rule p = record (new_rule (codes "format")) { long = Some (codes "format"
 abbrev pub actors_rule : Rule
 actors_rule = record (new_rule (codes "actors")) { long = Some (codes "actors"); action = Some Set; value_names = 1 }
 
+-- the entries between two places
+abbrev pub part_app : App
+part_app = with_rule (with_rule (files_app (codes "diagram")) (option_rule (codes "from"))) (option_rule (codes "to"))
+
 abbrev pub diagram_app : ValueParser → App
-diagram_app p = with_rule (with_rule (with_rule (with_rule (files_app (codes "diagram")) (option_rule (codes "from"))) (option_rule (codes "to"))) (format_rule p)) actors_rule
+diagram_app p = with_rule (with_rule part_app (format_rule p)) actors_rule
 
 -- a system, perhaps with a scenario, and then perhaps with a trace
 abbrev pub explain_app : App
-explain_app = with_rule (with_rule (with_rule (new_app (codes "explain")) (file_rule (codes "system"))) (further_rule (codes "scenario"))) (further_rule (codes "trace"))
+explain_app = with_rule (with_rule (system_app (codes "explain")) (further_rule (codes "scenario"))) (further_rule (codes "trace"))
 
 abbrev pub view_app : ValueParser → App
 view_app p =

@@ -1,9 +1,9 @@
 //! The arguments that the commands of both programs have, and what is read of them.
-ghost use Rattle.std.specs.Prelude.{◌≡◌, IfOk, false, map, string_bytes, true};
+ghost use Rattle.std.specs.Prelude.{◌≡◌, IfOk, codes, false, map, string_bytes, true};
 ghost use Rattle.std.specs.Option.{option_map};
 ghost use Rattle.clap.specs.Words.{FailsBy, app_of, fault_of, first_of, found_of, is_simple_and_free, kind_of, rows_of, rule_of, subcommand_of, subcommand_rows_of};
 ghost use Rattle.clap.specs.declared.builder.command.Command.TheViews.{out-Command as fields_of};
-ghost use Rattle.program_words.specs.Arguments.{IsFlagAt, IsNumberAt, IsNumberOr, file_rule, flag_rule, number_rule, option_rule, scenario_app, top_app};
+ghost use Rattle.program_words.specs.Arguments.{IsFlagAt, IsNumberAt, IsNumberOr, file_rule, flag_rule, number_rule, option_rule, scenario_app, system_app, top_app};
 
 use clap::error::ErrorKind;
 use clap::{Arg, ArgAction, ArgMatches, Command, Error, value_parser};
@@ -60,6 +60,34 @@ pub(crate) fn flag<'a>(alloc: Global, id: &'a str, long: &'a str, help: &'a str)
         .help(help)
 }
 
+fn system_argument<'a>(alloc: Global) -> Arg<'a>
+    ensures rule { rule_of result ≡ file_rule (codes "system") }
+    ensures own { result.global ≡ false }
+{
+    file_argument(alloc, "system", "SYSTEM")
+}
+
+fn scenario_argument<'a>(alloc: Global) -> Arg<'a>
+    ensures rule { rule_of result ≡ file_rule (codes "scenario") }
+    ensures own { result.global ≡ false }
+{
+    file_argument(alloc, "scenario", "SCENARIO")
+}
+
+// A command over a system.
+pub(crate) fn system_command<'a>(
+    alloc: Global,
+    name: &'a str,
+    about: &'a str,
+) -> Result<Command<'a>, AllocError>
+    ensures app { IfOk result (λ c. app_of c ≡ system_app name.entry.now) }
+    ensures own { IfOk result (λ c. (fields_of c).has_globals ≡ false) }
+{
+    Command::new(alloc, name)
+        .about(about)
+        .arg(system_argument(alloc))
+}
+
 // A command over a system and a scenario.
 pub(crate) fn scenario_command<'a>(
     alloc: Global,
@@ -69,10 +97,7 @@ pub(crate) fn scenario_command<'a>(
     ensures app { IfOk result (λ c. app_of c ≡ scenario_app name.entry.now) }
     ensures own { IfOk result (λ c. (fields_of c).has_globals ≡ false) }
 {
-    Command::new(alloc, name)
-        .about(about)
-        .arg(file_argument(alloc, "system", "SYSTEM"))?
-        .arg(file_argument(alloc, "scenario", "SCENARIO"))
+    system_command(alloc, name, about)?.arg(scenario_argument(alloc))
 }
 
 // A program without its commands.

@@ -2,7 +2,8 @@
 ghost use Rattle.std.specs.Prelude.{◌≡◌, codes, IfOk, false, true};
 ghost use Rattle.clap.specs.Words.{app_of, is_simple_and_free, rule_of};
 ghost use Rattle.clap.specs.declared.builder.command.Command.TheViews.{out-Command as fields_of};
-ghost use Rattle.program_words.specs.ExploreLine.{command_app, context_rule, entry_app, explore_app, line_app, line_rule, scenario_rule, seek_app};
+ghost use Rattle.program_words.specs.Arguments.{file_rule};
+ghost use Rattle.program_words.specs.ExploreLine.{command_app, context_rule, entry_app, explore_app, line_app, line_rule, scenario_rule, script_app, seek_app, states_rule};
 
 use crate::arguments::{
     file_argument, flag, number_argument, number_option, program, scenario_command,
@@ -16,6 +17,13 @@ fn scenario_flag<'a>(alloc: Global) -> Arg<'a>
 {
     let help = "Writes the scenario again, with the order as its schedule";
     flag(alloc, "as_scenario", "scenario", help)
+}
+
+fn actor_argument<'a>(alloc: Global) -> Arg<'a>
+    ensures rule { rule_of result ≡ file_rule (codes "actor") }
+    ensures own { result.global ≡ false }
+{
+    file_argument(alloc, "actor", "ACTOR").help("The actor's name")
 }
 
 fn line_argument<'a>(alloc: Global) -> Arg<'a>
@@ -36,13 +44,20 @@ fn context_option<'a>(alloc: Global) -> Arg<'a>
     )
 }
 
+fn states_option<'a>(alloc: Global) -> Arg<'a>
+    ensures rule { rule_of result ≡ states_rule }
+    ensures own { result.global ≡ false }
+{
+    let help = "At most so many states; by default 1000000";
+    number_option(alloc, "states", help)
+}
+
 // A command over a system and a scenario, of at most so many states.
 fn command<'a>(alloc: Global, name: &'a str, about: &'a str) -> Result<Command<'a>, AllocError>
     ensures app { IfOk result (λ c. app_of c ≡ command_app name.entry.now) }
     ensures own { IfOk result (λ c. (fields_of c).has_globals ≡ false) }
 {
-    let help = "At most so many states; by default 1000000";
-    scenario_command(alloc, name, about)?.arg(number_option(alloc, "states", help))
+    scenario_command(alloc, name, about)?.arg(states_option(alloc))
 }
 
 // A command that seeks a state or an event.
@@ -62,13 +77,20 @@ fn entry_command<'a>(alloc: Global) -> Result<Command<'a>, AllocError>
     seek_command(alloc, "entry", about)?.arg(file_argument(alloc, "entry", "ENTRY").help(help))
 }
 
+// A command over an actor's script.
+fn script_command<'a>(alloc: Global) -> Result<Command<'a>, AllocError>
+    ensures app { IfOk result (λ c. app_of c ≡ script_app) }
+    ensures own { IfOk result (λ c. (fields_of c).has_globals ≡ false) }
+{
+    let about = "Tells each outcome of a script's line, and a shortest order of turns to it";
+    command(alloc, "line", about)?.arg(actor_argument(alloc))
+}
+
 fn line_command<'a>(alloc: Global) -> Result<Command<'a>, AllocError>
     ensures app { IfOk result (λ c. app_of c ≡ line_app) }
     ensures own { IfOk result (λ c. (fields_of c).has_globals ≡ false) }
 {
-    let about = "Tells each outcome of a script's line, and a shortest order of turns to it";
-    command(alloc, "line", about)?
-        .arg(file_argument(alloc, "actor", "ACTOR").help("The actor's name"))?
+    script_command(alloc)?
         .arg(line_argument(alloc))?
         .arg(context_option(alloc))
 }

@@ -3,20 +3,28 @@ ghost use Rattle.std.specs.Prelude.{◌≡◌, codes, IfOk, false, true};
 ghost use Rattle.clap.specs.Words.{app_of, is_simple_and_free, rule_of};
 ghost use Rattle.clap.specs.declared.builder.command.Command.TheViews.{out-Command as fields_of};
 ghost use Rattle.clap.specs.declared.builder.value_parser.ValueParser.{ValueParser as ParserSeen};
-ghost use Rattle.program_words.specs.ViewLine.{IsFormatParser, actors_rule, ask_app, diagram_app, explain_app, files_app, format_rule, further_rule, json_rule, place_app, place_rule, stats_app, view_app};
+ghost use Rattle.program_words.specs.Arguments.{file_rule, option_rule};
+ghost use Rattle.program_words.specs.ViewLine.{IsFormatParser, actors_rule, ask_app, diagram_app, explain_app, files_app, format_rule, further_rule, json_rule, part_app, place_app, place_rule, stats_app, view_app};
 
 use crate::arguments::{
-    file_argument, flag, number_argument, number_option, program, scenario_command,
+    file_argument, flag, number_argument, number_option, program, scenario_command, system_command,
 };
 use clap::{Arg, ArgAction, Command};
 use std::alloc::{AllocError, Global};
+
+fn trace_argument<'a>(alloc: Global) -> Arg<'a>
+    ensures rule { rule_of result ≡ file_rule (codes "trace") }
+    ensures own { result.global ≡ false }
+{
+    file_argument(alloc, "trace", "TRACE")
+}
 
 // A command over the files of a trace.
 fn view_command<'a>(alloc: Global, name: &'a str, about: &'a str) -> Result<Command<'a>, AllocError>
     ensures app { IfOk result (λ c. app_of c ≡ files_app name.entry.now) }
     ensures own { IfOk result (λ c. (fields_of c).has_globals ≡ false) }
 {
-    scenario_command(alloc, name, about)?.arg(file_argument(alloc, "trace", "TRACE"))
+    scenario_command(alloc, name, about)?.arg(trace_argument(alloc))
 }
 
 // The place of an entry; 0 is the opening.
@@ -45,16 +53,30 @@ fn state_command<'a>(alloc: Global) -> Result<Command<'a>, AllocError>
         .arg(json_flag(alloc))
 }
 
+// The place after which a call is asked for.
+fn place_asked<'a>(alloc: Global) -> Arg<'a>
+    ensures rule { rule_of result ≡ record place_rule { required = true } }
+    ensures own { result.global ≡ false }
+{
+    place_argument(alloc, "After this entry, counted from 1; 0 is the opening").required(true)
+}
+
+fn call_argument<'a>(alloc: Global) -> Arg<'a>
+    ensures rule { rule_of result ≡ file_rule (codes "call") }
+    ensures own { result.global ≡ false }
+{
+    let help = "An actor and its call as a trace has them, in one word: 'p1 wait 0xffffffff 0'";
+    file_argument(alloc, "call", "CALL").help(help)
+}
+
 fn ask_command<'a>(alloc: Global) -> Result<Command<'a>, AllocError>
     ensures app { IfOk result (λ c. app_of c ≡ ask_app) }
     ensures own { IfOk result (λ c. (fields_of c).has_globals ≡ false) }
 {
     let about = "Tells what the machine answers to a call after an entry";
-    let help = "After this entry, counted from 1; 0 is the opening";
-    let call = "An actor and its call as a trace has them, in one word: 'p1 wait 0xffffffff 0'";
     view_command(alloc, "ask", about)?
-        .arg(place_argument(alloc, help).required(true))?
-        .arg(file_argument(alloc, "call", "CALL").help(call))
+        .arg(place_asked(alloc))?
+        .arg(call_argument(alloc))
 }
 
 fn format_option<'a>(alloc: Global) -> Arg<'a>
@@ -79,14 +101,36 @@ fn actors_option<'a>(alloc: Global) -> Arg<'a>
         .help("Only the lanes of these actors, and what goes between them: A,B,..")
 }
 
+fn from_option<'a>(alloc: Global) -> Arg<'a>
+    ensures rule { rule_of result ≡ option_rule (codes "from") }
+    ensures own { result.global ≡ false }
+{
+    number_option(alloc, "from", "The first entry to be drawn")
+}
+
+fn to_option<'a>(alloc: Global) -> Arg<'a>
+    ensures rule { rule_of result ≡ option_rule (codes "to") }
+    ensures own { result.global ≡ false }
+{
+    number_option(alloc, "to", "The last entry to be drawn")
+}
+
+// Which entries are to be drawn.
+fn part_command<'a>(alloc: Global) -> Result<Command<'a>, AllocError>
+    ensures app { IfOk result (λ c. app_of c ≡ part_app) }
+    ensures own { IfOk result (λ c. (fields_of c).has_globals ≡ false) }
+{
+    view_command(alloc, "diagram", "Draws a sequence diagram")?
+        .arg(from_option(alloc))?
+        .arg(to_option(alloc))
+}
+
 fn diagram_command<'a>(alloc: Global) -> Result<Command<'a>, AllocError>
     ensures app { IfOk result (λ c.
         (p : ParserSeen) × IsFormatParser p × (app_of c ≡ diagram_app p)) }
     ensures own { IfOk result (λ c. (fields_of c).has_globals ≡ false) }
 {
-    view_command(alloc, "diagram", "Draws a sequence diagram")?
-        .arg(number_option(alloc, "from", "The first entry to be drawn"))?
-        .arg(number_option(alloc, "to", "The last entry to be drawn"))?
+    part_command(alloc)?
         .arg(format_option(alloc))?
         .arg(actors_option(alloc))
 }
@@ -122,9 +166,8 @@ fn explain_command<'a>(alloc: Global) -> Result<Command<'a>, AllocError>
     ensures app { IfOk result (λ c. app_of c ≡ explain_app) }
     ensures own { IfOk result (λ c. (fields_of c).has_globals ≡ false) }
 {
-    Command::new(alloc, "explain")
-        .about("Says in words why ffm refuses these files: where, what is wrong, what is expected")
-        .arg(file_argument(alloc, "system", "SYSTEM"))?
+    let about = "Says in words why ffm refuses these files: where, what is wrong, what is expected";
+    system_command(alloc, "explain", about)?
         .arg(further_argument(alloc, "scenario", "SCENARIO"))?
         .arg(further_argument(alloc, "trace", "TRACE"))
 }
