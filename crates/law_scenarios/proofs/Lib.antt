@@ -10,13 +10,13 @@ pub mod NextEntry
 pub mod NextStates
 pub mod Walks
 pub mod Enabled
-pub mod Past
 pub mod Resting
 pub mod Gone
 pub mod SlotsAlike
 pub mod Sorting
 pub mod Reordering
 pub mod Effects
+pub mod Past
 pub mod SlotOrders
 pub mod Ordered
 pub mod OrderedStates

@@ -3,7 +3,7 @@ pub mod SingleRun
 pub mod ByScripts
 pub mod Explored
 pub mod Exploring
-pub mod Queues
+pub mod MessageOrder
 pub mod Seen
 pub mod Shown
 pub mod Ranges
