@@ -1,14 +1,12 @@
 -- Where a value stands in the text of a file.
 -- Source: this simulator's; which tree a text spells is `tree_of` of the files.
-use Rattle.std.specs.Prelude.{◌≡◌, ◌⊎◌, ℕ, List, [], ◌∷◌, ◌++◌, take, drop, Option, None, Some, codes, option_and_then, true}
+use Rattle.std.specs.Prelude.{◌≡◌, ℕ, List, [], ◌∷◌, ◌++◌, take, drop, Option, Some, codes, option_and_then, true}
 use Rattle.serde_json.specs.Data.{Data, null, boolean}
 use Rattle.serde_json.specs.Find.{at, get}
 use Rattle.ffm_model.specs.Keys.{key_text}
 use Rattle.ffm_model.specs.Trees.{tree_of}
 use Rattle.ffm_model.specs.declared.place.PathStep.{PathStep}
 use Rattle.ffm_model.specs.declared.place.PathStep.TheVariants as step
-use Rattle.file_places.specs.Lines.{place_text}
-use Rattle.file_places.specs.declared.kept.KeptFile.{KeptFile}
 
 -- the value that a step leads to
 abbrev pub part_at : PathStep → Data → Option Data

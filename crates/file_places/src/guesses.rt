@@ -11,8 +11,8 @@ fn lowered(alloc: Global, word: &[u8]) -> Result<Vec<u8>, AllocError> {
 const LONGEST: usize = 64;
 
 /// The word of these that is nearest to a given one: by two letters at most that are put in, taken out, changed or
-/// swapped, and fewer for a short word; or, where there is none, one that begins it or begins with it. The first of
-/// several.
+/// swapped, and fewer for a short word; or, where there is none, one that begins it or begins with it, by three letters
+/// at least. The first of several.
 pub fn nearest<'a>(
     alloc: Global,
     words: &[&'a [u8]],
@@ -22,24 +22,20 @@ pub fn nearest<'a>(
         return Ok(None);
     }
     let wanted = lowered(alloc, given)?;
-    let mut found = None;
+    let (mut found, mut beginning) = (None, None);
     let mut least = 3.min((given.len() / 2).saturating_add(1));
-    for word in words.iter().filter(|word| word.len() <= LONGEST) {
-        let count = generic_damerau_levenshtein(alloc, &wanted, &lowered(alloc, word)?)?;
-        if count < least {
-            least = count;
-            found = Some(*word);
+    for word in words {
+        if word.len() <= LONGEST {
+            let count = generic_damerau_levenshtein(alloc, &wanted, &lowered(alloc, word)?)?;
+            if count < least {
+                least = count;
+                found = Some(*word);
+            }
+        }
+        let begins = given.starts_with(word) || word.starts_with(given);
+        if beginning.is_none() && begins && word.len().min(given.len()) >= 3 {
+            beginning = Some(*word);
         }
     }
-    Ok(found.or_else(|| beginning(words, given)))
-}
-
-// The first of these words that begins a given one or begins with it, by three letters at least.
-fn beginning<'a>(words: &[&'a [u8]], given: &[u8]) -> Option<&'a [u8]> {
-    words
-        .iter()
-        .find(|word| {
-            word.len().min(given.len()) >= 3 && (given.starts_with(word) || word.starts_with(given))
-        })
-        .copied()
+    Ok(found.or(beginning))
 }

@@ -1,7 +1,8 @@
 //! One text, number or word of JSON at the front of bytes.
 
+use crate::numbers::digits_of;
 use crate::outline::{Cause, Kind};
-use crate::slices::{byte_at, front_of, part_of, rest_of, word_at};
+use crate::slices::{front_of, rest_of, word_at};
 
 /// What stands at the front.
 #[derive(Clone, Copy)]
@@ -14,47 +15,23 @@ pub enum Lexeme {
 // The most bytes of a number that stays a number.
 const LONGEST_NUMBER: usize = 19;
 
-fn is_run_byte(byte: u8) -> bool {
-    byte.is_ascii_digit() || matches!(byte, b'+' | b'-' | b'.' | b'e' | b'E')
-}
-
-// The number that four hexadecimal digits spell.
-fn unit_of(digits: &[u8]) -> Option<u32> {
-    if digits.len() != 4 {
-        return None;
-    }
-    let mut unit: u32 = 0;
-    for digit in digits {
-        unit = unit
-            .saturating_mul(16)
-            .saturating_add(char::from(*digit).to_digit(16)?);
-    }
-    Some(unit)
+// The number in the escape `\uXXXX` at the front.
+fn unit_at(bytes: &[u8]) -> Option<u32> {
+    digits_of(bytes.strip_prefix(b"\\u")?.get(..4)?, 16)
 }
 
 // How many bytes the escape at the front has, which begins with a backslash, or why it is none.
 fn escape_len(bytes: &[u8]) -> Result<usize, Cause> {
-    match byte_at(bytes, 1) {
+    match bytes.get(1).copied() {
         None => Err(Cause::Ends),
         Some(b'"' | b'\\' | b'/' | b'b' | b'f' | b'n' | b'r' | b't') => Ok(2),
-        Some(b'u') => match unit_of(part_of(bytes, 2, 6)) {
-            None => Err(Cause::NoEscape),
-            Some(0xd800..=0xdbff) => second_len(rest_of(bytes, 6)),
-            Some(0xdc00..=0xdfff) => Err(Cause::HalfOfPair),
-            Some(_) => Ok(6),
+        Some(b'u') => match (unit_at(bytes), unit_at(rest_of(bytes, 6))) {
+            (None, _) => Err(Cause::NoEscape),
+            (Some(0xd800..=0xdbff), Some(0xdc00..=0xdfff)) => Ok(12),
+            (Some(0xd800..=0xdfff), _) => Err(Cause::HalfOfPair),
+            (Some(_), _) => Ok(6),
         },
         Some(_) => Err(Cause::NoEscape),
-    }
-}
-
-// How many bytes a surrogate pair has, of which the second half stands here.
-fn second_len(bytes: &[u8]) -> Result<usize, Cause> {
-    if front_of(bytes, 2) != b"\\u".as_slice() {
-        return Err(Cause::HalfOfPair);
-    }
-    match unit_of(part_of(bytes, 2, 6)) {
-        Some(0xdc00..=0xdfff) => Ok(12),
-        _ => Err(Cause::HalfOfPair),
     }
 }
 
@@ -62,13 +39,11 @@ fn second_len(bytes: &[u8]) -> Result<usize, Cause> {
 fn text(bytes: &[u8]) -> Lexeme {
     let mut at: usize = 1;
     for _ in 0..bytes.len() {
-        match byte_at(bytes, at) {
+        match bytes.get(at).copied() {
             None => break,
             Some(b'"') => {
-                return Lexeme::Value {
-                    kind: Kind::Text,
-                    len: at.saturating_add(1),
-                };
+                let (kind, len) = (Kind::Text, at.saturating_add(1));
+                return Lexeme::Value { kind, len };
             }
             Some(b'\\') => match escape_len(rest_of(bytes, at)) {
                 Ok(len) => at = at.saturating_add(len),
@@ -81,73 +56,45 @@ fn text(bytes: &[u8]) -> Lexeme {
             Some(_) => at = at.saturating_add(1),
         }
     }
-    Lexeme::Wrong {
-        at: bytes.len(),
-        cause: Cause::Ends,
-    }
+    let (at, cause) = (bytes.len(), Cause::Ends);
+    Lexeme::Wrong { at, cause }
 }
 
-// Whether digits and signs that begin as a number does are read as a text.
-fn is_decimal(run: &[u8]) -> bool {
-    run.iter().any(|b| matches!(*b, b'.' | b'e' | b'E'))
-        || run == b"-0".as_slice()
-        || run.len() > LONGEST_NUMBER
-}
-
-// Whether digits, perhaps with a sign before them, are a number.
-fn is_whole(run: &[u8]) -> bool {
-    let digits = match run.split_first() {
-        Some((b'-', digits)) => digits,
-        _ => run,
-    };
-    match digits.split_first() {
-        None => false,
-        Some((first, more)) => {
-            (*first != b'0' || more.is_empty()) && digits.iter().all(|b| b.is_ascii_digit())
-        }
-    }
-}
-
+// Digits and signs that begin as a number does.
 fn number(bytes: &[u8]) -> Lexeme {
-    let len = bytes.iter().take_while(|b| is_run_byte(**b)).count();
+    let len = bytes
+        .iter()
+        .take_while(|b| matches!(**b, b'0'..=b'9' | b'+' | b'-' | b'.' | b'e' | b'E'))
+        .count();
     let run = front_of(bytes, len);
-    if is_decimal(run) {
+    let digits = run.strip_prefix(b"-").unwrap_or(run);
+    let is_decimal = run.iter().any(|b| matches!(*b, b'.' | b'e' | b'E'));
+    if is_decimal || matches!(run, b"-0") || len > LONGEST_NUMBER {
         let kind = Kind::Decimal;
-        Lexeme::Value { kind, len }
-    } else if is_whole(run) {
+        return Lexeme::Value { kind, len };
+    }
+    let is_bare = digits.len() == 1 || !digits.starts_with(b"0");
+    if is_bare && !digits.is_empty() && digits.iter().all(|b| b.is_ascii_digit()) {
         let kind = Kind::Whole;
-        Lexeme::Value { kind, len }
-    } else {
-        let cause = Cause::NoNumber;
-        Lexeme::Wrong { at: 0, cause }
+        return Lexeme::Value { kind, len };
     }
-}
-
-fn word(bytes: &[u8]) -> Lexeme {
-    let word = word_at(bytes);
-    if word == b"true".as_slice() || word == b"false".as_slice() {
-        Lexeme::Value {
-            kind: Kind::Boolean,
-            len: word.len(),
-        }
-    } else if word == b"null".as_slice() {
-        Lexeme::Value {
-            kind: Kind::Null,
-            len: word.len(),
-        }
-    } else {
-        Lexeme::Wrong {
-            at: 0,
-            cause: Cause::NoValue,
-        }
-    }
+    let (at, cause) = (0, Cause::NoNumber);
+    Lexeme::Wrong { at, cause }
 }
 
 /// The text, number or word at the front of bytes that are UTF-8.
 pub fn lexeme_at(bytes: &[u8]) -> Lexeme {
-    match byte_at(bytes, 0) {
-        Some(b'"') => text(bytes),
-        Some(b'-' | b'0'..=b'9') => number(bytes),
-        _ => word(bytes),
-    }
+    let word = word_at(bytes);
+    let kind = match (bytes.first().copied(), word) {
+        (Some(b'"'), _) => return text(bytes),
+        (Some(b'-' | b'0'..=b'9'), _) => return number(bytes),
+        (_, b"true" | b"false") => Kind::Boolean,
+        (_, b"null") => Kind::Null,
+        _ => {
+            let (at, cause) = (0, Cause::NoValue);
+            return Lexeme::Wrong { at, cause };
+        }
+    };
+    let len = word.len();
+    Lexeme::Value { kind, len }
 }

@@ -1,11 +1,11 @@
 //! Numbers as the files write them.
 
-/// The number that decimal digits, or `0x` and hexadecimal ones, spell.
-pub fn number_of(word: &[u8]) -> Option<u32> {
-    let (base, digits) = match word.strip_prefix(b"0x".as_slice()) {
-        Some(digits) => (16, digits),
-        None => (10, word),
-    };
+ghost use Rattle.std.specs.Prelude.{◌≤◌};
+
+/// The number that at most ten digits of a base spell.
+pub(crate) fn digits_of(digits: &[u8], base: u32) -> Option<u32>
+    requires base { 2 ≤ base × base ≤ 36 }
+{
     if digits.is_empty() || digits.len() > 10 {
         return None;
     }
@@ -17,4 +17,12 @@ pub fn number_of(word: &[u8]) -> Option<u32> {
             .saturating_add(u64::from(value));
     }
     u32::try_from(number).ok()
+}
+
+/// The number that decimal digits, or `0x` and hexadecimal ones, spell.
+pub fn number_of(word: &[u8]) -> Option<u32> {
+    match word.strip_prefix(b"0x") {
+        Some(digits) => digits_of(digits, 16),
+        None => digits_of(word, 10),
+    }
 }

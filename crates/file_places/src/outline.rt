@@ -4,15 +4,8 @@
 //! a digit or `-` and is no plain whole number stands for a text.
 
 use crate::lexemes::{Lexeme, lexeme_at};
-use crate::slices::{byte_at, rest_of};
-use std::alloc::{AllocError, AllocFailed, Global};
-
-/// The bytes from one place up to another.
-#[derive(Clone, Copy)]
-pub struct Span {
-    pub from: usize,
-    pub to: usize,
-}
+use crate::slices::{Span, is_blank, rest_of};
+use std::alloc::{AllocError, Global};
 
 /// What a value is.
 #[derive(Clone, Copy, PartialEq, Eq)]
@@ -44,10 +37,7 @@ pub struct Node {
 impl Node {
     /// Where it begins, or its name, where it has one.
     pub fn start(self) -> usize {
-        match self.name {
-            Some(name) => name.from,
-            None => self.span.from,
-        }
+        self.name.unwrap_or(self.span).from
     }
 }
 
@@ -94,25 +84,6 @@ pub enum Outline {
     Broken(Fault),
 }
 
-// Why a step was the last.
-#[derive(Clone, Copy)]
-enum Stop {
-    Fault(Fault),
-    Memory,
-}
-
-impl From<AllocError> for Stop {
-    fn from(_error: AllocError) -> Stop {
-        Stop::Memory
-    }
-}
-
-impl<T: Drop> From<AllocFailed<T>> for Stop {
-    fn from(_error: AllocFailed<T>) -> Stop {
-        Stop::Memory
-    }
-}
-
 // What may stand next.
 #[derive(Clone, Copy, PartialEq, Eq)]
 enum Next {
@@ -121,8 +92,8 @@ enum Next {
     Name,
     NameOrEnd,
     Colon,
-    CommaOrEnd,
-    Nothing,
+    /// Behind a value a comma or the closing bracket, or nothing where nothing is open.
+    Behind,
 }
 
 // An object or a list that isn't closed, and how many values stand in it.
@@ -146,209 +117,151 @@ struct Scanner<'a> {
     next: Next,
 }
 
-fn blank_len(bytes: &[u8]) -> usize {
-    bytes
-        .iter()
-        .take_while(|b| matches!(**b, b' ' | b'\t' | b'\n' | b'\r'))
-        .count()
-}
-
 impl Scanner<'_> {
-    fn fault_at(&self, at: usize, cause: Cause) -> Stop {
+    fn fault(&self, at: usize, cause: Cause) -> Option<Fault> {
         let open = self.open.last().map(|open| open.from);
-        Stop::Fault(Fault { at, cause, open })
-    }
-
-    fn fault(&self, cause: Cause) -> Stop {
-        let at = self.at;
-        self.fault_at(at, cause)
-    }
-
-    fn skip_blanks(&mut self) {
-        let blanks = blank_len(rest_of(self.bytes, self.at));
-        self.at = self.at.saturating_add(blanks);
-    }
-
-    // Whether the whole text was read.
-    fn is_done(&self) -> bool {
-        self.next == Next::Nothing && self.at >= self.bytes.len()
-    }
-
-    // Behind a value.
-    fn step_after(&mut self) {
-        self.next = if self.open.is_empty() {
-            Next::Nothing
-        } else {
-            Next::CommaOrEnd
-        };
+        Some(Fault { at, cause, open })
     }
 
     // Keeps a value that begins here and has so many bytes.
-    fn keep(&mut self, kind: Kind, len: usize) -> Result<usize, Stop> {
-        let to = self.at.saturating_add(len);
-        let index = self.open.last().map_or(0, |open| open.count);
-        let node = Node {
-            kind,
-            span: Span { from: self.at, to },
-            parent: self.open.last().map(|open| open.node),
-            name: self.name,
-            index,
-        };
+    fn keep(&mut self, kind: Kind, len: usize) -> Result<usize, AllocError> {
+        let span = Span::of(self.at, len);
+        let (mut parent, mut index) = (None, 0);
         if let Some(open) = self.open.last_mut() {
-            open.count = open.count.saturating_add(1);
+            parent = Some(open.node);
+            index = open.count;
+            open.count = index.saturating_add(1);
         }
+        let (number, name) = (self.nodes.len(), self.name);
+        self.nodes.push(Node {
+            kind,
+            span,
+            parent,
+            name,
+            index,
+        })?;
         self.name = None;
-        let number = self.nodes.len();
-        self.nodes.push(node)?;
-        self.at = to;
+        self.at = span.to;
+        self.next = Next::Behind;
         Ok(number)
     }
 
     // Opens an object or a list.
-    fn open(&mut self, kind: Kind, closing: u8, next: Next) -> Result<(), Stop> {
+    fn open(&mut self, kind: Kind, closing: u8, next: Next) -> Result<Option<Fault>, AllocError> {
+        let (from, count) = (self.at, 0);
         if self.open.len() >= DEEPEST {
-            return Err(self.fault(Cause::TooDeep));
+            return Ok(self.fault(from, Cause::TooDeep));
         }
-        let from = self.at;
         let node = self.keep(kind, 1)?;
         self.open.push(Open {
             node,
             from,
             closing,
-            count: 0,
+            count,
         })?;
         self.next = next;
-        Ok(())
+        Ok(None)
     }
 
     fn close(&mut self) {
         self.at = self.at.saturating_add(1);
+        self.next = Next::Behind;
         if let Some(open) = self.open.pop() {
             if let Some(node) = self.nodes.get_mut(open.node) {
                 node.span.to = self.at;
             }
         }
-        self.step_after();
     }
 
-    // Whether this byte closes the innermost object or list.
-    fn closes(&self, byte: u8) -> bool {
-        self.open.last().is_some_and(|open| open.closing == byte)
-    }
-
-    // A text, a number or a word.
-    fn scalar(&mut self) -> Result<(), Stop> {
+    // Reads a text, a number or a word: a name, or a value.
+    fn lexeme(&mut self, is_name: bool) -> Result<Option<Fault>, AllocError> {
         let from = self.at;
         match lexeme_at(rest_of(self.bytes, from)) {
-            Lexeme::Value { kind, len } => {
+            Lexeme::Value { kind, len } if !is_name => {
                 self.keep(kind, len)?;
-                self.step_after();
-                Ok(())
+                Ok(None)
             }
-            Lexeme::Wrong { at, cause } => Err(self.fault_at(from.saturating_add(at), cause)),
-        }
-    }
-
-    fn value(&mut self, byte: u8) -> Result<(), Stop> {
-        match byte {
-            b'{' => self.open(Kind::Object, b'}', Next::NameOrEnd),
-            b'[' => self.open(Kind::List, b']', Next::ValueOrEnd),
-            b']' | b'}' if self.closes(byte) => Err(self.fault(Cause::CommaLast)),
-            _ => self.scalar(),
-        }
-    }
-
-    fn name(&mut self, byte: u8) -> Result<(), Stop> {
-        if self.closes(byte) {
-            return Err(self.fault(Cause::CommaLast));
-        }
-        let from = self.at;
-        match lexeme_at(rest_of(self.bytes, from)) {
             Lexeme::Value {
                 kind: Kind::Text | Kind::Decimal,
                 len,
             } => {
-                self.at = from.saturating_add(len);
-                self.name = Some(Span { from, to: self.at });
+                let name = Span::of(from, len);
+                self.name = Some(name);
+                self.at = name.to;
                 self.next = Next::Colon;
-                Ok(())
+                Ok(None)
             }
             Lexeme::Wrong {
-                at,
-                cause: cause @ (Cause::NoEscape | Cause::Control | Cause::HalfOfPair | Cause::Ends),
-            } => Err(self.fault_at(from.saturating_add(at), cause)),
-            _ => Err(self.fault(Cause::NoName)),
+                cause: Cause::NoValue | Cause::NoNumber,
+                ..
+            } if is_name => { Ok(self.fault(from, Cause::NoName)) }
+            Lexeme::Wrong { at, cause } => Ok(self.fault(from.saturating_add(at), cause)),
+            Lexeme::Value { .. } => Ok(self.fault(from, Cause::NoName)),
         }
     }
 
-    fn colon(&mut self, byte: u8) -> Result<(), Stop> {
-        if byte != b':' {
-            return Err(self.fault(Cause::NoColon));
-        }
-        self.at = self.at.saturating_add(1);
-        self.next = Next::Value;
-        Ok(())
-    }
-
-    fn behind(&mut self, byte: u8) -> Result<(), Stop> {
-        if self.closes(byte) {
-            self.close();
-            return Ok(());
-        }
-        if byte != b',' {
-            return Err(self.fault(Cause::NoComma));
-        }
-        self.at = self.at.saturating_add(1);
-        self.next = if self.closes_object() {
-            Next::Name
-        } else {
-            Next::Value
-        };
-        Ok(())
-    }
-
-    fn closes_object(&self) -> bool {
-        self.closes(b'}')
-    }
-
-    // Reads the next part of the text.
-    fn step(&mut self) -> Result<(), Stop> {
-        let Some(byte) = byte_at(self.bytes, self.at) else {
-            return Err(self.fault(Cause::Ends));
-        };
-        match self.next {
-            Next::Value => self.value(byte),
-            Next::ValueOrEnd | Next::NameOrEnd if self.closes(byte) => {
+    // Reads the next part of the text, which begins with this byte.
+    fn step(&mut self, byte: u8) -> Result<Option<Fault>, AllocError> {
+        let at = self.at;
+        let closing = self.open.last().map(|open| open.closing);
+        let next = match (self.next, byte) {
+            (Next::Value | Next::Name, _) if closing == Some(byte) => {
+                return Ok(self.fault(at, Cause::CommaLast));
+            }
+            (Next::ValueOrEnd | Next::NameOrEnd | Next::Behind, _) if closing == Some(byte) => {
                 self.close();
-                Ok(())
+                return Ok(None);
             }
-            Next::ValueOrEnd => self.value(byte),
-            Next::Name | Next::NameOrEnd => self.name(byte),
-            Next::Colon => self.colon(byte),
-            Next::CommaOrEnd => self.behind(byte),
-            Next::Nothing => Err(self.fault(Cause::More)),
-        }
+            (Next::Value | Next::ValueOrEnd, b'{') => {
+                return self.open(Kind::Object, b'}', Next::NameOrEnd);
+            }
+            (Next::Value | Next::ValueOrEnd, b'[') => {
+                return self.open(Kind::List, b']', Next::ValueOrEnd);
+            }
+            (Next::Value | Next::ValueOrEnd, _) => return self.lexeme(false),
+            (Next::Name | Next::NameOrEnd, _) => return self.lexeme(true),
+            (Next::Colon, b':') => Next::Value,
+            (Next::Colon, _) => return Ok(self.fault(at, Cause::NoColon)),
+            (Next::Behind, _) if closing.is_none() => return Ok(self.fault(at, Cause::More)),
+            (Next::Behind, b',') if closing == Some(b'}') => Next::Name,
+            (Next::Behind, b',') => Next::Value,
+            (Next::Behind, _) => return Ok(self.fault(at, Cause::NoComma)),
+        };
+        self.at = at.saturating_add(1);
+        self.next = next;
+        Ok(None)
     }
 
-    // Reads the whole text. Each step takes a byte at least.
-    fn run(&mut self) -> Result<(), Stop> {
-        for _ in 0..self.bytes.len() {
-            self.skip_blanks();
-            if self.is_done() {
-                return Ok(());
+    // Reads the whole text, or up to a fault. Each step takes a byte at least.
+    fn run(&mut self) -> Result<Option<Fault>, AllocError> {
+        for _ in 0..=self.bytes.len() {
+            let rest = rest_of(self.bytes, self.at);
+            let blanks = rest.iter().take_while(|b| is_blank(**b)).count();
+            self.at = self.at.saturating_add(blanks);
+            let Some(byte) = self.bytes.get(self.at).copied() else {
+                break;
+            };
+            if let Some(fault) = self.step(byte)? {
+                return Ok(Some(fault));
             }
-            self.step()?;
         }
-        self.skip_blanks();
-        if self.is_done() {
-            Ok(())
+        let at = self.at;
+        let is_whole = self.next == Next::Behind && self.open.is_empty();
+        Ok(if is_whole {
+            None
         } else {
-            Err(self.fault(Cause::Ends))
-        }
+            self.fault(at, Cause::Ends)
+        })
     }
 }
 
-fn scanned(alloc: Global, bytes: &[u8]) -> Result<Vec<Node>, Stop> {
+/// The values of a text, an object or a list before those in it, or where it stops being JSON. Err where no memory
+/// was found.
+pub fn outlined(alloc: Global, bytes: &[u8]) -> Result<Outline, AllocError> {
+    if let Err(error) = std::str::from_utf8(bytes) {
+        let (at, cause, open) = (error.valid_up_to(), Cause::NotUtf8, None);
+        return Ok(Outline::Broken(Fault { at, cause, open }));
+    }
     let mut scanner = Scanner {
         bytes,
         at: 0,
@@ -357,23 +270,8 @@ fn scanned(alloc: Global, bytes: &[u8]) -> Result<Vec<Node>, Stop> {
         name: None,
         next: Next::Value,
     };
-    scanner.run()?;
-    Ok(scanner.nodes)
-}
-
-/// The values of a text, an object or a list before those in it, or where it stops being JSON. Err where no memory
-/// was found.
-pub fn outlined(alloc: Global, bytes: &[u8]) -> Result<Outline, AllocError> {
-    if let Err(error) = std::str::from_utf8(bytes) {
-        return Ok(Outline::Broken(Fault {
-            at: error.valid_up_to(),
-            cause: Cause::NotUtf8,
-            open: None,
-        }));
-    }
-    match scanned(alloc, bytes) {
-        Ok(nodes) => Ok(Outline::Json(nodes)),
-        Err(Stop::Fault(fault)) => Ok(Outline::Broken(fault)),
-        Err(Stop::Memory) => Err(AllocError),
+    match scanner.run()? {
+        Some(fault) => Ok(Outline::Broken(fault)),
+        None => Ok(Outline::Json(scanner.nodes)),
     }
 }

@@ -16,20 +16,9 @@ pub fn front_of(bytes: &[u8], at: usize) -> &[u8]
     &bytes[..at.min(bytes.len())]
 }
 
-/// The bytes from a place up to another.
-pub fn part_of(bytes: &[u8], from: usize, to: usize) -> &[u8] {
-    match bytes.get(from..to) {
-        Some(part) => part,
-        None => &[],
-    }
-}
-
-/// The byte at a place.
-pub fn byte_at(bytes: &[u8], at: usize) -> Option<u8> {
-    match bytes.get(at) {
-        Some(byte) => Some(*byte),
-        None => None,
-    }
+/// Whether JSON has this byte between values.
+pub fn is_blank(byte: u8) -> bool {
+    matches!(byte, b' ' | b'\t' | b'\n' | b'\r')
 }
 
 /// Whether a byte may stand in a word.
@@ -43,7 +32,28 @@ pub fn word_at(bytes: &[u8]) -> &[u8] {
     front_of(bytes, len)
 }
 
-/// Whether a byte stands somewhere in these.
-pub fn has_byte(bytes: &[u8], byte: u8) -> bool {
-    bytes.iter().any(|b| *b == byte)
+/// The bytes from one place up to another.
+#[derive(Clone, Copy)]
+pub struct Span {
+    pub from: usize,
+    pub to: usize,
+}
+
+impl Span {
+    /// So many bytes from a place on.
+    pub fn of(from: usize, len: usize) -> Span {
+        let to = from.saturating_add(len);
+        Span { from, to }
+    }
+
+    /// The same bytes of a text that begins so many bytes further.
+    pub fn behind(self, at: usize) -> Span {
+        let (from, to) = (at.saturating_add(self.from), at.saturating_add(self.to));
+        Span { from, to }
+    }
+
+    /// These bytes of a text.
+    pub fn part(self, bytes: &[u8]) -> &[u8] {
+        bytes.get(self.from..self.to).unwrap_or(&[])
+    }
 }

@@ -1,7 +1,7 @@
 //! The files of a command as they were read, with what stands where in them.
 
-use crate::outline::{Kind, Node, Outline, Span, outlined};
-use crate::slices::part_of;
+use crate::outline::{Kind, Node, Outline, outlined};
+use crate::slices::Span;
 use ffm_model::{Key, PathStep, Root};
 use serde_json::Value;
 use std::alloc::{AllocError, Global};
@@ -13,117 +13,145 @@ pub struct FileRead<'a> {
     pub bytes: &'a [u8],
 }
 
-/// A file with the values in it; of a file that is no JSON there are none.
+/// A file with the values in it; of a file that is no JSON an empty one.
 #[derive(Drop)]
 pub struct Source<'a> {
+    /// Which file it is, from 0.
+    pub number: usize,
     pub name: &'a str,
     pub bytes: &'a [u8],
     pub nodes: Vec<Node>,
 }
 
-/// A value of one of the sources, both by their numbers.
+/// A value of a file, with its number there.
 #[derive(Clone, Copy)]
-pub struct Spot {
-    pub source: usize,
-    pub node: usize,
+pub struct Spot<'a> {
+    pub source: &'a Source<'a>,
+    pub number: usize,
+    pub node: Node,
 }
 
 /// All sources of a command, the system file first.
 #[derive(Drop)]
 pub struct Sources<'a> {
+    pub alloc: Global,
     pub files: Vec<Source<'a>>,
     /// The scenario's number, where one was read.
     pub scenario: Option<usize>,
 }
 
 // Without the marks around it.
-fn inner(bytes: &[u8], span: Span) -> &[u8] {
-    let whole = part_of(bytes, span.from, span.to);
-    match whole.strip_prefix(b"\"".as_slice()) {
-        Some(rest) => match rest.strip_suffix(b"\"".as_slice()) {
-            Some(text) => text,
-            None => rest,
-        },
+fn inner(whole: &[u8]) -> &[u8] {
+    match whole.strip_prefix(b"\"") {
+        Some(rest) => rest.strip_suffix(b"\"").unwrap_or(rest),
         None => whole,
     }
 }
 
+// The value of a file that is no JSON.
+const EMPTY: Node = Node {
+    kind: Kind::Null,
+    span: Span { from: 0, to: 0 },
+    parent: None,
+    name: None,
+    index: 0,
+};
+
 impl<'a> Source<'a> {
-    /// A file with what stands in it.
-    pub fn new(alloc: Global, file: FileRead<'a>) -> Result<Source<'a>, AllocError> {
+    fn new(alloc: Global, number: usize, file: FileRead<'a>) -> Result<Source<'a>, AllocError> {
         let nodes = match outlined(alloc, file.bytes)? {
             Outline::Json(nodes) => nodes,
-            Outline::Broken(_) => Vec::new(alloc),
+            Outline::Broken(_) => vec![in alloc; EMPTY]?,
         };
+        let (name, bytes) = (file.name, file.bytes);
         Ok(Source {
-            name: file.name,
-            bytes: file.bytes,
+            number,
+            name,
+            bytes,
             nodes,
         })
     }
+}
 
+impl<'a> Spot<'a> {
     /// The value of this number.
-    pub fn node(&self, number: usize) -> Option<Node> {
-        self.nodes.get(number).copied()
+    pub fn new(source: &'a Source<'a>, number: usize) -> Option<Spot<'a>> {
+        let node = *source.nodes.get(number)?;
+        Some(Spot {
+            source,
+            number,
+            node,
+        })
     }
 
     /// The bytes of a value, without the marks of a text.
-    pub fn text(&self, number: usize) -> &'a [u8] {
-        match self.node(number) {
-            Some(node) => inner(self.bytes, node.span),
+    pub fn text(self) -> &'a [u8] {
+        inner(self.node.span.part(self.source.bytes))
+    }
+
+    /// The name of a value in its object, without marks; empty where it has none.
+    pub fn name(self) -> &'a [u8] {
+        match self.node.name {
+            Some(name) => inner(name.part(self.source.bytes)),
             None => &[],
         }
     }
 
-    /// The name of a value in its object, without marks.
-    pub fn name_of(&self, node: Node) -> &'a [u8] {
-        match node.name {
-            Some(span) => inner(self.bytes, span),
-            None => &[],
-        }
+    /// The object or the list that a value stands in.
+    pub fn around(self) -> Option<Spot<'a>> {
+        Spot::new(self.source, self.node.parent?)
     }
 
     /// The last value of this name in an object.
-    pub fn named(&self, parent: usize, name: &str) -> Option<usize> {
+    pub fn named(self, key: Key) -> Option<Spot<'a>> {
         let mut found = None;
-        for (i, node) in self.nodes.iter().enumerate() {
-            if node.parent == Some(parent)
-                && node.name.is_some()
-                && self.name_of(*node) == name.as_bytes()
-            {
-                found = Some(i);
+        for (number, node) in self.source.nodes.iter().enumerate() {
+            let spot = Spot {
+                number,
+                node: *node,
+                ..self
+            };
+            if node.parent == Some(self.number) && spot.name() == key.text().as_bytes() {
+                found = Some(spot);
             }
         }
         found
     }
 
-    /// The item of a list.
-    pub fn item(&self, parent: usize, index: usize) -> Option<usize> {
-        self.nodes.iter().position(|node| {
-            node.parent == Some(parent) && node.name.is_none() && node.index == index
-        })
-    }
-
-    /// The text of the attribute of this name, without marks; empty where it isn't there.
-    pub fn value(&self, parent: usize, key: Key) -> &'a [u8] {
-        match self.named(parent, key.text()) {
-            Some(node) => self.text(node),
+    /// The text of an attribute of an object; empty where it isn't there.
+    pub fn value(self, key: Key) -> &'a [u8] {
+        match self.named(key) {
+            Some(spot) => spot.text(),
             None => &[],
         }
     }
 
     // The value that a step leads to.
-    fn step(&self, node: usize, step: PathStep) -> Option<usize> {
-        match step {
-            PathStep::Key(key) => self.named(node, key.text()),
-            PathStep::Index(index) => self.item(node, usize::try_from(index).ok()?),
-        }
+    fn step(self, step: PathStep) -> Option<Spot<'a>> {
+        let index = match step {
+            PathStep::Key(key) => return self.named(key),
+            PathStep::Index(index) => usize::try_from(index).ok()?,
+        };
+        let number = self.source.nodes.iter().position(|node| {
+            node.parent == Some(self.number) && node.name.is_none() && node.index == index
+        });
+        Spot::new(self.source, number?)
     }
 
-    // Whether a value is a text.
-    fn is_text(&self, number: usize) -> bool {
-        self.node(number)
-            .is_some_and(|node| matches!(node.kind, Kind::Text | Kind::Decimal))
+    /// The items of the list of this name in an object.
+    pub fn items(self, alloc: Global, key: Key) -> Result<Vec<Spot<'a>>, AllocError> {
+        let mut items = Vec::new(alloc);
+        let list = self.named(key).map(|list| list.number);
+        for (number, node) in self.source.nodes.iter().enumerate() {
+            if list.is_some() && node.parent == list {
+                items.push(Spot {
+                    number,
+                    node: *node,
+                    ..self
+                })?;
+            }
+        }
+        Ok(items)
     }
 }
 
@@ -137,120 +165,71 @@ impl<'a> Sources<'a> {
     /// The files that were read, the system file first.
     pub fn new(
         alloc: Global,
-        files: &[FileRead<'a>],
-        scenario: Option<&str>,
+        read: &[FileRead<'a>],
+        name: Option<&str>,
     ) -> Result<Sources<'a>, AllocError> {
-        let mut sources = Vec::new(alloc);
-        let mut found = None;
-        for (i, file) in files.iter().enumerate() {
-            sources.push(Source::new(alloc, *file)?)?;
-            if i > 0 && scenario.is_some_and(|name| name == file.name) {
-                found = Some(i);
+        let (mut files, mut scenario) = (Vec::new(alloc), None);
+        for (i, file) in read.iter().enumerate() {
+            files.push(Source::new(alloc, i, *file)?)?;
+            if i > 0 && name == Some(file.name) {
+                scenario = Some(i);
             }
         }
         Ok(Sources {
-            files: sources,
-            scenario: found,
+            alloc,
+            files,
+            scenario,
         })
     }
 
-    /// The source of this number.
-    pub fn source(&self, number: usize) -> Option<&Source<'a>> {
-        self.files.get(number)
-    }
-
-    /// A value.
-    pub fn node(&self, spot: Spot) -> Option<Node> {
-        self.source(spot.source)?.node(spot.node)
-    }
-
-    /// The object or the list that a value stands in.
-    pub fn around(&self, spot: Spot) -> Option<Spot> {
-        let node = self.node(spot)?.parent?;
-        Some(Spot { node, ..spot })
-    }
-
-    /// The value of this name in an object.
-    pub fn named(&self, object: Spot, key: Key) -> Option<Spot> {
-        let node = self.source(object.source)?.named(object.node, key.text())?;
-        Some(Spot { node, ..object })
-    }
-
-    /// The items of the list of this name in an object.
-    pub fn items(&self, alloc: Global, object: Spot, key: Key) -> Result<Vec<Spot>, AllocError> {
-        let mut items = Vec::new(alloc);
-        let Some(source) = self.source(object.source) else {
-            return Ok(items);
+    /// The whole system file or scenario.
+    pub fn root(&self, root: Root) -> Option<Spot<'_>> {
+        let number = match root {
+            Root::System => 0,
+            Root::Scenario => self.scenario?,
+            Root::Trace => return None,
         };
-        let list = source.named(object.node, key.text());
-        for (node, found) in source.nodes.iter().enumerate() {
-            if list.is_some() && found.parent == list {
-                items.push(Spot { node, ..object })?;
-            }
-        }
-        Ok(items)
+        Spot::new(self.files.get(number)?, 0)
     }
 
-    /// The items of the list of this name in the system file.
-    pub fn items_of_system(&self, alloc: Global, key: Key) -> Result<Vec<Spot>, AllocError> {
-        self.items(alloc, Spot { source: 0, node: 0 }, key)
-    }
-
-    // The last file of this name.
-    fn file_named(&self, name: &str) -> Option<usize> {
-        let mut found = None;
-        for (i, file) in self.files.iter().enumerate() {
-            if file.name == name {
-                found = Some(i);
-            }
-        }
-        found
-    }
-
-    // What a value stands for: an item of `manifests` that is a text stands for the file that it names.
-    fn followed(&self, alloc: Global, spot: Spot) -> Option<Spot> {
-        let source = self.source(spot.source)?;
-        if !source.is_text(spot.node) {
+    // What a value stands for: an item of `manifests` that is a text stands for the last file of that name.
+    fn followed<'s>(&'s self, spot: Spot<'s>) -> Option<Spot<'s>> {
+        if !matches!(spot.node.kind, Kind::Text | Kind::Decimal) {
             return Some(spot);
         }
-        let node = source.node(spot.node)?;
-        let name = spelled(alloc, part_of(source.bytes, node.span.from, node.span.to))?;
-        let file = self.file_named(&name)?;
-        Some(Spot {
-            source: file,
-            node: 0,
-        })
-    }
-
-    /// The first value of the system file or the scenario.
-    pub fn root(&self, root: Root) -> Option<Spot> {
-        match root {
-            Root::System => Some(Spot { source: 0, node: 0 }),
-            Root::Scenario => Some(Spot {
-                source: self.scenario?,
-                node: 0,
-            }),
-            Root::Trace => None,
-        }
+        let name = spelled(self.alloc, spot.node.span.part(spot.source.bytes))?;
+        let number = self
+            .files
+            .iter()
+            .rposition(|file| file.name == name.as_str())?;
+        Spot::new(self.files.get(number)?, 0)
     }
 
     /// The value at a place.
-    pub fn spot(&self, alloc: Global, root: Root, steps: &[PathStep]) -> Option<Spot> {
+    pub fn spot(&self, root: Root, steps: &[PathStep]) -> Option<Spot<'_>> {
         let mut spot = self.root(root)?;
         for (i, step) in steps.iter().enumerate() {
-            spot.node = self.source(spot.source)?.step(spot.node, *step)?;
-            if i == 1 && matches!(steps.first(), Some(PathStep::Key(Key::Manifests))) {
-                spot = self.followed(alloc, spot).unwrap_or(spot);
+            spot = spot.step(*step)?;
+            if i == 1 && steps.first() == Some(&PathStep::Key(Key::Manifests)) {
+                spot = self.followed(spot).unwrap_or(spot);
             }
         }
         Some(spot)
     }
 
+    /// The items of the list of this name in the system file.
+    pub fn items(&self, key: Key) -> Result<Vec<Spot<'_>>, AllocError> {
+        match self.root(Root::System) {
+            Some(system) => system.items(self.alloc, key),
+            None => Ok(Vec::new(self.alloc)),
+        }
+    }
+
     /// The manifests, each in its file.
-    pub fn manifests(&self, alloc: Global) -> Result<Vec<Spot>, AllocError> {
-        let mut spots = Vec::new(alloc);
-        for item in &self.items_of_system(alloc, Key::Manifests)? {
-            if let Some(manifest) = self.followed(alloc, *item) {
+    pub fn manifests(&self) -> Result<Vec<Spot<'_>>, AllocError> {
+        let mut spots = Vec::new(self.alloc);
+        for item in &self.items(Key::Manifests)? {
+            if let Some(manifest) = self.followed(*item) {
                 spots.push(manifest)?;
             }
         }
@@ -258,27 +237,11 @@ impl<'a> Sources<'a> {
     }
 
     /// The items of a list of all manifests, in their order.
-    pub fn items_of_manifests(&self, alloc: Global, key: Key) -> Result<Vec<Spot>, AllocError> {
-        let mut spots = Vec::new(alloc);
-        for manifest in &self.manifests(alloc)? {
-            spots.extend_from_slice(&self.items(alloc, *manifest, key)?)?;
+    pub fn items_of_manifests(&self, key: Key) -> Result<Vec<Spot<'_>>, AllocError> {
+        let mut spots = Vec::new(self.alloc);
+        for manifest in &self.manifests()? {
+            spots.extend_from_slice(&manifest.items(self.alloc, key)?)?;
         }
         Ok(spots)
-    }
-
-    /// The bytes of a value, without the marks of a text.
-    pub fn text(&self, spot: Spot) -> &'a [u8] {
-        match self.source(spot.source) {
-            Some(source) => source.text(spot.node),
-            None => &[],
-        }
-    }
-
-    /// The text of an attribute of an object; empty where it isn't there.
-    pub fn value(&self, spot: Spot, key: Key) -> &'a [u8] {
-        match self.source(spot.source) {
-            Some(source) => source.value(spot.node, key),
-            None => &[],
-        }
     }
 }

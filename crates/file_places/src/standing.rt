@@ -7,8 +7,7 @@ ghost use Rattle.serde_json.specs.View.{view};
 ghost use Rattle.ffm_model.specs.Trees.{tree_of};
 ghost use Rattle.file_places.specs.Places.{IsAt, Stands, part_at, replaced, value_at};
 
-use crate::outline::Span;
-use crate::slices::{front_of, rest_of};
+use crate::slices::{Span, front_of, rest_of};
 use ffm_model::{List, Memory, PathStep, Place, ReadError, Root};
 use manifest_json::read_tree;
 use serde_json::Value;

@@ -1,161 +1,126 @@
 //! A refusal in words: where it stands, what is wrong, what was expected.
 
-ghost use Rattle.std.specs.Prelude.{◌≡◌, ◌-◌, ◌++◌, IfOk, drop, length, string_bytes, take};
+ghost use Rattle.std.specs.Prelude.{◌≡◌, ◌++◌, IfOk, string_bytes};
 ghost use Rattle.view_refusals.specs.Told.{IsFront, IsOfValue, IsPartOf, IsPlaceLine, TellsPlace, no_place};
 
 use crate::faults::put_fault;
-use crate::kinds::last_key;
+use crate::kinds::{Sort, key_at, wanted_at};
 use crate::regions::put_regions;
-use crate::rules::put_rule;
-use crate::scripts::put_wrong_line;
-use crate::special::special_words;
-use crate::values::{put_bad, put_kind, put_missing};
 use ffm_model::{
     BAD_VALUE, FILE_TOO_LONG, JSON, Key, MAX_FILE_BYTES, MISSING_ATTRIBUTE, Memory, PathStep,
     Refusal, Root, SCRIPT_SYNTAX, WRONG_TYPE,
 };
 use file_places::{
-    FileRead, Outline, Source, Sources, Span, Spot, number_of, outlined, part_of, put_line,
-    put_place, stands,
+    FileRead, Outline, Sources, Span, Spot, number_of, outlined, put_line, put_place, stands,
 };
 use std::alloc::{AllocError, Global};
 
 /// The value where a refusal is shown.
 #[derive(Clone, Copy)]
-struct Shown {
-    spot: Spot,
-    /// Whether it is the value of the refusal's place, and not the object that lacks it.
-    is_there: bool,
+pub struct Refused<'a> {
+    pub sources: &'a Sources<'a>,
+    pub code: u8,
+    /// The IDs of a dependency circle.
+    pub circle: &'a [u32],
+    pub steps: &'a [PathStep],
+    /// The attribute that the place is of.
+    pub key: Option<Key>,
+    /// What may stand there.
+    pub sort: Sort,
+    pub expected: &'static str,
+    /// The value of the place, or the object that lacks it, and its text.
+    pub spot: Spot<'a>,
+    pub word: &'a [u8],
+    /// Whether it is the value of the place.
+    pub is_there: bool,
 }
 
-// The value where a refusal is shown: that of its place, or the object that lacks an attribute.
-fn shown_at(alloc: Global, sources: &Sources<'_>, refusal: &Refusal) -> Option<Shown> {
-    let place = &refusal.place;
-    let steps = place.steps.as_slice();
-    if let Some(spot) = sources.spot(alloc, place.root, steps) {
-        let is_there = true;
-        return Some(Shown { spot, is_there });
-    }
-    let (_, front) = steps.split_last()?;
-    let spot = sources.spot(alloc, place.root, front)?;
-    let is_there = false;
-    Some(Shown { spot, is_there })
-}
-
-// How much of a value has carets: an object or a list that goes on in a later line has one at its bracket.
-fn marked(source: &Source<'_>, span: Span) -> Span {
-    let bytes = part_of(source.bytes, span.from, span.to);
-    if bytes.contains(&b'\n') {
-        Span {
-            from: span.from,
-            to: span.from.saturating_add(1),
-        }
-    } else {
-        span
-    }
-}
-
-// Writes that the bytes of an item of `memory` lie in no region.
-fn put_address(
-    alloc: Global,
-    text: &mut String,
-    sources: &Sources<'_>,
-    address: Spot,
-) -> Result<(), AllocError> {
-    let bytes = match sources.around(address) {
-        Some(item) => sources.value(item, Key::Bytes).len() / 2,
-        None => 0,
-    };
-    writeln!(
-        text,
-        "wrong: the {bytes} bytes from this address on lie in no region"
-    )?;
-    text.push_str("expected: an address in ")?;
-    put_regions(alloc, text, sources)?;
-    text.push('\n')
-}
-
-// Why a value is refused.
-fn put_words(
-    alloc: Global,
-    text: &mut String,
-    sources: &Sources<'_>,
-    refusal: &Refusal,
-    spot: Spot,
-) -> Result<(), AllocError> {
-    let steps = refusal.place.steps.as_slice();
-    let is_number = number_of(sources.text(spot)).is_some();
-    match (refusal.code, last_key(steps)) {
-        (WRONG_TYPE, _) => put_kind(text, sources, spot, steps),
-        (BAD_VALUE, Some(Key::Address)) if is_number => put_address(alloc, text, sources, spot),
-        (BAD_VALUE, _) => match special_words(sources, spot, steps) {
-            Some(words) => text.push_str(words),
-            None => put_bad(alloc, text, sources, spot, steps),
-        },
-        _ => put_rule(alloc, text, sources, refusal, spot),
-    }
-}
-
-// The line of a value, and why it is refused.
-fn put_value(
-    alloc: Global,
-    text: &mut String,
-    sources: &Sources<'_>,
-    refusal: &Refusal,
-    shown: Shown,
-) -> Result<(), AllocError> {
-    let spot = shown.spot;
-    let (Some(source), Some(node)) = (sources.source(spot.source), sources.node(spot)) else {
-        return Ok(());
-    };
-    if refusal.code == SCRIPT_SYNTAX {
-        return put_wrong_line(alloc, text, sources, spot);
-    }
-    put_line(text, source.bytes, marked(source, node.span))?;
-    if refusal.code == MISSING_ATTRIBUTE || (refusal.code == BAD_VALUE && !shown.is_there) {
+impl<'a> Refused<'a> {
+    // The value of a refusal's place, or the object that lacks an attribute.
+    fn of(sources: &'a Sources<'a>, refusal: &'a Refusal) -> Option<Refused<'a>> {
         let steps = refusal.place.steps.as_slice();
-        put_missing(alloc, text, source, spot.node, steps)
-    } else {
-        put_words(alloc, text, sources, refusal, spot)
+        let (spot, is_there) = match sources.spot(refusal.place.root, steps) {
+            Some(spot) => (spot, true),
+            None => (
+                sources.spot(refusal.place.root, steps.split_last()?.1)?,
+                false,
+            ),
+        };
+        let (sort, expected) = wanted_at(steps);
+        Some(Refused {
+            sources,
+            code: refusal.code,
+            circle: refusal.cycle.as_slice(),
+            steps,
+            key: key_at(steps),
+            sort,
+            expected,
+            spot,
+            word: spot.text(),
+            is_there,
+        })
+    }
+
+    // Writes that the bytes of an item of `memory` lie in no region.
+    fn put_address(&self, text: &mut String) -> Result<(), AllocError> {
+        let bytes = match self.spot.around() {
+            Some(item) => item.value(Key::Bytes).len() / 2,
+            None => 0,
+        };
+        write!(text, "wrong: the {bytes} bytes from this address on")?;
+        text.push_str(" lie in no region\nexpected: an address in ")?;
+        put_regions(text, self.sources)?;
+        text.push('\n')
+    }
+
+    // Writes the line of a value, and why it is refused.
+    fn put_value(&self, text: &mut String) -> Result<(), AllocError> {
+        if self.code == SCRIPT_SYNTAX {
+            return self.put_wrong_line(text);
+        }
+        let (bytes, mut span) = (self.spot.source.bytes, self.spot.node.span);
+        // An object or a list that goes on in a later line has a caret at its bracket.
+        if span.part(bytes).contains(&b'\n') {
+            span = Span::of(span.from, 1);
+        }
+        put_line(text, bytes, span)?;
+        let is_address = self.steps.last() == Some(&PathStep::Key(Key::Address));
+        match self.code {
+            MISSING_ATTRIBUTE => self.put_missing(text),
+            WRONG_TYPE => self.put_kind(text),
+            BAD_VALUE if !self.is_there => self.put_missing(text),
+            BAD_VALUE if is_address && number_of(self.word).is_some() => self.put_address(text),
+            BAD_VALUE => match self.special_words() {
+                Some(words) => text.push_str(words),
+                None => self.put_bad(text),
+            },
+            _ => self.put_rule(text),
+        }
     }
 }
 
-// A path without its last step.
-fn without_last(path: &[PathStep]) -> &[PathStep]
-    ensures { result.now ≡ take (length path.now - 1) path.now }
-{
-    &path[..path.len().saturating_sub(1)]
-}
-
-// A path without its first two steps.
-fn without_manifest(path: &[PathStep]) -> &[PathStep]
-    ensures { result.now ≡ drop 2 path.now }
-{
-    &path[2.min(path.len())..]
-}
-
-// The part of a refusal's path that leads to the value that is shown.
-fn shown_path(steps: &[PathStep], shown: Shown) -> &[PathStep]
+// The part of a refusal's path that leads to the value that is shown: the last step is left out where none is there.
+fn shown_path(steps: &[PathStep], is_there: bool) -> &[PathStep]
     ensures { IsFront steps.now result.now }
 {
-    if shown.is_there {
+    if is_there {
         steps
     } else {
-        without_last(steps)
+        &steps[..steps.len().saturating_sub(1)]
     }
 }
 
 // The part of a refusal's path that leads to the value that is shown, in the file in which it stands: the first two
 // steps lead to a manifest, where that has a file of its own.
 #[tactic(auto, using(crate::proofs::ToldLemmas::front_is_part, crate::proofs::ToldLemmas::rest_is_part))]
-fn path_in_file(root: Root, steps: &[PathStep], shown: Shown) -> &[PathStep]
+fn path_in_file(steps: &[PathStep], is_there: bool, is_manifest: bool) -> &[PathStep]
     ensures { IsPartOf steps.now result.now }
 {
-    let path = shown_path(steps, shown);
-    if shown.spot.source == 0 || root != Root::System {
-        path
+    let path = shown_path(steps, is_there);
+    if is_manifest {
+        &path[2.min(path.len())..]
     } else {
-        without_manifest(path)
+        path
     }
 }
 
@@ -180,27 +145,26 @@ fn place_line(
 // Where a value stands, with words behind it.
 #[tactic(auto, using(crate::proofs::ToldLemmas::told_place, crate::proofs::ToldLemmas::told_none))]
 fn value_text(
-    alloc: Global,
     sources: &Sources<'_>,
     files: &[FileRead<'_>],
     refusal: &Refusal,
-    shown: Shown,
 ) -> Result<String, Memory>
     ensures { IfOk result (λ text.
         TellsPlace files.now refusal.now.place.steps (string_bytes text)) }
 {
-    let mut words = String::new(alloc);
-    put_value(alloc, &mut words, sources, refusal, shown)?;
-    let span = match sources.node(shown.spot) {
-        Some(node) => node.span,
-        None => Span { from: 0, to: 0 },
+    let alloc = sources.alloc;
+    let Some(shown) = Refused::of(sources, refusal) else {
+        return Ok(no_place(alloc, "")?);
     };
-    let Some(file) = files.get(shown.spot.source) else {
+    let mut words = String::new(alloc);
+    shown.put_value(&mut words)?;
+    let number = shown.spot.source.number;
+    let Some(file) = files.get(number) else {
         return Ok(no_place(alloc, &words)?);
     };
-    let place = &refusal.place;
-    let path = path_in_file(place.root, place.steps.as_slice(), shown);
-    let mut text = place_line(alloc, *file, path, span)?;
+    let is_manifest = number > 0 && refusal.place.root == Root::System;
+    let path = path_in_file(refusal.place.steps.as_slice(), shown.is_there, is_manifest);
+    let mut text = place_line(alloc, *file, path, shown.spot.node.span)?;
     text.push_str(&words)?;
     Ok(text)
 }
@@ -216,39 +180,35 @@ fn no_place(alloc: Global, words: &str) -> Result<String, Memory>
     Ok(text)
 }
 
-// The file of a value, or the file in which it isn't found.
-fn file_at(alloc: Global, sources: &Sources<'_>, refusal: &Refusal) -> Option<usize> {
-    match shown_at(alloc, sources, refusal) {
-        Some(shown) => Some(shown.spot.source),
-        None => Some(sources.root(refusal.place.root)?.source),
-    }
-}
-
-// What is wrong with a file as a whole.
+// What is wrong with a file as a whole: that of a value, or the file in which it isn't found.
 fn file_text(
-    alloc: Global,
     sources: &Sources<'_>,
     files: &[FileRead<'_>],
     refusal: &Refusal,
 ) -> Result<String, AllocError> {
-    let limit = match refusal.place.root {
-        Root::Trace => 50331648,
-        _ => MAX_FILE_BYTES,
+    let root = refusal.place.root;
+    let limit = if root == Root::Trace {
+        50331648
+    } else {
+        MAX_FILE_BYTES
     };
-    let file = match file_at(alloc, sources, refusal) {
-        Some(number) => files.get(number),
-        None => None,
+    let mut text = String::new(sources.alloc);
+    if refusal.code == FILE_TOO_LONG {
+        writeln!(text, "wrong: the file has more than {limit} bytes")?;
+        return Ok(text);
+    }
+    let spot = match Refused::of(sources, refusal) {
+        Some(shown) => Some(shown.spot),
+        None => sources.root(root),
     };
-    let mut text = String::new(alloc);
-    match file {
-        _ if refusal.code == FILE_TOO_LONG => {
-            writeln!(text, "wrong: the file has more than {limit} bytes")?
-        }
-        Some(file) => match outlined(alloc, file.bytes)? {
+    let Some(spot) = spot else {
+        return Ok(text);
+    };
+    if let Some(file) = files.get(spot.source.number) {
+        match outlined(sources.alloc, file.bytes)? {
             Outline::Broken(fault) => put_fault(&mut text, *file, fault)?,
             Outline::Json(_) => text.push_str("wrong: the file is no JSON\n")?,
-        },
-        None => (),
+        }
     }
     Ok(text)
 }
@@ -258,7 +218,6 @@ fn file_text(
 ///
 /// A place is told as the name of a file that was read, a line and a column. There a value stands that the path of the
 /// refusal leads to: its own, or the object that lacks it. Where none is found, the line `--> ?` says so.
-#[tactic(auto, using(crate::proofs::ToldLemmas::told_none))]
 pub fn refusal_words(
     alloc: Global,
     refusal: &Refusal,
@@ -270,10 +229,7 @@ pub fn refusal_words(
 {
     let sources = Sources::new(alloc, files, scenario)?;
     if refusal.code == JSON || refusal.code == FILE_TOO_LONG {
-        return Ok(file_text(alloc, &sources, files, refusal)?);
+        return Ok(file_text(&sources, files, refusal)?);
     }
-    match shown_at(alloc, &sources, refusal) {
-        None => Ok(no_place(alloc, "")?),
-        Some(shown) => value_text(alloc, &sources, files, refusal, shown),
-    }
+    value_text(&sources, files, refusal)
 }

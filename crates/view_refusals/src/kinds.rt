@@ -2,8 +2,14 @@
 
 use ffm_model::{Key, PathStep};
 
-/// Words for attributes.
-pub type KeyWords = (Key, &'static str);
+/// What is told of a value that is out of its range.
+#[derive(Clone, Copy, PartialEq, Eq)]
+pub enum Sort {
+    Number,
+    Name,
+    Bytes,
+    Other,
+}
 
 const NUMBER: &str =
     "a whole number from 0 to 4294967295, or \"0x\" and one to eight hexadecimal digits";
@@ -18,87 +24,82 @@ const LIST: &str = "a list, between [ and ]";
 
 const OBJECT: &str = "an object, between { and }";
 
-// What an attribute may be; one that isn't named here is a number.
-const ATTRIBUTES: [KeyWords; 38] = [
-    (Key::RotKind, "\"PSA-ROT\" or \"APPLICATION-ROT\""),
-    (Key::Priority, "\"LOW\", \"NORMAL\" or \"HIGH\""),
-    (Key::Model, "\"IPC\" or \"SFN\""),
-    (Key::Permission, "\"READ-ONLY\" or \"READ-WRITE\""),
-    (Key::VersionPolicy, "\"STRICT\" or \"RELAXED\""),
-    (Key::MmIovec, "\"enable\" or \"disable\""),
-    (Key::Handling, "\"FLIH\" or \"SLIH\""),
-    (Key::NonSecureClients, "true or false"),
-    (Key::ConnectionBased, "true or false"),
-    (Key::PsaFrameworkVersion, "1.0 or 1.1"),
-    (Key::IsolationLevel, "a whole number from 1 to 3"),
-    (Key::Count, "a whole number from 0 to 256"),
-    (Key::EventLimit, "a whole number from 1 to 262144"),
-    (Key::Restarts, "a whole number from 0 to 15"),
-    (Key::RaiseResult, "0 or 1"),
-    (
-        Key::StatelessHandle,
-        "\"auto\", or a whole number from 1 to 32",
-    ),
-    (
-        Key::Version,
-        "a number above 0: whole, or \"0x\" and one to eight hexadecimal digits",
-    ),
-    (Key::Bytes, "two hexadecimal digits for each byte"),
-    (
-        Key::Source,
-        "a name, or a whole number from 0 to 4294967295",
-    ),
-    (Key::Name, NAME),
-    (Key::EntryPoint, NAME),
-    (Key::Signal, NAME),
-    (Key::Client, NAME),
-    (Key::Service, NAME),
-    (Key::Actor, NAME),
-    (Key::Lines, "a list of texts, one for each line"),
-    (
-        Key::Dependencies,
-        "a list of names of services, between [ and ]",
-    ),
-    (Key::Clients, "a list of at most 16 names, between [ and ]"),
-    (Key::Schedule, "a list of names of actors, between [ and ]"),
-    (
-        Key::Manifests,
-        "a list of at most 256 manifests or names of files, between [ and ]",
-    ),
-    (Key::MmioRegions, LIST),
-    (Key::Services, LIST),
-    (Key::Irqs, LIST),
-    (Key::Regions, LIST),
-    (Key::Connections, LIST),
-    (Key::Scripts, LIST),
-    (Key::Interrupts, LIST),
-    (Key::Memory, LIST),
-];
-
-// What an item of a list may be; of one that isn't named here it is an object.
-const ITEMS: [KeyWords; 6] = [
-    (
-        Key::Manifests,
-        "a manifest, between { and }, or the name of a file that holds one",
-    ),
-    (Key::Dependencies, NAME),
-    (Key::Clients, NAME),
-    (Key::Schedule, "an actor's name, or \"device\""),
-    (
-        Key::Interrupts,
-        "a source: a name or a whole number, or { \"source\": .., \"result\": 0 or 1 }",
-    ),
-    (Key::Lines, "a text"),
-];
-
-/// The words for an attribute, if these have some.
-pub fn words_for(rows: &[KeyWords], key: Key) -> Option<&'static str> {
-    for (of, words) in rows {
-        if *of == key {
-            return Some(*words);
-        }
+/// What an attribute may be, and what it is where it isn't there; nothing where it has to be there.
+pub fn attribute(key: Key) -> (Sort, &'static str, &'static str) {
+    match key {
+        Key::StackSize | Key::Sid | Key::Base | Key::Size | Key::Address => (
+            Sort::Number,
+            NUMBER,
+            "",
+        ),
+        Key::HeapSize => (Sort::Number, NUMBER, "0"),
+        Key::NonSecureRam => (Sort::Number, NUMBER, "65536"),
+        Key::RotKind => (Sort::Other, "\"PSA-ROT\" or \"APPLICATION-ROT\"", ""),
+        Key::Priority => (Sort::Other, "\"LOW\", \"NORMAL\" or \"HIGH\"", ""),
+        Key::Model => (Sort::Other, "\"IPC\" or \"SFN\"", "\"IPC\""),
+        Key::Permission => (Sort::Other, "\"READ-ONLY\" or \"READ-WRITE\"", ""),
+        Key::VersionPolicy => (Sort::Other, "\"STRICT\" or \"RELAXED\"", "\"STRICT\""),
+        Key::MmIovec => (Sort::Other, "\"enable\" or \"disable\"", "\"disable\""),
+        Key::Handling => (Sort::Other, "\"FLIH\" or \"SLIH\"", ""),
+        Key::NonSecureClients => (Sort::Other, "true or false", ""),
+        Key::ConnectionBased => (Sort::Other, "true or false", "true"),
+        Key::PsaFrameworkVersion => (Sort::Other, "1.0 or 1.1", ""),
+        Key::IsolationLevel => (Sort::Other, "a whole number from 1 to 3", ""),
+        Key::Count => (Sort::Other, "a whole number from 0 to 256", ""),
+        Key::EventLimit => (Sort::Other, "a whole number from 1 to 262144", "4096"),
+        Key::Restarts => (Sort::Other, "a whole number from 0 to 15", "0"),
+        Key::RaiseResult => (Sort::Other, "0 or 1", ""),
+        Key::StatelessHandle => (
+            Sort::Other,
+            "\"auto\", or a whole number from 1 to 32",
+            "\"auto\"",
+        ),
+        Key::Version => (
+            Sort::Number,
+            "a number above 0: whole, or \"0x\" and one to eight hexadecimal digits",
+            "1",
+        ),
+        Key::Bytes => (Sort::Bytes, "two hexadecimal digits for each byte", ""),
+        Key::Source => (
+            Sort::Name,
+            "a name, or a whole number from 0 to 4294967295",
+            "",
+        ),
+        Key::Name | Key::EntryPoint | Key::Signal | Key::Client | Key::Service | Key::Actor => (
+            Sort::Name,
+            NAME,
+            "",
+        ),
+        Key::Lines => (Sort::Other, "a list of texts, one for each line", ""),
+        Key::Dependencies => (
+            Sort::Other,
+            "a list of names of services, between [ and ]",
+            "[]",
+        ),
+        Key::Clients => (
+            Sort::Other,
+            "a list of at most 16 names, between [ and ]",
+            "[]",
+        ),
+        Key::Schedule => (
+            Sort::Other,
+            "a list of names of actors, between [ and ]",
+            "[]",
+        ),
+        Key::Manifests => (
+            Sort::Other,
+            "a list of at most 256 manifests or names of files, between [ and ]",
+            "",
+        ),
+        Key::MmioRegions
+        | Key::Services
+        | Key::Irqs
+        | Key::Regions
+        | Key::Connections
+        | Key::Scripts
+        | Key::Interrupts
+        | Key::Memory => (Sort::Other, LIST, "[]"),
     }
-    None
 }
 
 /// The attribute that a place is of: the last name of its path.
@@ -111,58 +112,26 @@ pub fn key_at(steps: &[PathStep]) -> Option<Key> {
     None
 }
 
-/// Whether a path ends with an attribute, and with which one.
-pub fn last_key(steps: &[PathStep]) -> Option<Key> {
-    match steps.last() {
-        Some(PathStep::Key(key)) => Some(*key),
-        _ => None,
-    }
-}
-
 /// What may stand at a place.
-pub fn expected_at(steps: &[PathStep]) -> &'static str {
-    let irqs = PathStep::Key(Key::Irqs);
-    match (key_at(steps), last_key(steps)) {
-        (_, Some(Key::Name)) if steps.contains(&irqs) => SIGNAL_NAME,
-        (_, Some(key)) => words_for(&ATTRIBUTES, key).unwrap_or(NUMBER),
-        (Some(list), None) => words_for(&ITEMS, list).unwrap_or(OBJECT),
-        (None, None) => OBJECT,
-    }
-}
-
-/// Whether a number, whole or hexadecimal, may stand at a place.
-pub fn is_number_at(steps: &[PathStep]) -> bool {
-    matches!(
-        last_key(steps),
-        Some(
-            Key::StackSize
-                | Key::HeapSize
-                | Key::Sid
-                | Key::Base
-                | Key::Size
-                | Key::NonSecureRam
-                | Key::Address
-                | Key::Version
-        )
-    )
-}
-
-/// Whether a name is to stand at a place.
-pub fn is_name_at(steps: &[PathStep]) -> bool {
-    match (last_key(steps), key_at(steps)) {
-        (
-            Some(
-                Key::Name
-                | Key::EntryPoint
-                | Key::Signal
-                | Key::Client
-                | Key::Service
-                | Key::Actor
-                | Key::Source,
-            ),
-            _,
-        ) => true,
-        (None, Some(Key::Dependencies | Key::Clients | Key::Schedule | Key::Interrupts)) => true,
-        _ => false,
+pub fn wanted_at(steps: &[PathStep]) -> (Sort, &'static str) {
+    let is_of_irq = steps.contains(&PathStep::Key(Key::Irqs));
+    match (steps.last(), key_at(steps)) {
+        (Some(PathStep::Key(Key::Name)), _) if is_of_irq => (Sort::Name, SIGNAL_NAME),
+        (Some(PathStep::Key(key)), _) => {
+            let (sort, words, _) = attribute(*key);
+            (sort, words)
+        }
+        (_, Some(Key::Dependencies | Key::Clients)) => (Sort::Name, NAME),
+        (_, Some(Key::Schedule)) => (Sort::Name, "an actor's name, or \"device\""),
+        (_, Some(Key::Interrupts)) => (
+            Sort::Name,
+            "a source: a name or a whole number, or { \"source\": .., \"result\": 0 or 1 }",
+        ),
+        (_, Some(Key::Manifests)) => (
+            Sort::Other,
+            "a manifest, between { and }, or the name of a file that holds one",
+        ),
+        (_, Some(Key::Lines)) => (Sort::Other, "a text"),
+        _ => (Sort::Other, OBJECT),
     }
 }

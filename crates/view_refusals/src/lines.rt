@@ -1,7 +1,8 @@
 //! Words of a line of a script or a trace, and the forms that such lines have.
 
-use file_places::{Listed, Shown, Span, nearest};
+use file_places::{Span, nearest};
 use std::alloc::{AllocError, Global};
+use std::fmt;
 
 /// A word of a line, and where it begins there.
 #[derive(Clone, Copy)]
@@ -13,23 +14,15 @@ pub struct Word<'a> {
 impl Word<'_> {
     /// Where it stands in its line.
     pub fn span(self) -> Span {
-        Span {
-            from: self.from,
-            to: self.from.saturating_add(self.text.len()),
-        }
+        Span::of(self.from, self.text.len())
     }
 }
 
-/// Whether a byte stands between words.
-pub fn is_blank(byte: u8) -> bool {
-    byte == b' ' || byte == b'\t'
-}
-
-/// The words of a line.
+/// The words of a line, between blanks and tabs.
 pub fn words_of<'a>(alloc: Global, line: &'a [u8]) -> Result<Vec<Word<'a>>, AllocError> {
     let mut words = Vec::new(alloc);
     let mut from: usize = 0;
-    for text in line.split(|b| is_blank(*b)) {
+    for text in line.split(|b| *b == b' ' || *b == b'\t') {
         if !text.is_empty() {
             words.push(Word { from, text })?;
         }
@@ -40,24 +33,26 @@ pub fn words_of<'a>(alloc: Global, line: &'a [u8]) -> Result<Vec<Word<'a>>, Allo
 
 /// A whole line, without a carriage return at its end.
 pub fn whole(line: &[u8]) -> Span {
-    let text = line.strip_suffix(b"\r".as_slice()).unwrap_or(line);
-    Span {
-        from: 0,
-        to: text.len(),
-    }
+    Span::of(0, line.strip_suffix(b"\r").unwrap_or(line).len())
 }
 
 /// A first word, and what stands behind it.
-pub type Form = (&'static str, &'static str);
+#[derive(Clone, Copy)]
+pub struct Form(pub &'static str, pub &'static str);
+
+impl fmt::Display for Form {
+    fn fmt<W: fmt::Write>(&self, f: &mut fmt::Formatter<W>) -> fmt::Result {
+        f.write_str(self.0)?;
+        if !self.1.is_empty() {
+            f.write_str(" ")?;
+        }
+        f.write_str(self.1)
+    }
+}
 
 /// The form with this first word.
 pub fn form_in(forms: &[Form], word: &[u8]) -> Option<Form> {
-    for form in forms {
-        if form.0.as_bytes() == word {
-            return Some(*form);
-        }
-    }
-    None
+    forms.iter().find(|form| form.0.as_bytes() == word).copied()
 }
 
 /// Which form is meant by a first word that none has; in C a call's name begins with `psa_`.
@@ -66,11 +61,8 @@ pub fn nearest_form(
     forms: &[Form],
     word: &[u8],
 ) -> Result<Option<Form>, AllocError> {
-    let mut words = Vec::new(alloc);
-    for form in forms {
-        words.push(form.0.as_bytes())?;
-    }
-    let plain = word.strip_prefix(b"psa_".as_slice()).unwrap_or(word);
+    let words: Vec<&[u8]> = forms.iter().map(|form| form.0.as_bytes()).collect(alloc)?;
+    let plain = word.strip_prefix(b"psa_").unwrap_or(word);
     match nearest(alloc, &words, plain)? {
         Some(word) => Ok(form_in(forms, word)),
         None => Ok(None),
@@ -80,27 +72,4 @@ pub fn nearest_form(
 /// Whether these bytes stand somewhere in a line.
 pub fn has_part(line: &[u8], part: &[u8]) -> bool {
     line.windows(part.len().max(1)).any(|window| window == part)
-}
-
-/// Writes which names there are, and which of them is perhaps meant.
-pub fn put_names(
-    alloc: Global,
-    text: &mut String,
-    names: &[&[u8]],
-    given: &[u8],
-) -> Result<(), AllocError> {
-    if !names.is_empty() {
-        writeln!(text, "expected: one of {}", Listed(&*names))?;
-    }
-    match nearest(alloc, names, given)? {
-        Some(name) => writeln!(text, "hint: perhaps {}", Shown(name)),
-        None => Ok(()),
-    }
-}
-
-/// Writes words, and then a form.
-pub fn put_form(text: &mut String, words: &str, form: Form) -> Result<(), AllocError> {
-    let (word, operands) = form;
-    let blank = if operands.is_empty() { "" } else { " " };
-    write!(text, "{words}{word}{blank}{operands}")
 }

@@ -1,7 +1,7 @@
 //! What passes unread in files that are admitted, and may be a mistake.
 
 use ffm_model::Key;
-use file_places::{FileRead, Node, Shown, Source, Sources, Spot, nearest, put_place};
+use file_places::{FileRead, Shown, Source, Sources, Spot, nearest, put_place};
 use std::alloc::{AllocError, Global};
 
 const SYSTEM: [Key; 6] = [
@@ -48,51 +48,41 @@ const SERVICE: [Key; 8] = [
     Key::MmIovec,
 ];
 
-const IRQ: [Key; 4] = [Key::Source, Key::Signal, Key::Name, Key::Handling];
-
-const MMIO: [Key; 4] = [Key::Name, Key::Base, Key::Size, Key::Permission];
-
-const REGION: [Key; 3] = [Key::Name, Key::Base, Key::Size];
-
-const CONNECTION: [Key; 3] = [Key::Client, Key::Service, Key::Count];
-
-const SCRIPT: [Key; 2] = [Key::Actor, Key::Lines];
-
-const INTERRUPT: [Key; 2] = [Key::Source, Key::RaiseResult];
-
-const MEMORY: [Key; 2] = [Key::Address, Key::Bytes];
-
+// The lists of objects, and which attributes those may have.
 const LISTS: [(Key, &[Key]); 9] = [
     (Key::Manifests, &MANIFEST),
     (Key::Services, &SERVICE),
-    (Key::Irqs, &IRQ),
-    (Key::MmioRegions, &MMIO),
-    (Key::Regions, &REGION),
-    (Key::Connections, &CONNECTION),
-    (Key::Scripts, &SCRIPT),
-    (Key::Interrupts, &INTERRUPT),
-    (Key::Memory, &MEMORY),
+    (
+        Key::Irqs,
+        &[Key::Source, Key::Signal, Key::Name, Key::Handling],
+    ),
+    (
+        Key::MmioRegions,
+        &[Key::Name, Key::Base, Key::Size, Key::Permission],
+    ),
+    (Key::Regions, &[Key::Name, Key::Base, Key::Size]),
+    (Key::Connections, &[Key::Client, Key::Service, Key::Count]),
+    (Key::Scripts, &[Key::Actor, Key::Lines]),
+    (Key::Interrupts, &[Key::Source, Key::RaiseResult]),
+    (Key::Memory, &[Key::Address, Key::Bytes]),
 ];
 
 // Those of which a manifest of 1.0 has none.
 const LATER: [Key; 3] = [Key::Model, Key::ConnectionBased, Key::MmIovec];
 
 // The attributes that an object may have; none for one that isn't known.
-fn keys_of(sources: &Sources<'_>, object: Spot) -> &'static [Key] {
-    let Some(list) = sources.around(object) else {
-        return if object.source == 0 {
-            &SYSTEM
-        } else if sources.scenario == Some(object.source) {
-            &SCENARIO
-        } else {
-            &MANIFEST
+fn keys_of(sources: &Sources<'_>, object: Spot<'_>) -> &'static [Key] {
+    let Some(list) = object.around() else {
+        return match object.source.number {
+            0 => &SYSTEM,
+            number if sources.scenario == Some(number) => &SCENARIO,
+            _ => &MANIFEST,
         };
     };
-    let name = match (sources.source(list.source), sources.node(list)) {
-        (Some(source), Some(node)) => source.name_of(node),
-        _ => &[],
-    };
-    match LISTS.iter().find(|row| row.0.text().as_bytes() == name) {
+    match LISTS
+        .iter()
+        .find(|row| row.0.text().as_bytes() == list.name())
+    {
         Some(row) => row.1,
         None => &[],
     }
@@ -104,94 +94,88 @@ fn is_key(keys: &[Key], name: &[u8]) -> bool {
 }
 
 // Whether an object is a manifest of 1.0, or stands in a list of one.
-fn is_of_1_0(sources: &Sources<'_>, object: Spot) -> bool {
-    let manifest = match sources.around(object) {
-        Some(list) if sources.value(object, Key::PsaFrameworkVersion).is_empty() => {
-            sources.around(list).unwrap_or(object)
+fn is_of_1_0(object: Spot<'_>) -> bool {
+    let manifest = match object.around() {
+        Some(list) if object.value(Key::PsaFrameworkVersion).is_empty() => {
+            list.around().unwrap_or(object)
         }
         _ => object,
     };
-    sources.value(manifest, Key::PsaFrameworkVersion) == b"1.0".as_slice()
+    matches!(manifest.value(Key::PsaFrameworkVersion), b"1.0")
 }
 
 // Whether an earlier attribute of the same object has this name.
-fn is_repeated(source: &Source<'_>, place: usize, node: Node) -> bool {
-    source.nodes.iter().take(place).any(|other| {
-        other.parent == node.parent
-            && other.name.is_some()
-            && source.name_of(*other) == source.name_of(node)
+fn is_repeated(spot: Spot<'_>) -> bool {
+    spot.source.nodes.iter().take(spot.number).any(|node| {
+        node.parent == spot.node.parent
+            && node.name.is_some()
+            && Spot {
+                node: *node,
+                ..spot
+            }
+            .name()
+                == spot.name()
     })
 }
 
 // The attribute that isn't there and is nearest to a name.
 fn meant(
     alloc: Global,
-    source: &Source<'_>,
-    object: usize,
+    object: Spot<'_>,
     keys: &[Key],
     name: &[u8],
 ) -> Result<Option<&'static [u8]>, AllocError> {
     let mut missing = Vec::new(alloc);
     for key in keys {
-        if source.named(object, key.text()).is_none() {
+        if object.named(*key).is_none() {
             missing.push(key.text().as_bytes())?;
         }
     }
     nearest(alloc, &missing, name)
 }
 
-// What is to be said of an attribute, if something is.
-fn note_of(
-    alloc: Global,
-    sources: &Sources<'_>,
-    source: &Source<'_>,
-    node: Node,
-    spot: Spot,
-) -> Result<Option<String>, AllocError> {
-    let Some(object) = sources.around(spot) else {
-        return Ok(None);
+// Writes what is to be said of an attribute, and whether something is.
+fn put_note(text: &mut String, sources: &Sources<'_>, spot: Spot<'_>) -> Result<bool, AllocError> {
+    let (name, source) = (spot.name(), spot.source);
+    let Some(object) = spot.around() else {
+        return Ok(false);
     };
     let keys = keys_of(sources, object);
-    let name = source.name_of(node);
-    let words = if keys.is_empty() || node.name.is_none() {
-        return Ok(None);
-    } else if is_repeated(source, spot.node, node) {
-        "stands here twice: the last one counts"
-    } else if is_key(&LATER, name) && is_of_1_0(sources, object) {
-        "isn't read in a manifest of 1.0"
+    let (words, right, end): (&str, &[u8], &str) = if keys.is_empty() || name.is_empty() {
+        return Ok(false);
+    } else if is_repeated(spot) {
+        ("stands here twice: the last one counts", b"", "")
+    } else if is_key(&LATER, name) && is_of_1_0(object) {
+        ("isn't read in a manifest of 1.0", b"", "")
     } else if is_key(keys, name) {
-        return Ok(None);
+        return Ok(false);
     } else {
-        return match meant(alloc, source, object.node, keys, name)? {
-            Some(right) => Ok(Some(format!(in alloc; "isn't read: perhaps `{}`", Shown(right))?)),
-            None => Ok(None),
-        };
+        match meant(sources.alloc, object, keys, name)? {
+            Some(right) => ("isn't read: perhaps `", right, "`"),
+            None => return Ok(false),
+        }
     };
-    Ok(Some(String::from_str(alloc, words)?))
+    text.push_str("note: ")?;
+    put_place(text, source.name, source.bytes, spot.node.start())?;
+    writeln!(text, ": `{}` {words}{}{end}", Shown(name), Shown(right))?;
+    Ok(true)
 }
 
 // Writes the notes of a file, so many at most, and tells how many more there may be.
 fn put_notes(
-    alloc: Global,
     text: &mut String,
     sources: &Sources<'_>,
-    number: usize,
+    source: &Source<'_>,
     most: usize,
 ) -> Result<usize, AllocError> {
     let mut left = most;
-    let Some(source) = sources.source(number) else {
-        return Ok(left);
-    };
-    for (place, node) in source.nodes.iter().enumerate() {
+    for (number, node) in source.nodes.iter().enumerate() {
         let spot = Spot {
-            source: number,
-            node: place,
+            source: &*source,
+            number,
+            node: *node,
         };
-        let note = note_of(alloc, sources, source, *node, spot)?;
-        if let (Some(words), true) = (note, left > 0) {
-            text.push_str("note: ")?;
-            put_place(text, source.name, source.bytes, node.start())?;
-            writeln!(text, ": `{}` {words}", Shown(source.name_of(*node)))?;
+        if left > 0 && put_note(text, sources, spot)? {
             left = left.saturating_sub(1);
         }
     }
@@ -210,8 +194,8 @@ pub fn note_words(
     let sources = Sources::new(alloc, files, scenario)?;
     let mut text = String::new(alloc);
     let mut left = MOST_NOTES;
-    for number in 0..files.len() {
-        left = put_notes(alloc, &mut text, &sources, number, left)?;
+    for source in &sources.files {
+        left = put_notes(&mut text, &sources, source, left)?;
     }
     Ok(text)
 }

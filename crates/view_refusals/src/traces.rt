@@ -1,50 +1,48 @@
 //! Words for a text that is no trace.
 
-use crate::lines::{Form, Word, form_in, has_part, nearest_form, put_form, whole, words_of};
+use crate::lines::{Form, Word, form_in, has_part, nearest_form, whole, words_of};
 use ffm_model::{Counts, MAX_ENTRIES};
 use file_places::{FileRead, Shown, Span, number_of, put_line, word_at};
 use std::alloc::{AllocError, Global};
 
 // Calls and outcomes with the letters of their operands.
 const CALLS: [Form; 25] = [
-    ("framework_version", ""),
-    ("version", "h"),
-    ("connect", "h u"),
-    ("call", "d d h u h u"),
-    ("close", "d"),
-    ("wait", "h h"),
-    ("get", "h h"),
-    ("set_rhandle", "d h"),
-    ("read", "d u h u"),
-    ("skip", "d u u"),
-    ("write", "d u h u"),
-    ("reply", "d d"),
-    ("notify", "d"),
-    ("clear", ""),
-    ("eoi", "h"),
-    ("irq_enable", "h"),
-    ("irq_disable", "h"),
-    ("reset_signal", "h"),
-    ("panic", ""),
-    ("load", "h u"),
-    ("store", "h u h"),
-    ("raise", "u"),
-    ("fire", "u u"),
-    ("stop", "w"),
-    ("resume", ""),
+    Form("framework_version", ""),
+    Form("version", "h"),
+    Form("connect", "h u"),
+    Form("call", "d d h u h u"),
+    Form("close", "d"),
+    Form("wait", "h h"),
+    Form("get", "h h"),
+    Form("set_rhandle", "d h"),
+    Form("read", "d u h u"),
+    Form("skip", "d u u"),
+    Form("write", "d u h u"),
+    Form("reply", "d d"),
+    Form("notify", "d"),
+    Form("clear", ""),
+    Form("eoi", "h"),
+    Form("irq_enable", "h"),
+    Form("irq_disable", "h"),
+    Form("reset_signal", "h"),
+    Form("panic", ""),
+    Form("load", "h u"),
+    Form("store", "h u h"),
+    Form("raise", "u"),
+    Form("fire", "u u"),
+    Form("stop", "w"),
+    Form("resume", ""),
 ];
 
 const OUTCOMES: [Form; 7] = [
-    ("value", "d"),
-    ("number", "u"),
-    ("signals", "h"),
-    ("blocked", ""),
-    ("done", ""),
-    ("panicked", ""),
-    ("message", "d d d h u u u u u u u u"),
+    Form("value", "d"),
+    Form("number", "u"),
+    Form("signals", "h"),
+    Form("blocked", ""),
+    Form("done", ""),
+    Form("panicked", ""),
+    Form("message", "d d d h u u u u u u u u"),
 ];
-
-const VERDICTS: [&[u8]; 3] = [b"quiet", b"stalled", b"full"];
 
 // What each letter means.
 const LETTERS: [(&str, &str); 4] = [
@@ -56,7 +54,7 @@ const LETTERS: [(&str, &str); 4] = [
 
 // The number that decimal digits spell, of which the first of several is no 0.
 fn decimal(digits: &[u8]) -> Option<u32> {
-    if digits.len() > 1 && digits.starts_with(b"0".as_slice()) {
+    if digits.len() > 1 && digits.starts_with(b"0") {
         return None;
     }
     number_of(digits)
@@ -67,16 +65,16 @@ fn is_operand(letter: &str, word: &[u8]) -> bool {
     match letter {
         "h" => {
             word.len() == 10
-                && word.starts_with(b"0x".as_slice())
+                && word.starts_with(b"0x")
                 && number_of(word).is_some()
                 && !word.iter().any(|b| b.is_ascii_uppercase())
         }
         "u" => decimal(word).is_some(),
-        "d" => match word.strip_prefix(b"-".as_slice()) {
+        "d" => match word.strip_prefix(b"-") {
             Some(digits) => matches!(decimal(digits), Some(1..=2147483648)),
             None => matches!(decimal(word), Some(0..=2147483647)),
         },
-        _ => word == b"end".as_slice() || word == b"spent".as_slice(),
+        _ => matches!(word, b"end" | b"spent"),
     }
 }
 
@@ -85,31 +83,10 @@ fn is_actor(counts: Counts, word: &[u8]) -> bool {
     let (digits, most) = match word.split_first() {
         Some((b'p', digits)) => (digits, counts.partitions),
         Some((b'n', digits)) => (digits, counts.clients),
-        _ => return counts.device && word == b"dev".as_slice(),
+        _ => return counts.device && matches!(word, b"dev"),
     };
-    match decimal(digits) {
-        Some(number) => 1 <= number && number <= u32::from(most),
-        None => false,
-    }
-}
-
-fn put_no_actor(text: &mut String, counts: Counts, word: &[u8]) -> Result<(), AllocError> {
-    writeln!(text, "the system has no actor {}", Shown(word))?;
-    write!(text, "expected: p1 to p{}", counts.partitions)?;
-    if counts.clients > 0 {
-        write!(text, ", n1 to n{}", counts.clients)?;
-    }
-    text.push_str(if counts.device { " or dev\n" } else { "\n" })
-}
-
-fn put_letters(text: &mut String, form: Form) -> Result<(), AllocError> {
-    put_form(text, "expected: ", form)?;
-    for (letter, words) in &LETTERS {
-        if form.1.contains(*letter) {
-            text.push_str(words)?;
-        }
-    }
-    text.push('\n')
+    let number = decimal(digits).unwrap_or(0);
+    1 <= number && number <= u32::from(most)
 }
 
 // Writes what is wrong with the operands of a call or an outcome, if something is.
@@ -119,78 +96,62 @@ fn put_operands(
     head: Word<'_>,
     operands: &[Word<'_>],
 ) -> Result<Option<Span>, AllocError> {
-    for (letter, word) in form.1.split_ascii_whitespace().zip(operands.iter()) {
-        if !is_operand(letter, word.text) {
+    let (wanted, count) = (form.1.split_ascii_whitespace().count(), operands.len());
+    let mut pairs = form.1.split_ascii_whitespace().zip(operands.iter());
+    let span = match pairs.find(|(letter, word)| !is_operand(letter, word.text)) {
+        Some((_, word)) => {
             writeln!(text, "{} is no operand of {}", Shown(word.text), form.0)?;
-            put_letters(text, form)?;
-            return Ok(Some(word.span()));
+            word.span()
+        }
+        None if count == wanted => return Ok(None),
+        None => {
+            let word = form.0;
+            writeln!(text, "{word} has {wanted} operands, and here are {count}")?;
+            head.span()
+        }
+    };
+    write!(text, "expected: {form}")?;
+    for (letter, words) in &LETTERS {
+        if form.1.contains(*letter) {
+            text.push_str(words)?;
         }
     }
-    let wanted = form.1.split_ascii_whitespace().count();
-    if operands.len() == wanted {
-        return Ok(None);
-    }
-    let count = operands.len();
-    writeln!(
-        text,
-        "{} has {wanted} operands, and here are {count}",
-        form.0
-    )?;
-    put_letters(text, form)?;
-    Ok(Some(head.span()))
+    text.push('\n')?;
+    Ok(Some(span))
 }
 
-// Writes what is wrong with words that are to be a call, if something is.
-fn put_call(
+// Writes what is wrong with a call and the words behind its arrow, if something is.
+fn put_step(
     alloc: Global,
     text: &mut String,
-    words: &[Word<'_>],
+    call: &[Word<'_>],
+    outcome: &[Word<'_>],
 ) -> Result<Option<Span>, AllocError> {
-    let Some((head, operands)) = words.split_first() else {
+    let (Some((call, operands)), Some((outcome, values))) = (
+        call.split_first(),
+        outcome.split_first(),
+    ) else {
         return Ok(None);
     };
-    if let Some(form) = form_in(&CALLS, head.text) {
-        return put_operands(text, form, *head, operands);
-    }
-    writeln!(text, "no call is named {}", Shown(head.text))?;
-    if let Some((word, _)) = nearest_form(alloc, &CALLS, head.text)? {
-        writeln!(text, "hint: perhaps {word}")?;
-    }
-    Ok(Some(head.span()))
-}
-
-// Writes what is wrong with words that are to be an outcome, if something is.
-fn put_outcome(text: &mut String, words: &[Word<'_>]) -> Result<Option<Span>, AllocError> {
-    let Some((head, operands)) = words.split_first() else {
-        return Ok(None);
+    let Some(form) = form_in(&CALLS, call.text) else {
+        writeln!(text, "no call is named {}", Shown(call.text))?;
+        if let Some(Form(word, _)) = nearest_form(alloc, &CALLS, call.text)? {
+            writeln!(text, "hint: perhaps {word}")?;
+        }
+        return Ok(Some(call.span()));
     };
-    if let Some(form) = form_in(&OUTCOMES, head.text) {
-        return put_operands(text, form, *head, operands);
+    if let Some(span) = put_operands(text, form, *call, operands)? {
+        return Ok(Some(span));
     }
-    writeln!(text, "no outcome is {}", Shown(head.text))?;
-    text.push_str("expected: value d, number u, signals h, blocked, done, panicked or message\n")?;
-    Ok(Some(head.span()))
-}
-
-// A wrong blank or line end.
-fn blank_words(line: &[u8]) -> Option<&'static str> {
-    if line.ends_with(b"\r".as_slice()) {
-        Some(
-            "a carriage return ends this line\nhint: end each line by a line feed alone, as tr -d '\\r' does",
-        )
-    } else if line.ends_with(b" ".as_slice()) {
-        Some("a blank ends this line")
-    } else if line.starts_with(b" ".as_slice()) {
-        Some("a blank begins this line")
-    } else if has_part(line, b"  ") {
-        Some("two blanks stand between words")
-    } else if line.contains(&b'\t') {
-        Some("a tab stands in this line")
-    } else if line.is_empty() {
-        Some("this line is empty")
-    } else {
-        None
+    if let Some(form) = form_in(&OUTCOMES, outcome.text) {
+        return put_operands(text, form, *outcome, values);
     }
+    writeln!(
+        text,
+        "no outcome is {}\nexpected: value d, number u, signals h, blocked, done, panicked or message",
+        Shown(outcome.text)
+    )?;
+    Ok(Some(outcome.span()))
 }
 
 // Writes what is wrong with a line of an entry, if something is.
@@ -205,26 +166,43 @@ fn put_entry(
         return Ok(None);
     };
     if !is_actor(counts, actor.text) {
-        put_no_actor(text, counts, actor.text)?;
+        let (partitions, clients) = (counts.partitions, counts.clients);
+        writeln!(text, "the system has no actor {}", Shown(actor.text))?;
+        write!(text, "expected: p1 to p{partitions}")?;
+        if clients > 0 {
+            write!(text, ", n1 to n{clients}")?;
+        }
+        text.push_str(if counts.device { " or dev\n" } else { "\n" })?;
         return Ok(Some(actor.span()));
     }
-    let arrow = rest.iter().position(|word| word.text == b"->".as_slice());
+    let arrow = rest.iter().position(|word| matches!(word.text, b"->"));
     let (call, outcome) = rest.split_at(arrow.unwrap_or(rest.len()));
     if call.is_empty() || outcome.len() < 2 {
         text.push_str("this line has no outcome\nexpected: -> and the outcome behind the call\n")?;
         return Ok(Some(whole(line)));
     }
-    match put_call(alloc, text, call)? {
-        Some(span) => Ok(Some(span)),
-        None => put_outcome(text, &outcome[1..]),
-    }
+    put_step(alloc, text, call, &outcome[1..])
+}
+
+// A wrong blank or line end.
+fn blank_words(line: &[u8]) -> Option<&'static str> {
+    let words = match line {
+        [.., b'\r'] => {
+            "a carriage return ends this line\nhint: end each line by a line feed alone, as tr -d '\\r' does"
+        }
+        [.., b' '] => "a blank ends this line",
+        [b' ', ..] => "a blank begins this line",
+        _ if has_part(line, b"  ") => "two blanks stand between words",
+        _ if line.contains(&b'\t') => "a tab stands in this line",
+        [] => "this line is empty",
+        _ => return None,
+    };
+    Some(words)
 }
 
 // A line of a trace.
 #[derive(Clone, Copy)]
 struct Line<'a> {
-    /// Its number, from 1.
-    number: u32,
     /// Where it begins in the file.
     from: usize,
     text: &'a [u8],
@@ -232,41 +210,8 @@ struct Line<'a> {
     ended: bool,
 }
 
-// Writes what is wrong with a line, and says which part of it is.
-fn put_reason(
-    alloc: Global,
-    text: &mut String,
-    counts: Counts,
-    line: Line<'_>,
-) -> Result<Span, AllocError> {
-    let whole = whole(line.text);
-    let first = word_at(line.text);
-    if !line.ended {
-        text.push_str("the last line has no line feed\n")?;
-    } else if let Some(words) = blank_words(line.text) {
-        writeln!(text, "{words}")?;
-    } else if VERDICTS.contains(&first) {
-        text.push_str("the verdict has another number than that of the entries before it\n")?;
-        let entries = line.number.saturating_sub(1);
-        writeln!(text, "expected: {} {entries}", Shown(first))?;
-    } else if let Some(span) = put_entry(alloc, text, counts, line.text)? {
-        return Ok(span);
-    } else if line.number > MAX_ENTRIES {
-        text.push_str("a trace has at most 262144 entries\n")?;
-    } else {
-        text.push_str("this line can't stand here: a verdict stands above it\n")?;
-    }
-    Ok(whole)
-}
-
-// The line of this number; an empty one at the end where there is none.
+// The line of this number, from 1; an empty one at the end where there is none.
 fn line_at(bytes: &[u8], number: u32) -> Line<'_> {
-    let mut line = Line {
-        number,
-        from: bytes.len(),
-        text: &[],
-        ended: false,
-    };
     let mut from: usize = 0;
     let mut left = number;
     for text in bytes.split(|b| *b == b'\n') {
@@ -274,16 +219,42 @@ fn line_at(bytes: &[u8], number: u32) -> Line<'_> {
         let to = from.saturating_add(text.len());
         if left == 0 {
             let ended = to < bytes.len();
-            return Line {
-                from,
-                text,
-                ended,
-                ..line
-            };
+            return Line { from, text, ended };
         }
         from = to.saturating_add(1);
     }
-    line
+    Line {
+        from: bytes.len(),
+        text: &[],
+        ended: false,
+    }
+}
+
+// Writes what is wrong with a line, and says which part of it is.
+fn put_reason(
+    alloc: Global,
+    text: &mut String,
+    counts: Counts,
+    number: u32,
+    line: Line<'_>,
+) -> Result<Span, AllocError> {
+    let first = word_at(line.text);
+    if !line.ended {
+        text.push_str("the last line has no line feed\n")?;
+    } else if let Some(words) = blank_words(line.text) {
+        writeln!(text, "{words}")?;
+    } else if matches!(first, b"quiet" | b"stalled" | b"full") {
+        let (verdict, entries) = (Shown(first), number.saturating_sub(1));
+        text.push_str("the verdict has another number than that of the entries before it\n")?;
+        writeln!(text, "expected: {verdict} {entries}")?;
+    } else if let Some(span) = put_entry(alloc, text, counts, line.text)? {
+        return Ok(span);
+    } else if number > MAX_ENTRIES {
+        text.push_str("a trace has at most 262144 entries\n")?;
+    } else {
+        text.push_str("this line can't stand here: a verdict stands above it\n")?;
+    }
+    Ok(whole(line.text))
 }
 
 /// The first wrong line of a text that is no trace, counted from 1, and what is wrong with it.
@@ -298,37 +269,23 @@ pub fn wrong_trace_words(
     if line.text.is_empty() && !line.ended {
         let entries = number.saturating_sub(1);
         text.push_str("wrong: the text ends here, without a verdict\n")?;
-        writeln!(
-            text,
-            "expected: quiet {entries}, stalled {entries} or full {entries}"
-        )?;
+        write!(text, "expected: quiet {entries}, stalled {entries}")?;
+        writeln!(text, " or full {entries}")?;
         return Ok(text);
     }
     let mut words = String::new(alloc);
-    let span = put_reason(alloc, &mut words, counts, line)?;
-    put_marked(&mut text, file.bytes, line.from, span)?;
+    let span = put_reason(alloc, &mut words, counts, number, line)?;
+    put_line(&mut text, file.bytes, span.behind(line.from))?;
     write!(text, "wrong: {words}")?;
     Ok(text)
-}
-
-// Writes a line with carets below a part of it, or of its carriage return before it.
-fn put_marked(text: &mut String, bytes: &[u8], from: usize, span: Span) -> Result<(), AllocError> {
-    let place = Span {
-        from: from.saturating_add(span.from),
-        to: from.saturating_add(span.to),
-    };
-    put_line(text, bytes, place)
 }
 
 /// The line of a trace that is the first illegal one, counted from 1.
 pub fn illegal_words(alloc: Global, number: u32, file: FileRead<'_>) -> Result<String, AllocError> {
     let line = line_at(file.bytes, number);
-    let actor = Span {
-        from: 0,
-        to: word_at(line.text).len(),
-    };
+    let actor = Span::of(line.from, word_at(line.text).len());
     let mut text = format!(in alloc; "--> {}:{number}:1\n", file.name)?;
-    put_marked(&mut text, file.bytes, line.from, actor)?;
+    put_line(&mut text, file.bytes, actor)?;
     text.push_str("hint: ffm_view why says which rule this line breaks\n")?;
     Ok(text)
 }

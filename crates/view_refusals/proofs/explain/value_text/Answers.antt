@@ -3,5 +3,5 @@
 use Rattle.view_refusals.proofs.ToldLemmas.{told_none}
 use Rattle.view_refusals.proofs.explain.value_text.Goals as goal
 
-pub returns-in_default : goal.returns-in_default
-returns-in_default c = told_none _ _ _ _ c.in_ok-no_place.ensures
+pub returns-in_default-get : goal.returns-in_default-get
+returns-in_default-get c = told_none _ _ _ _ c.in_ok-no_place-2.ensures
